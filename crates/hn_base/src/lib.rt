@@ -1,0 +1,14 @@
+//! What every crate of the home router speaks of: identifiers, moments, names, priorities and want of memory.
+#![tactic(auto)]
+
+mod bytes;
+mod caps;
+mod ids;
+mod memory;
+mod name;
+
+pub use bytes::Bytes;
+pub use caps::Caps;
+pub use ids::{EpId, Moment, NodeId};
+pub use memory::NoMemory;
+pub use name::Name;

@@ -21,14 +21,18 @@ impl Bytes {
     pub fn new(alloc: Global) -> Bytes
         ensures { result ≡ [] }
     {
-        Bytes { items: Vec::new(alloc) }
+        Bytes {
+            items: Vec::new(alloc),
+        }
     }
 
     /// These bytes, in new memory.
     pub fn copy_of(alloc: Global, bytes: &[u8]) -> Result<Bytes, NoMemory>
         ensures { IfOk result (λ copy. copy ≡ bytes.now) }
     {
-        Ok(Bytes { items: Vec::from_slice(alloc, bytes)? })
+        Ok(Bytes {
+            items: Vec::from_slice(alloc, bytes)?,
+        })
     }
 
     /// The bytes. (no memory)

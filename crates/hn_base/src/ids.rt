@@ -1,7 +1,3 @@
-ghost use Rattle.std.specs.Prelude.{Some, codes};
-
-use std::fmt;
-
 /// A point in time, in milliseconds. One that is handed to a call is at most 2^48.
 pub type Moment = u64;
 
@@ -12,19 +8,3 @@ pub struct NodeId(pub u32);
 /// The identifier of a node's endpoint, 4 bytes; 0 is no endpoint (RFC 7787, section 7.2.1).
 #[derive(Clone, Copy, Debug, PartialEq, Eq, PartialOrd, Ord, Hash)]
 pub struct EpId(pub u32);
-
-/// Eight lower-case hexadecimal digits.
-impl fmt::Display for NodeId {
-    fn fmt<W: fmt::Write>(&self, f: &mut fmt::Formatter<W>) -> fmt::Result {
-        let NodeId(id) = self;
-        write!(f, "{id:08x}")
-    }
-}
-
-/// A decimal number.
-impl fmt::Display for EpId {
-    fn fmt<W: fmt::Write>(&self, f: &mut fmt::Formatter<W>) -> fmt::Result {
-        let EpId(id) = self;
-        write!(f, "{id}")
-    }
-}

@@ -6,9 +6,11 @@ mod caps;
 mod ids;
 mod memory;
 mod name;
+#[cfg(test)]
+mod tests;
 
 pub use bytes::Bytes;
 pub use caps::Caps;
 pub use ids::{EpId, Moment, NodeId};
 pub use memory::NoMemory;
-pub use name::Name;
+pub use name::{NAME_CAPACITY, Name};

@@ -1,0 +1,24 @@
+use Rattle.std.specs.Prelude.{ℕ, ◌+◌, ◌-◌, ◌^◌, List, nat_le, count_by, min}
+
+-- the calls of an object, numbered from 1: how many were made, and the numbers of those that fail
+pub record CallCount : Type 0 where
+  pub made : ℕ
+  pub fails : List ℕ
+
+-- after one more call
+abbrev pub called : CallCount → CallCount
+called calls = record { made = min (calls.made + 1) (2 ^ 64 - 1); fails = calls.fails }
+
+-- how many of the listed calls were made
+abbrev pub faults_so_far : CallCount → ℕ
+faults_so_far calls = count_by (λ number. nat_le number calls.made) calls.fails
+
+-- a source in memory: what is left, and its calls
+pub record MemorySource : Type 0 where
+  pub left : List ℕ
+  pub calls : CallCount
+
+-- a sink in memory: what it holds, and its calls
+pub record MemorySink : Type 0 where
+  pub held : List ℕ
+  pub calls : CallCount

@@ -1,0 +1,19 @@
+//! The outside as the program sees it: what it reads from, what it writes to and where its random words come
+//! from, with kinds in memory that tell their content, and adapters over standard input and output that do not.
+#![tactic(auto)]
+
+mod adapters;
+mod draw;
+mod fault;
+mod memory;
+mod sink;
+mod source;
+#[cfg(test)]
+mod tests;
+
+pub use adapters::{ReaderSource, WriterSink};
+pub use draw::{Draw, Zeros};
+pub use fault::IoFault;
+pub use memory::{MemSink, MemSource};
+pub use sink::Sink;
+pub use source::Source;

@@ -8,9 +8,11 @@ mod memory;
 mod name;
 #[cfg(test)]
 mod tests;
+mod words;
 
 pub use bytes::Bytes;
 pub use caps::Caps;
 pub use ids::{EpId, Moment, NodeId};
 pub use memory::NoMemory;
 pub use name::{NAME_CAPACITY, Name};
+pub use words::Words;

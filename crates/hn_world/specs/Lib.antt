@@ -1,0 +1,5 @@
+pub mod Home
+pub mod Happening
+pub mod Version
+pub mod Member
+pub mod WorldView

@@ -1,0 +1,122 @@
+ghost use Rattle.std.specs.Prelude.{◌≡◌, ◌↔◌, ℕ, [], None, Some, Err, map, IsTrue, IsSomeAnd, OnOk, OnErr, option_copied};
+ghost use Rattle.std.specs.Option.{option_map};
+ghost use Rattle.hn_base.specs.Name.{name_text};
+
+use crate::event::{Traced, WEvent, WorldFault};
+use crate::member::{Member, happen, place_of};
+use crate::router::Router;
+use hn_base::{Moment, Name, Words};
+use hn_io::Draw;
+use std::alloc::Global;
+use std::marker::Model;
+
+/// A world: its moment, its routers in order of definition, and the trace of the events that it accepted.
+/// It is the replay of its trace.
+#[derive(Debug, Drop)]
+pub struct World {
+    moment: Moment,
+    members: Vec<Member>,
+    trace: Vec<Traced>,
+}
+
+impl Model for World {
+    ghost use Rattle.hn_world.specs.Home.{Home};
+
+    ghost Value = { Home };
+
+    ghost use Rattle.hn_world.specs.WorldView.{home_of, IsReplayed};
+
+    ghost view = { home_of };
+
+    ghost invariant = { IsReplayed };
+}
+
+impl World {
+    ghost use Rattle.hn_world.specs.Home.{empty_home, station_named, refusal, world_step, replay};
+    ghost use Rattle.hn_world.specs.Happening.{happening, trace_of};
+    ghost use Rattle.hn_world.specs.Member.{node_of};
+
+    /// A world at moment 0 with nothing in it. (no memory)
+    pub fn new(alloc: Global) -> World
+        ensures empty { result ≡ empty_home }
+        ensures replayed { replay result.trace ≡ Some result }
+    {
+        World {
+            moment: 0,
+            members: Vec::new(alloc),
+            trace: Vec::new(alloc),
+        }
+    }
+
+    /// The moment of the world, in milliseconds. (no memory)
+    pub fn moment(&self) -> Moment
+        ensures { result ≡ self.now.moment }
+    {
+        self.moment
+    }
+
+    /// The events that were accepted, in order. (no memory)
+    pub fn trace(&self) -> &[Traced]
+        ensures events { map trace_of result.now ≡ self.now.trace }
+        ensures replayed { replay self.now.trace ≡ Some self.now }
+    {
+        self.trace.as_slice()
+    }
+
+    /// The router of a name, or `None` exactly where there is none. (no memory)
+    pub fn router(&self, name: &Name) -> Option<&Router>
+        ensures { option_map node_of (option_copied result) ≡ option_map (λ s. s.node) (station_named (name_text name.now) self.now.stations) }
+    {
+        let place = place_of(&self.members, name)?;
+        Some(&self.members[place].router)
+    }
+
+    /// Whether there is a router of that name and it runs. (no memory)
+    pub fn running(&self, name: &Name) -> bool
+        ensures { IsTrue result ↔ IsSomeAnd (station_named (name_text name.now) self.now.stations) (λ s. IsTrue s.running) }
+    {
+        match place_of(&self.members, name) {
+            Some(place) => self.members[place].running,
+            None => false,
+        }
+    }
+
+    /// The code with which the event is refused; `None` exactly where it is accepted. (no memory)
+    fn refusal(&self, event: &WEvent) -> Option<u8>
+        ensures { result ≡ refusal self.now (happening event.now) }
+    {
+        match event {
+            WEvent::Router { name, .. } => place_of(&self.members, name).map(|_| 8),
+            WEvent::Caps { name, .. } => match place_of(&self.members, name) {
+                Some(_) => None,
+                None => Some(7),
+            },
+        }
+    }
+
+    /// Lets an event happen, and adds it to the trace with the words that it took. After an `Err` the world is as
+    /// before. A refusal is found without taking memory.
+    pub fn apply<D: Draw>(
+        &mut self,
+        alloc: Global,
+        event: WEvent,
+        _draw: &mut D,
+    ) -> Result<(), WorldFault>
+        ensures step { OnOk result (world_step self.old (record { event = happening event; words = [] }) ≡ Some self.new) }
+        ensures refused { (code : ℕ) → (result ≡ Err (WorldFault.Refused code)) ↔ (refusal self.old (happening event) ≡ Some code) }
+        ensures err { OnErr result (self.new ≡ self.old) }
+        ensures replayed { replay self.new.trace ≡ Some self.new }
+    {
+        if let Some(code) = self.refusal(&event) {
+            return Err(WorldFault::Refused(code));
+        }
+        self.trace.reserve(1)?;
+        happen(alloc, &mut self.members, &event)?;
+        let traced = Traced {
+            event,
+            words: Words::new(alloc),
+        };
+        self.trace.push(traced).unwrap();
+        Ok(())
+    }
+}

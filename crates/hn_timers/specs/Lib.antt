@@ -1,0 +1,4 @@
+pub mod Interval
+pub mod KeepAlive
+pub mod Length
+pub mod Trickle

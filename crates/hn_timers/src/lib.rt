@@ -1,0 +1,15 @@
+//! The timers of a home router: Trickle (RFC 6206, section 4) and the keep-alives of peers (RFC 7787, section 6.1).
+//! Nothing here takes memory.
+#![tactic(auto)]
+
+mod keep_alive;
+mod trickle;
+
+pub use keep_alive::{
+    KEEP_ALIVE_INTERVAL, KEEP_ALIVE_MULTIPLIER_DENOMINATOR, KEEP_ALIVE_MULTIPLIER_NUMERATOR,
+    expired, silent,
+};
+pub use trickle::{LONGEST_INTERVAL, SHORTEST_INTERVAL, Trickle};
+
+#[cfg(test)]
+mod tests;

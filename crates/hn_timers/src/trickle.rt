@@ -1,0 +1,112 @@
+ghost use Rattle.std.specs.Prelude.{◌≡◌, ◌≢◌, ◌+◌, ◌/◌, ◌^◌, ◌<◌, ◌≤◌, ◌↔◌, min, IsTrue, true};
+ghost use Rattle.hn_timers.specs.Length.{IsLength, IsLength-prop, next_length};
+
+use hn_base::Moment;
+
+/// The length of the shortest interval, Imin, in milliseconds (RFC 7788, section 3).
+pub const SHORTEST_INTERVAL: u32 = 200;
+
+/// The length of the longest interval, in milliseconds: Imin doubled seven times (RFC 7788, section 3).
+pub const LONGEST_INTERVAL: u32 = 25_600;
+
+/// A Trickle timer with redundancy constant k = 1, in one of its intervals (RFC 6206, section 4).
+/// The length is one of the eight 200 * 2^j milliseconds with j from 0 to 7.
+#[derive(Clone, Copy, Debug, PartialEq, Eq)]
+pub struct Trickle {
+    /// When the interval began.
+    pub begin: Moment,
+    /// The interval's length I, in milliseconds.
+    pub len: u32,
+    /// When the timer fires: the time t of the RFC, in the second half of the interval.
+    pub fire: Moment,
+    /// How many consistent messages were heard in this interval: the counter c.
+    pub heard: u32,
+    /// Whether the timer has fired in this interval.
+    pub done: bool,
+    pub ghost of_length: { IsLength len } by { IsLength-prop len },
+    pub ghost begin_in_range: { begin ≤ 2 ^ 48 },
+    pub ghost in_second_half: { begin + len / 2 ≤ fire },
+    pub ghost before_end: { fire < begin + len },
+}
+
+impl Trickle {
+    ghost use Rattle.hn_timers.specs.Trickle.{interval};
+    ghost use Rattle.hn_timers.specs.Interval.{started, IsDue};
+
+    /// An interval of `len` milliseconds that begins now; `word`, a random number, says when in its second half it
+    /// fires (RFC 6206, section 4.2, steps 1 and 2). (no memory)
+    pub fn start(now: Moment, len: u32, word: u32) -> Trickle
+        requires of_length { IsLength len }
+        requires now_in_range { now ≤ 2 ^ 48 }
+        ensures { interval result ≡ started now len word }
+    {
+        let half = len / 2;
+        Trickle {
+            begin: now,
+            len,
+            fire: now + u64::from(half) + u64::from(word % half),
+            heard: 0,
+            done: false,
+        }
+    }
+
+    /// Counts a consistent message (RFC 6206, section 4.2, step 3). The count stays at 2^32 - 1. (no memory)
+    pub fn hear(&mut self)
+        ensures { interval self.new ≡ record (interval self.old) { heard = min (self.old.heard + 1) u32.MAX } }
+    {
+        self.heard = self.heard.saturating_add(1);
+    }
+
+    /// Whether to send now: the timer's time has come, it has not fired in this interval, and no consistent message
+    /// was heard (RFC 6206, section 4.2, step 4). Once its time has come, it has fired, whatever the answer.
+    /// (no memory)
+    pub fn fires(&mut self, now: Moment) -> bool
+        requires { now ≤ 2 ^ 48 }
+        ensures answer { IsTrue result ↔ (IsDue (interval self.old) now × (self.old.heard ≡ 0)) }
+        ensures due { IsDue (interval self.old) now
+            → interval self.new ≡ record (interval self.old) { done = true } }
+        ensures stays { ¬ IsDue (interval self.old) now → interval self.new ≡ interval self.old }
+    {
+        if self.done || now < self.fire {
+            return false;
+        }
+        self.done = true;
+        self.heard == 0
+    }
+
+    /// Whether the interval is over (RFC 6206, section 4.2, step 5). (no memory)
+    pub fn ended(&self, now: Moment) -> bool
+        requires { now ≤ 2 ^ 48 }
+        ensures { IsTrue result ↔ (self.now.begin + self.now.len ≤ now) }
+    {
+        now >= self.begin + u64::from(self.len)
+    }
+
+    /// Begins the next interval now, twice as long and no longer than `LONGEST_INTERVAL` (RFC 6206, section 4.2,
+    /// step 5). (no memory)
+    pub fn next(&mut self, now: Moment, word: u32)
+        requires { now ≤ 2 ^ 48 }
+        ensures { interval self.new ≡ started now (next_length self.old.len) word }
+    {
+        *self = Trickle::start(now, (2 * self.len).min(LONGEST_INTERVAL), word);
+    }
+
+    /// Begins an interval of the same length now, as one does who has sent a keep-alive (RFC 7787, section 6.1.2).
+    /// (no memory)
+    pub fn again(&mut self, now: Moment, word: u32)
+        requires { now ≤ 2 ^ 48 }
+        ensures { interval self.new ≡ started now self.old.len word }
+    {
+        *self = Trickle::start(now, self.len, word);
+    }
+
+    /// Begins an interval of the shortest length now, as an inconsistent message asks where the length is not the
+    /// shortest already (RFC 6206, section 4.2, step 6). (no memory)
+    pub fn reset(&mut self, now: Moment, word: u32)
+        requires longer { self.old.len ≢ SHORTEST_INTERVAL }
+        requires now_in_range { now ≤ 2 ^ 48 }
+        ensures { interval self.new ≡ started now SHORTEST_INTERVAL word }
+    {
+        *self = Trickle::start(now, SHORTEST_INTERVAL, word);
+    }
+}

@@ -1,0 +1,5 @@
+pub mod Outcome
+pub mod Unique
+pub mod Places
+pub mod Padding
+pub mod Split

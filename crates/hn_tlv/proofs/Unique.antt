@@ -1,0 +1,87 @@
+-- What the one outcome says of two readings of the same bytes.
+use Rattle.std.proofs.Common.{◌≡◌, ℕ, ◌+◌, List, [], ◌∷◌, ◌++◌, length, refl, sym, ap, subst, ◌∙◌, append_assoc, arith}
+use Rattle.std.proofs.lemmas.List.{length-append}
+use Rattle.hn_tlv.specs.Grammar.{PlainTlv, IsTlv, spelling, IsTlvList, HasTlvs, IsFault, FirstFault}
+use Rattle.hn_tlv.proofs.Outcome.{Ends, Begins, Faults, outcome, outcome_nothing, outcome_spelling, outcome_fault}
+
+begun_is : (t u : PlainTlv) (x y : List ℕ) → Begins t x ≡ Begins u y → (t ≡ u) × (x ≡ y)
+begun_is t u x y e = (cc, cc)
+
+fault_is : (p q v w : ℕ) → Faults p v ≡ Faults q w → (p ≡ q) × (v ≡ w)
+fault_is p q v w e = (cc, cc)
+
+pub same_begin : (t u : PlainTlv) (x y : List ℕ) → IsTlv t → IsTlv u → spelling t ++ x ≡ spelling u ++ y → (t ≡ u) × (x ≡ y)
+same_begin t u x y t_valid u_valid e = begun_is t u x y (sym (outcome_spelling t x t_valid) ∙ ap outcome e ∙ outcome_spelling u y u_valid)
+
+pub same_fault : (bytes : List ℕ) (p q v w : ℕ) → IsFault bytes p v → IsFault bytes q w → (p ≡ q) × (v ≡ w)
+same_fault bytes p q v w f g = fault_is p q v w (sym (outcome_fault bytes p v f) ∙ outcome_fault bytes q w g)
+
+-- where a fault lies, no TLV begins
+pub no_tlv : (bytes rest : List ℕ) (offset why : ℕ) (t : PlainTlv) → IsFault bytes offset why → IsTlv t → ¬ (bytes ≡ spelling t ++ rest)
+no_tlv bytes rest offset why t f valid e =
+    let clash : Faults offset why ≡ Begins t rest = sym (outcome_fault bytes offset why f) ∙ ap outcome e ∙ outcome_spelling t rest valid in
+    cc
+
+-- where a fault lies, bytes are
+pub not_empty : (bytes : List ℕ) (offset why : ℕ) → IsFault bytes offset why → ¬ (bytes ≡ [])
+not_empty bytes offset why f e =
+    let clash : Faults offset why ≡ Ends = sym (outcome_fault bytes offset why f) ∙ ap outcome e ∙ outcome_nothing in
+    cc
+
+-- ---- lists
+
+pub same_list : (a b : List PlainTlv) (bytes : List ℕ) → IsTlvList a bytes → IsTlvList b bytes → a ≡ b
+same_list [] [] bytes l m = refl
+same_list [] (u ∷ us) bytes l m = let e : [] ≡ spelling u ++ m.0 = sym l ∙ m.2 in absurd cc
+same_list (t ∷ ts) [] bytes l m = let e : [] ≡ spelling t ++ l.0 = sym m ∙ l.2 in absurd cc
+same_list (t ∷ ts) (u ∷ us) bytes l m =
+    let same = same_begin t u l.0 m.0 l.1 m.1 (sym l.2 ∙ m.2) in
+    let tails : ts ≡ us = same_list ts us m.0 (subst (IsTlvList ts) same.1 l.3) m.3 in
+    rw (same.0, tails) refl
+
+pub joined : (a b : List PlainTlv) (x y : List ℕ) → IsTlvList a x → IsTlvList b y → IsTlvList (a ++ b) (x ++ y)
+joined [] b x y l m = subst (λ (z : List ℕ). IsTlvList b (z ++ y)) (sym l) m
+joined (t ∷ ts) b x y l m = (l.0 ++ y, l.1, ap (λ (z : List ℕ). z ++ y) l.2 ∙ append_assoc (spelling t) l.0 y, joined ts b l.0 y l.3 m)
+
+-- a list with a TLV at its beginning
+pub rest_of : (t : PlainTlv) (all : List PlainTlv) (bytes rest : List ℕ) → IsTlv t → bytes ≡ spelling t ++ rest → IsTlvList all bytes → (ts : List PlainTlv) × (all ≡ t ∷ ts) × IsTlvList ts rest
+rest_of t [] bytes rest valid e l = let none : [] ≡ spelling t ++ rest = sym l ∙ e in absurd cc
+rest_of t (u ∷ us) bytes rest valid e l =
+    let same = same_begin u t l.0 rest l.1 valid (sym l.2 ∙ e) in
+    (us, ap (λ (v : PlainTlv). v ∷ us) same.0, subst (IsTlvList us) same.1 l.3)
+
+-- ---- first faults
+
+no_list_behind : (a b : List PlainTlv) (front rest : List ℕ) (offset why : ℕ) → IsTlvList a front → IsFault rest offset why → ¬ (IsTlvList b (front ++ rest))
+no_list_behind [] [] front rest offset why l f m = not_empty rest offset why f (ap (λ (z : List ℕ). z ++ rest) (sym l) ∙ m)
+no_list_behind [] (u ∷ us) front rest offset why l f m = no_tlv rest m.0 offset why u f m.1 (ap (λ (z : List ℕ). z ++ rest) (sym l) ∙ m.2)
+no_list_behind (t ∷ ts) b front rest offset why l f m =
+    let split : front ++ rest ≡ spelling t ++ (l.0 ++ rest) = ap (λ (z : List ℕ). z ++ rest) l.2 ∙ append_assoc (spelling t) l.0 rest in
+    let others = rest_of t b (front ++ rest) (l.0 ++ rest) l.1 split m in
+    no_list_behind ts others.0 l.0 rest offset why l.3 f others.2
+
+pub no_list : (bytes : List ℕ) (place why : ℕ) → FirstFault bytes place why → ¬ (HasTlvs bytes)
+no_list bytes place why f l = no_list_behind f.tlvs l.0 f.front f.rest f.offset why f.before f.fault (subst (IsTlvList l.0) f.parts l.1)
+
+same_behind : (a b : List PlainTlv) (x y r s : List ℕ) (o p v w : ℕ) → IsTlvList a x → IsTlvList b y → x ++ r ≡ y ++ s → IsFault r o v → IsFault s p w → (length x + o ≡ length y + p) × (v ≡ w)
+same_behind [] [] x y r s o p v w l m e f g =
+    let rests : r ≡ s = ap (λ (z : List ℕ). z ++ r) (sym l) ∙ e ∙ ap (λ (z : List ℕ). z ++ s) m in
+    let same = same_fault s o p v w (subst (λ (z : List ℕ). IsFault z o v) rests f) g in
+    (rw (l, m, same.0) refl, same.1)
+same_behind [] (u ∷ us) x y r s o p v w l m e f g =
+    absurd (no_tlv r (m.0 ++ s) o v u f m.1 (ap (λ (z : List ℕ). z ++ r) (sym l) ∙ e ∙ ap (λ (z : List ℕ). z ++ s) m.2 ∙ append_assoc (spelling u) m.0 s))
+same_behind (t ∷ ts) [] x y r s o p v w l m e f g =
+    absurd (no_tlv s (l.0 ++ r) p w t g l.1 (ap (λ (z : List ℕ). z ++ s) (sym m) ∙ sym e ∙ ap (λ (z : List ℕ). z ++ r) l.2 ∙ append_assoc (spelling t) l.0 r))
+same_behind (t ∷ ts) (u ∷ us) x y r s o p v w l m e f g =
+    let left : x ++ r ≡ spelling t ++ (l.0 ++ r) = ap (λ (z : List ℕ). z ++ r) l.2 ∙ append_assoc (spelling t) l.0 r in
+    let right : y ++ s ≡ spelling u ++ (m.0 ++ s) = ap (λ (z : List ℕ). z ++ s) m.2 ∙ append_assoc (spelling u) m.0 s in
+    let same = same_begin t u (l.0 ++ r) (m.0 ++ s) l.1 m.1 (sym left ∙ e ∙ right) in
+    let behind = same_behind ts us l.0 m.0 r s o p v w l.3 m.3 same.1 f g in
+    let x_len : length x ≡ length (spelling t) + length l.0 = ap length l.2 ∙ length-append (spelling t) l.0 in
+    let y_len : length y ≡ length (spelling t) + length m.0 = ap length m.2 ∙ length-append (spelling u) m.0 ∙ ap (λ (z : PlainTlv). length (spelling z) + length m.0) (sym same.0) in
+    (rw (x_len, y_len) (omega (arith, behind.0)), behind.1)
+
+pub same_first_fault : (bytes : List ℕ) (p q v w : ℕ) → FirstFault bytes p v → FirstFault bytes q w → (p ≡ q) × (v ≡ w)
+same_first_fault bytes p q v w f g =
+    let same = same_behind f.tlvs g.tlvs f.front g.front f.rest g.rest f.offset g.offset v w f.before g.before (sym f.parts ∙ g.parts) f.fault g.fault in
+    (f.place_is ∙ same.0 ∙ sym g.place_is, same.1)

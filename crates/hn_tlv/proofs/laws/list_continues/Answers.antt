@@ -1,0 +1,5 @@
+use Rattle.hn_tlv.proofs.Places.{splits}
+use Rattle.hn_tlv.proofs.laws.list_continues.Goals as goal
+
+pub returns-clause-splits : goal.returns-clause-splits
+returns-clause-splits c = splits

@@ -1,0 +1,5 @@
+use Rattle.hn_tlv.proofs.Places.{grows}
+use Rattle.hn_tlv.proofs.laws.list_grows.Goals as goal
+
+pub returns : goal.returns
+returns c = grows

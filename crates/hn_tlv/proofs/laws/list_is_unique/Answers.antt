@@ -1,0 +1,5 @@
+use Rattle.hn_tlv.proofs.Unique.{same_list}
+use Rattle.hn_tlv.proofs.laws.list_is_unique.Goals as goal
+
+pub returns : goal.returns
+returns c = same_list

@@ -1,0 +1,5 @@
+use Rattle.hn_tlv.proofs.Unique.{joined}
+use Rattle.hn_tlv.proofs.laws.lists_join.Goals as goal
+
+pub returns : goal.returns
+returns c = joined

@@ -1,0 +1,4 @@
+pub mod Hashes
+pub mod Leaves
+pub mod Laws
+pub mod Places

@@ -1,0 +1,26 @@
+use Rattle.std.specs.Prelude.{ℕ, ◌^◌, ◌<◌, List, ◌++◌, map, All}
+use Rattle.std.specs.List.{flat_map}
+use Rattle.std.specs.Int.{w32, to_be_bytes}
+use Rattle.hn_hash.specs.Hash.{hash_of}
+use Rattle.hn_hash.specs.declared.leaf.Leaf.{Leaf}
+
+-- What a leaf adds to the hashed text: its sequence number in network byte order and the hash of its node data
+-- (RFC 7787, section 4.1).
+abbrev pub entry_of : Leaf → List ℕ
+entry_of leaf = to_be_bytes w32 leaf.number ++ hash_of leaf.body
+
+-- The text whose hash is the network state hash.
+abbrev pub leaf_text : List Leaf → List ℕ
+leaf_text leaves = flat_map entry_of leaves
+
+-- The network state hash (RFC 7787, section 4.1).
+abbrev pub network_hash : List Leaf → List ℕ
+network_hash leaves = hash_of (leaf_text leaves)
+
+-- The node data of the leaves.
+abbrev pub bodies : List Leaf → List (List ℕ)
+bodies leaves = map (λ leaf. leaf.body) leaves
+
+-- Each of the sequence numbers has 32 bits.
+abbrev pub AreNumbered : List Leaf → Type 0
+AreNumbered leaves = All (λ leaf. leaf.number < 2 ^ 32) leaves

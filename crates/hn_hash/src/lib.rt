@@ -1,0 +1,18 @@
+//! The hash of a home router's network state, and what two routers that agree on it can conclude (RFC 7787,
+//! section 4.1, with the hash of RFC 7788, section 3).
+#![tactic(auto)]
+
+mod agreement;
+mod hash;
+mod law;
+mod leaf;
+mod network_state;
+
+pub use agreement::{Agreement, agree};
+pub use hash::h;
+pub use law::equal_hashes_agree_or_collide;
+pub use leaf::Leaf;
+pub use network_state::network;
+
+#[cfg(test)]
+mod tests;

@@ -1,0 +1,5 @@
+mod Cuts
+mod Words
+mod LineTexts
+mod Lists
+mod Zeros

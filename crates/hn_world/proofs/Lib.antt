@@ -1,3 +1,4 @@
 mod Named
 mod Members
 mod Replaying
+mod Numbered

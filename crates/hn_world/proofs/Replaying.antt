@@ -8,7 +8,7 @@ through : (past more : List Trace) → ((home : Home) → replay_from home (past
 through past more each None = refl
 through past more each (Some v) = each v
 
-replay_from-append : (home : Home) (past more : List Trace) → replay_from home (past ++ more) ≡ option_and_then (λ next. replay_from next more) (replay_from home past)
+pub replay_from-append : (home : Home) (past more : List Trace) → replay_from home (past ++ more) ≡ option_and_then (λ next. replay_from next more) (replay_from home past)
 replay_from-append home [] more = refl
 replay_from-append home (t ∷ past) more = through past more (λ v. replay_from-append v past more) (world_step home t)
 

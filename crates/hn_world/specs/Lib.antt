@@ -3,3 +3,4 @@ pub mod Happening
 pub mod Version
 pub mod Member
 pub mod WorldView
+pub mod Leaves

@@ -2,6 +2,7 @@
 #![tactic(auto)]
 
 mod event;
+mod law;
 mod member;
 mod router;
 #[cfg(test)]
@@ -9,5 +10,6 @@ mod tests;
 mod world;
 
 pub use event::{Traced, WEvent, WorldFault};
+pub use law::equal_hashes_always_agree;
 pub use router::Router;
 pub use world::World;

@@ -2,6 +2,7 @@ ghost use Rattle.std.specs.Prelude.{◌≡◌, ◌+◌, ◌*◌, IfOk};
 ghost use Rattle.hn_world.specs.Version.{priorities, version_tlv};
 
 use hn_base::{Bytes, Caps, NoMemory, NodeId};
+use hn_hash::Leaf;
 use std::alloc::Global;
 
 /// A router: its identifier, the number and the node data that it published last (RFC 7787, section 4.4).
@@ -38,6 +39,10 @@ fn version_tlv(alloc: Global, caps: Caps) -> Result<Bytes, NoMemory>
 }
 
 impl Router {
+    ghost use Rattle.std.specs.Prelude.{[], ◌∷◌};
+    ghost use Rattle.hn_world.specs.Member.{node_of};
+    ghost use Rattle.hn_world.specs.Leaves.{leaves_of};
+
     /// A router that publishes these priorities with this number.
     pub(crate) fn publishing(
         alloc: Global,
@@ -54,6 +59,16 @@ impl Router {
             number,
             caps,
             body: version_tlv(alloc, caps)?,
+        })
+    }
+
+    /// What it adds to a network state (RFC 7787, section 4.1).
+    pub(crate) fn leaf(&self, alloc: Global) -> Result<Leaf, NoMemory>
+        ensures { IfOk result (λ leaf. leaf ∷ [] ≡ leaves_of (node_of self.now)) }
+    {
+        Ok(Leaf {
+            number: self.number,
+            body: Bytes::copy_of(alloc, self.body.as_slice())?,
         })
     }
 }

@@ -1,11 +1,12 @@
-ghost use Rattle.std.specs.Prelude.{◌≡◌, ◌↔◌, ℕ, [], None, Some, Err, map, IsTrue, IsSomeAnd, OnOk, OnErr, option_copied};
+ghost use Rattle.std.specs.Prelude.{◌≡◌, ◌↔◌, ℕ, [], None, Some, Err, map, IsTrue, IsSome, IsSomeAnd, IfOk, OnOk, OnErr, option_copied};
 ghost use Rattle.std.specs.Option.{option_map};
 ghost use Rattle.hn_base.specs.Name.{name_text};
 
 use crate::event::{Traced, WEvent, WorldFault};
 use crate::member::{Member, happen, place_of};
 use crate::router::Router;
-use hn_base::{Moment, Name, Words};
+use hn_base::{Moment, Name, NoMemory, Words};
+use hn_hash::{Agreement, agree};
 use hn_io::Draw;
 use std::alloc::Global;
 use std::marker::Model;
@@ -32,9 +33,10 @@ impl Model for World {
 }
 
 impl World {
-    ghost use Rattle.hn_world.specs.Home.{empty_home, station_named, refusal, world_step, replay};
+    ghost use Rattle.hn_world.specs.Home.{Station, empty_home, station_named, refusal, world_step, replay};
     ghost use Rattle.hn_world.specs.Happening.{happening, trace_of};
     ghost use Rattle.hn_world.specs.Member.{node_of};
+    ghost use Rattle.hn_world.specs.Leaves.{leaves_of, Agrees};
 
     /// A world at moment 0 with nothing in it. (no memory)
     pub fn new(alloc: Global) -> World
@@ -79,6 +81,24 @@ impl World {
             Some(place) => self.members[place].running,
             None => false,
         }
+    }
+
+    /// How two running routers agree: whether their network state hashes differ, their lists of leaves are the same,
+    /// or two inputs collide.
+    pub fn compare(&self, alloc: Global, a: &Name, b: &Name) -> Result<Agreement, NoMemory>
+        requires left { IsSome (station_named (name_text a.now) self.now.stations) }
+        requires right { IsSome (station_named (name_text b.now) self.now.stations) }
+        ensures { IfOk result (λ agreement. (s t : Station)
+            → station_named (name_text a.now) self.now.stations ≡ Some s
+            → station_named (name_text b.now) self.now.stations ≡ Some t
+            → Agrees (leaves_of s.node) (leaves_of t.node) agreement) }
+    {
+        let (Some(left), Some(right)) = (self.router(a), self.router(b)) else {
+            unreachable!()
+        };
+        let left = [left.leaf(alloc)?];
+        let right = [right.leaf(alloc)?];
+        agree(alloc, &left, &right)
     }
 
     /// The code with which the event is refused; `None` exactly where it is accepted. (no memory)

@@ -1,4 +1,4 @@
-ghost use Rattle.std.specs.Prelude.{◌≡◌, ◌+◌, ◌^◌, ◌<◌, ◌≤◌, ◌↔◌, [], IsTrue, Some, Contains};
+ghost use Rattle.std.specs.Prelude.{◌≡◌, ◌+◌, ◌^◌, ◌<◌, ◌≤◌, ◌↔◌, [], false, IsTrue, Some, Contains};
 
 use crate::fault::IoFault;
 use crate::sink::Sink;
@@ -38,6 +38,7 @@ impl Calls {
         ensures listed { IsTrue result ↔ (self.old.made + 1 < 2 ^ 64) × Contains self.old.fails (self.old.made + 1) }
         ensures rises { IsTrue result → Rose (faults_so_far self.old) (faults_so_far self.new) }
         ensures counted { faults_so_far self.old ≤ faults_so_far self.new }
+        ensures stays { result ≡ false → faults_so_far self.new ≡ faults_so_far self.old }
     {
         match self.made.checked_add(1) {
             None => false,

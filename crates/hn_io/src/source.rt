@@ -24,5 +24,6 @@ pub trait Source {
         ensures err { OnErr result (left self.new ≡ left self.old) }
         ensures failed { result ≡ Err IoFault.Failed → Rose (faults self.old) (faults self.new) }
         ensures counted { faults self.old ≤ faults self.new }
+        ensures no_fault { result ≢ Err IoFault.Failed → faults self.new ≡ faults self.old }
         ensures reliable { never_fails self.old → never_fails self.new × (result ≢ Err IoFault.Failed) };
 }

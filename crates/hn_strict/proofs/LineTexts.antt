@@ -1,10 +1,10 @@
 -- What the text of a line begins with, and that it is the text of one line.
-use Rattle.std.proofs.Common.{◌≡◌, ◌<◌, ℕ, true, List, [], ◌∷◌, ◌++◌, get_or, drop, ap, sym, ◌∙◌, subst, refl, codes, arith, ltb}
-use Rattle.std.specs.List.{AllZip, AllByRecursion, join_with_byte, list_all}
+use Rattle.std.proofs.Common.{◌≡◌, ℕ, List, [], ◌∷◌, ◌++◌, get_or, drop, ap, sym, ◌∙◌, subst, refl, codes, arith}
+use Rattle.std.specs.List.{AllZip, AllByRecursion, join_with_byte}
 use Rattle.hn_base.specs.NameText.{IsNameText}
 use Rattle.hn_strict.specs.Fields.{ArePriorities}
 use Rattle.hn_strict.specs.Script.{ScriptLine, RouterLine, CapsLine, ShowLine, CompareLine, IsIdText, IsPriorityText, IsWords, IsLineText}
-use Rattle.hn_strict.proofs.Cuts.{Lacks, Above, Lacks-from_above, Lacks-append, cut_once, no_cut}
+use Rattle.hn_strict.proofs.Cuts.{Lacks, Above, Lacks-from_above, Lacks-append, cut_once}
 use Rattle.hn_strict.proofs.Words.{Above-from_test, Above-name, Above-id, Above-priority, one_id, one_caps}
 
 -- ---- no line has LF in its text
@@ -70,7 +70,7 @@ pub record CompareParts (line : ScriptLine) (words : List ℕ) : Type 0 where
   pub is_left : IsNameText left
   pub is_right : IsNameText right
 
--- each text of a line is a keyword, a space and words of that kind
+-- a keyword, a space and words of its kind are the text of a line
 pub router_text : (name digits text : List ℕ) (id : ℕ) → text ≡ name ++ 32 ∷ digits → IsNameText name → IsIdText digits id
     → IsLineText (RouterLine name id) (codes "router" ++ 32 ∷ text)
 router_text name digits text id e n i = (codes "router" ∷ name ∷ digits ∷ [], (digits, refl, n, i), rw e refl)
@@ -84,13 +84,6 @@ caps_text name numbers text m p h l e n a = joined a.0 a.1 a.2
     joined [] z j = elim z [ ]
     joined (piece ∷ pieces) z j =
         (codes "caps" ∷ name ∷ piece ∷ pieces, (piece ∷ pieces, refl, n, z), rw (e, j) refl)
-
-pub show_text : (name : List ℕ) → IsNameText name → IsLineText (ShowLine name) (codes "show" ++ 32 ∷ name)
-show_text name n = (codes "show" ∷ name ∷ [], (refl, n), refl)
-
-pub compare_text : (left right text : List ℕ) → text ≡ left ++ 32 ∷ right → IsNameText left → IsNameText right
-    → IsLineText (CompareLine left right) (codes "compare" ++ 32 ∷ text)
-compare_text left right text e a b = (codes "compare" ∷ left ∷ right ∷ [], (refl, a, b), rw e refl)
 
 -- the text of a line: a keyword, a space and the words of that kind
 pub data Kind (line : ScriptLine) (text : List ℕ) : Type 0 where

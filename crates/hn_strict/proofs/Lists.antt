@@ -1,7 +1,7 @@
 -- Lines one behind the other, each cut off at its LF.
-use Rattle.std.proofs.Common.{◌≡◌, ◌<◌, ℕ, List, [], ◌∷◌, ◌++◌, length, drop, ap, sym, ◌∙◌, subst, refl, codes, arith, append_assoc}
+use Rattle.std.proofs.Common.{◌≡◌, ◌<◌, ℕ, List, [], ◌∷◌, ◌++◌, length, drop, ap, sym, ◌∙◌, refl, arith, append_assoc}
 use Rattle.std.specs.List.{AllZip, concat}
-use Rattle.hn_strict.specs.Script.{ScriptLine, IsLineText, IsLine, AreLines, IsScript, AtMostOneScript}
+use Rattle.hn_strict.specs.Script.{ScriptLine, IsLineText, IsLine, AreLines, AtMostOneScript}
 use Rattle.hn_strict.proofs.Cuts.{Lacks, cut_once, no_cut}
 use Rattle.hn_strict.proofs.LineTexts.{line_lacks, one_line}
 

@@ -1,8 +1,7 @@
 -- Names, identifiers and priorities: their bytes are above the space, and each text has one value.
-use Rattle.std.proofs.Common.{◌≡◌, ◌<◌, ◌≤◌, ℕ, ◌+◌, Bool, true, List, [], ◌∷◌, ◌++◌, length, ap, sym, ◌∙◌, subst, refl, arith, ltb}
-use Rattle.std.specs.Char.{digit_value}
+use Rattle.std.proofs.Common.{◌≡◌, ◌<◌, ℕ, true, List, [], ◌∷◌, ◌++◌, ap, sym, ◌∙◌, refl, arith, ltb}
 use Rattle.std.specs.Int.{w32, to_be_bytes, from_be_bytes}
-use Rattle.std.specs.List.{AllZip, AllByRecursion, join_with_byte, list_all}
+use Rattle.std.specs.List.{AllZip, join_with_byte, list_all}
 use Rattle.std.specs.Str.Parse.{AllDigits}
 use Rattle.std.proofs.lemmas.Bool.{and_parts}
 use Rattle.std.proofs.lemmas.Bool.Decides.{nat_tests}
@@ -14,7 +13,7 @@ use Rattle.hex.proofs.HexLemmas.{decode_of-ok, decode_of-same}
 use Rattle.hn_base.specs.NameText.{is_name_byte, IsNameText}
 use Rattle.hn_strict.specs.Fields.{ArePriorities}
 use Rattle.hn_strict.specs.Script.{IsIdText, IsPriorityText}
-use Rattle.hn_strict.proofs.Cuts.{Lacks, Above, Lacks-from_above, cut_once, no_cut}
+use Rattle.hn_strict.proofs.Cuts.{Above, Lacks-from_above, cut_once}
 
 pub Above-from_test : (text : List ℕ) → list_all (ltb 32) text ≡ true → Above text
 Above-from_test [] h = tt

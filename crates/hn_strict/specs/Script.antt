@@ -68,4 +68,6 @@ IsScript lines bytes = (behind : List ℕ) × AreLines lines behind × (bytes �
 
 -- bytes are the script of at most one list of lines
 abbrev pub AtMostOneScript : Type 0
-AtMostOneScript = (bytes : List ℕ) (lines others : List ScriptLine) → IsScript lines bytes → IsScript others bytes → lines ≡ others
+AtMostOneScript =
+    (bytes : List ℕ) (lines others : List ScriptLine)
+    → IsScript lines bytes → IsScript others bytes → lines ≡ others

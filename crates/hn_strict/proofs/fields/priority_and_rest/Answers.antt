@@ -1,6 +1,5 @@
 -- A cut at the first space gives the one text that the priority before a space can have.
-use Rattle.std.proofs.Common.{sym, ◌∙◌, subst, arith}
-use Rattle.hn_strict.specs.Script.{IsPriorityText}
+use Rattle.std.proofs.Common.{sym, ◌∙◌, arith}
 use Rattle.hn_strict.proofs.Cuts.{Lacks-from_all, Lacks-from_above, cut_once, no_cut}
 use Rattle.hn_strict.proofs.Words.{Above-priority}
 use Rattle.hn_strict.proofs.fields.priority_and_rest.Goals as goal

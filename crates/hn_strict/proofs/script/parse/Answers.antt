@@ -1,5 +1,5 @@
 -- Behind the first line of a script are its lines.
-use Rattle.std.proofs.Common.{◌≡◌, List, ℕ, Some, codes, drop, ap, sym, ◌∙◌}
+use Rattle.std.proofs.Common.{◌≡◌, Some, codes, drop, ap, sym, ◌∙◌}
 use Rattle.std.proofs.lemmas.Bool.Decides.{Decides-eqb}
 use Rattle.std.proofs.lemmas.Slice.Eq.{strip_prefix_is}
 use Rattle.hn_strict.proofs.script.parse.Goals as goal

@@ -1,5 +1,5 @@
 -- With the lines of the rest behind them, the lines so far are those of all the bytes; and the rest of lines is lines.
-use Rattle.std.proofs.Common.{ℕ, List, ◌++◌, length, map}
+use Rattle.std.proofs.Common.{List, ◌++◌, length, map}
 use Rattle.hn_strict.specs.Line.{line_of}
 use Rattle.hn_strict.specs.Script.{ScriptLine, AreLines}
 use Rattle.hn_strict.proofs.script.parse_lines.Given as goal

@@ -1,5 +1,5 @@
 -- What follows a keyword is what the text has behind it.
-use Rattle.std.proofs.Common.{Some, codes, sym}
+use Rattle.std.proofs.Common.{Some, codes}
 use Rattle.std.proofs.lemmas.Bool.Decides.{Decides-eqb}
 use Rattle.std.proofs.lemmas.Slice.Eq.{strip_prefix_is}
 use Rattle.hn_strict.proofs.line.Line.parse.Goals as goal

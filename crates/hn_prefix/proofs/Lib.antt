@@ -1,0 +1,9 @@
+pub mod Blocks
+pub mod Jumps
+pub mod Masks
+pub mod NumeralLemmas
+pub mod Places
+pub mod ReadLemmas
+pub mod Rounds
+pub mod SplitLemmas
+pub mod WriteLemmas

@@ -1,0 +1,14 @@
+use Rattle.std.proofs.Common.{◌≡◌, ap, arith}
+use Rattle.std.proofs.lemmas.Bool.Decides.{nat_tests}
+use Rattle.hn_prefix.specs.Prefix.{PlainPrefix}
+use Rattle.hn_prefix.proofs.Blocks.{overlap_range}
+use Rattle.hn_prefix.proofs.prefix.Prefix.overlaps.Goals as goal
+
+pub returns-then-self-last_address : goal.returns-then-self-last_address
+returns-then-self-last_address c =
+    let one : c.self.inside.bits ≡ c.args.self.now.bits = ap (λ (p : PlainPrefix). p.bits) c.self.view_is in
+    let another : c.other.inside.bits ≡ c.args.other.now.bits = ap (λ (p : PlainPrefix). p.bits) c.other.view_is in
+    let range = overlap_range c.args.self.now c.args.other.now c.last_address-then-self-last_address.ensures.valid c.last_address.ensures.valid in (
+      (λ starts. range.1 (omega arith, grind (arith, nat_tests))),
+      (λ overlap. let starts = range.0 overlap in grind (arith, nat_tests)),
+    )

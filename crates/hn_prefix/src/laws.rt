@@ -1,0 +1,27 @@
+//! What holds of the texts of addresses and prefixes, whichever they are. The functions do nothing: their contracts
+//! are the laws.
+
+ghost use Rattle.std.specs.Prelude.{◌≡◌, ℕ, ◌^◌, ◌<◌, List, length};
+ghost use Rattle.std.specs.List.{AllByRecursion};
+ghost use Rattle.hn_prefix.specs.Prefix.{PlainPrefix, IsPrefix};
+ghost use Rattle.hn_prefix.specs.AddressText.{groups, address_of, address_text_of, IsAddressText, IsWrittenForm};
+ghost use Rattle.hn_prefix.specs.PrefixText.{prefix_text_of, IsPrefixText};
+
+/// Eight groups of 16 bits and an address of 128 bits are one value.
+pub fn groups_are_the_address()
+    ensures address { (ip : ℕ) → ip < 2 ^ 128 → address_of (groups ip) ≡ ip }
+    ensures groups { (gs : List ℕ) → length gs ≡ 8 → AllByRecursion (λ g. g < 2 ^ 16) gs
+        → groups (address_of gs) ≡ gs }
+{}
+
+/// An address has a written form (RFC 5952, section 4), and no other one.
+pub fn written_form_is_one()
+    ensures written { (ip : ℕ) → IsWrittenForm (address_text_of ip) (groups ip) }
+    ensures one { (gs one other : List ℕ) → IsWrittenForm one gs → IsWrittenForm other gs → one ≡ other }
+{}
+
+/// The written form is among the read forms.
+pub fn written_form_is_read()
+    ensures address { (ip : ℕ) → ip < 2 ^ 128 → IsAddressText (address_text_of ip) ip }
+    ensures prefix { (p : PlainPrefix) → IsPrefix p → IsPrefixText (prefix_text_of p) p }
+{}

@@ -1,0 +1,25 @@
+//! IPv6 prefixes as values: which addresses are inside, which prefixes overlap, and the first free one of a length;
+//! and the texts of addresses and prefixes.
+#![tactic(auto)]
+
+mod free;
+mod groups;
+mod laws;
+mod numeral;
+mod parse;
+mod prefix;
+mod runs;
+mod split;
+#[cfg(test)]
+mod tests;
+mod text;
+#[cfg(test)]
+mod text_tests;
+
+pub use free::first_free;
+pub use laws::{groups_are_the_address, written_form_is_one, written_form_is_read};
+pub use parse::{BadText, parse_address};
+pub use prefix::{
+    BadPrefix, Prefix, inside_is_range, order_is_total, overlap_is_nesting, sub_prefixes_are_all,
+};
+pub use text::{PrefixText, address_text};

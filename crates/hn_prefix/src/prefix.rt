@@ -1,0 +1,188 @@
+ghost use Rattle.std.specs.Prelude.{◌≡◌, ◌↔◌, ◌⊎◌, ℕ, ◌+◌, ◌-◌, ◌*◌, ◌/◌, ◌%◌, ◌^◌, ◌<◌, ◌≤◌, Some, codes, IsTrue, IsOk, IfOk};
+ghost use Rattle.std.specs.Cmp.{IsTotalOrder};
+ghost use Rattle.hn_prefix.specs.Free.{sub_prefix, sub_prefix_count, IsPrefixInside, IsSubPrefix};
+ghost use Rattle.hn_prefix.specs.Prefix.{PlainPrefix, IsPrefix, IsInside, IsWithin, Overlaps, last_address, prefix_cmp};
+
+use std::error::Error;
+use std::fmt;
+use std::marker::Model;
+
+/// An IPv6 prefix: an address and how many of its leftmost bits are the prefix, with no bit set past them
+/// (RFC 4291, section 2.3). Prefixes are ordered by their bits, and then by their length.
+///
+/// There is no `is_empty` beside `len`: the length counts bits, and `::/0` has every address inside.
+#[derive(Clone, Copy, Debug, PartialEq, Eq, PartialOrd, Ord, Hash)]
+pub struct Prefix {
+    bits: u128,
+    len: u8,
+}
+
+impl Model for Prefix {
+    ghost Value = { PlainPrefix };
+
+    ghost view = { λ p. record { bits = p.bits; len = p.len } };
+
+    ghost invariant = { λ p. IsPrefix (record { bits = p.bits; len = p.len }) };
+
+    ghost inverse = { λ p. record { bits = p.bits; len = p.len } };
+}
+
+/// The length is above 128, or a bit past it is set.
+#[derive(Clone, Copy, Debug, PartialEq, Eq, Hash)]
+pub struct BadPrefix;
+
+impl fmt::Display for BadPrefix {
+    ghost output = { λ _. Some (codes "not an IPv6 prefix") };
+
+    fn fmt<W: fmt::Write>(&self, f: &mut fmt::Formatter<W>) -> fmt::Result {
+        f.write_str("not an IPv6 prefix")
+    }
+}
+
+impl Error for BadPrefix {}
+
+impl Prefix {
+    /// The prefix of these leftmost bits and this length. Refused exactly where the length is above 128 or a bit
+    /// past it is set. (no memory)
+    pub fn new(bits: u128, len: u8) -> Result<Prefix, BadPrefix>
+        ensures accepted { IsOk result ↔ IsPrefix (record { bits = bits; len = len }) }
+        ensures value { IfOk result (λ p. p ≡ record { bits = bits; len = len }) }
+    {
+        if len <= 128 && ends_in_zeros(bits, len) {
+            Ok(Prefix { bits, len })
+        } else {
+            Err(BadPrefix)
+        }
+    }
+
+    /// The lowest address inside, whose bits past the length are zero. (no memory)
+    pub fn bits(&self) -> u128
+        ensures value { result ≡ self.now.bits }
+        ensures valid { IsPrefix self.now }
+    {
+        self.bits
+    }
+
+    /// How many bits the prefix has, 0 to 128. (no memory)
+    pub fn len(&self) -> u8
+        ensures value { result ≡ self.now.len }
+        ensures valid { IsPrefix self.now }
+    {
+        self.len
+    }
+
+    /// Whether each address inside the other prefix is inside this one. A prefix contains itself. (no memory)
+    pub fn contains(&self, other: &Prefix) -> bool
+        ensures { IsTrue result ↔ IsWithin other.now self.now }
+    {
+        self.bits <= other.bits && other.last_address() <= self.last_address()
+    }
+
+    /// Whether some address is inside both. (no memory)
+    pub fn overlaps(&self, other: &Prefix) -> bool
+        ensures { IsTrue result ↔ Overlaps self.now other.now }
+    {
+        self.bits <= other.last_address() && other.bits <= self.last_address()
+    }
+
+    /// The highest address inside, whose bits past the length are ones.
+    pub(crate) fn last_address(&self) -> u128
+        ensures value { result ≡ last_address self.now }
+        ensures valid { IsPrefix self.now }
+    {
+        self.bits + host_mask(self.len)
+    }
+
+    /// How many prefixes of this length are inside.
+    pub(crate) fn sub_prefix_count(&self, len: u8) -> u128
+        requires not_shorter { self.now.len ≤ len }
+        requires len_in_range { len ≤ 64 }
+        ensures value { result ≡ sub_prefix_count self.now len }
+        ensures small { result ≤ 2 ^ 64 }
+        ensures valid { IsPrefix self.now }
+    {
+        1 << (len - self.len)
+    }
+
+    /// The prefix of this length at a place among those inside, which are numbered from 0 in ascending order.
+    pub(crate) fn sub_prefix(&self, len: u8, place: u128) -> Prefix
+        requires not_shorter { self.now.len ≤ len }
+        requires len_in_range { len ≤ 128 }
+        requires below_count { place < sub_prefix_count self.now len }
+        ensures { result ≡ sub_prefix self.now len place }
+    {
+        Prefix {
+            bits: self.bits + addresses_before(place, len),
+            len,
+        }
+    }
+
+    /// The place of the prefix of this length that has this address inside, counted as if they went on past this one.
+    pub(crate) fn place_of(&self, address: u128, len: u8) -> u128
+        requires not_below { self.now.bits ≤ address }
+        requires len_in_range { len ≤ 128 }
+        ensures { result ≡ (address - self.now.bits) / 2 ^ (128 - len) }
+    {
+        if len == 0 {
+            0
+        } else {
+            (address - self.bits) >> (128 - len)
+        }
+    }
+}
+
+/// Ones in the bits past a length, and zeros in the others.
+fn host_mask(len: u8) -> u128
+    requires { len ≤ 128 }
+    ensures { result + 1 ≡ 2 ^ (128 - len) }
+{
+    if len == 0 {
+        u128::MAX
+    } else {
+        (1 << (128 - len)) - 1
+    }
+}
+
+/// How many addresses the prefixes of this length before a place have.
+fn addresses_before(place: u128, len: u8) -> u128
+    requires len_in_range { len ≤ 128 }
+    requires fits { place * 2 ^ (128 - len) < 2 ^ 128 }
+    ensures { result ≡ place * 2 ^ (128 - len) }
+{
+    if len == 0 { 0 } else { place << (128 - len) }
+}
+
+/// Whether no bit past the length is set.
+#[tactic(auto, using(crate::proofs::Masks::and_host_mask))]
+fn ends_in_zeros(bits: u128, len: u8) -> bool
+    requires { len ≤ 128 }
+    ensures { IsTrue result ↔ (bits % 2 ^ (128 - len) ≡ 0) }
+{
+    bits & host_mask(len) == 0
+}
+
+/// Two prefixes overlap exactly where one is within the other: they never share a part only.
+pub fn overlap_is_nesting(p: &Prefix, q: &Prefix)
+    ensures { Overlaps p.now q.now ↔ (IsWithin p.now q.now ⊎ IsWithin q.now p.now) }
+{}
+
+/// The addresses inside are those from the lowest to the highest one, whose bits past the length are all ones.
+pub fn inside_is_range(p: &Prefix)
+    ensures { (address : ℕ) → IsInside address p.now ↔ (p.now.bits ≤ address) × (address ≤ last_address p.now) }
+{
+    let _ = &p.bits;
+}
+
+/// The prefixes of a length inside another are its sub-prefixes, one at each place below their number.
+pub fn sub_prefixes_are_all(outer: &Prefix, len: u8)
+    requires not_shorter { outer.now.len ≤ len }
+    requires len_in_range { len ≤ 128 }
+    ensures { (p : PlainPrefix) → IsPrefixInside outer.now len p ↔ IsSubPrefix outer.now len p }
+{
+    let _ = &outer.bits;
+}
+
+/// The order of prefixes, `prefix_cmp`, is total.
+pub fn order_is_total()
+    ensures { IsTotalOrder prefix_cmp }
+{}

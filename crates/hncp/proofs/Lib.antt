@@ -1,0 +1,4 @@
+mod Streams
+mod Reports
+mod Playing
+mod Sources

@@ -1,0 +1,5 @@
+pub mod Form
+pub mod Input
+pub mod Report
+pub mod Play
+pub mod Lab

@@ -1,0 +1,43 @@
+//! The program `hncp`: a laboratory of home routers, which runs a script and writes its transcript.
+#![tactic(auto)]
+
+mod end;
+mod input;
+mod line;
+mod output;
+mod play;
+mod report;
+mod run;
+#[cfg(test)]
+mod tests;
+mod words;
+
+use hn_io::{ReaderSource, WriterSink};
+use run::{NO_FORM, NO_MEMORY, run};
+use std::alloc::Global;
+use std::process::ExitCode;
+use std::rt::Env;
+use std::{env, io};
+
+/// The words of the command line, or an error of the system.
+fn words_of(rt: &(impl Env + AllocGlobal), alloc: Global) -> io::Result<Vec<String>> {
+    let mut words = Vec::new(alloc);
+    for word in env::args(rt)? {
+        words.push(word)?;
+    }
+    Ok(words)
+}
+
+fn main(rt: HostRuntime) -> ExitCode {
+    let alloc = rt.alloc();
+    let Ok(words) = words_of(&rt, alloc) else {
+        return ExitCode::from(NO_MEMORY);
+    };
+    let mut source = ReaderSource::new(rt.reader());
+    let mut sink = WriterSink::new(io::writer(&rt));
+    let outcome = run(alloc, &words, &mut source, &mut sink);
+    if outcome.status == NO_FORM {
+        let _ = eprintln!(rt; "usage: hncp lab < SCRIPT");
+    }
+    ExitCode::from(outcome.status)
+}

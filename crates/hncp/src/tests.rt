@@ -1,0 +1,172 @@
+use crate::run::{DONE, NO_FORM, REFUSED, SINK_FAILED, SOURCE_FAILED, run};
+use hn_io::{IoFault, MemSink, MemSource, Sink, Source};
+use std::alloc::{AllocError, Global};
+use std::process::Abort;
+use std::test::Fail;
+
+/// The script of two lone routers.
+const TWO_ROUTERS: &str = "hncp 1\nrouter A 00000001\nrouter B 00000002\nshow A\ncompare A B\n";
+
+const TWO_ROUTERS_TEXT: &str =
+    "show A id=00000001 number=1 reach=1 held=0 running=yes\ncompare A B net=same ids=other\n";
+
+/// A source that gives, or a sink that takes, one byte at a time.
+#[derive(Drop)]
+struct OneByte<T>(T);
+
+impl<S: Source> Source for OneByte<S> {
+    ghost faults = { λ s. S.faults s.0 };
+
+    ghost left = { λ s. S.left s.0 };
+
+    ghost never_fails = { λ s. S.never_fails s.0 };
+
+    fn read(&mut self, buf: &mut [u8]) -> Result<usize, IoFault> {
+        self.0.read(&mut buf[..1])
+    }
+}
+
+impl<K: Sink> Sink for OneByte<K> {
+    ghost faults = { λ s. K.faults s.0 };
+
+    ghost held = { λ s. K.held s.0 };
+
+    ghost never_fails = { λ s. K.never_fails s.0 };
+
+    fn write(&mut self, piece: &[u8]) -> Result<usize, IoFault> {
+        self.0.write(&piece[..1])
+    }
+}
+
+fn words(alloc: Global, texts: &[&str]) -> Result<Vec<String>, AllocError> {
+    let mut words = Vec::new(alloc);
+    for text in texts {
+        words.push(String::from_str(alloc, text)?)?;
+    }
+    Ok(words)
+}
+
+/// Runs `lab` on a script, and asserts its status and its text.
+fn expect_lab(
+    rt: &(impl Abort + AllocGlobal),
+    script: &str,
+    status: u8,
+    text: &str,
+) -> Result<(), Fail> {
+    let alloc = rt.alloc();
+    let words = words(alloc, &["hncp", "lab"])?;
+    let mut source = MemSource::new(script.as_bytes().to_vec(alloc)?, Vec::new(alloc));
+    let mut sink = MemSink::new(alloc, Vec::new(alloc));
+    let outcome = run(alloc, &words, &mut source, &mut sink);
+    assert_eq!(rt; outcome.status, status, "{script:?}");
+    assert_eq!(rt; sink.held(), text.as_bytes(), "{script:?}");
+    Ok(())
+}
+
+#[test]
+fn scripts_and_their_texts(rt: HostRuntime) -> Result<(), Fail> {
+    let cases = [
+        (TWO_ROUTERS, DONE, TWO_ROUTERS_TEXT),
+        (
+            "hncp 1\nrouter A 00000001\nrouter B 00000002\nshow A\nshow B\n",
+            DONE,
+            "show A id=00000001 number=1 reach=1 held=0 running=yes\nshow B id=00000002 number=1 reach=1 held=0 running=yes\n",
+        ),
+        (
+            "hncp 1\nrouter A 00000001\nrouter B 00000002\ncaps B 0 0 4 0\nshow B\ncompare A B\n",
+            DONE,
+            "show B id=00000002 number=2 reach=1 held=0 running=yes\ncompare A B net=differ\n",
+        ),
+        (
+            "hncp 1\nrouter A 00000001\ncompare A A\n",
+            DONE,
+            "compare A A net=same ids=same\n",
+        ),
+        (
+            "hncp 1\nrouter A 0000000a\ncaps A 1 2 3 4\ncaps A 1 2 3 4\nshow A\n",
+            DONE,
+            "show A id=0000000a number=2 reach=1 held=0 running=yes\n",
+        ),
+        ("hncp 1\n", DONE, ""),
+        ("", REFUSED, "refused 0 17\n"),
+        ("hncp 1\nfly\n", REFUSED, "refused 0 17\n"),
+        ("hncp 1\nshow Z\n", REFUSED, "refused 2 7\n"),
+        (
+            "hncp 1\nrouter A 00000001\nrouter A 00000002\n",
+            REFUSED,
+            "refused 3 8\n",
+        ),
+        (
+            "hncp 1\nrouter A 00000001\nshow A\ncompare A Z\nshow A\n",
+            REFUSED,
+            "show A id=00000001 number=1 reach=1 held=0 running=yes\nrefused 4 7\n",
+        ),
+        ("hncp 1\ncaps Z 0 0 0 0\n", REFUSED, "refused 2 7\n"),
+    ];
+    for (script, status, text) in cases {
+        expect_lab(&rt, script, status, text)?;
+    }
+    Ok(())
+}
+
+#[test]
+fn words_that_are_no_form(rt: HostRuntime) -> Result<(), Fail> {
+    let alloc = rt.alloc();
+    let lists: [&[&str]; 6] = [
+        &[],
+        &["hncp"],
+        &["lab"],
+        &["hncp", "-x"],
+        &["hncp", "Lab"],
+        &["hncp", "lab", "-x"],
+    ];
+    for texts in lists {
+        let words = words(alloc, texts)?;
+        let mut source = MemSource::new(b"hncp 1\n".to_vec(alloc)?, Vec::new(alloc));
+        let mut sink = MemSink::new(alloc, Vec::new(alloc));
+        let outcome = run(alloc, &words, &mut source, &mut sink);
+        assert_eq!(rt; outcome.status, NO_FORM, "{texts:?}");
+        assert!(rt; outcome.world.is_none() && sink.held().is_empty());
+        assert_eq!(rt; source.read(&mut [0; 8]), Ok(7), "the source is as before");
+    }
+    Ok(())
+}
+
+#[test]
+fn each_read_and_write_fails_in_turn(rt: HostRuntime) -> Result<(), Fail> {
+    let alloc = rt.alloc();
+    let words = words(alloc, &["hncp", "lab"])?;
+    let first_line = "show A id=00000001 number=1 reach=1 held=0 running=yes\n";
+    let cases = [
+        // The reads are that of the whole script and that of its end, the writes are one a line.
+        (1, 0, SOURCE_FAILED, ""),
+        (2, 0, SOURCE_FAILED, ""),
+        (3, 0, DONE, TWO_ROUTERS_TEXT),
+        (0, 1, SINK_FAILED, ""),
+        (0, 2, SINK_FAILED, first_line),
+        (0, 3, DONE, TWO_ROUTERS_TEXT),
+    ];
+    for (read, write, status, text) in cases {
+        let bytes = TWO_ROUTERS.as_bytes().to_vec(alloc)?;
+        let mut source = MemSource::new(bytes, vec![in alloc; read]?);
+        let mut sink = MemSink::new(alloc, vec![in alloc; write]?);
+        let outcome = run(alloc, &words, &mut source, &mut sink);
+        assert_eq!(rt; outcome.status, status, "read {read}, write {write}");
+        assert_eq!(rt; sink.held(), text.as_bytes(), "read {read}, write {write}");
+    }
+    Ok(())
+}
+
+#[test]
+fn one_byte_at_a_time(rt: HostRuntime) -> Result<(), Fail> {
+    let alloc = rt.alloc();
+    let words = words(alloc, &["hncp", "lab"])?;
+    let bytes = TWO_ROUTERS.as_bytes().to_vec(alloc)?;
+    let mut source = OneByte(MemSource::new(bytes, Vec::new(alloc)));
+    let mut sink = OneByte(MemSink::new(alloc, Vec::new(alloc)));
+    let outcome = run(alloc, &words, &mut source, &mut sink);
+    assert_eq!(rt; outcome.status, DONE);
+    assert_eq!(rt; sink.0.held(), TWO_ROUTERS_TEXT.as_bytes());
+    assert!(rt; outcome.world.is_some_and(|world| world.trace().len() == 2));
+    Ok(())
+}

@@ -21,6 +21,6 @@ pub returns-in-Some-clause-stays : goal.returns-in-Some-clause-stays
 returns-in-Some-clause-stays c told =
     let number_is : c.in-Some.number ≡ c.self.inside.made + 1 = c.in-Some.ensures.1 in
     let listed : list_any (λ number. eqb number (c.self.inside.made + 1)) c.self.inside.fails.items ≡ false =
-        rw (← number_is, ← c.deref.ensures.value) (sym c.contains.ensures.value ∙ told)
+    rw (← number_is, ← c.deref.ensures.value) (sym c.contains.ensures.value ∙ told)
     in
     rw (← c.self.view_is, number_is) (count_by-stays c.self.inside.made c.self.inside.fails.items listed)

@@ -1,0 +1,7 @@
+pub mod BigEndian
+pub mod Zeros
+pub mod Prefixes
+pub mod Causes
+pub mod Unique
+pub mod Whole
+pub mod Written

@@ -1,0 +1,5 @@
+use Rattle.hn_typed.proofs.Unique.{same_item}
+use Rattle.hn_typed.proofs.laws.item_is_unique.Goals as goal
+
+pub returns : goal.returns
+returns c = same_item

@@ -1,0 +1,8 @@
+use Rattle.std.proofs.Common.{◌++◌, refl}
+use Rattle.hn_typed.specs.Fields.{word}
+use Rattle.hn_typed.proofs.Causes.{no_subs}
+use Rattle.hn_typed.proofs.readers.peer.Goals as goal
+
+pub returns-in_default-subs_behind : goal.returns-in_default-subs_behind
+returns-in_default-subs_behind c =
+    no_subs 12 c.args.value.now (word c.in-Some.peer ++ word c.in-Some.peer_endpoint ++ word c.in-Some.endpoint) c.in-Some.behind.now c.in-Some.ensures.parts refl c.in_default-subs_behind.ensures.none

@@ -1,0 +1,5 @@
+use Rattle.std.proofs.Common.{arith}
+use Rattle.hn_typed.proofs.writing.fixed_part.Goals as goal
+
+pub returns-in-NodeState-clause-in_range : goal.returns-in-NodeState-clause-in_range
+returns-in-NodeState-clause-in_range c = rw c.in-NodeState.is (λ p k. (omega arith, omega arith, omega arith, c.hash-in-NodeState.ensures.valid))

@@ -1,0 +1,27 @@
+-- The items of RFC 7787, section 7, and RFC 7788, section 10, as contracts see them.
+use Rattle.std.specs.Prelude.{ℕ, List}
+use Rattle.hn_prefix.specs.Prefix.{PlainPrefix}
+
+-- the four priorities of a node (RFC 7788, section 10.1)
+pub record PlainCaps : Type 0 where
+  pub m : ℕ
+  pub p : ℕ
+  pub h : ℕ
+  pub l : ℕ
+
+-- An item without where it lies in memory: its fields as numbers, and what follows them as bytes. In each, subs are
+-- the bytes of the TLVs within.
+pub data PlainItem : Type 0 where
+  RequestNetwork : (subs : List ℕ) → PlainItem
+  RequestNode : (node : ℕ) (subs : List ℕ) → PlainItem
+  NodeEndpoint : (node endpoint : ℕ) (subs : List ℕ) → PlainItem
+  NetworkState : (hash subs : List ℕ) → PlainItem
+  NodeState : (node number age : ℕ) (hash body : List ℕ) → PlainItem
+  Peer : (peer peer_endpoint endpoint : ℕ) (subs : List ℕ) → PlainItem
+  KeepAlive : (endpoint interval : ℕ) (subs : List ℕ) → PlainItem
+  Version : (caps : PlainCaps) (agent : List ℕ) → PlainItem
+  External : (subs : List ℕ) → PlainItem
+  Delegated : (valid preferred : ℕ) (prefix : PlainPrefix) (subs : List ℕ) → PlainItem
+  Assigned : (endpoint priority : ℕ) (prefix : PlainPrefix) (subs : List ℕ) → PlainItem
+  Address : (endpoint address : ℕ) (subs : List ℕ) → PlainItem
+  Other : (kind : ℕ) (value : List ℕ) → PlainItem

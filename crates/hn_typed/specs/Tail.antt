@@ -1,0 +1,18 @@
+-- The parts of a value that is written, as the program finds them.
+use Rattle.std.specs.Prelude.{◌≡◌, length}
+use Rattle.hn_typed.specs.declared.writing.Tail.{Tail}
+use Rattle.hn_typed.specs.declared.writing.Tail.TheVariants.{Subs, Bytes}
+use Rattle.hn_typed.specs.Item.{PlainItem, Delegated, Assigned, Address}
+use Rattle.hn_typed.specs.Written.{fixed_of, behind_of, zeros_before, zeros_of}
+
+-- an item with a prefix or an address
+abbrev pub HasAddress : PlainItem → Type 0
+HasAddress (Delegated valid preferred prefix subs) = Unit {0}
+HasAddress (Assigned endpoint priority prefix subs) = Unit {0}
+HasAddress (Address endpoint address subs) = Unit {0}
+HasAddress _ = ⊥
+
+-- what the program found behind an item's fixed part is what has to stand there
+abbrev pub IsTailOf : Tail → PlainItem → Type 0
+IsTailOf (Subs subs) item = (behind_of item ≡ subs.now) × (zeros_of item ≡ zeros_before (length (fixed_of item)) subs.now)
+IsTailOf (Bytes bytes) item = (behind_of item ≡ bytes.now) × (zeros_of item ≡ 0)

@@ -1,0 +1,249 @@
+//! Items written as TLVs (RFC 7787, section 7; RFC 7788, section 10).
+
+ghost use Rattle.std.specs.Prelude.{◌≡◌, ◌+◌, ◌^◌, ◌<◌, ◌≤◌, ◌++◌, All, ◌∷◌, [], List, ℕ, length, replicate, vec_len, vec_capacity, OnOk, OnErr};
+ghost use Rattle.hn_tlv.specs.Grammar.{IsTlv, spelling};
+ghost use Rattle.hn_typed.specs.Fields.{two_in_byte};
+ghost use Rattle.hn_typed.specs.Table.{Fits, IsItem, InRange};
+ghost use Rattle.hn_typed.specs.Written.{kind_of, fixed_of, behind_of, zeros_before, zeros_of, value_of, tlv_of, HasTlvsBehind, HasPriority, HasOtherKind, HasText};
+ghost use Rattle.hn_typed.specs.View.{plain_item};
+ghost use Rattle.hn_typed.specs.Tail.{HasAddress, IsTailOf};
+
+use crate::fields::join_halves;
+use crate::fixed::FixedPart;
+use crate::item::Item;
+use crate::kind::{
+    ADDRESS, ASSIGNED, DELEGATED, EXTERNAL, KEEP_ALIVE, NETWORK_STATE, NODE_ENDPOINT, NODE_STATE,
+    PEER, REQUEST_NETWORK, REQUEST_NODE, VERSION,
+};
+use crate::subs::padding;
+use hn_base::{Caps, NoMemory};
+use hn_tlv::size;
+
+// The number of the item's kind.
+fn kind_of(item: &Item<'_>) -> u16
+    ensures { result ≡ kind_of (plain_item item.now) }
+{
+    match item {
+        Item::RequestNetwork { .. } => REQUEST_NETWORK,
+        Item::RequestNode { .. } => REQUEST_NODE,
+        Item::NodeEndpoint { .. } => NODE_ENDPOINT,
+        Item::NetworkState { .. } => NETWORK_STATE,
+        Item::NodeState { .. } => NODE_STATE,
+        Item::Peer { .. } => PEER,
+        Item::KeepAlive { .. } => KEEP_ALIVE,
+        Item::Version { .. } => VERSION,
+        Item::External { .. } => EXTERNAL,
+        Item::Delegated { .. } => DELEGATED,
+        Item::Assigned { .. } => ASSIGNED,
+        Item::Address { .. } => ADDRESS,
+        Item::Other { kind, .. } => *kind,
+    }
+}
+
+// The fixed part of a version: two reserved bytes, and the priorities two in a byte.
+fn caps_part(caps: &Caps) -> FixedPart
+    ensures { result ≡ 0 ∷ 0 ∷ two_in_byte caps.now.m caps.now.p ∷ two_in_byte caps.now.h caps.now.l ∷ [] }
+{
+    FixedPart::new().then(&[
+        0,
+        0,
+        join_halves(caps.m, caps.p),
+        join_halves(caps.h, caps.l),
+    ])
+}
+
+// The fixed fields of an item with a prefix or an address.
+fn address_part(item: &Item<'_>) -> FixedPart
+    ensures fixed { HasAddress (plain_item item.now) → result ≡ fixed_of (plain_item item.now) }
+    ensures in_range { HasAddress (plain_item item.now) → HasPriority (plain_item item.now)
+        → InRange (plain_item item.now) }
+{
+    let part = FixedPart::new();
+    match item {
+        Item::Delegated {
+            valid,
+            preferred,
+            prefix,
+            ..
+        } => part.word(*valid).word(*preferred).prefix(prefix),
+        Item::Assigned {
+            endpoint,
+            priority,
+            prefix,
+            ..
+        } => part.word(endpoint.0).then(&[*priority]).prefix(prefix),
+        Item::Address {
+            endpoint,
+            address,
+            ..
+        } => part.word(endpoint.0).then(&address.to_be_bytes()),
+        _ => part,
+    }
+}
+
+// The fixed fields, with each reserved bit zero.
+fn fixed_part(item: &Item<'_>) -> FixedPart
+    ensures fixed { result ≡ fixed_of (plain_item item.now) }
+    ensures in_range { HasPriority (plain_item item.now) → Fits 16 (kind_of (plain_item item.now))
+        → InRange (plain_item item.now) }
+{
+    let part = FixedPart::new();
+    match item {
+        Item::RequestNetwork { .. } | Item::External { .. } | Item::Other { .. } => part,
+        Item::RequestNode { node, .. } => part.word(node.0),
+        Item::NodeEndpoint { node, endpoint, .. } => part.word(node.0).word(endpoint.0),
+        Item::NetworkState { hash, .. } => part.hash(hash),
+        Item::NodeState {
+            node,
+            number,
+            age,
+            hash,
+            ..
+        } => part.word(node.0).word(*number).word(*age).hash(hash),
+        Item::Peer {
+            peer,
+            peer_endpoint,
+            endpoint,
+            ..
+        } => part.word(peer.0).word(peer_endpoint.0).word(endpoint.0),
+        Item::KeepAlive {
+            endpoint,
+            interval,
+            ..
+        } => part.word(endpoint.0).word(*interval),
+        Item::Version { caps, .. } => caps_part(caps),
+        Item::Delegated { .. } => address_part(item),
+        Item::Assigned { .. } => address_part(item),
+        Item::Address { .. } => address_part(item),
+    }
+}
+
+// What stands behind the fixed part of a value.
+#[derive(Clone, Copy)]
+enum Tail<'a> {
+    // Sub-TLVs, behind zeros if there are any.
+    Subs(&'a [u8]),
+    // Bytes as they are.
+    Bytes(&'a [u8]),
+}
+
+// What stands behind the item's fixed part.
+fn tail_of<'a>(item: &Item<'a>) -> Tail<'a>
+    ensures bytes { IsTailOf result (plain_item item.now) }
+    ensures text { HasText (plain_item item.now) }
+{
+    match item {
+        Item::RequestNetwork { subs } => Tail::Subs(subs),
+        Item::RequestNode { subs, .. } => Tail::Subs(subs),
+        Item::NodeEndpoint { subs, .. } => Tail::Subs(subs),
+        Item::NetworkState { subs, .. } => Tail::Subs(subs),
+        Item::NodeState { body, .. } => Tail::Bytes(body),
+        Item::Peer { subs, .. } => Tail::Subs(subs),
+        Item::KeepAlive { subs, .. } => Tail::Subs(subs),
+        Item::Version { agent, .. } => Tail::Bytes(agent.as_bytes()),
+        Item::External { subs } => Tail::Subs(subs),
+        Item::Delegated { subs, .. } => Tail::Subs(subs),
+        Item::Assigned { subs, .. } => Tail::Subs(subs),
+        Item::Address { subs, .. } => Tail::Subs(subs),
+        Item::Other { value, .. } => Tail::Bytes(value),
+    }
+}
+
+// A value in parts: the fixed part, how many zeros, and what is behind them.
+#[derive(Drop)]
+struct Parts<'a> {
+    fixed: FixedPart,
+    zeros: usize,
+    behind: &'a [u8],
+}
+
+// The value of the item, in parts.
+fn parts_of<'a>(item: &Item<'a>) -> Parts<'a>
+    ensures fixed { result.fixed ≡ fixed_of (plain_item item.now) }
+    ensures zeros { result.zeros ≡ zeros_of (plain_item item.now) }
+    ensures behind { result.behind.now ≡ behind_of (plain_item item.now) }
+    ensures short { (length result.fixed ≤ 25) × (result.zeros ≤ 3) }
+    ensures in_range { HasPriority (plain_item item.now) → Fits 16 (kind_of (plain_item item.now))
+        → InRange (plain_item item.now) }
+    ensures text { HasText (plain_item item.now) }
+{
+    let fixed = fixed_part(item);
+    let len = fixed.len();
+    let (zeros, behind) = match tail_of(item) {
+        Tail::Subs([]) => (0, [].as_slice()),
+        Tail::Subs(subs) => (padding(len), subs),
+        Tail::Bytes(bytes) => (0, bytes),
+    };
+    Parts {
+        fixed,
+        zeros,
+        behind,
+    }
+}
+
+// Adds bytes at the end, where there is room for them.
+fn put(out: &mut Vec<u8>, bytes: &[u8])
+    requires room { vec_len out.old + length bytes.now ≤ vec_capacity out.old }
+    ensures bytes { All (λ byte. byte < 2 ^ 8) bytes.now }
+    ensures items { out.new.items ≡ out.old.items ++ bytes.now }
+    ensures len { vec_len out.new ≡ vec_len out.old + length bytes.now }
+    ensures capacity { vec_capacity out.old ≤ vec_capacity out.new }
+{
+    // It fails only for want of room.
+    let _ = out.extend_from_slice(bytes);
+}
+
+// Adds so many zeros at the end, where there is room for them.
+fn put_zeros(out: &mut Vec<u8>, count: usize)
+    requires few { count ≤ 3 }
+    requires room { vec_len out.old + count ≤ vec_capacity out.old }
+    ensures items { out.new.items ≡ out.old.items ++ replicate count 0 }
+    ensures len { vec_len out.new ≡ vec_len out.old + count }
+    ensures capacity { vec_capacity out.old ≤ vec_capacity out.new }
+{
+    put(out, &[0; 3][..count]);
+}
+
+/// The length of the value that `write` makes, in bytes. (no memory)
+pub fn value_len(item: &Item<'_>) -> usize
+    ensures { result ≡ length (value_of (plain_item item.now)) }
+{
+    let parts = parts_of(item);
+    parts.fixed.len() + parts.zeros + parts.behind.len()
+}
+
+/// Appends the TLV of the item (RFC 7787, section 7; RFC 7788, section 10): reserved bits are zero, and where there are
+/// no sub-TLVs the value ends behind its fixed fields. Reading it gives the item.
+///
+/// The value has at most 65,535 bytes, by `value_len`; a priority is at most 15; sub-TLVs are a list of TLVs; and an
+/// item of another kind has none of the kinds that have a form of their own.
+///
+/// # Errors
+///
+/// Only for want of memory, and then `out` is as before.
+pub fn write(item: &Item<'_>, out: &mut Vec<u8>) -> Result<(), NoMemory>
+    requires short { length (value_of (plain_item item.now)) ≤ 65535 }
+    requires priority { HasPriority (plain_item item.now) }
+    requires subs { HasTlvsBehind (plain_item item.now) }
+    requires other_kind { HasOtherKind (plain_item item.now) }
+
+    ensures ok { OnOk result (out.new.items ≡ out.old.items ++ spelling (tlv_of (plain_item item.now))) }
+    ensures err { OnErr result (out.new.items ≡ out.old.items) }
+
+    // What is written is a TLV, which stands for the item.
+    ensures valid { OnOk result (IsTlv (tlv_of (plain_item item.now))) }
+    ensures read_back { OnOk result (IsItem (tlv_of (plain_item item.now)) (plain_item item.now)) }
+{
+    let kind = kind_of(item);
+    let parts = parts_of(item);
+    let (fixed, zeros, behind) = (parts.fixed.as_slice(), parts.zeros, parts.behind);
+    let len = fixed.len() + zeros + behind.len();
+    out.reserve(size(len))?;
+    put(out, &kind.to_be_bytes());
+    put(out, &(len as u16).to_be_bytes());
+    put(out, fixed);
+    put_zeros(out, zeros);
+    put(out, behind);
+    put_zeros(out, padding(len));
+    Ok(())
+}

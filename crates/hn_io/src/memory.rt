@@ -1,4 +1,4 @@
-ghost use Rattle.std.specs.Prelude.{◌≡◌, ◌+◌, ◌^◌, ◌<◌, ◌≤◌, ◌↔◌, [], false, IsTrue, Some, Contains};
+ghost use Rattle.std.specs.Prelude.{◌≡◌, ◌+◌, ◌^◌, ◌<◌, ◌↔◌, [], IsTrue, Some, Contains};
 
 use crate::fault::IoFault;
 use crate::sink::Sink;
@@ -23,7 +23,7 @@ impl Model for Calls {
 
 impl Calls {
     ghost use Rattle.hn_io.specs.Memory.{called, faults_so_far};
-    ghost use Rattle.hn_io.specs.Faults.{Rose};
+    ghost use Rattle.hn_io.specs.Faults.{Counts};
 
     fn new(fails: Vec<u64>) -> Calls
         ensures made { result.made ≡ 0 }
@@ -36,9 +36,7 @@ impl Calls {
     fn fails_now(&mut self) -> bool
         ensures called { self.new ≡ called self.old }
         ensures listed { IsTrue result ↔ (self.old.made + 1 < 2 ^ 64) × Contains self.old.fails (self.old.made + 1) }
-        ensures rises { IsTrue result → Rose (faults_so_far self.old) (faults_so_far self.new) }
-        ensures counted { faults_so_far self.old ≤ faults_so_far self.new }
-        ensures stays { result ≡ false → faults_so_far self.new ≡ faults_so_far self.old }
+        ensures counts { Counts (IsTrue result) (faults_so_far self.old) (faults_so_far self.new) }
     {
         match self.made.checked_add(1) {
             None => false,

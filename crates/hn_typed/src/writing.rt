@@ -1,7 +1,7 @@
 //! Items written as TLVs (RFC 7787, section 7; RFC 7788, section 10).
 
-ghost use Rattle.std.specs.Prelude.{◌≡◌, ◌+◌, ◌^◌, ◌<◌, ◌≤◌, ◌++◌, All, ◌∷◌, [], List, ℕ, length, replicate, vec_len, vec_capacity, OnOk, OnErr};
-ghost use Rattle.hn_tlv.specs.Grammar.{IsTlv, spelling};
+ghost use Rattle.std.specs.Prelude.{◌≡◌, ◌+◌, ◌^◌, ◌<◌, ◌≤◌, ◌++◌, All, ◌∷◌, [], List, ℕ, length, replicate, vec_len, vec_capacity, IsOk, OnOk, OnErr};
+ghost use Rattle.hn_tlv.specs.Grammar.{IsTlv, tlv_size, spelling};
 ghost use Rattle.hn_typed.specs.Fields.{two_in_byte};
 ghost use Rattle.hn_typed.specs.Table.{Fits, IsItem, InRange};
 ghost use Rattle.hn_typed.specs.Written.{kind_of, fixed_of, behind_of, zeros_before, zeros_of, value_of, tlv_of, HasTlvsBehind, HasPriority, HasOtherKind, HasText};
@@ -229,6 +229,9 @@ pub fn write(item: &Item<'_>, out: &mut Vec<u8>) -> Result<(), NoMemory>
 
     ensures ok { OnOk result (out.new.items ≡ out.old.items ++ spelling (tlv_of (plain_item item.now))) }
     ensures err { OnErr result (out.new.items ≡ out.old.items) }
+    // With room for the TLV, it does not fail.
+    ensures with_room { vec_len out.old + tlv_size (length (value_of (plain_item item.now)))
+        ≤ vec_capacity out.old → IsOk result }
 
     // What is written is a TLV, which stands for the item.
     ensures valid { OnOk result (IsTlv (tlv_of (plain_item item.now))) }

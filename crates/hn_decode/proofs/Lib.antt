@@ -1,0 +1,5 @@
+pub mod Within
+pub mod LineLemmas
+pub mod Shown
+pub mod Unique
+pub mod Outcome

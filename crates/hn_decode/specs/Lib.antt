@@ -1,0 +1,3 @@
+pub mod ItemText
+pub mod Line
+pub mod Nested

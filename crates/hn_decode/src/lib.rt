@@ -1,0 +1,19 @@
+//! The bytes of a datagram as text: a line for each TLV, in which its item is named and its fields are written out,
+//! and the TLVs within it on lines below (RFC 7787, section 7; RFC 7788, section 10).
+#![tactic(auto)]
+
+mod datagram;
+mod fault;
+#[cfg(test)]
+mod item_tests;
+mod item_text;
+mod laws;
+mod line;
+mod nested;
+
+pub use datagram::decode;
+pub use fault::DecodeFault;
+pub use laws::decode_text_is_unique;
+
+#[cfg(test)]
+mod tests;

@@ -1,0 +1,155 @@
+//! The line of one TLV.
+
+ghost use Rattle.std.specs.Prelude.{◌≡◌, ◌*◌, ◌≤◌, ◌++◌, replicate, codes, IfOk, OnOk, IfSome, IfNone, string_bytes};
+ghost use Rattle.hn_tlv.specs.View.{plain};
+ghost use Rattle.hn_typed.specs.Item.{PlainItem};
+ghost use Rattle.hn_typed.specs.View.{plain_item};
+ghost use Rattle.hn_decode.specs.Line.{within, within_name, named_bytes, deepest, line_start, HasLines, IsLineAbove, IsLineAlone};
+ghost use Rattle.hn_decode.specs.ItemText.{item_text};
+ghost use Rattle.hn_decode.specs.Nested.{Adds};
+
+use crate::item_text::{bad_text, item_text};
+use hn_tlv::{Tlv, check};
+use hn_typed::{Item, read};
+use std::alloc::{AllocError, Global};
+
+/// The last level whose TLVs have lines of their own.
+pub(crate) const DEEPEST: u8 = 7;
+
+// What lies within an item: its sub-TLVs, or a node state's body.
+fn within<'a>(item: &Item<'a>) -> &'a [u8]
+    ensures { result.now ≡ within (plain_item item.now) }
+{
+    match *item {
+        Item::RequestNetwork { subs }
+        | Item::RequestNode { subs, .. }
+        | Item::NodeEndpoint { subs, .. }
+        | Item::NetworkState { subs, .. }
+        | Item::Peer { subs, .. }
+        | Item::KeepAlive { subs, .. }
+        | Item::External { subs }
+        | Item::Delegated { subs, .. }
+        | Item::Assigned { subs, .. }
+        | Item::Address { subs, .. } => subs,
+        Item::NodeState { body, .. } => body,
+        Item::Version { .. } | Item::Other { .. } => &[],
+    }
+}
+
+// The name of what lies within an item.
+fn within_name(item: &Item<'_>) -> &'static str
+    ensures { result.now ≡ within_name (plain_item item.now) }
+{
+    match item {
+        Item::NodeState { .. } => "body",
+        _ => "subs",
+    }
+}
+
+// Adds two spaces for each level.
+fn push_indent(out: &mut String, level: u8) -> Result<(), AllocError>
+    requires { level ≤ deepest }
+    ensures { OnOk result (string_bytes out.new ≡ string_bytes out.old ++ replicate (2 * level) 32) }
+{
+    for _ in 0..2 * level {
+        out.push(' ')?;
+    }
+    Ok(())
+}
+
+// Adds the beginning of a TLV's line.
+fn push_line_start(
+    out: &mut String,
+    tlv: &Tlv<'_>,
+    place: usize,
+    level: u8,
+) -> Result<(), AllocError>
+    requires { level ≤ deepest }
+    ensures { OnOk result (string_bytes out.new ≡ string_bytes out.old ++ line_start level place (plain tlv.now)) }
+{
+    push_indent(out, level)?;
+    let kind = tlv.kind;
+    let len = tlv.value.len();
+    write!(out, "{place} {kind} {len} ")
+}
+
+// Adds bytes under a name, and nothing for no bytes.
+fn push_named_bytes(
+    alloc: Global,
+    out: &mut String,
+    name: &str,
+    bytes: &[u8],
+) -> Result<(), AllocError>
+    ensures { OnOk result (string_bytes out.new ≡ string_bytes out.old ++ named_bytes name.now bytes.now) }
+{
+    if bytes.is_empty() {
+        return Ok(());
+    }
+    let digits = hex::encode(alloc, bytes)?;
+    write!(out, " {name}={digits}")
+}
+
+// What lies within an item, where it has lines of its own.
+fn shown_below<'a>(item: &Item<'a>, below: u8) -> Option<&'a [u8]>
+    ensures none { IfNone result (¬ HasLines below (plain_item item.now)) }
+    ensures some { IfSome result (λ inner. HasLines below (plain_item item.now) × (inner.now ≡ within (plain_item item.now))) }
+{
+    let inner = within(item);
+    if below > 0 && check(inner).is_ok() {
+        Some(inner)
+    } else {
+        None
+    }
+}
+
+// Adds what a line says of an item, and the end of the line. What lies within is answered where it has lines of its
+// own, and else it stands at the end of the line.
+fn push_item<'a>(
+    alloc: Global,
+    out: &mut String,
+    item: &Item<'a>,
+    below: u8,
+) -> Result<Option<&'a [u8]>, AllocError>
+    ensures alone { IfOk result (λ inner. IfNone inner (¬ HasLines below (plain_item item.now)
+        × (let item = plain_item item.now in string_bytes out.new ≡ string_bytes out.old
+        ++ (item_text item ++ named_bytes (within_name item) (within item) ++ codes "\n")))) }
+    ensures above { IfOk result (λ inner. IfSome inner (λ bytes. HasLines below (plain_item item.now)
+        × (bytes.now ≡ within (plain_item item.now))
+        × (string_bytes out.new ≡ string_bytes out.old ++ (item_text (plain_item item.now) ++ codes "\n")))) }
+{
+    let text = item_text(alloc, item)?;
+    out.push_str(text.as_str())?;
+    let Some(inner) = shown_below(item, below) else {
+        push_named_bytes(alloc, out, within_name(item), within(item))?;
+        out.push_str("\n")?;
+        return Ok(None);
+    };
+    out.push_str("\n")?;
+    Ok(Some(inner))
+}
+
+/// Adds the line of a TLV with so many levels below its own. What lies within it is answered where it has lines below.
+pub(crate) fn push_line<'a>(
+    alloc: Global,
+    out: &mut String,
+    tlv: &Tlv<'a>,
+    place: usize,
+    below: u8,
+) -> Result<Option<&'a [u8]>, AllocError>
+    requires { below ≤ deepest }
+    ensures alone { IfOk result (λ inner. IfNone inner
+        (Adds (IsLineAlone below place (plain tlv.now)) (string_bytes out.old) (string_bytes out.new))) }
+    ensures above { IfOk result (λ inner. IfSome inner (λ bytes. (item : PlainItem) × (bytes.now ≡ within item)
+        × Adds (IsLineAbove below place (plain tlv.now) item) (string_bytes out.old) (string_bytes out.new))) }
+{
+    push_line_start(out, tlv, place, DEEPEST - below)?;
+    match read(tlv) {
+        Ok(item) => push_item(alloc, out, &item, below),
+        Err(fault) => {
+            let text = bad_text(alloc, fault.why, tlv.value)?;
+            out.push_str(text.as_str())?;
+            out.push_str("\n")?;
+            Ok(None)
+        }
+    }
+}

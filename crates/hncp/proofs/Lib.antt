@@ -2,3 +2,4 @@ mod Streams
 mod Reports
 mod Playing
 mod Sources
+mod Spelled

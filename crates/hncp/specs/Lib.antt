@@ -3,3 +3,5 @@ pub mod Input
 pub mod Report
 pub mod Play
 pub mod Lab
+pub mod HexText
+pub mod Decode

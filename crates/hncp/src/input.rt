@@ -1,7 +1,7 @@
-ghost use Rattle.std.specs.Prelude.{◌≡◌, ◌≢◌, ◌+◌, ◌^◌, ◌≤◌, ℕ, List, length, IfOk, Err};
+ghost use Rattle.std.specs.Prelude.{◌≡◌, ◌+◌, ◌≤◌, ℕ, List, length, IfOk, Err};
 ghost use Rattle.std.specs.Io.KnownBytes.{Consumes};
 ghost use Rattle.hncp.specs.Input.{IsWhole};
-ghost use Rattle.hn_io.specs.Faults.{Rose};
+ghost use Rattle.hn_io.specs.Faults.{Counts, IsReliable};
 
 use hn_io::{IoFault, Source};
 use std::alloc::Global;
@@ -16,10 +16,8 @@ pub fn read_all<S: Source>(alloc: Global, src: &mut S) -> Result<Vec<u8>, IoFaul
     ensures all { IfOk result (λ bytes. Consumes (S.left src.old) (S.left src.new) bytes.items) }
     ensures whole { IfOk result (λ bytes. length bytes.items ≤ SOURCE_LIMIT → IsWhole (S.left src.old) bytes.items) }
     ensures bounded { (read : List ℕ) × (length read ≤ SOURCE_LIMIT + 1) × Consumes (S.left src.old) (S.left src.new) read }
-    ensures failed { result ≡ Err IoFault.Failed → Rose (S.faults src.old) (S.faults src.new) }
-    ensures counted { S.faults src.old ≤ S.faults src.new }
-    ensures no_fault { result ≢ Err IoFault.Failed → S.faults src.new ≡ S.faults src.old }
-    ensures reliable { S.never_fails src.old → S.never_fails src.new × (result ≢ Err IoFault.Failed) }
+    ensures counts { Counts (result ≡ Err IoFault.Failed) (S.faults src.old) (S.faults src.new) }
+    ensures reliable { IsReliable (result ≡ Err IoFault.Failed) (S.never_fails src.old) (S.never_fails src.new) }
 {
     let mut bytes = Vec::new(alloc);
     let mut buf = [0; CHUNK];

@@ -1,9 +1,14 @@
-//! The program `hncp`: a laboratory of home routers, which runs a script and writes its transcript.
+//! The program `hncp`: a laboratory of home routers, which runs a script and writes its transcript,
+//! and a reader of datagrams.
 #![tactic(auto)]
 
+mod decode;
 mod end;
+mod hex_text;
 mod input;
+mod lab;
 mod line;
+mod outcome;
 mod output;
 mod play;
 mod report;
@@ -13,7 +18,8 @@ mod tests;
 mod words;
 
 use hn_io::{ReaderSource, WriterSink};
-use run::{NO_FORM, NO_MEMORY, run};
+use outcome::{NO_FORM, NO_MEMORY};
+use run::run;
 use std::alloc::Global;
 use std::process::ExitCode;
 use std::rt::Env;
@@ -37,7 +43,7 @@ fn main(rt: HostRuntime) -> ExitCode {
     let mut sink = WriterSink::new(io::writer(&rt));
     let outcome = run(alloc, &words, &mut source, &mut sink);
     if outcome.status == NO_FORM {
-        let _ = eprintln!(rt; "usage: hncp lab < SCRIPT");
+        let _ = eprintln!(rt; "usage: hncp lab < SCRIPT\n       hncp decode < HEXTEXT");
     }
     ExitCode::from(outcome.status)
 }

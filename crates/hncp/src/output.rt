@@ -1,16 +1,14 @@
-ghost use Rattle.std.specs.Prelude.{◌≡◌, ◌≢◌, ◌≤◌, ℕ, List, ◌++◌, [], OnOk, Err};
+ghost use Rattle.std.specs.Prelude.{◌≡◌, OnOk, Err};
 ghost use Rattle.std.specs.Io.KnownBytes.{Appends};
-ghost use Rattle.hn_io.specs.Faults.{Rose};
+ghost use Rattle.hn_io.specs.Faults.{Counts, IsReliable};
 
 use hn_io::{IoFault, Sink};
 
 /// Hands a piece to a sink, and what a write leaves over again, until it is written whole or a call fails.
 pub fn write_piece<K: Sink>(out: &mut K, piece: &[u8]) -> Result<(), IoFault>
     ensures ok { OnOk result (Appends (K.held out.old) (K.held out.new) piece.now) }
-    ensures failed { result ≡ Err IoFault.Failed → Rose (K.faults out.old) (K.faults out.new) }
-    ensures counted { K.faults out.old ≤ K.faults out.new }
-    ensures no_fault { result ≢ Err IoFault.Failed → K.faults out.new ≡ K.faults out.old }
-    ensures reliable { K.never_fails out.old → K.never_fails out.new × (result ≢ Err IoFault.Failed) }
+    ensures counts { Counts (result ≡ Err IoFault.Failed) (K.faults out.old) (K.faults out.new) }
+    ensures reliable { IsReliable (result ≡ Err IoFault.Failed) (K.never_fails out.old) (K.never_fails out.new) }
 {
     let mut rest = piece;
     while !rest.is_empty() {
@@ -18,4 +16,19 @@ pub fn write_piece<K: Sink>(out: &mut K, piece: &[u8]) -> Result<(), IoFault>
         rest = &rest[count..];
     }
     Ok(())
+}
+
+/// Hands a text to a sink line by line, each with its LF.
+pub fn write_lines<K: Sink>(out: &mut K, text: &[u8]) -> Result<(), IoFault>
+    ensures ok { OnOk result (Appends (K.held out.old) (K.held out.new) text.now) }
+    ensures counts { Counts (result ≡ Err IoFault.Failed) (K.faults out.old) (K.faults out.new) }
+    ensures reliable { IsReliable (result ≡ Err IoFault.Failed) (K.never_fails out.old) (K.never_fails out.new) }
+{
+    let mut rest = text;
+    while let Some(end) = rest.iter().position(|byte| *byte == b'\n') {
+        let (line, behind) = rest.split_at(end + 1);
+        write_piece(out, line)?;
+        rest = behind;
+    }
+    write_piece(out, rest)
 }

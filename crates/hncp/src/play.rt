@@ -1,6 +1,6 @@
-ghost use Rattle.std.specs.Prelude.{◌≡◌, ◌≢◌, ◌≤◌, ℕ, List, Some, Err, map, IfOk};
+ghost use Rattle.std.specs.Prelude.{◌≡◌, ℕ, List, Some, Err, map, IfOk};
 ghost use Rattle.std.specs.Io.KnownBytes.{Appends};
-ghost use Rattle.hn_io.specs.Faults.{Rose};
+ghost use Rattle.hn_io.specs.Faults.{Counts, IsReliable};
 ghost use Rattle.hn_strict.specs.Line.{line_of};
 ghost use Rattle.hn_world.specs.Home.{replay};
 ghost use Rattle.hncp.specs.Play.{Plays};
@@ -29,10 +29,8 @@ pub fn play<K: Sink>(
     ensures played { IfOk result (λ end. (text : List ℕ)
         × Plays world.old FIRST_LINE (map line_of lines.now) text end world.new × Appends (K.held out.old) (K.held out.new) text) }
     ensures replayed { replay world.old.trace ≡ Some world.old → replay world.new.trace ≡ Some world.new }
-    ensures failed { result ≡ Err IoFault.Failed → Rose (K.faults out.old) (K.faults out.new) }
-    ensures counted { K.faults out.old ≤ K.faults out.new }
-    ensures no_fault { result ≢ Err IoFault.Failed → K.faults out.new ≡ K.faults out.old }
-    ensures reliable { K.never_fails out.old → K.never_fails out.new × (result ≢ Err IoFault.Failed) }
+    ensures counts { Counts (result ≡ Err IoFault.Failed) (K.faults out.old) (K.faults out.new) }
+    ensures reliable { IsReliable (result ≡ Err IoFault.Failed) (K.never_fails out.old) (K.never_fails out.new) }
 {
     for (place, line) in lines.iter().enumerate() {
         match run_line(alloc, world, line) {
@@ -51,10 +49,8 @@ pub fn play<K: Sink>(
 pub fn refuse<K: Sink>(alloc: Global, out: &mut K, line: u64, code: u8) -> Result<End, IoFault>
     ensures end { IfOk result (λ end. end ≡ End.Refused line code) }
     ensures written { IfOk result (λ _. Appends (K.held out.old) (K.held out.new) (refused_line line code)) }
-    ensures failed { result ≡ Err IoFault.Failed → Rose (K.faults out.old) (K.faults out.new) }
-    ensures counted { K.faults out.old ≤ K.faults out.new }
-    ensures no_fault { result ≢ Err IoFault.Failed → K.faults out.new ≡ K.faults out.old }
-    ensures reliable { K.never_fails out.old → K.never_fails out.new × (result ≢ Err IoFault.Failed) }
+    ensures counts { Counts (result ≡ Err IoFault.Failed) (K.faults out.old) (K.faults out.new) }
+    ensures reliable { IsReliable (result ≡ Err IoFault.Failed) (K.never_fails out.old) (K.never_fails out.new) }
 {
     match refused_line(alloc, line, code) {
         Ok(last) => write_piece(out, last.as_bytes())?,

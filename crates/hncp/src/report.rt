@@ -1,10 +1,12 @@
 ghost use Rattle.std.specs.Prelude.{◌≡◌, ◌==◌, IfOk, string_bytes};
 ghost use Rattle.hn_base.specs.Name.{name_text};
 ghost use Rattle.hn_world.specs.Member.{node_of};
+ghost use Rattle.hncp.specs.Decode.{malformed_line};
 ghost use Rattle.hncp.specs.Report.{id_text, yes_no, hex_text, show_line, agreement_text, compare_line, refused_line};
 
 use hn_base::{Name, NodeId};
 use hn_hash::Agreement;
+use hn_tlv::TlvFault;
 use hn_world::Router;
 use std::alloc::{AllocError, Global};
 
@@ -83,4 +85,13 @@ pub fn refused_line(alloc: Global, line: u64, code: u8) -> Result<String, AllocE
     ensures { IfOk result (λ text. string_bytes text ≡ refused_line line code) }
 {
     format!(in alloc; "refused {line} {code}\n")
+}
+
+/// The line of octets that are no list of TLVs.
+pub fn malformed_line(alloc: Global, fault: TlvFault) -> Result<String, AllocError>
+    ensures { IfOk result (λ text. string_bytes text ≡ malformed_line fault.place fault.why) }
+{
+    let place = fault.place;
+    let why = fault.why;
+    format!(in alloc; "malformed place={place} why={why}\n")
 }

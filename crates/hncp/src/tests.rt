@@ -1,4 +1,5 @@
-use crate::run::{DONE, NO_FORM, REFUSED, SINK_FAILED, SOURCE_FAILED, run};
+use crate::outcome::{DONE, NO_FORM, REFUSED, SINK_FAILED, SOURCE_FAILED};
+use crate::run::run;
 use hn_io::{IoFault, MemSink, MemSource, Sink, Source};
 use std::alloc::{AllocError, Global};
 use std::process::Abort;
@@ -46,20 +47,21 @@ fn words(alloc: Global, texts: &[&str]) -> Result<Vec<String>, AllocError> {
     Ok(words)
 }
 
-/// Runs `lab` on a script, and asserts its status and its text.
-fn expect_lab(
+/// Runs a form of the program on an input, and asserts its status and its text.
+fn expect(
     rt: &(impl Abort + AllocGlobal),
-    script: &str,
+    form: &str,
+    input: &str,
     status: u8,
     text: &str,
 ) -> Result<(), Fail> {
     let alloc = rt.alloc();
-    let words = words(alloc, &["hncp", "lab"])?;
-    let mut source = MemSource::new(script.as_bytes().to_vec(alloc)?, Vec::new(alloc));
+    let words = words(alloc, &["hncp", form])?;
+    let mut source = MemSource::new(input.as_bytes().to_vec(alloc)?, Vec::new(alloc));
     let mut sink = MemSink::new(alloc, Vec::new(alloc));
     let outcome = run(alloc, &words, &mut source, &mut sink);
-    assert_eq!(rt; outcome.status, status, "{script:?}");
-    assert_eq!(rt; sink.held(), text.as_bytes(), "{script:?}");
+    assert_eq!(rt; outcome.status, status, "{form} of {input:?}");
+    assert_eq!(rt; sink.held(), text.as_bytes(), "{form} of {input:?}");
     Ok(())
 }
 
@@ -104,7 +106,52 @@ fn scripts_and_their_texts(rt: HostRuntime) -> Result<(), Fail> {
         ("hncp 1\ncaps Z 0 0 0 0\n", REFUSED, "refused 2 7\n"),
     ];
     for (script, status, text) in cases {
-        expect_lab(&rt, script, status, text)?;
+        expect(&rt, "lab", script, status, text)?;
+    }
+    Ok(())
+}
+
+#[test]
+fn datagrams_and_their_contents(rt: HostRuntime) -> Result<(), Fail> {
+    let cases = [
+        ("", DONE, "tlvs 0\n"),
+        (" \n\n", DONE, "tlvs 0\n"),
+        ("007B000178000000", DONE, "tlvs 1\n0 123 1 other value=78\n"),
+        (
+            "00 7b 00 01\n780000 00\n",
+            DONE,
+            "tlvs 1\n0 123 1 other value=78\n",
+        ),
+        (
+            "002100140022001000001C2000000E103820010DB8000000",
+            DONE,
+            "tlvs 1\n0 33 20 external\n  4 34 16 delegated valid=7200 preferred=3600 prefix=2001:db8::/56\n",
+        ),
+        ("007B000178000001", REFUSED, "malformed place=7 why=4\n"),
+        ("000100", REFUSED, "malformed place=0 why=1\n"),
+        ("0001FFFF00000000", REFUSED, "malformed place=0 why=2\n"),
+        ("007B000178", REFUSED, "malformed place=5 why=3\n"),
+        ("007B00017800000", REFUSED, "refused 0 4\n"),
+        ("007B0001780000x0", REFUSED, "refused 0 4\n"),
+        ("007B0001\t78000000", REFUSED, "refused 0 4\n"),
+    ];
+    for (input, status, text) in cases {
+        expect(&rt, "decode", input, status, text)?;
+    }
+    Ok(())
+}
+
+#[test]
+fn a_source_that_is_too_long(rt: HostRuntime) -> Result<(), Fail> {
+    let alloc = rt.alloc();
+    for (form, text) in [("decode", "refused 0 15\n"), ("lab", "refused 0 17\n")] {
+        let words = words(alloc, &["hncp", form])?;
+        let blanks = vec![in alloc; b' '; 16_777_217]?;
+        let mut source = MemSource::new(blanks, Vec::new(alloc));
+        let mut sink = MemSink::new(alloc, Vec::new(alloc));
+        let outcome = run(alloc, &words, &mut source, &mut sink);
+        assert_eq!(rt; outcome.status, REFUSED);
+        assert_eq!(rt; sink.held(), text.as_bytes());
     }
     Ok(())
 }
@@ -135,24 +182,39 @@ fn words_that_are_no_form(rt: HostRuntime) -> Result<(), Fail> {
 #[test]
 fn each_read_and_write_fails_in_turn(rt: HostRuntime) -> Result<(), Fail> {
     let alloc = rt.alloc();
-    let words = words(alloc, &["hncp", "lab"])?;
     let first_line = "show A id=00000001 number=1 reach=1 held=0 running=yes\n";
+    let hex = "007B000178000000";
+    let contents = "tlvs 1\n0 123 1 other value=78\n";
     let cases = [
-        // The reads are that of the whole script and that of its end, the writes are one a line.
-        (1, 0, SOURCE_FAILED, ""),
-        (2, 0, SOURCE_FAILED, ""),
-        (3, 0, DONE, TWO_ROUTERS_TEXT),
-        (0, 1, SINK_FAILED, ""),
-        (0, 2, SINK_FAILED, first_line),
-        (0, 3, DONE, TWO_ROUTERS_TEXT),
+        // The reads are that of the whole input and that of its end, the writes are one a line.
+        ("lab", TWO_ROUTERS, 1, 0, SOURCE_FAILED, ""),
+        ("lab", TWO_ROUTERS, 2, 0, SOURCE_FAILED, ""),
+        ("lab", TWO_ROUTERS, 3, 0, DONE, TWO_ROUTERS_TEXT),
+        ("lab", TWO_ROUTERS, 0, 1, SINK_FAILED, ""),
+        ("lab", TWO_ROUTERS, 0, 2, SINK_FAILED, first_line),
+        ("lab", TWO_ROUTERS, 0, 3, DONE, TWO_ROUTERS_TEXT),
+        ("decode", hex, 1, 0, SOURCE_FAILED, ""),
+        ("decode", hex, 2, 0, SOURCE_FAILED, ""),
+        ("decode", hex, 0, 1, SINK_FAILED, ""),
+        ("decode", hex, 0, 2, SINK_FAILED, "tlvs 1\n"),
+        ("decode", hex, 0, 3, DONE, contents),
     ];
-    for (read, write, status, text) in cases {
-        let bytes = TWO_ROUTERS.as_bytes().to_vec(alloc)?;
+    for (form, input, read, write, status, text) in cases {
+        let words = words(alloc, &["hncp", form])?;
+        let bytes = input.as_bytes().to_vec(alloc)?;
         let mut source = MemSource::new(bytes, vec![in alloc; read]?);
         let mut sink = MemSink::new(alloc, vec![in alloc; write]?);
         let outcome = run(alloc, &words, &mut source, &mut sink);
-        assert_eq!(rt; outcome.status, status, "read {read}, write {write}");
-        assert_eq!(rt; sink.held(), text.as_bytes(), "read {read}, write {write}");
+        assert_eq!(rt;
+            outcome.status,
+            status,
+            "{form}, read {read}, write {write}"
+        );
+        assert_eq!(rt;
+            sink.held(),
+            text.as_bytes(),
+            "{form}, read {read}, write {write}"
+        );
     }
     Ok(())
 }

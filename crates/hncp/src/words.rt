@@ -1,12 +1,38 @@
-ghost use Rattle.std.specs.Prelude.{◌↔◌, map, IsTrue, string_bytes};
-ghost use Rattle.hncp.specs.Form.{IsForm};
+ghost use Rattle.std.specs.Prelude.{◌≡◌, map, IfSome, IfNone, string_bytes};
 
-/// Whether the words of the command line are a form, the program's name among them. (no memory)
-pub fn is_form(words: &[String]) -> bool
-    ensures { IsTrue result ↔ IsForm (map string_bytes words.now) }
-{
-    match words {
-        [_, form] => form.as_str() == "lab",
-        _ => false,
+/// What the program is asked for.
+#[derive(Clone, Copy, Debug, PartialEq, Eq, Hash)]
+pub enum Form {
+    /// `lab`: the transcript of a script.
+    Lab,
+    /// `decode`: the contents of a datagram.
+    Decode,
+}
+
+impl Form {
+    ghost use Rattle.hncp.specs.Form.{form_word, IsFormOf};
+
+    /// The form of this word.
+    fn named(word: &str) -> Option<Form>
+        ensures found { IfSome result (λ form. word.now ≡ form_word form) }
+        ensures none { IfNone result ((form : Form) → word.now ≡ form_word form → ⊥) }
+    {
+        match word {
+            "lab" => Some(Form::Lab),
+            "decode" => Some(Form::Decode),
+            _ => None,
+        }
+    }
+
+    /// The form that the words of the command line are, the program's name among them; `None` exactly where they are
+    /// none. (no memory)
+    pub fn of(words: &[String]) -> Option<Form>
+        ensures found { IfSome result (λ form. IsFormOf form (map string_bytes words.now)) }
+        ensures none { IfNone result ((form : Form) → IsFormOf form (map string_bytes words.now) → ⊥) }
+    {
+        match words {
+            [_, form] => Form::named(form.as_str()),
+            _ => None,
+        }
     }
 }

@@ -25,7 +25,7 @@ loop-place-preserved g c =
         goes_on c.args.world.now c.loop-place.world c.run_line.new.world c.args.lines.now before.so_far.0 text c.loop-place.place c.index-lines-place.result c.loop-place-test.true c.index-lines-place.is before.so_far.2 passes c.in-Ok.ensures.ok,
       );
       replayed = λ h. c.run_line.ensures.replayed (before.replayed h);
-      no_fault = c.in_ok-write_piece-in-Ok.ensures.no_fault (λ failed. cc) ∙ before.no_fault;
+      no_fault = c.in_ok-write_piece-in-Ok.ensures.counts.stays (λ failed. cc) ∙ before.no_fault;
       reliable = λ never. (c.in_ok-write_piece-in-Ok.ensures.reliable (before.reliable never)).0;
     }
 

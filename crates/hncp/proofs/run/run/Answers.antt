@@ -1,9 +1,42 @@
-use Rattle.hncp.proofs.Sources.{of_source, among_all}
+use Rattle.std.proofs.Common.{◌≢◌, ℕ, List}
+use Rattle.hncp.specs.Decode.{SpellsTlvs, WritesDecode}
+use Rattle.hncp.specs.Lab.{WritesLab}
+use Rattle.hncp.proofs.Sources.{of_source, lab_longer, decode_longer, complete_longer, one_form, among_all}
 use Rattle.hncp.proofs.run.run.Goals as goal
 
-pub returns-in-Ok-clause-played : goal.returns-in-Ok-clause-played
-returns-in-Ok-clause-played g c good =
-    of_source (g.S.Source.left c.args.src.now) (g.S.Source.left c.read_all.new.src) c.in-Ok.bytes.items c.run_bytes.result.status c.run_bytes.result.world (g.K.Sink.held c.args.out.now) (g.K.Sink.held c.run_bytes.new.out) c.in-Ok.ensures.all c.in-Ok.ensures.whole (rw (← c.deref.ensures.value) (c.run_bytes.ensures.played good))
+pub returns-in-Ok-clause-no_form : goal.returns-in-Ok-clause-no_form
+returns-in-Ok-clause-no_form g c none = absurd (none c.in-Some.form c.in-Some.ensures.found)
+
+pub returns-in-Err-Failed-clause-no_form : goal.returns-in-Err-Failed-clause-no_form
+returns-in-Err-Failed-clause-no_form g c none = absurd (none c.in-Some.form c.in-Some.ensures.found)
+
+pub returns-in-Err-NoMemory-clause-no_form : goal.returns-in-Err-NoMemory-clause-no_form
+returns-in-Err-NoMemory-clause-no_form g c none = absurd (none c.in-Some.form c.in-Some.ensures.found)
+
+pub returns-in-Ok-clause-lab : goal.returns-in-Ok-clause-lab
+returns-in-Ok-clause-lab g c asked good =
+    let result = c.run_form.result in
+    let before = g.K.Sink.held c.args.out.now in
+    let after = g.K.Sink.held c.run_form.new.out in
+    let R : List ℕ → Type 0 = λ bytes. WritesLab bytes result.status result.world before after in
+    let form = one_form c.in-Some.form _ _ c.in-Some.ensures.found asked in
+    of_source R (lab_longer result.status result.world before after) (g.S.Source.left c.args.src.now) (g.S.Source.left c.read_all.new.src) c.in-Ok.bytes.items c.in-Ok.ensures.all c.in-Ok.ensures.whole (rw (← c.deref.ensures.value) (c.run_form.ensures.lab form good))
+
+pub returns-in-Ok-clause-decode : goal.returns-in-Ok-clause-decode
+returns-in-Ok-clause-decode g c asked good =
+    let status = c.run_form.result.status in
+    let before = g.K.Sink.held c.args.out.now in
+    let after = g.K.Sink.held c.run_form.new.out in
+    let R : List ℕ → Type 0 = λ bytes. WritesDecode bytes status before after in
+    let form = one_form c.in-Some.form _ _ c.in-Some.ensures.found asked in
+    of_source R (decode_longer status before after) (g.S.Source.left c.args.src.now) (g.S.Source.left c.read_all.new.src) c.in-Ok.bytes.items c.in-Ok.ensures.all c.in-Ok.ensures.whole (rw (← c.deref.ensures.value) (c.run_form.ensures.decode form good))
+
+pub returns-in-Ok-clause-decode_complete : goal.returns-in-Ok-clause-decode_complete
+returns-in-Ok-clause-decode_complete g c asked =
+    let status = c.run_form.result.status in
+    let R : List ℕ → Type 0 = λ bytes. SpellsTlvs bytes → status ≢ 2 in
+    let form = one_form c.in-Some.form _ _ c.in-Some.ensures.found asked in
+    of_source R (complete_longer status) (g.S.Source.left c.args.src.now) (g.S.Source.left c.read_all.new.src) c.in-Ok.bytes.items c.in-Ok.ensures.all c.in-Ok.ensures.whole (rw (← c.deref.ensures.value) (c.run_form.ensures.decode_complete form))
 
 pub returns-in-Ok-clause-statuses : goal.returns-in-Ok-clause-statuses
-returns-in-Ok-clause-statuses g c = among_all c.run_bytes.result.status c.run_bytes.ensures.statuses
+returns-in-Ok-clause-statuses g c = among_all c.run_form.result.status c.run_form.ensures.statuses

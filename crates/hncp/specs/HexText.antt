@@ -1,0 +1,14 @@
+use Rattle.std.specs.Prelude.{◌≡◌, ℕ, Bool, not, ◌==◌, ◌||◌, List, Ok, IsErr, filter}
+use Rattle.hex.specs.Hex.{decode_of}
+
+-- a space or LF
+abbrev pub is_blank : ℕ → Bool
+is_blank byte = byte == 32 || byte == 10
+
+-- hexadecimal digits of either case, between which blanks stand anywhere, that write these octets
+abbrev pub IsHexText : List ℕ → List ℕ → Type 0
+IsHexText text octets = decode_of (filter (λ byte. not (is_blank byte)) text) ≡ Ok octets
+
+-- another byte, or an odd number of digits
+abbrev pub IsNoHexText : List ℕ → Type 0
+IsNoHexText text = IsErr (decode_of (filter (λ byte. not (is_blank byte)) text))

@@ -13,7 +13,7 @@ returns-in-Some-clause-counts c =
     let fails = c.self.inside.fails.items in
     let number_is : c.in-Some.number ≡ made + 1 = c.in-Some.ensures.1 in
     let listed : list_any (λ number. eqb number (made + 1)) fails ≡ c.contains.result =
-        rw (← number_is, ← c.deref.ensures.value) (sym c.contains.ensures.value)
+    rw (← number_is, ← c.deref.ensures.value) (sym c.contains.ensures.value)
     in
     record {
       rises = λ told. let risen = count_by-rises made fails (listed ∙ told) in rw (← c.self.view_is, number_is) (omega arith);

@@ -1,2 +1,12 @@
+pub mod Addr
+pub mod Ascending
+pub mod Caps
+pub mod HexText
+pub mod Key
 pub mod Name
 pub mod NameText
+pub mod NodeIds
+pub mod Numeral
+pub mod Order
+pub mod Shared
+pub mod Splits

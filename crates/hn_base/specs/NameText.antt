@@ -13,10 +13,10 @@ pub record IsNameText (text : List ℕ) : Type 0 where
   pub letter_first : IsTrue (is_ascii_alphabetic (slice_index text 0))
   pub name_bytes : IsTrue (list_all is_name_byte text)
 
--- the text that a name keeps in front of its bytes
+-- the text that a name keeps at the start of its bytes
 abbrev pub first_bytes : ℕ → List ℕ → List ℕ
 first_bytes len bytes = take len bytes
 
--- nothing but zeros behind the text
+-- nothing but zeros after the text
 abbrev pub IsPadded : ℕ → List ℕ → Type 0
 IsPadded len bytes = drop len bytes ≡ replicate (16 - len) 0

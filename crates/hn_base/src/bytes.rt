@@ -17,7 +17,7 @@ impl Model for Bytes {
 }
 
 impl Bytes {
-    /// No bytes. (no memory)
+    /// No bytes. Never allocates.
     pub fn new(alloc: Global) -> Bytes
         ensures { result ≡ [] }
     {
@@ -35,21 +35,21 @@ impl Bytes {
         })
     }
 
-    /// The bytes. (no memory)
+    /// The bytes. Never allocates.
     pub fn as_slice(&self) -> &[u8]
         ensures { result.now ≡ self.now }
     {
         self.items.as_slice()
     }
 
-    /// How many there are. (no memory)
+    /// How many there are. Never allocates.
     pub fn len(&self) -> usize
         ensures { result ≡ length self.now }
     {
         self.items.len()
     }
 
-    /// Whether there are none. (no memory)
+    /// Whether there are none. Never allocates.
     pub fn is_empty(&self) -> bool
         ensures { IsTrue result ↔ (self.now ≡ []) }
     {

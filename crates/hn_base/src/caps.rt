@@ -1,12 +1,16 @@
 ghost use Rattle.std.specs.Prelude.{◌≤◌};
 
-/// The four priorities of an HNCP-Version TLV: prefix configuration, DHCPv6 prefix delegation, DHCPv6 and
-/// DHCPv4 (RFC 7788, sections 4 and 10.1). Each is 4 bits wide on the wire, and 0 where the node does not serve.
+/// The four capabilities of an HNCP-Version TLV (RFC 7788, section 10.1). Each is the node's priority for that service,
+/// a number of 4 bits; it is 0 if the node does not offer the service.
 #[derive(Clone, Copy, Debug, PartialEq, Eq, Hash)]
 pub struct Caps {
+    /// M: mDNS proxy.
     pub m: u8,
+    /// P: prefix delegation by DHCPv6.
     pub p: u8,
+    /// H: host addresses by DHCPv6.
     pub h: u8,
+    /// L: legacy (IPv4) addresses by DHCPv4.
     pub l: u8,
     pub ghost m_in_range: { m ≤ 15 },
     pub ghost p_in_range: { p ≤ 15 },

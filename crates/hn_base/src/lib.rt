@@ -1,18 +1,43 @@
-//! What every crate of the home router speaks of: identifiers, moments, names, priorities and want of memory.
+//! What every crate of the home router speaks of: identifiers, moments, names, capabilities, out of memory, numerals and
+//! hexadecimal text.
 #![tactic(auto)]
 
+mod addr;
+#[cfg(test)]
+mod addr_tests;
+mod ascending;
 mod bytes;
 mod caps;
+mod endpoints;
+mod hex_text;
 mod ids;
+mod key;
+mod letter;
 mod memory;
 mod name;
+mod node_ids;
+mod numeral;
+mod order;
+mod shared;
+mod split;
 #[cfg(test)]
 mod tests;
 mod words;
 
+pub use addr::{Addr, link_local};
+pub use ascending::{ascending_is_unique, is_in_set, sort_to_set};
 pub use bytes::Bytes;
 pub use caps::Caps;
+pub use endpoints::Endpoints;
+pub use hex_text::Hex;
 pub use ids::{EpId, Moment, NodeId};
+pub use key::{Key, key_order_is_total};
+pub use letter::Letter;
 pub use memory::NoMemory;
 pub use name::{NAME_CAPACITY, Name};
+pub use node_ids::NodeIds;
+pub use numeral::{MOST_DIGITS, number};
+pub use order::older;
+pub use shared::{Exact, Shared};
+pub use split::split_once;
 pub use words::Words;

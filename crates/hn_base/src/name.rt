@@ -41,7 +41,7 @@ fn is_name_text(text: &[u8]) -> bool
 impl Name {
     ghost use Rattle.hn_base.specs.Name.{name_text};
 
-    /// The name of this text, or `None` exactly where the text is of another form. (no memory)
+    /// The name of this text, or `None` if and only if the text is of another form. Never allocates.
     pub fn new(text: &[u8]) -> Option<Name>
         ensures found { IsSome result ↔ IsNameText text.now }
         ensures text { IfSome result (λ name. name_text name ≡ text.now) }
@@ -57,7 +57,7 @@ impl Name {
         })
     }
 
-    /// The text. (no memory)
+    /// The text. Never allocates.
     pub fn as_str(&self) -> &str
         ensures { result.now ≡ name_text self.now }
     {

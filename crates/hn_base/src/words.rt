@@ -1,5 +1,6 @@
-ghost use Rattle.std.specs.Prelude.{◌≡◌, ◌↔◌, List, ℕ, [], length, IsTrue};
+ghost use Rattle.std.specs.Prelude.{◌≡◌, ◌↔◌, List, ℕ, [], ◌∷◌, ◌++◌, length, IsTrue, OnOk, OnErr};
 
+use crate::memory::NoMemory;
 use std::alloc::Global;
 use std::marker::Model;
 
@@ -16,7 +17,7 @@ impl Model for Words {
 }
 
 impl Words {
-    /// No words. (no memory)
+    /// No words. Never allocates.
     pub fn new(alloc: Global) -> Words
         ensures { result ≡ [] }
     {
@@ -25,21 +26,30 @@ impl Words {
         }
     }
 
-    /// The words. (no memory)
+    /// Adds a word at the end.
+    pub fn push(&mut self, word: u32) -> Result<(), NoMemory>
+        ensures ok { OnOk result (self.new ≡ self.old ++ word ∷ []) }
+        ensures err { OnErr result (self.new ≡ self.old) }
+    {
+        self.items.push(word)?;
+        Ok(())
+    }
+
+    /// The words. Never allocates.
     pub fn as_slice(&self) -> &[u32]
         ensures { result.now ≡ self.now }
     {
         self.items.as_slice()
     }
 
-    /// How many there are. (no memory)
+    /// How many there are. Never allocates.
     pub fn len(&self) -> usize
         ensures { result ≡ length self.now }
     {
         self.items.len()
     }
 
-    /// Whether there are none. (no memory)
+    /// Whether there are none. Never allocates.
     pub fn is_empty(&self) -> bool
         ensures { IsTrue result ↔ (self.now ≡ []) }
     {

@@ -1,4 +1,4 @@
--- A name keeps the text in front, and zeros behind it.
+-- A name keeps the text in front, and zeros after it.
 use Rattle.std.proofs.Common.{◌≡◌, ◌∙◌, ℕ, List, ◌++◌, length, drop, subst, sym}
 use Rattle.std.proofs.Math.ListN.{replicate}
 use Rattle.std.proofs.Math.Seq.{take-append_seam, drop-append_seam}
@@ -9,8 +9,8 @@ use Rattle.hn_base.proofs.name.Name.new.Goals as goal
 front : (text zeros : List ℕ) → first_bytes (length text) (text ++ zeros) ≡ text
 front text zeros = take-append_seam text zeros
 
-padded_behind : (text : List ℕ) → IsPadded (length text) (text ++ drop (length text) (replicate 16 0))
-padded_behind text = drop-append_seam text _ ∙ drop-replicate (length text) 16 0
+padded_after : (text : List ℕ) → IsPadded (length text) (text ++ drop (length text) (replicate 16 0))
+padded_after text = drop-append_seam text _ ∙ drop-replicate (length text) 16 0
 
 pub invariant_of-result : goal.invariant_of-result
 invariant_of-result c =
@@ -19,5 +19,5 @@ invariant_of-result c =
     record {
       fits = valid.short;
       is_name = rw copied (subst IsNameText (sym (front c.args.text.now _)) valid);
-      padded = rw copied (padded_behind c.args.text.now);
+      padded = rw copied (padded_after c.args.text.now);
     }

@@ -1,0 +1,8 @@
+-- Lists in strictly ascending order, as sets.
+use Rattle.std.specs.Prelude.{◌≡◌}
+use Rattle.std.specs.declared.cmp.Ordering.{Ordering}
+use Rattle.std.specs.declared.cmp.Ordering.TheVariants.{Equal}
+
+-- only a value itself is equal to it by this order
+abbrev pub IsExact : {K : Type 0} → (K → K → Ordering) → Type 0
+IsExact {K} cmp = (x y : K) → cmp x y ≡ Equal → x ≡ y

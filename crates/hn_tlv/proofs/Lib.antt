@@ -1,5 +1,6 @@
 pub mod Outcome
 pub mod Unique
 pub mod Places
-pub mod Padding
+pub mod PadBytes
 pub mod Split
+pub mod Covered

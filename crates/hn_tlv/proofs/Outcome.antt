@@ -1,4 +1,4 @@
--- The one thing that stands at the beginning of some bytes, as a function: nothing, a TLV and what is behind it, or a
+-- The one thing that stands at the beginning of some bytes, as a function: nothing, a TLV and what follows it, or a
 -- fault. Each relation of the grammar agrees with it, so no two of them hold of the same bytes.
 use Rattle.std.proofs.Common.{◌≡◌, ◌≢◌, ℕ, zero, suc, ◌+◌, ◌/◌, ◌%◌, ◌^◌, ◌<◌, cond, ltb, false, true, List, [], ◌∷◌, ◌++◌, length, take, drop, replicate, refl, ap, ◌∙◌, append_assoc, arith, inl, inr}
 use Rattle.std.specs.Int.{w16, from_be_bytes}

@@ -15,11 +15,11 @@ pub read_again : (t : PlainTlv) (front rest : List ℕ) → IsTlv t → IsTlvAt 
 read_again t front rest valid =
     let all = front ++ (spelling t ++ rest) in
     let here : drop (length front) all ≡ spelling t ++ rest = drop_at front (spelling t ++ rest) (length front) refl in
-    let behind : drop (length front + tlv_size (length t.value)) all ≡ rest = sym (drop-drop (tlv_size (length t.value)) (length front) all) ∙ ap (drop (tlv_size (length t.value))) here ∙ drop_at (spelling t) rest (tlv_size (length t.value)) (length-spelling t) in
+    let later : drop (length front + tlv_size (length t.value)) all ≡ rest = sym (drop-drop (tlv_size (length t.value)) (length front) all) ∙ ap (drop (tlv_size (length t.value))) here ∙ drop_at (spelling t) rest (tlv_size (length t.value)) (length-spelling t) in
     let len : length all ≡ length front + (length (spelling t) + length rest) = length-append front (spelling t ++ rest) ∙ ap (λ n. length front + n) (length-append (spelling t) rest) in
     record {
       valid = valid;
-      spelled = here ∙ ap (λ (z : List ℕ). spelling t ++ z) (sym behind);
+      spelled = here ∙ ap (λ (z : List ℕ). spelling t ++ z) (sym later);
       ends = refl;
       within = omega (arith, len, length-spelling t);
     }
@@ -68,7 +68,7 @@ grows bytes at after t ts l here = subst (IsTlvList (ts ++ t ∷ [])) (sym (take
 
 -- a list up to a place, and a fault there
 pub breaks_off : (bytes : List ℕ) (at place why : ℕ) (ts : List PlainTlv) → at ≤ length bytes → IsTlvList ts (take at bytes) → at ≤ place → IsFault (drop at bytes) (place - at) why → FirstFault bytes place why
-breaks_off bytes at place why ts within l behind f = record {
+breaks_off bytes at place why ts within l later f = record {
   tlvs = ts;
   front = take at bytes;
   rest = drop at bytes;

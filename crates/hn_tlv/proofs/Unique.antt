@@ -52,36 +52,36 @@ rest_of t (u ∷ us) bytes rest valid e l =
 
 -- ---- first faults
 
-no_list_behind : (a b : List PlainTlv) (front rest : List ℕ) (offset why : ℕ) → IsTlvList a front → IsFault rest offset why → ¬ (IsTlvList b (front ++ rest))
-no_list_behind [] [] front rest offset why l f m = not_empty rest offset why f (ap (λ (z : List ℕ). z ++ rest) (sym l) ∙ m)
-no_list_behind [] (u ∷ us) front rest offset why l f m = no_tlv rest m.0 offset why u f m.1 (ap (λ (z : List ℕ). z ++ rest) (sym l) ∙ m.2)
-no_list_behind (t ∷ ts) b front rest offset why l f m =
+no_list_after : (a b : List PlainTlv) (front rest : List ℕ) (offset why : ℕ) → IsTlvList a front → IsFault rest offset why → ¬ (IsTlvList b (front ++ rest))
+no_list_after [] [] front rest offset why l f m = not_empty rest offset why f (ap (λ (z : List ℕ). z ++ rest) (sym l) ∙ m)
+no_list_after [] (u ∷ us) front rest offset why l f m = no_tlv rest m.0 offset why u f m.1 (ap (λ (z : List ℕ). z ++ rest) (sym l) ∙ m.2)
+no_list_after (t ∷ ts) b front rest offset why l f m =
     let split : front ++ rest ≡ spelling t ++ (l.0 ++ rest) = ap (λ (z : List ℕ). z ++ rest) l.2 ∙ append_assoc (spelling t) l.0 rest in
     let others = rest_of t b (front ++ rest) (l.0 ++ rest) l.1 split m in
-    no_list_behind ts others.0 l.0 rest offset why l.3 f others.2
+    no_list_after ts others.0 l.0 rest offset why l.3 f others.2
 
 pub no_list : (bytes : List ℕ) (place why : ℕ) → FirstFault bytes place why → ¬ (HasTlvs bytes)
-no_list bytes place why f l = no_list_behind f.tlvs l.0 f.front f.rest f.offset why f.before f.fault (subst (IsTlvList l.0) f.parts l.1)
+no_list bytes place why f l = no_list_after f.tlvs l.0 f.front f.rest f.offset why f.before f.fault (subst (IsTlvList l.0) f.parts l.1)
 
-same_behind : (a b : List PlainTlv) (x y r s : List ℕ) (o p v w : ℕ) → IsTlvList a x → IsTlvList b y → x ++ r ≡ y ++ s → IsFault r o v → IsFault s p w → (length x + o ≡ length y + p) × (v ≡ w)
-same_behind [] [] x y r s o p v w l m e f g =
+same_after : (a b : List PlainTlv) (x y r s : List ℕ) (o p v w : ℕ) → IsTlvList a x → IsTlvList b y → x ++ r ≡ y ++ s → IsFault r o v → IsFault s p w → (length x + o ≡ length y + p) × (v ≡ w)
+same_after [] [] x y r s o p v w l m e f g =
     let rests : r ≡ s = ap (λ (z : List ℕ). z ++ r) (sym l) ∙ e ∙ ap (λ (z : List ℕ). z ++ s) m in
     let same = same_fault s o p v w (subst (λ (z : List ℕ). IsFault z o v) rests f) g in
     (rw (l, m, same.0) refl, same.1)
-same_behind [] (u ∷ us) x y r s o p v w l m e f g =
+same_after [] (u ∷ us) x y r s o p v w l m e f g =
     absurd (no_tlv r (m.0 ++ s) o v u f m.1 (ap (λ (z : List ℕ). z ++ r) (sym l) ∙ e ∙ ap (λ (z : List ℕ). z ++ s) m.2 ∙ append_assoc (spelling u) m.0 s))
-same_behind (t ∷ ts) [] x y r s o p v w l m e f g =
+same_after (t ∷ ts) [] x y r s o p v w l m e f g =
     absurd (no_tlv s (l.0 ++ r) p w t g l.1 (ap (λ (z : List ℕ). z ++ s) (sym m) ∙ sym e ∙ ap (λ (z : List ℕ). z ++ r) l.2 ∙ append_assoc (spelling t) l.0 r))
-same_behind (t ∷ ts) (u ∷ us) x y r s o p v w l m e f g =
+same_after (t ∷ ts) (u ∷ us) x y r s o p v w l m e f g =
     let left : x ++ r ≡ spelling t ++ (l.0 ++ r) = ap (λ (z : List ℕ). z ++ r) l.2 ∙ append_assoc (spelling t) l.0 r in
     let right : y ++ s ≡ spelling u ++ (m.0 ++ s) = ap (λ (z : List ℕ). z ++ s) m.2 ∙ append_assoc (spelling u) m.0 s in
     let same = same_begin t u (l.0 ++ r) (m.0 ++ s) l.1 m.1 (sym left ∙ e ∙ right) in
-    let behind = same_behind ts us l.0 m.0 r s o p v w l.3 m.3 same.1 f g in
+    let later = same_after ts us l.0 m.0 r s o p v w l.3 m.3 same.1 f g in
     let x_len : length x ≡ length (spelling t) + length l.0 = ap length l.2 ∙ length-append (spelling t) l.0 in
     let y_len : length y ≡ length (spelling t) + length m.0 = ap length m.2 ∙ length-append (spelling u) m.0 ∙ ap (λ (z : PlainTlv). length (spelling z) + length m.0) (sym same.0) in
-    (rw (x_len, y_len) (omega (arith, behind.0)), behind.1)
+    (rw (x_len, y_len) (omega (arith, later.0)), later.1)
 
 pub same_first_fault : (bytes : List ℕ) (p q v w : ℕ) → FirstFault bytes p v → FirstFault bytes q w → (p ≡ q) × (v ≡ w)
 same_first_fault bytes p q v w f g =
-    let same = same_behind f.tlvs g.tlvs f.front g.front f.rest g.rest f.offset g.offset v w f.before g.before (sym f.parts ∙ g.parts) f.fault g.fault in
+    let same = same_after f.tlvs g.tlvs f.front g.front f.rest g.rest f.offset g.offset v w f.before g.before (sym f.parts ∙ g.parts) f.fault g.fault in
     (f.place_is ∙ same.0 ∙ sym g.place_is, same.1)

@@ -42,7 +42,7 @@ IsTlvList (tlv ∷ tlvs) bytes = (rest : List ℕ) × IsTlv tlv × (bytes ≡ sp
 abbrev pub HasTlvs : List ℕ → Type 0
 HasTlvs bytes = (tlvs : List PlainTlv) × IsTlvList tlvs bytes
 
--- at this place a TLV begins, and after is the place behind its padding
+-- at this place a TLV begins, and after is the place after its padding
 pub record IsTlvAt (bytes : List ℕ) (at : ℕ) (tlv : PlainTlv) (after : ℕ) : Type 0 where
   pub valid : IsTlv tlv
   pub spelled : drop at bytes ≡ spelling tlv ++ drop after bytes

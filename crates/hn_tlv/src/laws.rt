@@ -2,7 +2,7 @@
 //!
 //! Each is the contract of a function that does nothing: call it to know its law.
 
-ghost use Rattle.std.specs.Prelude.{◌≡◌, ℕ, ◌+◌, ◌-◌, ◌≤◌, List, [], ◌∷◌, ◌++◌, length, take, drop};
+ghost use Rattle.std.specs.Prelude.{◌≡◌, ◌⊎◌, ℕ, ◌+◌, ◌-◌, ◌^◌, ◌<◌, ◌≤◌, All, List, [], ◌∷◌, ◌++◌, length, take, drop};
 ghost use Rattle.hn_tlv.specs.Grammar.{PlainTlv, IsTlv, tlv_size, spelling, IsTlvList, HasTlvs, IsTlvAt, IsFault, FirstFault};
 
 /// No spelling of a TLV is a proper prefix of another's.
@@ -11,26 +11,26 @@ pub fn spelling_is_prefix_free()
         → spelling t ++ x ≡ spelling u ++ y → (t ≡ u) × (x ≡ y) }
 {}
 
-/// A text stands for at most one list of TLVs.
+/// A text decodes to at most one list of TLVs.
 pub fn list_is_unique()
     ensures { (a b : List PlainTlv) (bytes : List ℕ) → IsTlvList a bytes → IsTlvList b bytes
         → a ≡ b }
 {}
 
-/// The bytes of two lists, one behind the other, are those of the two lists joined.
+/// The bytes of two lists, one after the other, are those of the two lists joined.
 pub fn lists_join()
     ensures { (a b : List PlainTlv) (x y : List ℕ) → IsTlvList a x → IsTlvList b y
         → IsTlvList (a ++ b) (x ++ y) }
 {}
 
-/// A list of TLVs up to a place, and the TLV there, are a list up to the place behind it.
+/// A list of TLVs up to a place, and the TLV there, are a list up to the place after it.
 pub fn list_grows()
     ensures { (bytes : List ℕ) (at after : ℕ) (t : PlainTlv) (ts : List PlainTlv)
         → IsTlvList ts (take at bytes) → IsTlvAt bytes at t after
         → IsTlvList (ts ++ t ∷ []) (take after bytes) }
 {}
 
-/// A list of TLVs from a place on is the TLV there, and a list from the place behind it.
+/// A list of TLVs from a place on is the TLV there, and a list from the place after it.
 pub fn list_continues()
     ensures joins { (bytes : List ℕ) (at after : ℕ) (t : PlainTlv) (ts : List PlainTlv)
         → IsTlvAt bytes at t after → IsTlvList ts (drop after bytes)
@@ -46,7 +46,7 @@ pub fn tlv_is_unique()
         → IsTlvAt bytes at u n → (t ≡ u) × (m ≡ n) }
 {}
 
-/// A TLV that was written is read again: alone, and whatever stands before it and behind it.
+/// A TLV that was written is read again: alone, and whatever stands before it and after it.
 pub fn spelling_is_read()
     ensures as_a_list { (t : PlainTlv) → IsTlv t → IsTlvList (t ∷ []) (spelling t) }
     ensures at_its_place { (t : PlainTlv) (front rest : List ℕ) → IsTlv t
@@ -62,17 +62,23 @@ pub fn fault_is_unique()
         → IsFault bytes q w → (p ≡ q) × (v ≡ w) }
 {}
 
-/// A fault behind a list of TLVs is the first one.
-pub fn fault_behind_list()
+/// A fault after a list of TLVs is the first one.
+pub fn fault_after_list()
     ensures { (bytes : List ℕ) (at place why : ℕ) (ts : List PlainTlv)
         → at ≤ length bytes → IsTlvList ts (take at bytes)
         → at ≤ place → IsFault (drop at bytes) (place - at) why → FirstFault bytes place why }
 {}
 
-/// A text with a first fault has one only, and stands for no list of TLVs.
+/// A text with a first fault has one only, and decodes to no list of TLVs.
 pub fn first_fault_is_unique()
     ensures no_list { (bytes : List ℕ) (place why : ℕ) → FirstFault bytes place why
         → ¬ (HasTlvs bytes) }
     ensures one { (bytes : List ℕ) (p q v w : ℕ) → FirstFault bytes p v
         → FirstFault bytes q w → (p ≡ q) × (v ≡ w) }
+{}
+
+/// Bytes are a list of TLVs, or they have a first fault.
+pub fn list_or_first_fault()
+    ensures { (bytes : List ℕ) → All (λ byte. byte < 2 ^ 8) bytes
+        → HasTlvs bytes ⊎ ((place why : ℕ) × FirstFault bytes place why) }
 {}

@@ -2,7 +2,7 @@
 //!
 //! A TLV is a type of 2 bytes, a length of 2 bytes, both in network byte order, the value of that
 //! many bytes, and zero bytes up to the next multiple of 4, which the length does not count. A list
-//! of TLVs is their concatenation. Nothing here takes memory: what is read is lent, and what is
+//! of TLVs is their concatenation. Nothing here allocates: what is read is lent, and what is
 //! written goes where the caller says.
 #![tactic(auto)]
 
@@ -13,11 +13,12 @@ mod writing;
 
 pub use fault::{HEADER_CUT, PADDING_CUT, PADDING_NOT_ZERO, TlvFault, VALUE_CUT};
 pub use laws::{
-    fault_behind_list, fault_is_unique, first_fault_is_unique, list_continues, list_grows,
-    list_is_unique, lists_join, spelling_is_prefix_free, spelling_is_read, tlv_is_unique,
+    fault_after_list, fault_is_unique, first_fault_is_unique, list_continues, list_grows,
+    list_is_unique, list_or_first_fault, lists_join, spelling_is_prefix_free, spelling_is_read,
+    tlv_is_unique,
 };
 pub use reading::{Tlv, check, next};
-pub use writing::{size, write_to};
+pub use writing::{HEADER_SIZE, padding, size, write_to};
 
 #[cfg(test)]
 mod tests;

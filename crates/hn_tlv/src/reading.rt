@@ -15,7 +15,7 @@ pub struct Tlv<'a> {
     pub value: &'a [u8],
 }
 
-// The type, the length and the bytes behind them.
+// The type, the length and the bytes after them.
 fn split_header(bytes: &[u8]) -> Option<(u16, u16, &[u8])>
     ensures none { IfNone result (length bytes.now < 4) }
     ensures fit { IfSome result (λ found. (found.0 < 2 ^ 16) × (found.1 < 2 ^ 16)) }
@@ -24,10 +24,10 @@ fn split_header(bytes: &[u8]) -> Option<(u16, u16, &[u8])>
     if bytes.len() < HEADER_SIZE {
         return None;
     }
-    let (front, behind) = bytes.split_at(HEADER_SIZE);
+    let (front, rest) = bytes.split_at(HEADER_SIZE);
     let kind = u16::from_be_bytes([front[0], front[1]]);
     let len = u16::from_be_bytes([front[2], front[3]]);
-    Some((kind, len, behind))
+    Some((kind, len, rest))
 }
 
 // The first of `count` pad bytes that is missing or is not zero, with its place in `bytes`.
@@ -46,31 +46,31 @@ fn padding_fault(bytes: &[u8], count: usize) -> Option<TlvFault>
     None
 }
 
-// The TLV that begins the bytes, and what is behind its value.
+// The TLV that begins the bytes, and what follows its value.
 fn split_value(bytes: &[u8]) -> Result<(Tlv<'_>, &[u8]), TlvFault>
     requires { 0 < length bytes.now }
     ensures valid { IfOk result (λ found. IsTlv (plain found.0)) }
     ensures parts { IfOk result (λ found. bytes.now ≡ unpadded (plain found.0) ++ found.1.now) }
     ensures fault { IfErr result (λ fault. IsFault bytes.now fault.place fault.why) }
 {
-    let Some((kind, len, behind)) = split_header(bytes) else {
+    let Some((kind, len, rest)) = split_header(bytes) else {
         return Err(TlvFault {
             place: 0,
             why: HEADER_CUT,
         });
     };
     let len = usize::from(len);
-    if behind.len() < len {
+    if rest.len() < len {
         return Err(TlvFault {
             place: 0,
             why: VALUE_CUT,
         });
     }
-    let (value, behind) = behind.split_at(len);
-    Ok((Tlv { kind, value }, behind))
+    let (value, rest) = rest.split_at(len);
+    Ok((Tlv { kind, value }, rest))
 }
 
-// The TLV that begins the bytes, and the place behind its padding.
+// The TLV that begins the bytes, and the place after its padding.
 fn first(bytes: &[u8]) -> Result<Option<(Tlv<'_>, usize)>, TlvFault>
     ensures { MatchResult result
         (λ found. MatchOption found (bytes.now ≡ []) (λ f. IsTlvAt bytes.now 0 (plain f.0) f.1))
@@ -79,10 +79,10 @@ fn first(bytes: &[u8]) -> Result<Option<(Tlv<'_>, usize)>, TlvFault>
     if bytes.is_empty() {
         return Ok(None);
     }
-    let (tlv, behind) = split_value(bytes)?;
+    let (tlv, rest) = split_value(bytes)?;
     let len = tlv.value.len();
     let after = size(len);
-    match padding_fault(behind, after - HEADER_SIZE - len) {
+    match padding_fault(rest, after - HEADER_SIZE - len) {
         None => Ok(Some((tlv, after))),
         Some(fault) => Err(TlvFault {
             place: HEADER_SIZE + len + fault.place,
@@ -91,7 +91,7 @@ fn first(bytes: &[u8]) -> Result<Option<(Tlv<'_>, usize)>, TlvFault>
     }
 }
 
-/// The TLV that begins at the place `at`, and the place behind its padding; `None` at the end.
+/// The TLV that begins at the place `at`, and the place after its padding; `None` at the end. Never allocates.
 ///
 /// # Errors
 ///
@@ -124,7 +124,7 @@ pub fn next(bytes: &[u8], at: usize) -> Result<Option<(Tlv<'_>, usize)>, TlvFaul
     }
 }
 
-/// How many TLVs the text is a list of (RFC 7787, section 7).
+/// How many TLVs the text is a list of (RFC 7787, section 7). Never allocates.
 ///
 /// # Errors
 ///

@@ -1,11 +1,18 @@
 ghost use Rattle.std.specs.Prelude.{◌≡◌, ◌+◌, ◌%◌, ◌<◌, ◌≤◌, length};
-ghost use Rattle.hn_tlv.specs.Grammar.{IsTlv, tlv_size, spelling, IsTlvAt};
+ghost use Rattle.hn_tlv.specs.Grammar.{IsTlv, padding, tlv_size, spelling, IsTlvAt};
 
-// How many bytes the type and the length take.
-pub(crate) const HEADER_SIZE: usize = 4;
+/// How many bytes the type and the length of a TLV take.
+pub const HEADER_SIZE: usize = 4;
+
+/// How many zero bytes bring a part of `len` bytes to the next multiple of 4 (RFC 7787, section 7). Never allocates.
+pub fn padding(len: usize) -> usize
+    ensures { result ≡ padding len }
+{
+    (4 - len % 4) % 4
+}
 
 /// How many bytes a TLV takes whose value has `len` bytes: 4 for its type and length, and `len`
-/// rounded up to a multiple of 4 (RFC 7787, section 7).
+/// rounded up to a multiple of 4 (RFC 7787, section 7). Never allocates.
 pub fn size(len: usize) -> usize
     requires { len ≤ 65535 }
     ensures exact { result ≡ tlv_size len }
@@ -17,7 +24,7 @@ pub fn size(len: usize) -> usize
 }
 
 /// Writes the one spelling of the TLV with this type and value (RFC 7787, section 7). `out` is as
-/// long as the TLV, by `size`.
+/// long as the TLV, by `size`. Never allocates.
 pub fn write_to(kind: u16, value: &[u8], out: &mut [u8])
     requires value_fits { length value.now ≤ 65535 }
     requires out_fits { length out.old ≡ tlv_size (length value.now) }

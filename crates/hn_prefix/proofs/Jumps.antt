@@ -5,11 +5,11 @@ use Rattle.std.proofs.lemmas.Bool.{cases_lt}
 use Rattle.std.proofs.lemmas.Bool.Decides.{nat_tests}
 use Rattle.std.proofs.lemmas.List.Sums.{sum_by-le-sum_by, sum_by-remove, count_by-le-length}
 use Rattle.hn_prefix.specs.Prefix.{PlainPrefix, last_address}
-use Rattle.hn_prefix.specs.Free.{sub_prefix_count, place_behind}
+use Rattle.hn_prefix.specs.Free.{sub_prefix_count, next_place}
 
 -- how many taken prefixes reach beyond a place
 abbrev pub reaching : PlainPrefix → List PlainPrefix → ℕ → ℕ → ℕ
-reaching outer taken len place = count_by (λ t. nat_lt place (place_behind outer len (last_address t))) taken
+reaching outer taken len place = count_by (λ t. nat_lt place (next_place outer len (last_address t))) taken
 
 -- how many jumps are still to come at most, `at` places from place 0, of two rounds: in each round one for each taken
 -- prefix that reaches beyond the place, so never more than twice the number of taken prefixes
@@ -40,32 +40,32 @@ counted_once a b below = grind (arith, nat_tests)
 
 no_more_reach : (outer : PlainPrefix) (taken : List PlainPrefix) (len a b : ℕ) → a ≤ b → reaching outer taken len b ≤ reaching outer taken len a
 no_more_reach outer taken len a b below =
-    sum_by-le-sum_by (λ t. cond (nat_lt b (place_behind outer len (last_address t))) 1 0) (λ t. cond (nat_lt a (place_behind outer len (last_address t))) 1 0) taken
-    (λ t. counted_less a b (place_behind outer len (last_address t)) below)
+    sum_by-le-sum_by (λ t. cond (nat_lt b (next_place outer len (last_address t))) 1 0) (λ t. cond (nat_lt a (next_place outer len (last_address t))) 1 0) taken
+    (λ t. counted_less a b (next_place outer len (last_address t)) below)
 
-fewer_reach : (outer : PlainPrefix) (taken : List PlainPrefix) (blocker : PlainPrefix) (len place : ℕ) → Contains taken blocker → place < place_behind outer len (last_address blocker) → reaching outer taken len (place_behind outer len (last_address blocker)) < reaching outer taken len place
+fewer_reach : (outer : PlainPrefix) (taken : List PlainPrefix) (blocker : PlainPrefix) (len place : ℕ) → Contains taken blocker → place < next_place outer len (last_address blocker) → reaching outer taken len (next_place outer len (last_address blocker)) < reaching outer taken len place
 fewer_reach outer taken blocker len place among below =
-    fewer_by (λ t. cond (nat_lt (place_behind outer len (last_address blocker)) (place_behind outer len (last_address t))) 1 0) (λ t. cond (nat_lt place (place_behind outer len (last_address t))) 1 0) taken
+    fewer_by (λ t. cond (nat_lt (next_place outer len (last_address blocker)) (next_place outer len (last_address t))) 1 0) (λ t. cond (nat_lt place (next_place outer len (last_address t))) 1 0) taken
     among.0 blocker among.1 among.2
-    (λ t. counted_less place (place_behind outer len (last_address blocker)) (place_behind outer len (last_address t)) (omega arith))
-    (counted_once place (place_behind outer len (last_address blocker)) below)
+    (λ t. counted_less place (next_place outer len (last_address blocker)) (next_place outer len (last_address t)) (omega arith))
+    (counted_once place (next_place outer len (last_address blocker)) below)
 
--- a jump to the place behind a taken prefix leaves fewer jumps to come
-pub jump_counts : (taken : List PlainPrefix) (outer blocker : PlainPrefix) (len at next place behind : ℕ) → Contains taken blocker → behind ≡ place_behind outer len (last_address blocker) → at < 2 * sub_prefix_count outer len → place ≡ at % sub_prefix_count outer len → place < behind → next ≡ at + (behind - place) → jumps_left outer taken len next < jumps_left outer taken len at
-jump_counts taken outer blocker len at next place behind among behind_is two_rounds place_is later next_is =
+-- a jump to the place after a taken prefix leaves fewer jumps to come
+pub jump_counts : (taken : List PlainPrefix) (outer blocker : PlainPrefix) (len at next place following : ℕ) → Contains taken blocker → following ≡ next_place outer len (last_address blocker) → at < 2 * sub_prefix_count outer len → place ≡ at % sub_prefix_count outer len → place < following → next ≡ at + (following - place) → jumps_left outer taken len next < jumps_left outer taken len at
+jump_counts taken outer blocker len at next place following among following_is two_rounds place_is later next_is =
     let count : ℕ = sub_prefix_count outer len in
     elim (cases_lt at count) [
       | inl first_round ↦
           let same : at % count ≡ at = mod-eq_of_lt first_round in
           let fewer = fewer_reach outer taken blocker len at among (omega arith) in
-          let moved : reaching outer taken len next ≡ reaching outer taken len (place_behind outer len (last_address blocker)) = ap (λ n. reaching outer taken len n) (omega arith) in
+          let moved : reaching outer taken len next ≡ reaching outer taken len (next_place outer len (last_address blocker)) = ap (λ n. reaching outer taken len n) (omega arith) in
           let others = no_more_reach outer taken len (at - count) (next - count) (omega arith) in
           omega arith
       | inr second_round ↦
           let sum : at ≡ count + (at - count) = omega arith in
           let same : at % count ≡ at - count = ap (λ n. n % count) sum ∙ (add-mod_left count (at - count) ∙ mod-eq_of_lt (omega arith)) in
           let fewer = fewer_reach outer taken blocker len (at - count) among (omega arith) in
-          let moved : reaching outer taken len (next - count) ≡ reaching outer taken len (place_behind outer len (last_address blocker)) = ap (λ n. reaching outer taken len n) (omega arith) in
+          let moved : reaching outer taken len (next - count) ≡ reaching outer taken len (next_place outer len (last_address blocker)) = ap (λ n. reaching outer taken len n) (omega arith) in
           let others = no_more_reach outer taken len at next (omega arith) in
           omega arith
     ]

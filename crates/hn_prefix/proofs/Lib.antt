@@ -1,9 +1,8 @@
 pub mod Blocks
+pub mod GapLemmas
 pub mod Jumps
 pub mod Masks
-pub mod NumeralLemmas
 pub mod Places
 pub mod ReadLemmas
 pub mod Rounds
-pub mod SplitLemmas
 pub mod WriteLemmas

@@ -2,7 +2,7 @@ use Rattle.std.proofs.Common.{◌≡◌, ℕ, ◌+◌, ◌-◌, ◌*◌, ◌/◌
 use Rattle.std.proofs.Math.Nat.{le_refl, div-add-mod, div-mul-le_self, add-mul-mod_self_right}
 use Rattle.std.proofs.lemmas.Nat.{pow_pos, pow-add, mul-le, mod-pow-add, le-div, shl-shr}
 use Rattle.hn_prefix.specs.Prefix.{PlainPrefix, IsPrefix, IsWithin, Overlaps, last_address}
-use Rattle.hn_prefix.specs.Free.{sub_prefix, sub_prefix_count, place_behind, IsSubPrefix, IsPrefixInside}
+use Rattle.hn_prefix.specs.Free.{sub_prefix, sub_prefix_count, next_place, IsSubPrefix, IsPrefixInside}
 use Rattle.hn_prefix.proofs.Blocks.{block_fits, within_range, overlap_range}
 
 -- the place of a sub-prefix
@@ -73,15 +73,15 @@ reaches outer blocker len place blocks =
     let range = blocked_range outer blocker len place blocks in
     omega arith
 
--- the place behind it is a later one
-pub behind_place : (outer blocker : PlainPrefix) (len place : ℕ) → Blocks outer blocker len place → place < place_behind outer len (last_address blocker)
-behind_place outer blocker len place blocks =
+-- the place after it is a later one
+pub later_place : (outer blocker : PlainPrefix) (len place : ℕ) → Blocks outer blocker len place → place < next_place outer len (last_address blocker)
+later_place outer blocker len place blocks =
     let range = blocked_range outer blocker len place blocks in
     let reached : place ≤ (last_address blocker - outer.bits) / 2 ^ (128 - len) = le-div place (last_address blocker - outer.bits) (2 ^ (128 - len)) (pow_pos (128 - len)) (omega arith) in
     omega (arith, blocks.at.below_count)
 
 -- and it overlaps each sub-prefix between the two
-pub overlaps_between : (outer blocker : PlainPrefix) (len place k : ℕ) → Blocks outer blocker len place → place ≤ k → k < place_behind outer len (last_address blocker) → Overlaps blocker (sub_prefix outer len k)
+pub overlaps_between : (outer blocker : PlainPrefix) (len place k : ℕ) → Blocks outer blocker len place → place ≤ k → k < next_place outer len (last_address blocker) → Overlaps blocker (sub_prefix outer len k)
 overlaps_between outer blocker len place k blocks from_place before =
     let start = blocked_range outer blocker len place blocks in
     let lower : place * 2 ^ (128 - len) ≤ k * 2 ^ (128 - len) = mul-le _ _ _ _ from_place (le_refl (2 ^ (128 - len))) in

@@ -1,37 +1,17 @@
 -- Texts of groups, and where they are cut.
-use Rattle.std.proofs.Common.{◌≡◌, ℕ, ◌+◌, ◌-◌, ◌<◌, ◌≤◌, List, [], ◌∷◌, ◌++◌, length, replicate, Result, Ok, Err, refl, sym, ap, subst, ◌∙◌, inl, inr, append_assoc, length-append, arith}
-use Rattle.std.specs.Prelude.{codes, IsOk, IfOk}
+use Rattle.std.proofs.Common.{◌≡◌, ℕ, ◌+◌, ◌-◌, ◌<◌, ◌≤◌, List, [], ◌∷◌, ◌++◌, length, replicate, refl, sym, ap, subst, ◌∙◌, inl, inr, append_assoc, length-append, arith}
+use Rattle.std.specs.Prelude.{codes}
 use Rattle.std.specs.Char.{digit_value}
-use Rattle.hn_prefix.specs.Numeral.{IsShortNumeral}
-use Rattle.hn_prefix.specs.Splits.{Lacks, SplitsAt, HasNoGap, SplitsAtGap}
+use Rattle.hn_base.specs.Numeral.{IsShortNumeral}
+use Rattle.hn_base.specs.Splits.{Lacks, SplitsAt}
+use Rattle.hn_base.proofs.NumeralLemmas.{Lacks-digits, same_number}
+use Rattle.hn_base.proofs.SplitLemmas.{Lacks-append, same_split, no_split}
+use Rattle.hn_prefix.specs.Gap.{HasNoGap, SplitsAtGap}
 use Rattle.hn_prefix.specs.AddressText.{IsGroupText, IsGroups, IsGroupsText, IsAddressText}
 use Rattle.hn_prefix.specs.Prefix.{PlainPrefix}
 use Rattle.hn_prefix.specs.PrefixText.{IsPrefixText}
-use Rattle.hn_prefix.proofs.NumeralLemmas.{Lacks-digits}
 
--- ---- one text is cut at one place
-
-Lacks-middle : (byte : ℕ) (front back : List ℕ) → Lacks byte (front ++ byte ∷ back) → ⊥
-Lacks-middle byte [] back h = h.0 refl
-Lacks-middle byte (c ∷ front) back h = Lacks-middle byte front back h.1
-
-pub Lacks-append : (byte : ℕ) (xs ys : List ℕ) → Lacks byte xs → Lacks byte ys → Lacks byte (xs ++ ys)
-Lacks-append byte [] ys h k = k
-Lacks-append byte (x ∷ xs) ys h k = (h.0, Lacks-append byte xs ys h.1 k)
-
--- the cut at the first such byte
-pub same_split : (byte : ℕ) (f b g d : List ℕ) → Lacks byte f → Lacks byte g → f ++ byte ∷ b ≡ g ++ byte ∷ d → ((f ≡ g) × (b ≡ d))
-same_split byte [] b [] d h k e = (refl, cc)
-same_split byte [] b (y ∷ g) d h k e = absurd (k.0 cc)
-same_split byte (x ∷ f) b [] d h k e = absurd (h.0 cc)
-same_split byte (x ∷ f) b (y ∷ g) d h k e =
-    let heads : x ≡ y = cc in
-    let tails : f ++ byte ∷ b ≡ g ++ byte ∷ d = cc in
-    let rest = same_split byte f b g d h.1 k.1 tails in
-    (cc, rest.1)
-
-pub split_lacks : (byte : ℕ) (text front back : List ℕ) → text ≡ front ++ byte ∷ back → Lacks byte text → ⊥
-split_lacks byte text front back parts h = Lacks-middle byte front back (subst (Lacks byte) parts h)
+-- ---- the cut at the first `::`
 
 HasNoGap-tail : (c : ℕ) (text : List ℕ) → HasNoGap (c ∷ text) → HasNoGap text
 HasNoGap-tail c [] h = tt
@@ -81,9 +61,6 @@ regroup front back = append_assoc front (58 ∷ 58 ∷ []) back
 pub Lacks-group : (byte : ℕ) (text : List ℕ) (g : ℕ) → 16 ≤ digit_value byte → IsGroupText text g → Lacks byte text
 Lacks-group byte text g none h = Lacks-digits 16 byte text none h.digits.1
 
-pub same_number : (base most : ℕ) (text : List ℕ) (m n : ℕ) → IsShortNumeral base most text m → IsShortNumeral base most text n → m ≡ n
-same_number base most text m n h k = sym h.value ∙ k.value
-
 no_groups : (front back : List ℕ) (gs : List ℕ) → front ++ 58 ∷ back ≡ [] → ⊥
 no_groups [] back gs e = absurd cc
 no_groups (c ∷ front) back gs e = absurd cc
@@ -92,13 +69,13 @@ no_groups (c ∷ front) back gs e = absurd cc
 pub one_group : (text gs : List ℕ) → Lacks 58 text → IsGroups text gs → 0 < length gs → ((g : ℕ) × (gs ≡ g ∷ []) × IsGroupText text g)
 one_group text [] lacks h some = absurd (omega arith)
 one_group text (g ∷ []) lacks h some = (g, refl, h)
-one_group text (g ∷ i ∷ gs) lacks h some = absurd (split_lacks 58 text h.0 h.1 h.2 lacks)
+one_group text (g ∷ i ∷ gs) lacks h some = absurd (no_split 58 text h.0 h.1 lacks h.2)
 
--- a text with a colon has a group before it, and groups behind it
+-- a text with a colon has a group before it, and groups after it
 pub more_groups : (text digits rest gs : List ℕ) → SplitsAt 58 text digits rest → IsGroups text gs → 0 < length gs
     → ((g : ℕ) × (others : List ℕ) × (gs ≡ g ∷ others) × IsGroupText digits g × IsGroups rest others × (0 < length others))
 more_groups text digits rest [] cut h some = absurd (omega arith)
-more_groups text digits rest (g ∷ []) cut h some = absurd (split_lacks 58 text digits rest cut.parts (Lacks-group 58 text g (omega arith) h))
+more_groups text digits rest (g ∷ []) cut h some = absurd (no_split 58 text digits rest (Lacks-group 58 text g (omega arith) h) cut.parts)
 more_groups text digits rest (g ∷ i ∷ gs) cut h some =
     let same = same_split 58 digits rest h.0 h.1 cut.first (Lacks-group 58 h.0 g (omega arith) h.3) (sym cut.parts ∙ h.2) in
     (g, i ∷ gs, refl, subst (λ t. IsGroupText t g) (sym same.0) h.3, subst (λ t. IsGroups t (i ∷ gs)) (sym same.1) h.4, omega arith)
@@ -139,7 +116,7 @@ gap_before_digits : (digits ys : List ℕ) → 0 < length digits → Lacks 58 di
 gap_before_digits [] ys some lacks h = absurd (omega arith)
 gap_before_digits (d ∷ digits) ys some lacks h = (λ _ is. lacks.0 is, h)
 
--- no `::` stands in groups, nor one that begins before them or ends behind them
+-- no `::` stands in groups, nor one that begins before them or ends after them
 colon_groups_no_gap : (text : List ℕ) (g : ℕ) (gs : List ℕ) → IsGroups text (g ∷ gs) → HasNoGap (58 ∷ text ++ 58 ∷ [])
 colon_groups_no_gap text g [] h =
     let lacks = Lacks-group 58 text g (omega arith) h in
@@ -196,20 +173,9 @@ prefix_parts text address len p cut h =
     (subst (λ t. IsAddressText t p.bits) (sym same.0) h.address, subst (λ t. IsShortNumeral 10 3 t p.len) (sym same.1) h.len)
 
 pub no_slash : (text : List ℕ) (p : PlainPrefix) → Lacks 47 text → IsPrefixText text p → ⊥
-no_slash text p lacks h = split_lacks 47 text h.address_text h.length_text h.parts lacks
-
-pub not_ok : {A E : Type 0} (e : E) (x : A) → Err e ≡ Ok x → ⊥
-not_ok e x same = absurd cc
-
-pub same_ok : {A E : Type 0} (x y : A) → ◌≡◌ {A = Result A E} (Ok x) (Ok y) → x ≡ y
-same_ok x y same = cc
+no_slash text p lacks h = no_split 47 text h.address_text h.length_text lacks h.parts
 
 pub plain_prefix : (bits len : ℕ) (p : PlainPrefix) → bits ≡ p.bits → len ≡ p.len → record { bits = bits; len = len } ≡ p
 plain_prefix bits len p same_bits same_len =
     let make : ℕ → ℕ → PlainPrefix = λ b l. record { bits = b; len = l } in
     ap (λ b. make b len) same_bits ∙ ap (λ l. make p.bits l) same_len
-
--- a result that is `Ok` has the value that its clause says
-pub ok_with : {A E : Type 0} (r : Result A E) (x y : A) → IsOk r → IfOk r (λ v. v ≡ x) → x ≡ y → r ≡ Ok y
-ok_with (Ok v) x y ok is same = ap Ok (is ∙ same)
-ok_with (Err e) x y ok is same = absurd cc

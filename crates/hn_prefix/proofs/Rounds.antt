@@ -4,7 +4,7 @@ use Rattle.std.proofs.lemmas.Nat.{mod-mul-add, mod_below}
 use Rattle.std.proofs.lemmas.Bool.{cases_lt}
 use Rattle.std.specs.Prelude.{Contains}
 use Rattle.hn_prefix.specs.Prefix.{PlainPrefix, IsPrefix, Overlaps, last_address}
-use Rattle.hn_prefix.specs.Free.{sub_prefix, sub_prefix_count, sub_prefix_after, place_behind, IsFree, IsTaken, IsFull}
+use Rattle.hn_prefix.specs.Free.{sub_prefix, sub_prefix_count, sub_prefix_after, next_place, IsFree, IsTaken, IsFull}
 use Rattle.hn_prefix.proofs.Places.{IsPlace, Blocks, overlaps_between}
 
 -- the place that the code computes is the one so far after the start
@@ -41,9 +41,9 @@ not_both taken p free some =
 pub record EachTakenBefore (taken : List PlainPrefix) (outer : PlainPrefix) (len start ahead : ℕ) : Type 0 where
   pub taken_at : (j : ℕ) → j < ahead → IsTaken taken (sub_prefix_after outer len start j)
 
--- so it is after a jump to the place behind a taken prefix
-pub jumped : (taken : List PlainPrefix) (outer blocker : PlainPrefix) (len start ahead place behind : ℕ) → Contains taken blocker → Blocks outer blocker len place → behind ≡ place_behind outer len (last_address blocker) → place ≡ (start + ahead) % sub_prefix_count outer len → EachTakenBefore taken outer len start ahead → EachTakenBefore taken outer len start (ahead + (behind - place))
-jumped taken outer blocker len start ahead place behind among blocks behind_is is before = record {
+-- so it is after a jump to the place after a taken prefix
+pub jumped : (taken : List PlainPrefix) (outer blocker : PlainPrefix) (len start ahead place following : ℕ) → Contains taken blocker → Blocks outer blocker len place → following ≡ next_place outer len (last_address blocker) → place ≡ (start + ahead) % sub_prefix_count outer len → EachTakenBefore taken outer len start ahead → EachTakenBefore taken outer len start (ahead + (following - place))
+jumped taken outer blocker len start ahead place following among blocks following_is is before = record {
   taken_at = λ j below.
       elim (cases_lt j ahead) [
         | inl earlier ↦ before.taken_at j earlier

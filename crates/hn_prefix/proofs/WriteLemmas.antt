@@ -1,73 +1,143 @@
--- The written form: how long it is, which run it shortens, and that it is a read form.
-use Rattle.std.proofs.Common.{◌≡◌, ℕ, zero, suc, ◌+◌, ◌-◌, ◌*◌, ◌/◌, ◌%◌, ◌^◌, ◌<◌, ◌≤◌, List, [], ◌∷◌, ◌++◌, length, get_or, take, drop, add-one, refl, sym, ap, subst, ◌∙◌, inl, inr, append_assoc, length-append, length-drop, take-append-drop, take-add, arith}
+-- The written form: which run it shortens, how long it is, and that it is a read form.
+use Rattle.std.proofs.Common.{◌≡◌, ℕ, ◌+◌, ◌-◌, ◌*◌, ◌/◌, ◌%◌, ◌^◌, ◌<◌, ◌≤◌, List, [], ◌∷◌, ◌++◌, Option, None, Some, length, take, drop, refl, sym, ap, subst, ◌∙◌, inl, inr, length-append, length-drop, take-append-drop, take-add, arith}
 use Rattle.std.specs.Prelude.{codes}
+use Rattle.std.specs.Char.{digit_char}
+use Rattle.std.specs.Fmt.{decimal}
+use Rattle.std.specs.Int.{w128, to_be_bytes}
 use Rattle.std.specs.List.{AllByRecursion}
-use Rattle.std.specs.Net.Text.{longest_zero_run}
+use Rattle.std.specs.Net.Addr.{segments_of, ipv6_segments, IsIpv6OfBits}
+use Rattle.std.specs.Net.Text as std
+use Rattle.std.specs.Net.Text.{longest_zero_run, leading_zero_digits, hex, hex_groups_text, hex_groups_addr}
+use Rattle.std.specs.declared.net.display.HexGroups.{HexGroups}
+use Rattle.std.specs.declared.net.ipv6_addr.Ipv6Addr.{Ipv6Addr}
 use Rattle.std.proofs.NetLemmas.Texts.{IsZeroRun-longest_zero_run, longest_zero_run_first}
 use Rattle.std.proofs.lemmas.Bool.{cases_lt, lt-ltb, le-ltb, cond-true, cond-false}
-use Rattle.std.proofs.lemmas.List.{length-take-le, take_more, take_rest, get_or-drop}
+use Rattle.std.proofs.lemmas.Bool.Decides.{nat_tests}
+use Rattle.std.proofs.lemmas.List.{append-nil, length-take-le}
 use Rattle.std.proofs.Math.Nat.{div-div-eq-div-mul}
-use Rattle.hn_prefix.specs.Numeral.{numeral}
-use Rattle.hn_prefix.specs.AddressText.{groups, address_of, group_text, groups_text, IsZeroRun, IsFirstLongestRun, shortened_text, IsWrittenForm, written_form, address_text_of, IsGroups, IsGroupsText, IsAddressText}
+use Rattle.hn_base.specs.Numeral.{numeral}
+use Rattle.hn_base.proofs.NumeralLemmas.{numeral_one, numeral_step, numeral_is_short, decimal_is_short}
+use Rattle.hn_base.proofs.Recursions.{AllByRecursion-take, AllByRecursion-drop}
+use Rattle.hn_prefix.specs.AddressText.{groups, address_of, group_text, groups_text, IsFirstLongestRun, shortened_text, IsZeroRun, IsWrittenForm, address_text_of, IsGroups, IsGroupsText, IsAddressText}
 use Rattle.hn_prefix.specs.Prefix.{PlainPrefix, IsPrefix}
-use Rattle.hn_prefix.specs.PrefixText.{prefix_text_of, IsPrefixText}
-use Rattle.hn_prefix.proofs.NumeralLemmas.{numeral_is_short}
+use Rattle.hn_prefix.specs.PrefixText.{prefix_text_of, text_of, IsPrefixText}
 
 -- each group has 16 bits
 abbrev pub AllFit : List ℕ → Type 0
 AllFit gs = AllByRecursion (λ g. g < 65536) gs
 
 AllFit-take : (n : ℕ) (gs : List ℕ) → AllFit gs → AllFit (take n gs)
-AllFit-take zero gs h = tt
-AllFit-take (suc n) [] h = tt
-AllFit-take (suc n) (g ∷ gs) h = (h.0, AllFit-take n gs h.1)
+AllFit-take = AllByRecursion-take (λ g. g < 65536)
 
 AllFit-drop : (n : ℕ) (gs : List ℕ) → AllFit gs → AllFit (drop n gs)
-AllFit-drop zero gs h = h
-AllFit-drop (suc n) [] h = tt
-AllFit-drop (suc n) (g ∷ gs) h = AllFit-drop n gs h.1
+AllFit-drop = AllByRecursion-drop (λ g. g < 65536)
 
-pub groups_fit : (ip : ℕ) → AllFit (groups ip)
+groups_fit : (ip : ℕ) → AllFit (groups ip)
 unfolding groups
 groups_fit ip = (omega arith, (omega arith, (omega arith, (omega arith, (omega arith, (omega arith, (omega arith, (omega arith, tt))))))))
 
-pub length-groups : (ip : ℕ) → length (groups ip) ≡ 8
+length-groups : (ip : ℕ) → length (groups ip) ≡ 8
 unfolding groups
 length-groups ip = refl
 
--- ---- one group after another
+-- ---- the segments of std's address are the groups
 
-pub groups_text-push : (g : ℕ) (gs : List ℕ) (h : ℕ) → groups_text (g ∷ gs ++ h ∷ []) ≡ groups_text (g ∷ gs) ++ 58 ∷ group_text h
-groups_text-push g [] h = refl
-groups_text-push g (i ∷ gs) h = ap (λ t. group_text g ++ 58 ∷ t) (groups_text-push i gs h) ∙ sym (append_assoc (group_text g) (58 ∷ groups_text (i ∷ gs)) (58 ∷ group_text h))
+segment_is : (n m : ℕ) → (n / (m * 256) % 256) * 256 + n / m % 256 ≡ n / m % 65536
+segment_is n m = rw (← div-div-eq-div-mul n m 256) (omega arith)
 
-groups_text-take : (g : ℕ) (gs : List ℕ) (i : ℕ) → i < length gs → groups_text (g ∷ take (i + 1) gs) ≡ groups_text (g ∷ take i gs) ++ 58 ∷ group_text (get_or gs i 0)
-groups_text-take g gs i lt = ap (λ t. groups_text (g ∷ t)) (take_more gs i 0 lt) ∙ groups_text-push g (take i gs) (get_or gs i 0)
+segments_are : (ip : ℕ) → segments_of (to_be_bytes w128 ip) ≡ groups ip
+unfolding groups
+segments_are ip =
+    let s0 = segment_is ip (2 ^ 112) in
+    let s1 = segment_is ip (2 ^ 96) in
+    let s2 = segment_is ip (2 ^ 80) in
+    let s3 = segment_is ip (2 ^ 64) in
+    let s4 = segment_is ip (2 ^ 48) in
+    let s5 = segment_is ip (2 ^ 32) in
+    let s6 = segment_is ip (2 ^ 16) in
+    let s7 : (ip / 256 % 256) * 256 + ip % 256 ≡ ip % 65536 = omega arith in
+    cc
 
--- one group more, behind those before it
-pub groups_text-take_more : (gs : List ℕ) (i : ℕ) → i + 1 < length gs → groups_text (take (i + 1 + 1) gs) ≡ groups_text (take (i + 1) gs) ++ 58 ∷ group_text (get_or gs (i + 1) 0)
-groups_text-take_more [] i lt = absurd (omega arith)
-groups_text-take_more (g ∷ gs) i lt =
-    let here : take (i + 1) (g ∷ gs) ≡ g ∷ take i gs = rw add-one refl in
-    let more : take (i + 1 + 1) (g ∷ gs) ≡ g ∷ take (i + 1) gs = ap (λ k. take k (g ∷ gs)) (add-one (i + 1)) in
-    let item : get_or (g ∷ gs) (i + 1) 0 ≡ get_or gs i 0 = rw add-one refl in
-    ap groups_text more ∙ groups_text-take g gs i (omega arith) ∙ ap (λ t. groups_text t ++ 58 ∷ group_text (get_or gs i 0)) (sym here) ∙ ap (λ n. groups_text (take (i + 1) (g ∷ gs)) ++ 58 ∷ group_text n) (sym item)
+groups_shown : (address : Ipv6Addr) (ip : ℕ) → IsIpv6OfBits address ip → hex_groups_text (ipv6_segments address) ≡ address_text_of ip
+unfolding IsIpv6OfBits address_text_of
+groups_shown address ip is = ap hex_groups_text (is ∙ segments_are ip)
 
--- the groups behind the first
-pub length-others : (gs : List ℕ) → length (take (length gs - 1) (drop 1 gs)) ≡ length gs - 1
-length-others gs = ap length (take_rest gs 1) ∙ length-drop 1 gs
+-- what is printed of an address, and of a prefix
+pub address_printed : (shown : HexGroups) (address : Ipv6Addr) (ip : ℕ) (len : Option ℕ) (text : List ℕ) → hex_groups_addr shown ≡ address → IsIpv6OfBits address ip → len ≡ None → text_of ip len ≡ text
+    → hex_groups_text (ipv6_segments (hex_groups_addr shown)) ≡ text
+address_printed shown address ip len text at is none view =
+    ap (λ a. hex_groups_text (ipv6_segments a)) at ∙ groups_shown address ip is ∙ ap (text_of ip) (sym none) ∙ view
 
-pub other_group : (gs : List ℕ) (i : ℕ) → get_or (take (length gs - 1) (drop 1 gs)) i 0 ≡ get_or gs (i + 1) 0
-other_group gs i = ap (λ t. get_or t i 0) (take_rest gs 1) ∙ get_or-drop 1 gs i 0 ∙ ap (λ k. get_or gs k 0) (omega arith)
+pub prefix_printed : (shown : HexGroups) (address : Ipv6Addr) (ip : ℕ) (len : Option ℕ) (l : ℕ) (text : List ℕ) → hex_groups_addr shown ≡ address → IsIpv6OfBits address ip → len ≡ Some l → text_of ip len ≡ text
+    → hex_groups_text (ipv6_segments (hex_groups_addr shown)) ++ (codes "/" ++ decimal l) ≡ text
+unfolding prefix_text_of
+prefix_printed shown address ip len l text at is some view =
+    ap (λ t. t ++ 47 ∷ decimal l) (ap (λ a. hex_groups_text (ipv6_segments a)) at ∙ groups_shown address ip is) ∙ ap (text_of ip) (sym some) ∙ view
 
-pub behind_colon : (old text digits : List ℕ) → ((old ++ text) ++ 58 ∷ []) ++ digits ≡ old ++ (text ++ 58 ∷ digits)
-behind_colon old text digits = simp append_assoc
+-- ---- std's text of groups
 
-pub take_first : (gs : List ℕ) → 0 < length gs → take 1 gs ≡ get_or gs 0 0 ∷ []
-take_first [] some = absurd (omega arith)
-take_first (g ∷ gs) some = refl
+-- a group in one to four digits
+digits_1 : (g : ℕ) → g < 16 → hex g ≡ digit_char g ∷ []
+unfolding hex
+digits_1 g small =
+    let zeros : leading_zero_digits g ≡ 3 = grind (arith, nat_tests) in
+    let last : g % 16 ≡ g = omega arith in
+    rw (zeros, last) refl
 
-pub length-group_text : (g : ℕ) → g < 65536 → length (group_text g) ≤ 4
+digits_2 : (g : ℕ) → 16 ≤ g → g < 256 → hex g ≡ digit_char (g / 16) ∷ digit_char (g % 16) ∷ []
+unfolding hex
+digits_2 g large small =
+    let zeros : leading_zero_digits g ≡ 2 = grind (arith, nat_tests) in
+    let first : g / 16 % 16 ≡ g / 16 = omega arith in
+    rw (zeros, first) refl
+
+digits_3 : (g : ℕ) → 256 ≤ g → g < 4096 → hex g ≡ digit_char (g / 16 / 16) ∷ digit_char (g / 16 % 16) ∷ digit_char (g % 16) ∷ []
+unfolding hex
+digits_3 g large small =
+    let zeros : leading_zero_digits g ≡ 1 = grind (arith, nat_tests) in
+    let first : g / 256 % 16 ≡ g / 16 / 16 = omega arith in
+    rw (zeros, first) refl
+
+digits_4 : (g : ℕ) → 4096 ≤ g → hex g ≡ digit_char (g / 16 / 16 / 16) ∷ digit_char (g / 16 / 16 % 16) ∷ digit_char (g / 16 % 16) ∷ digit_char (g % 16) ∷ []
+unfolding hex
+digits_4 g large =
+    let zeros : leading_zero_digits g ≡ 0 = grind (arith, nat_tests) in
+    let first : g / 4096 ≡ g / 16 / 16 / 16 = omega arith in
+    let second : g / 256 % 16 ≡ g / 16 / 16 % 16 = omega arith in
+    rw (zeros, first, second) refl
+
+numeral_2 : (g : ℕ) → 16 ≤ g → g < 256 → numeral 16 g ≡ digit_char (g / 16) ∷ digit_char (g % 16) ∷ []
+numeral_2 g large small = numeral_step 16 g (omega arith) large ∙ ap (λ t. t ++ digit_char (g % 16) ∷ []) (numeral_one 16 (g / 16) (omega arith) (omega arith))
+
+numeral_3 : (g : ℕ) → 256 ≤ g → g < 4096 → numeral 16 g ≡ digit_char (g / 16 / 16) ∷ digit_char (g / 16 % 16) ∷ digit_char (g % 16) ∷ []
+numeral_3 g large small = numeral_step 16 g (omega arith) (omega arith) ∙ ap (λ t. t ++ digit_char (g % 16) ∷ []) (numeral_2 (g / 16) (omega arith) (omega arith))
+
+numeral_4 : (g : ℕ) → 4096 ≤ g → g < 65536 → numeral 16 g ≡ digit_char (g / 16 / 16 / 16) ∷ digit_char (g / 16 / 16 % 16) ∷ digit_char (g / 16 % 16) ∷ digit_char (g % 16) ∷ []
+numeral_4 g large small = numeral_step 16 g (omega arith) (omega arith) ∙ ap (λ t. t ++ digit_char (g % 16) ∷ []) (numeral_3 (g / 16) (omega arith) (omega arith))
+
+group_is : (g : ℕ) → g < 65536 → hex g ≡ group_text g
+group_is g fits =
+    elim (cases_lt g 16) [
+      | inl one ↦ digits_1 g one ∙ sym (numeral_one 16 g (omega arith) one)
+      | inr more ↦
+          elim (cases_lt g 256) [
+            | inl two ↦ digits_2 g more two ∙ sym (numeral_2 g more two)
+            | inr still_more ↦
+                elim (cases_lt g 4096) [
+                  | inl three ↦ digits_3 g still_more three ∙ sym (numeral_3 g still_more three)
+                  | inr four ↦ digits_4 g four ∙ sym (numeral_4 g four fits)
+                ]
+          ]
+    ]
+
+groups_are : (gs : List ℕ) → AllFit gs → std.groups_text gs ≡ groups_text gs
+groups_are [] fits = refl
+groups_are (g ∷ []) fits = append-nil (hex g) ∙ group_is g fits.0
+groups_are (g ∷ h ∷ gs) fits = ap (λ t. t ++ 58 ∷ std.groups_text (h ∷ gs)) (group_is g fits.0) ∙ ap (λ t. group_text g ++ 58 ∷ t) (groups_are (h ∷ gs) fits.1)
+
+-- ---- how long a text is
+
+length-group_text : (g : ℕ) → g < 65536 → length (group_text g) ≤ 4
 length-group_text g fits = (numeral_is_short 16 4 g (omega arith) (omega arith) (omega arith) fits).short
 
 -- five bytes a group at most, with its colon, but none before the first
@@ -76,14 +146,14 @@ length-groups_text g [] fits = omega (arith, length-group_text g fits.0)
 length-groups_text g (i ∷ gs) fits =
     omega (arith, length-group_text g fits.0, length-groups_text i gs fits.1, length-append (group_text g) (58 ∷ groups_text (i ∷ gs)))
 
-pub length-groups_text-le : (gs : List ℕ) → AllFit gs → length (groups_text gs) ≤ 5 * length gs - 1
+length-groups_text-le : (gs : List ℕ) → AllFit gs → length (groups_text gs) ≤ 5 * length gs - 1
 length-groups_text-le [] fits = omega arith
 length-groups_text-le (g ∷ gs) fits = omega (arith, length-groups_text g gs fits)
 
-pub length-front : (n : ℕ) (gs : List ℕ) → n ≤ length gs → AllFit gs → length (groups_text (take n gs)) ≤ 5 * n
+length-front : (n : ℕ) (gs : List ℕ) → n ≤ length gs → AllFit gs → length (groups_text (take n gs)) ≤ 5 * n
 length-front n gs le fits = omega (arith, length-groups_text-le (take n gs) (AllFit-take n gs fits), length-take-le n gs le)
 
-pub length-back : (n : ℕ) (gs : List ℕ) → AllFit gs → length (groups_text (drop n gs)) ≤ 5 * (length gs - n)
+length-back : (n : ℕ) (gs : List ℕ) → AllFit gs → length (groups_text (drop n gs)) ≤ 5 * (length gs - n)
 length-back n gs fits = omega (arith, length-groups_text-le (drop n gs) (AllFit-drop n gs fits), length-drop n gs)
 
 -- ---- the run
@@ -99,75 +169,47 @@ first_longest gs several = record {
   first = λ s run. (longest_zero_run_first gs s (longest_zero_run gs).1 (run.inside, run.zeros)).1 refl;
 }
 
-pub form_shortened : (gs : List ℕ) → 1 < (longest_zero_run gs).1 → written_form gs ≡ shortened_text gs (longest_zero_run gs).0 (longest_zero_run gs).1
-form_shortened gs long = cond-true _ _ _ (lt-ltb 1 (longest_zero_run gs).1 long)
+-- the text with the run shortened, and the text with none
+form_shortened : (gs : List ℕ) → AllFit gs → 1 < (longest_zero_run gs).1 → hex_groups_text gs ≡ shortened_text gs (longest_zero_run gs).0 (longest_zero_run gs).1
+unfolding hex_groups_text
+form_shortened gs fits long =
+    let run = longest_zero_run gs in
+    let front = groups_are (take run.0 gs) (AllFit-take run.0 gs fits) in
+    let back = groups_are (drop (run.0 + run.1) gs) (AllFit-drop (run.0 + run.1) gs fits) in
+    cond-true _ _ _ (lt-ltb 1 run.1 long)
+    ∙ ap (λ t. t ++ codes "::" ++ std.groups_text (drop (run.0 + run.1) gs)) front
+    ∙ ap (λ t. groups_text (take run.0 gs) ++ codes "::" ++ t) back
 
-pub form_whole : (gs : List ℕ) → (longest_zero_run gs).1 ≤ 1 → written_form gs ≡ groups_text gs
-form_whole gs short = cond-false _ _ _ (le-ltb 1 (longest_zero_run gs).1 short)
+form_whole : (gs : List ℕ) → AllFit gs → (longest_zero_run gs).1 ≤ 1 → hex_groups_text gs ≡ groups_text gs
+unfolding hex_groups_text
+form_whole gs fits short = cond-false _ _ _ (le-ltb 1 (longest_zero_run gs).1 short) ∙ groups_are gs fits
 
-pub written_form_is_written : (gs : List ℕ) → IsWrittenForm (written_form gs) gs
-written_form_is_written gs =
+written_is_written : (gs : List ℕ) → AllFit gs → IsWrittenForm (hex_groups_text gs) gs
+written_is_written gs fits =
     elim (cases_lt 1 (longest_zero_run gs).1) [
-      | inl long ↦ inl ((longest_zero_run gs).0, (longest_zero_run gs).1, first_longest gs long, form_shortened gs long)
-      | inr short ↦ inr (λ s l several run. absurd (omega (arith, (longest_zero_run_first gs s l (run.inside, run.zeros)).0)), form_whole gs short)
+      | inl long ↦ inl ((longest_zero_run gs).0, (longest_zero_run gs).1, first_longest gs long, form_shortened gs fits long)
+      | inr short ↦ inr (λ s l several run. absurd (omega (arith, (longest_zero_run_first gs s l (run.inside, run.zeros)).0)), form_whole gs fits short)
     ]
 
--- ---- what `address_text` writes
-
-abbrev back_slice : List ℕ → ℕ → List ℕ
-back_slice gs n = take (8 - n) (drop n gs)
-
-back_slice_is : (gs : List ℕ) (n : ℕ) → length gs ≡ 8 → back_slice gs n ≡ drop n gs
-back_slice_is gs n eight = ap (λ k. take (k - n) (drop n gs)) (sym eight) ∙ take_rest gs n
-
--- what stands before the run takes five bytes a group at most
-pub length-pushed_front : (ip : ℕ) (gs : List ℕ) (start : ℕ) (none front : List ℕ) → gs ≡ groups ip → start ≤ length gs → none ≡ [] → front ≡ none ++ groups_text (take start gs) → length front ≤ 5 * start
-length-pushed_front ip gs start none front is inside at_none at_front =
-    let fits : AllFit gs = subst AllFit (sym is) (groups_fit ip) in
-    omega (arith, ap length (at_front ∙ ap (λ t. t ++ groups_text (take start gs)) at_none), length-front start gs inside fits)
-
-pub eight_groups : (ip : ℕ) (gs : List ℕ) → gs ≡ groups ip → length gs ≡ 8
-eight_groups ip gs is = ap length is ∙ length-groups ip
-
--- the bytes as they are pushed
-pub pushed_shortened : (gs : List ℕ) (start len : ℕ) (a b c d : List ℕ) → length gs ≡ 8 → a ≡ groups_text (take start gs) → b ≡ a ++ 58 ∷ [] → c ≡ b ++ 58 ∷ []
-    → d ≡ c ++ groups_text (take (8 - (start + len)) (drop (start + len) gs)) → d ≡ shortened_text gs start len
-pushed_shortened gs start len a b c d eight at_a at_b at_c at_d =
-    let front = groups_text (take start gs) in
-    let colons : c ≡ front ++ 58 ∷ 58 ∷ [] = at_c ∙ ap (λ t. t ++ 58 ∷ []) (at_b ∙ ap (λ t. t ++ 58 ∷ []) at_a) ∙ append_assoc front (58 ∷ []) (58 ∷ []) in
-    at_d ∙ ap (λ t. t ++ groups_text (take (8 - (start + len)) (drop (start + len) gs))) colons ∙ ap (λ t. (front ++ 58 ∷ 58 ∷ []) ++ groups_text t) (back_slice_is gs (start + len) eight)
-
-pub exact_shortened : (ip : ℕ) (gs text : List ℕ) (run : ℕ × ℕ) → gs ≡ groups ip → run ≡ longest_zero_run gs → 1 < run.1 → text ≡ shortened_text gs run.0 run.1 → text ≡ address_text_of ip
+pub address_text_is_written : (ip : ℕ) → IsWrittenForm (address_text_of ip) (groups ip)
 unfolding address_text_of
-exact_shortened ip gs text run is run_is long text_is =
-    let long_run : 1 < (longest_zero_run gs).1 = subst (λ (r : ℕ × ℕ). 1 < r.1) run_is long in
-    text_is ∙ ap (λ (r : ℕ × ℕ). shortened_text gs r.0 r.1) run_is ∙ sym (form_shortened gs long_run) ∙ ap written_form is
+address_text_is_written ip = written_is_written (groups ip) (groups_fit ip)
 
-pub exact_whole : (ip : ℕ) (gs text : List ℕ) (run : ℕ × ℕ) → gs ≡ groups ip → run ≡ longest_zero_run gs → run.1 ≤ 1 → text ≡ groups_text gs → text ≡ address_text_of ip
-unfolding address_text_of
-exact_whole ip gs text run is run_is short text_is =
-    let short_run : (longest_zero_run gs).1 ≤ 1 = subst (λ (r : ℕ × ℕ). r.1 ≤ 1) run_is short in
-    text_is ∙ sym (form_whole gs short_run) ∙ ap written_form is
-
-pub written_of : (ip : ℕ) (text : List ℕ) → text ≡ address_text_of ip → IsWrittenForm text (groups ip)
-unfolding address_text_of
-written_of ip text is = subst (λ t. IsWrittenForm t (groups ip)) (sym is) (written_form_is_written (groups ip))
-
-length-written_form : (gs : List ℕ) → length gs ≡ 8 → AllFit gs → length (written_form gs) ≤ 39
-length-written_form gs eight fits =
+length-written : (gs : List ℕ) → length gs ≡ 8 → AllFit gs → length (hex_groups_text gs) ≤ 39
+length-written gs eight fits =
     let start = (longest_zero_run gs).0 in
     let len = (longest_zero_run gs).1 in
     let run = run_here gs in
     let front = length-front start gs (omega (arith, run.inside)) fits in
     let back = length-back (start + len) gs fits in
     elim (cases_lt 1 len) [
-      | inl long ↦ omega (arith, run.inside, ap length (form_shortened gs long), length-append (groups_text (take start gs) ++ codes "::") (groups_text (drop (start + len) gs)), length-append (groups_text (take start gs)) (codes "::"))
-      | inr short ↦ omega (arith, ap length (form_whole gs short), length-groups_text-le gs fits)
+      | inl long ↦ omega (arith, run.inside, ap length (form_shortened gs fits long), length-append (groups_text (take start gs) ++ codes "::") (groups_text (drop (start + len) gs)), length-append (groups_text (take start gs)) (codes "::"))
+      | inr short ↦ omega (arith, ap length (form_whole gs fits short), length-groups_text-le gs fits)
     ]
 
-pub length_of : (ip : ℕ) (text : List ℕ) → text ≡ address_text_of ip → length text ≤ 39
+pub length-address_text_of : (ip : ℕ) → length (address_text_of ip) ≤ 39
 unfolding address_text_of
-length_of ip text is = omega (arith, ap length is, length-written_form (groups ip) (length-groups ip) (groups_fit ip))
+length-address_text_of ip = length-written (groups ip) (length-groups ip) (groups_fit ip)
 
 -- ---- the written form is read
 
@@ -177,8 +219,8 @@ IsGroups-groups_text (g ∷ []) fits = numeral_is_short 16 4 g (omega arith) (om
 IsGroups-groups_text (g ∷ i ∷ gs) fits =
     (group_text g, groups_text (i ∷ gs), refl, numeral_is_short 16 4 g (omega arith) (omega arith) (omega arith) fits.0, IsGroups-groups_text (i ∷ gs) fits.1)
 
-written_form_is_read : (gs : List ℕ) → length gs ≡ 8 → AllFit gs → IsGroupsText (written_form gs) gs
-written_form_is_read gs eight fits =
+written_is_read : (gs : List ℕ) → length gs ≡ 8 → AllFit gs → IsGroupsText (hex_groups_text gs) gs
+written_is_read gs eight fits =
     let start = (longest_zero_run gs).0 in
     let len = (longest_zero_run gs).1 in
     let run = run_here gs in
@@ -191,13 +233,13 @@ written_form_is_read gs eight fits =
         right_text = groups_text (drop (start + len) gs);
         left = take start gs;
         right = drop (start + len) gs;
-        parts = form_shortened gs long;
+        parts = form_shortened gs fits long;
         left_groups = IsGroups-groups_text (take start gs) (AllFit-take start gs fits);
         right_groups = IsGroups-groups_text (drop (start + len) gs) (AllFit-drop (start + len) gs fits);
         room = omega (arith, run.inside);
         value = rw (elided, ← run.zeros, ← take-add start len gs) (sym (take-append-drop (start + len) gs));
       })
-      | inr short ↦ inl (subst (λ t. IsGroups t gs) (sym (form_whole gs short)) (IsGroups-groups_text gs fits), eight)
+      | inr short ↦ inl (subst (λ t. IsGroups t gs) (sym (form_whole gs fits short)) (IsGroups-groups_text gs fits), eight)
     ]
 
 -- the bits from one place on, by those from 16 bits on
@@ -218,7 +260,7 @@ address_of-groups ip fits =
 
 pub address_text_is_read : (ip : ℕ) → ip < 2 ^ 128 → IsAddressText (address_text_of ip) ip
 unfolding address_text_of
-address_text_is_read ip fits = (groups ip, written_form_is_read (groups ip) (length-groups ip) (groups_fit ip), address_of-groups ip fits)
+address_text_is_read ip fits = (groups ip, written_is_read (groups ip) (length-groups ip) (groups_fit ip), address_of-groups ip fits)
 
 -- ---- groups and their address
 
@@ -267,9 +309,9 @@ pub prefix_text_is_read : (p : PlainPrefix) → IsPrefix p → IsPrefixText (pre
 unfolding prefix_text_of
 prefix_text_is_read p h = record {
   address_text = address_text_of p.bits;
-  length_text = numeral 10 p.len;
+  length_text = decimal p.len;
   parts = refl;
   address = address_text_is_read p.bits h.bits_in_range;
-  len = numeral_is_short 10 3 p.len (omega arith) (omega arith) (omega arith) (omega (arith, h.len_in_range));
+  len = decimal_is_short 3 p.len (omega arith) (omega (arith, h.len_in_range)) (omega (arith, h.len_in_range));
   prefix = h;
 }

@@ -1,8 +1,8 @@
 -- The texts of IPv6 addresses: the one that is written, and those that are read.
-use Rattle.std.specs.Prelude.{◌≡◌, ℕ, ◌+◌, ◌-◌, ◌/◌, ◌%◌, ◌^◌, ◌<◌, ◌≤◌, ◌⊎◌, List, [], ◌∷◌, ◌++◌, length, take, drop, replicate, codes, nat_lt, if◌then◌else◌}
+use Rattle.std.specs.Prelude.{◌≡◌, ℕ, ◌+◌, ◌-◌, ◌/◌, ◌%◌, ◌^◌, ◌<◌, ◌≤◌, ◌⊎◌, List, [], ◌∷◌, ◌++◌, length, take, drop, replicate, codes}
 use Rattle.std.specs.Int.Digits.{number_from_digits}
-use Rattle.std.specs.Net.Text.{longest_zero_run}
-use Rattle.hn_prefix.specs.Numeral.{numeral, IsShortNumeral}
+use Rattle.std.specs.Net.Text.{hex_groups_text}
+use Rattle.hn_base.specs.Numeral.{numeral, IsShortNumeral}
 
 -- the eight groups of 16 bits of an address, the highest first (RFC 4291, section 2.2)
 unfoldable pub groups : ℕ → List ℕ
@@ -44,22 +44,17 @@ abbrev pub shortened_text : List ℕ → ℕ → ℕ → List ℕ
 shortened_text gs start len =
     groups_text (take start gs) ++ codes "::" ++ groups_text (drop (start + len) gs)
 
--- The text is the written form of the groups: `::` stands for the first longest run of two or more zero groups,
--- where there is one.
+-- The text is the written form of the groups: `::` takes the place of the first longest run of two or more zero
+-- groups, if there is one.
 abbrev pub IsWrittenForm : List ℕ → List ℕ → Type 0
 IsWrittenForm text gs =
     ((start len : ℕ) × IsFirstLongestRun gs start len × (text ≡ shortened_text gs start len))
     ⊎ (((start len : ℕ) → 2 ≤ len → ¬ IsZeroRun gs start len) × (text ≡ groups_text gs))
 
--- the written form, by a scan for the run; `written_form_is_one` says that it is the only one
-abbrev pub written_form : List ℕ → List ℕ
-written_form gs =
-    let run = longest_zero_run gs in
-    if nat_lt 1 run.1 then shortened_text gs run.0 run.1 else groups_text gs
-
--- the written form of an address
+-- The written form of an address, as the standard library writes it; `written_form_is_one` says that it is the written
+-- form, and that there is no other.
 unfoldable pub address_text_of : ℕ → List ℕ
-address_text_of ip = written_form (groups ip)
+address_text_of ip = hex_groups_text (groups ip)
 
 -- ---- the read form (RFC 4291, section 2.2, forms 1 and 2)
 
@@ -74,7 +69,7 @@ IsGroups text (g ∷ []) = IsGroupText text g
 IsGroups text (g ∷ h ∷ gs) =
     (digits rest : List ℕ) × (text ≡ digits ++ 58 ∷ rest) × IsGroupText digits g × IsGroups rest (h ∷ gs)
 
--- groups on both sides of `::`, which stands for one zero group or more
+-- groups on both sides of `::`, which represents one zero group or more
 pub record IsShortened (text gs : List ℕ) : Type 0 where
   pub left_text : List ℕ
   pub right_text : List ℕ

@@ -22,9 +22,9 @@ pub record IsPrefixInside (outer : PlainPrefix) (len : ℕ) (p : PlainPrefix) : 
 abbrev pub sub_prefix_after : PlainPrefix → ℕ → ℕ → ℕ → PlainPrefix
 sub_prefix_after outer len start ahead = sub_prefix outer len ((start + ahead) % sub_prefix_count outer len)
 
--- the place behind that of the one with this address inside; the count, where the address is past the outer prefix
-abbrev pub place_behind : PlainPrefix → ℕ → ℕ → ℕ
-place_behind outer len address = min ((address - outer.bits) / 2 ^ (128 - len) + 1) (sub_prefix_count outer len)
+-- the place after that of the one with this address inside; the count, where the address is past the outer prefix
+abbrev pub next_place : PlainPrefix → ℕ → ℕ → ℕ
+next_place outer len address = min ((address - outer.bits) / 2 ^ (128 - len) + 1) (sub_prefix_count outer len)
 
 -- a prefix is free where it overlaps none of the taken ones, and else taken
 abbrev pub IsFree : List PlainPrefix → PlainPrefix → Type 0

@@ -1,7 +1,6 @@
 pub mod AddressText
 pub mod Free
-pub mod Numeral
+pub mod Gap
 pub mod Prefix
 pub mod PrefixText
 pub mod Reading
-pub mod Splits

@@ -1,4 +1,4 @@
-use Rattle.std.specs.Prelude.{◌≡◌, ℕ, ◌+◌, ◌-◌, ◌/◌, ◌%◌, ◌^◌, ◌<◌, ◌≤◌}
+use Rattle.std.specs.Prelude.{◌≡◌, ℕ, ◌+◌, ◌-◌, ◌*◌, ◌/◌, ◌%◌, ◌^◌, ◌<◌, ◌≤◌}
 use Rattle.std.specs.declared.cmp.Ordering.{Ordering}
 use Rattle.std.specs.Ordering.{on, then_cmp, nat_cmp}
 
@@ -20,6 +20,10 @@ leftmost_bits address len = address / 2 ^ (128 - len)
 -- an address is inside a prefix where it begins with the prefix's bits
 abbrev pub IsInside : ℕ → PlainPrefix → Type 0
 IsInside address p = leftmost_bits address p.len ≡ leftmost_bits p.bits p.len
+
+-- the prefix of some length that an address is inside: the leftmost bits of the address, and zeros past them
+abbrev pub prefix_containing : ℕ → ℕ → PlainPrefix
+prefix_containing address len = record { bits = leftmost_bits address len * 2 ^ (128 - len); len = len }
 
 -- the highest address inside a prefix: ones in the bits past its length
 abbrev pub last_address : PlainPrefix → ℕ

@@ -1,13 +1,13 @@
 ghost use Rattle.std.specs.Prelude.{◌≡◌, ◌↔◌, ℕ, ◌+◌, ◌-◌, ◌^◌, ◌<◌, ◌≤◌, Contains, IfSome, IfNone, IsNone};
 ghost use Rattle.hn_prefix.specs.Prefix.{Overlaps, IsWithin};
-ghost use Rattle.hn_prefix.specs.Free.{sub_prefix, sub_prefix_count, place_behind, IsFree, IsFull, IsFirstFree};
+ghost use Rattle.hn_prefix.specs.Free.{sub_prefix, sub_prefix_count, next_place, IsFree, IsFull, IsFirstFree};
 
 use crate::prefix::Prefix;
 
-/// The first prefix of this length inside `outer` that overlaps none of `taken`, or `None` exactly where each one
+/// The first prefix of this length inside `outer` that overlaps none of `taken`, or `None` if and only if each one
 /// overlaps a taken one. They are tried in cyclic order from the place `start` modulo their number, where the lowest
 /// has place 0. Each taken prefix is jumped past at most twice, so the work grows with the number of taken prefixes
-/// alone. (no memory)
+/// alone. Never allocates.
 pub fn first_free(outer: &Prefix, start: u128, taken: &[Prefix], len: u8) -> Option<Prefix>
     requires not_shorter { outer.now.len ≤ len }
     requires len_in_range { len ≤ 64 }
@@ -24,7 +24,7 @@ pub fn first_free(outer: &Prefix, start: u128, taken: &[Prefix], len: u8) -> Opt
         let Some(blocker) = overlapping(taken, &candidate) else {
             return Some(candidate);
         };
-        ahead += place_behind(outer, blocker.last_address(), len) - place;
+        ahead += next_place(outer, blocker.last_address(), len) - place;
     }
     None
 }
@@ -37,12 +37,12 @@ fn overlapping<'a>(taken: &'a [Prefix], p: &Prefix) -> Option<&'a Prefix>
     taken.iter().find(|t| t.overlaps(p))
 }
 
-/// The place behind that of the sub-prefix with this address inside, and at most their number.
-fn place_behind(outer: &Prefix, address: u128, len: u8) -> u128
+/// The place after that of the sub-prefix with this address inside, and at most their number.
+fn next_place(outer: &Prefix, address: u128, len: u8) -> u128
     requires not_shorter { outer.now.len ≤ len }
     requires len_in_range { len ≤ 64 }
     requires not_below { outer.now.bits ≤ address }
-    ensures { result ≡ place_behind outer.now len address }
+    ensures { result ≡ next_place outer.now len address }
 {
     (outer.place_of(address, len) + 1).min(outer.sub_prefix_count(len))
 }

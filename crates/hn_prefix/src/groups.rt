@@ -1,7 +1,7 @@
 //! The groups of 16 bits of an IPv6 address (RFC 4291, section 2.2).
 
 ghost use Rattle.std.specs.Prelude.{◌≡◌, ℕ, ◌+◌, ◌<◌, ◌≤◌, List, [], ◌∷◌, ◌++◌, length, take, replicate};
-ghost use Rattle.hn_prefix.specs.AddressText.{groups, address_of};
+ghost use Rattle.hn_prefix.specs.AddressText.{address_of};
 
 use std::marker::Model;
 
@@ -85,21 +85,4 @@ pub fn address(groups: &[u16]) -> u128
         address = address * 0x1_0000 + u128::from(*group);
     }
     address
-}
-
-/// The eight groups of an address.
-#[tactic(auto, unfolding(crate::specs::AddressText::groups))]
-pub fn groups_of(ip: u128) -> [u16; 8]
-    ensures { result ≡ groups ip }
-{
-    [
-        ((ip >> 112) % 0x1_0000) as u16,
-        ((ip >> 96) % 0x1_0000) as u16,
-        ((ip >> 80) % 0x1_0000) as u16,
-        ((ip >> 64) % 0x1_0000) as u16,
-        ((ip >> 48) % 0x1_0000) as u16,
-        ((ip >> 32) % 0x1_0000) as u16,
-        ((ip >> 16) % 0x1_0000) as u16,
-        (ip % 0x1_0000) as u16,
-    ]
 }

@@ -3,13 +3,11 @@
 #![tactic(auto)]
 
 mod free;
+mod gap;
 mod groups;
 mod laws;
-mod numeral;
 mod parse;
 mod prefix;
-mod runs;
-mod split;
 #[cfg(test)]
 mod tests;
 mod text;

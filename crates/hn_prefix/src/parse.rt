@@ -4,10 +4,10 @@ ghost use Rattle.std.specs.Prelude.{◌≡◌, ℕ, ◌+◌, ◌^◌, ◌<◌, �
 ghost use Rattle.hn_prefix.specs.AddressText.{IsGroups, IsGroupsText, IsAddressText, address_text_of};
 ghost use Rattle.hn_prefix.specs.Reading.{AddsGroups};
 
+use crate::gap::split_at_gap;
 use crate::groups::{Groups, address};
-use crate::numeral::number;
 use crate::prefix::Prefix;
-use crate::split::{split_at_gap, split_once};
+use hn_base::{number, split_once};
 use std::error::Error;
 use std::fmt;
 
@@ -25,9 +25,9 @@ impl fmt::Display for BadText {
 
 impl Error for BadText {}
 
-/// The address that a text stands for: eight groups of one to four hexadecimal digits with colons between them, or
-/// fewer with one `::`, which stands for one zero group or more (RFC 4291, section 2.2, forms 1 and 2). Neither a
-/// dotted form nor a zone is read. (no memory)
+/// The address that a text decodes to: eight groups of one to four hexadecimal digits with colons between them, or
+/// fewer with one `::`, which represents one zero group or more (RFC 4291, section 2.2, forms 1 and 2). Neither a
+/// dotted form nor a zone is read. Never allocates.
 pub fn parse_address(text: &[u8]) -> Result<u128, BadText>
     // What is read is a text of the address,
     ensures found { IfOk result (IsAddressText text.now) }
@@ -44,9 +44,9 @@ impl Prefix {
     ghost use Rattle.hn_prefix.specs.Prefix.{PlainPrefix, IsPrefix};
     ghost use Rattle.hn_prefix.specs.PrefixText.{prefix_text_of, IsPrefixText};
 
-    /// The prefix that a text stands for: an address as `parse_address` reads it, `/`, and the length in one to three
+    /// The prefix that a text decodes to: an address as `parse_address` reads it, `/`, and the length in one to three
     /// decimal digits (RFC 4291, section 2.3). A length above 128 and a bit set past the length are refused.
-    /// (no memory)
+    /// Never allocates.
     pub fn parse(text: &[u8]) -> Result<Prefix, BadText>
         // What is read is a text of the prefix,
         ensures found { IfOk result (IsPrefixText text.now) }
@@ -69,7 +69,7 @@ impl Prefix {
     }
 }
 
-/// The eight groups that a text stands for.
+/// The eight groups that a text decodes to.
 fn all_groups(text: &[u8]) -> Option<Groups>
     ensures found { IfSome result (IsGroupsText text.now) }
     ensures eight { IfSome result (λ gs. length gs ≡ 8) }
@@ -115,9 +115,9 @@ fn read_groups(text: &[u8], mut groups: Groups) -> Option<Groups>
         return None;
     }
     let Some((digits, rest)) = split_once(text, b':') else {
-        groups.push(number(text, 16, 4)?);
+        groups.push(number(text, 16, 4)? as u16);
         return Some(groups);
     };
-    groups.push(number(digits, 16, 4)?);
+    groups.push(number(digits, 16, 4)? as u16);
     read_groups(rest, groups)
 }

@@ -1,17 +1,18 @@
 ghost use Rattle.std.specs.Prelude.{◌≡◌, ◌↔◌, ◌⊎◌, ℕ, ◌+◌, ◌-◌, ◌*◌, ◌/◌, ◌%◌, ◌^◌, ◌<◌, ◌≤◌, Some, codes, IsTrue, IsOk, IfOk};
 ghost use Rattle.std.specs.Cmp.{IsTotalOrder};
 ghost use Rattle.hn_prefix.specs.Free.{sub_prefix, sub_prefix_count, IsPrefixInside, IsSubPrefix};
-ghost use Rattle.hn_prefix.specs.Prefix.{PlainPrefix, IsPrefix, IsInside, IsWithin, Overlaps, last_address, prefix_cmp};
+ghost use Rattle.hn_prefix.specs.Prefix.{PlainPrefix, IsPrefix, IsInside, IsWithin, Overlaps, prefix_containing, last_address, prefix_cmp};
 
+use std::cmp::Ordering;
 use std::error::Error;
 use std::fmt;
 use std::marker::Model;
 
 /// An IPv6 prefix: an address and how many of its leftmost bits are the prefix, with no bit set past them
-/// (RFC 4291, section 2.3). Prefixes are ordered by their bits, and then by their length.
+/// (RFC 4291, section 2.3). Prefixes are ordered by their bits, and of equal bits the shorter comes first.
 ///
 /// There is no `is_empty` beside `len`: the length counts bits, and `::/0` has every address inside.
-#[derive(Clone, Copy, Debug, PartialEq, Eq, PartialOrd, Ord, Hash)]
+#[derive(Clone, Copy, Debug, PartialEq, Eq, Hash)]
 pub struct Prefix {
     bits: u128,
     len: u8,
@@ -25,6 +26,41 @@ impl Model for Prefix {
     ghost invariant = { λ p. IsPrefix (record { bits = p.bits; len = p.len }) };
 
     ghost inverse = { λ p. record { bits = p.bits; len = p.len } };
+}
+
+/// By the bits, and of equal bits the shorter first.
+impl Ord for Prefix {
+    ghost use Rattle.std.proofs.Common.{rules};
+    ghost use Rattle.std.specs.Cmp.Rules.{comparing};
+    ghost use Rattle.hn_prefix.specs.Prefix.{prefix_cmp};
+
+    ghost cmp = { prefix_cmp };
+
+    ghost total = { Prim.search (comparing, rules) };
+
+    ghost matches_partial_cmp = { Prim.search (comparing, rules) };
+
+    ghost matches_eq = { Prim.search (comparing, rules) };
+
+    fn cmp(&self, other: &Prefix) -> Ordering {
+        self.bits.cmp(&other.bits).then(self.len.cmp(&other.len))
+    }
+}
+
+impl PartialOrd for Prefix {
+    ghost use Rattle.std.proofs.Common.{rules};
+    ghost use Rattle.std.specs.Cmp.{partial_order_from_own_ties};
+    ghost use Rattle.std.specs.Cmp.Rules.{comparing};
+    ghost use Rattle.std.specs.Ordering.{as_partial_cmp};
+    ghost use Rattle.hn_prefix.specs.Prefix.{prefix_cmp};
+
+    ghost partial_cmp = { as_partial_cmp prefix_cmp };
+
+    ghost laws = { partial_order_from_own_ties (Prim.search (comparing, rules)) (Prim.search (comparing, rules)) };
+
+    fn partial_cmp(&self, other: &Prefix) -> Option<Ordering> {
+        Some(self.cmp(other))
+    }
 }
 
 /// The length is above 128, or a bit past it is set.
@@ -42,8 +78,8 @@ impl fmt::Display for BadPrefix {
 impl Error for BadPrefix {}
 
 impl Prefix {
-    /// The prefix of these leftmost bits and this length. Refused exactly where the length is above 128 or a bit
-    /// past it is set. (no memory)
+    /// The prefix of these leftmost bits and this length. Refused if and only if the length is above 128 or
+    /// a bit past it is set. Never allocates.
     pub fn new(bits: u128, len: u8) -> Result<Prefix, BadPrefix>
         ensures accepted { IsOk result ↔ IsPrefix (record { bits = bits; len = len }) }
         ensures value { IfOk result (λ p. p ≡ record { bits = bits; len = len }) }
@@ -55,7 +91,22 @@ impl Prefix {
         }
     }
 
-    /// The lowest address inside, whose bits past the length are zero. (no memory)
+    /// The prefix of this length that has the address inside: the bits of the address past the length are set to
+    /// zero. Never allocates.
+    #[tactic(auto, using(crate::proofs::Masks::cleared))]
+    pub fn containing(address: u128, len: u8) -> Prefix
+        requires { len ≤ 128 }
+        ensures value { result ≡ prefix_containing address len }
+        ensures valid { IsPrefix result }
+        ensures inside { IsInside address result }
+    {
+        Prefix {
+            bits: address - (address & host_mask(len)),
+            len,
+        }
+    }
+
+    /// The lowest address inside, whose bits past the length are zero. Never allocates.
     pub fn bits(&self) -> u128
         ensures value { result ≡ self.now.bits }
         ensures valid { IsPrefix self.now }
@@ -63,7 +114,7 @@ impl Prefix {
         self.bits
     }
 
-    /// How many bits the prefix has, 0 to 128. (no memory)
+    /// How many bits the prefix has, 0 to 128. Never allocates.
     pub fn len(&self) -> u8
         ensures value { result ≡ self.now.len }
         ensures valid { IsPrefix self.now }
@@ -71,14 +122,14 @@ impl Prefix {
         self.len
     }
 
-    /// Whether each address inside the other prefix is inside this one. A prefix contains itself. (no memory)
+    /// Whether each address inside the other prefix is inside this one. A prefix contains itself. Never allocates.
     pub fn contains(&self, other: &Prefix) -> bool
         ensures { IsTrue result ↔ IsWithin other.now self.now }
     {
         self.bits <= other.bits && other.last_address() <= self.last_address()
     }
 
-    /// Whether some address is inside both. (no memory)
+    /// Whether some address is inside both. Never allocates.
     pub fn overlaps(&self, other: &Prefix) -> bool
         ensures { IsTrue result ↔ Overlaps self.now other.now }
     {
@@ -161,7 +212,7 @@ fn ends_in_zeros(bits: u128, len: u8) -> bool
     bits & host_mask(len) == 0
 }
 
-/// Two prefixes overlap exactly where one is within the other: they never share a part only.
+/// Two prefixes overlap if and only if one is within the other: they never share a part only.
 pub fn overlap_is_nesting(p: &Prefix, q: &Prefix)
     ensures { Overlaps p.now q.now ↔ (IsWithin p.now q.now ⊎ IsWithin q.now p.now) }
 {}

@@ -26,6 +26,19 @@ fn new_refuses_bits_past_the_length(rt: HostRuntime) {
 }
 
 #[test]
+fn containing_clears_bits_past_the_length(rt: HostRuntime) -> Result<(), Fail> {
+    let address = 0x20010db8_00000001_80000000_00000001;
+    let link = Prefix::new(0x20010db8_00000001_00000000_00000000, 64)?;
+    assert_eq!(rt; Prefix::containing(address, 64), link);
+    assert_eq!(rt; Prefix::containing(address, 0), Prefix::new(0, 0)?);
+    assert_eq!(rt;
+        Prefix::containing(address, 128),
+        Prefix::new(address, 128)?
+    );
+    Ok(())
+}
+
+#[test]
 fn contains_and_overlaps(rt: HostRuntime) -> Result<(), Fail> {
     let everything = Prefix::new(0, 0)?;
     let documentation = Prefix::new(0x20010db8_00000000_00000000_00000000, 32)?;

@@ -56,6 +56,8 @@ fn addresses_are_read_and_written(rt: HostRuntime) -> Result<(), Fail> {
         ("::", 0, "::"),
         ("0::0", 0, "::"),
         ("::1", 1, "::1"),
+        // An IPv4-mapped address is written in groups, too.
+        ("::ffff:c000:280", 0xffff_c000_0280, "::ffff:c000:280"),
         ("1::", 0x00010000_00000000_00000000_00000000, "1::"),
         (
             "1:0:0:2::",
@@ -91,7 +93,8 @@ fn addresses_are_read_and_written(rt: HostRuntime) -> Result<(), Fail> {
     ];
     for (read, ip, written) in table {
         assert_eq!(rt; parse_address(read.as_bytes()), Ok(ip), "{read}");
-        assert_eq!(rt; address_text(ip).as_bytes(), written.as_bytes(), "{read}");
+        let shown = address_text(ip).to_string(rt.alloc())?;
+        assert_eq!(rt; shown.as_str(), written, "{read}");
     }
     groups_are_the_address();
     written_form_is_one();
@@ -179,9 +182,7 @@ fn prefixes_are_read_and_written(rt: HostRuntime) -> Result<(), Fail> {
     for (read, bits, len, written) in table {
         let prefix = Prefix::new(bits, len)?;
         assert_eq!(rt; Prefix::parse(read.as_bytes()), Ok(prefix), "{read}");
-        assert_eq!(rt; prefix.text().as_bytes(), written.as_bytes(), "{read}");
-        let text = prefix.text();
-        let shown = format!(in rt.alloc(); "{text}")?;
+        let shown = prefix.text().to_string(rt.alloc())?;
         assert_eq!(rt; shown.as_str(), written, "{read}");
     }
     Ok(())

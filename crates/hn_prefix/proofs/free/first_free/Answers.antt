@@ -1,9 +1,9 @@
 use Rattle.std.proofs.Common.{◌≡◌, ℕ, ◌+◌, ◌%◌, ◌<◌, ap, subst, sym, ◌∙◌, arith}
 use Rattle.std.proofs.lemmas.Nat.{mod_below}
 use Rattle.hn_prefix.specs.Prefix.{PlainPrefix, IsWithin, last_address}
-use Rattle.hn_prefix.specs.Free.{sub_prefix, sub_prefix_count, place_behind, IsTaken}
+use Rattle.hn_prefix.specs.Free.{sub_prefix, sub_prefix_count, next_place, IsTaken}
 use Rattle.hn_prefix.proofs.Jumps.{few_jumps, jump_counts}
-use Rattle.hn_prefix.proofs.Places.{blocked, sub_prefix_is_within, reaches, behind_place}
+use Rattle.hn_prefix.proofs.Places.{blocked, sub_prefix_is_within, reaches, later_place}
 use Rattle.hn_prefix.proofs.Rounds.{place_now, place_at, not_both, jumped, whole_round}
 use Rattle.hn_prefix.proofs.free.first_free.Goals as goal
 
@@ -42,8 +42,8 @@ returns-in_default-clause-none c =
       (λ full. absurd (not_both c.args.taken.now c.sub_prefix-candidate.result c.in_default.ensures.none (subst P (sym c.sub_prefix-candidate.ensures) (full _ at.below_count)))),
     )
 
-pub place_behind-requires-clause-not_below : goal.place_behind-requires-clause-not_below
-place_behind-requires-clause-not_below c =
+pub next_place-requires-clause-not_below : goal.next_place-requires-clause-not_below
+next_place-requires-clause-not_below c =
     let at =
     place_at c.args.outer.now c.args.len c.args.start c.loop-ahead.ahead c.sub_prefix_count-count.result c.sub_prefix_count-count.ensures.valid
     c.requires.not_shorter c.requires.len_in_range c.sub_prefix_count-count.ensures.value c.loop-ahead-test.true in
@@ -56,11 +56,11 @@ loop-ahead-preserved c =
     place_at c.args.outer.now c.args.len c.args.start c.loop-ahead.ahead c.sub_prefix_count-count.result c.sub_prefix_count-count.ensures.valid
     c.requires.not_shorter c.requires.len_in_range c.sub_prefix_count-count.ensures.value c.loop-ahead-test.true in
     let blocks = blocked c.args.outer.now c.in-Some.blocker.now c.sub_prefix-candidate.result c.args.len _ at c.last_address.ensures.valid c.sub_prefix-candidate.ensures c.in-Some.ensures.found.0 in
-    let behind : c.place_behind.result ≡ place_behind c.args.outer.now c.args.len (last_address c.in-Some.blocker.now) = c.place_behind.ensures ∙ ap (λ a. place_behind c.args.outer.now c.args.len a) c.last_address.ensures.value in
+    let following : c.next_place.result ≡ next_place c.args.outer.now c.args.len (last_address c.in-Some.blocker.now) = c.next_place.ensures ∙ ap (λ a. next_place c.args.outer.now c.args.len a) c.last_address.ensures.value in
     let place = place_now c.args.start c.loop-ahead.ahead c.sub_prefix_count-count.result (sub_prefix_count c.args.outer.now c.args.len) c.sub_prefix_count-count.ensures.value in
     record {
-      each_taken_before = jumped c.args.taken.now c.args.outer.now c.in-Some.blocker.now c.args.len c.args.start c.loop-ahead.ahead _ c.place_behind.result
-          c.in-Some.ensures.found.1 blocks behind place c.loop-ahead.invariant.each_taken_before;
+      each_taken_before = jumped c.args.taken.now c.args.outer.now c.in-Some.blocker.now c.args.len c.args.start c.loop-ahead.ahead _ c.next_place.result
+          c.in-Some.ensures.found.1 blocks following place c.loop-ahead.invariant.each_taken_before;
       few_jumps_left = few_jumps c.args.outer.now c.args.taken.now c.args.len _;
     }
 
@@ -70,12 +70,12 @@ loop-ahead-smaller c =
     place_at c.args.outer.now c.args.len c.args.start c.loop-ahead.ahead c.sub_prefix_count-count.result c.sub_prefix_count-count.ensures.valid
     c.requires.not_shorter c.requires.len_in_range c.sub_prefix_count-count.ensures.value c.loop-ahead-test.true in
     let blocks = blocked c.args.outer.now c.in-Some.blocker.now c.sub_prefix-candidate.result c.args.len _ at c.last_address.ensures.valid c.sub_prefix-candidate.ensures c.in-Some.ensures.found.0 in
-    let behind : c.place_behind.result ≡ place_behind c.args.outer.now c.args.len (last_address c.in-Some.blocker.now) = c.place_behind.ensures ∙ ap (λ a. place_behind c.args.outer.now c.args.len a) c.last_address.ensures.value in
-    let later = behind_place c.args.outer.now c.in-Some.blocker.now c.args.len _ blocks in
+    let following : c.next_place.result ≡ next_place c.args.outer.now c.args.len (last_address c.in-Some.blocker.now) = c.next_place.ensures ∙ ap (λ a. next_place c.args.outer.now c.args.len a) c.last_address.ensures.value in
+    let later = later_place c.args.outer.now c.in-Some.blocker.now c.args.len _ blocks in
     let from_start : c.args.start % c.sub_prefix_count-count.result < c.sub_prefix_count-count.result = mod_below _ _ (omega arith) in
     let so_far : ℕ = c.args.start % c.sub_prefix_count-count.result + c.loop-ahead.ahead in
-    jump_counts c.args.taken.now c.args.outer.now c.in-Some.blocker.now c.args.len so_far _ (so_far % c.sub_prefix_count-count.result) c.place_behind.result
-    c.in-Some.ensures.found.1 behind (omega arith) (ap (λ n. so_far % n) c.sub_prefix_count-count.ensures.value) (omega arith) (omega arith)
+    jump_counts c.args.taken.now c.args.outer.now c.in-Some.blocker.now c.args.len so_far _ (so_far % c.sub_prefix_count-count.result) c.next_place.result
+    c.in-Some.ensures.found.1 following (omega arith) (ap (λ n. so_far % n) c.sub_prefix_count-count.ensures.value) (omega arith) (omega arith)
 
 pub returns-clause-none : goal.returns-clause-none
 returns-clause-none c = (

@@ -1,6 +1,6 @@
 use Rattle.std.proofs.Common.{take}
-use Rattle.hn_prefix.specs.Splits.{HasNoGap}
-use Rattle.hn_prefix.proofs.split.split_at_gap.Given as goal
+use Rattle.hn_prefix.specs.Gap.{HasNoGap}
+use Rattle.hn_prefix.proofs.gap.split_at_gap.Given as goal
 
 abbrev pub invariant-loop-i : goal.invariant-loop-i
 invariant-loop-i l = HasNoGap (take l.i l.text)

@@ -1,21 +1,8 @@
--- Where the first byte of a kind and the first `::` stand.
-use Rattle.std.proofs.Common.{◌≡◌, ◌≢◌, ℕ, ◌+◌, ◌-◌, ◌<◌, List, [], ◌∷◌, ◌++◌, length, get_or, take, drop, sym, ap, subst, ◌∙◌, append_assoc, take-append-drop, arith}
-use Rattle.std.proofs.lemmas.List.{take_more, drop_more}
-use Rattle.hn_prefix.specs.Splits.{Lacks, SplitsAt, HasNoGap, SplitsAtGap}
-
-Lacks-push : (byte : ℕ) (xs : List ℕ) (x : ℕ) → Lacks byte xs → x ≢ byte → Lacks byte (xs ++ x ∷ [])
-Lacks-push byte [] x h ne = (ne, tt)
-Lacks-push byte (y ∷ xs) x h ne = (h.0, Lacks-push byte xs x h.1 ne)
-
-pub Lacks-take_more : (byte : ℕ) (text : List ℕ) (i : ℕ) → i < length text → get_or text i 0 ≢ byte → Lacks byte (take i text) → Lacks byte (take (i + 1) text)
-Lacks-take_more byte text i lt ne h = rw (take_more text i 0 lt) (Lacks-push byte (take i text) (get_or text i 0) h ne)
-
--- a text around the element at i
-around : (text : List ℕ) (i c : ℕ) → i < length text → get_or text i 0 ≡ c → text ≡ take i text ++ c ∷ drop (i + 1) text
-around text i c lt here = sym (take-append-drop i text) ∙ ap (λ t. take i text ++ t) (drop_more text i 0 lt ∙ ap (λ b. b ∷ drop (i + 1) text) here)
-
-pub SplitsAt_here : (byte : ℕ) (text : List ℕ) (i : ℕ) → i < length text → get_or text i 0 ≡ byte → Lacks byte (take i text) → SplitsAt byte text (take i text) (drop (i + 1) text)
-SplitsAt_here byte text i lt here before = record { parts = around text i byte lt here; first = before }
+-- Where the first `::` stands.
+use Rattle.std.proofs.Common.{◌≡◌, ◌≢◌, ℕ, ◌+◌, ◌-◌, ◌<◌, List, [], ◌∷◌, ◌++◌, length, get_or, take, drop, sym, ap, subst, ◌∙◌, append_assoc, arith}
+use Rattle.std.proofs.lemmas.List.{take_more}
+use Rattle.hn_base.proofs.SplitLemmas.{around}
+use Rattle.hn_prefix.specs.Gap.{HasNoGap, SplitsAtGap}
 
 HasNoGap-push : (xs : List ℕ) (c d : ℕ) → (c ≡ 58 → d ≢ 58) → HasNoGap (xs ++ c ∷ []) → HasNoGap (xs ++ c ∷ d ∷ [])
 HasNoGap-push [] c d ne h = (ne, tt)

@@ -1,6 +1,0 @@
-use Rattle.std.proofs.Common.{take}
-use Rattle.hn_prefix.specs.Splits.{Lacks}
-use Rattle.hn_prefix.proofs.split.split_once.Given as goal
-
-abbrev pub invariant-loop-i : goal.invariant-loop-i
-invariant-loop-i l = Lacks l.byte (take l.i l.text)

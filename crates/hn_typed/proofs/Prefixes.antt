@@ -4,15 +4,15 @@ use Rattle.std.specs.Int.{w128, to_be_bytes, from_be_bytes}
 use Rattle.std.proofs.lemmas.List.{take-append-drop}
 use Rattle.hn_prefix.specs.Prefix.{PlainPrefix, IsPrefix}
 use Rattle.hn_typed.specs.Fields.{prefix_field, bytes_for}
-use Rattle.hn_typed.proofs.BigEndian.{Bytes, front_is, front_again, zeros_below}
+use Rattle.hn_base.proofs.BigEndian.{Bytes, front_is, front_again, zeros_below}
 
-pub prefix_read : (field tail front behind : List ℕ) (len bits : ℕ) → field ≡ len ∷ tail → front ≡ take (bytes_for len) tail → behind ≡ drop (bytes_for len) tail → length front ≡ bytes_for len → len ≤ 128 → Bytes front → bits ≡ from_be_bytes w128 front
-    → field ≡ prefix_field (record { bits = bits; len = len }) ++ behind
-prefix_read field tail front behind len bits parts front-is behind-is front_len in_range fits number =
+pub prefix_read : (field tail front after : List ℕ) (len bits : ℕ) → field ≡ len ∷ tail → front ≡ take (bytes_for len) tail → after ≡ drop (bytes_for len) tail → length front ≡ bytes_for len → len ≤ 128 → Bytes front → bits ≡ from_be_bytes w128 front
+    → field ≡ prefix_field (record { bits = bits; len = len }) ++ after
+prefix_read field tail front after len bits parts front-is after-is front_len in_range fits number =
     let few : length front ≤ 16 = omega arith in
     let again : front ≡ take (bytes_for len) (to_be_bytes w128 bits) = sym (front_is front few fits) ∙ ap (λ n. take n (to_be_bytes w128 (from_be_bytes w128 front))) front_len ∙ ap (λ n. take (bytes_for len) (to_be_bytes w128 n)) (sym number) in
-    let split : tail ≡ front ++ behind = sym (take-append-drop (bytes_for len) tail) ∙ ap (λ (z : List ℕ). z ++ drop (bytes_for len) tail) (sym front-is) ∙ ap (λ (z : List ℕ). front ++ z) (sym behind-is) in
-    parts ∙ ap (λ (z : List ℕ). len ∷ z) (split ∙ ap (λ (z : List ℕ). z ++ behind) again)
+    let split : tail ≡ front ++ after = sym (take-append-drop (bytes_for len) tail) ∙ ap (λ (z : List ℕ). z ++ drop (bytes_for len) tail) (sym front-is) ∙ ap (λ (z : List ℕ). front ++ z) (sym after-is) in
+    parts ∙ ap (λ (z : List ℕ). len ∷ z) (split ∙ ap (λ (z : List ℕ). z ++ after) again)
 
 -- the address of a prefix is that of its prefix bytes
 pub prefix_again : (p : PlainPrefix) → IsPrefix p → from_be_bytes w128 (take (bytes_for p.len) (to_be_bytes w128 p.bits)) ≡ p.bits

@@ -1,4 +1,4 @@
--- A TLV stands for one item at most, and then no cause of a fault holds.
+-- A TLV decodes to one item at most, and then no cause of a fault holds.
 use Rattle.std.proofs.Common.{◌≡◌, ℕ, ◌+◌, ◌/◌, ◌%◌, ◌^◌, ◌<◌, cond, eqb, List, [], ◌∷◌, ◌++◌, length, get_or, take, drop, replicate, refl, sym, ap, subst, ◌∙◌, append_assoc, arith, inl, inr}
 use Rattle.std.specs.Int.{w32, w128, to_be_bytes, from_be_bytes}
 use Rattle.std.proofs.lemmas.Bool.{ne_eqb}
@@ -10,7 +10,7 @@ use Rattle.hn_typed.specs.Item.{PlainCaps, PlainItem, RequestNetwork, RequestNod
 use Rattle.hn_typed.specs.Fields.{word, two_in_byte, prefix_field, bytes_for, HasSubs}
 use Rattle.hn_typed.specs.Table.{IsItem}
 use Rattle.hn_typed.specs.Fault.{prefix_len, prefix_bits}
-use Rattle.hn_typed.proofs.BigEndian.{number_again}
+use Rattle.hn_base.proofs.BigEndian.{number_again}
 use Rattle.hn_typed.proofs.Causes.{bits_read, length-prefix_field}
 
 -- ---- the fields of a value, by their places
@@ -18,57 +18,57 @@ use Rattle.hn_typed.proofs.Causes.{bits_read, length-prefix_field}
 word_at : ℕ → List ℕ → ℕ
 word_at at value = from_be_bytes w32 (drop at value)
 
-word_is : (value front behind : List ℕ) (n at : ℕ) → value ≡ front ++ (word n ++ behind) → length front ≡ at → n < 2 ^ 32 → n ≡ word_at at value
+word_is : (value front after : List ℕ) (n at : ℕ) → value ≡ front ++ (word n ++ after) → length front ≡ at → n < 2 ^ 32 → n ≡ word_at at value
 unfolding word_at
-word_is value front behind n at parts len fits =
-    let here : drop at value ≡ word n ++ behind = ap (drop at) parts ∙ drop_at front (word n ++ behind) at len in
+word_is value front after n at parts len fits =
+    let here : drop at value ≡ word n ++ after = ap (drop at) parts ∙ drop_at front (word n ++ after) at len in
     sym (from_be_bytes-to_be_bytes_4 n fits) ∙ ap (from_be_bytes w32) (sym here)
 
 hash_at : ℕ → List ℕ → List ℕ
 hash_at at value = take 8 (drop at value)
 
-hash_is : (value front hash behind : List ℕ) (at : ℕ) → value ≡ front ++ (hash ++ behind) → length front ≡ at → length hash ≡ 8 → hash ≡ hash_at at value
+hash_is : (value front hash after : List ℕ) (at : ℕ) → value ≡ front ++ (hash ++ after) → length front ≡ at → length hash ≡ 8 → hash ≡ hash_at at value
 unfolding hash_at
-hash_is value front hash behind at parts len hash_len =
-    let here : drop at value ≡ hash ++ behind = ap (drop at) parts ∙ drop_at front (hash ++ behind) at len in
-    sym (ap (take 8) here ∙ take_at hash behind 8 hash_len)
+hash_is value front hash after at parts len hash_len =
+    let here : drop at value ≡ hash ++ after = ap (drop at) parts ∙ drop_at front (hash ++ after) at len in
+    sym (ap (take 8) here ∙ take_at hash after 8 hash_len)
 
 address_at : ℕ → List ℕ → ℕ
 address_at at value = from_be_bytes w128 (drop at value)
 
-address_is : (value front behind : List ℕ) (n at : ℕ) → value ≡ front ++ (to_be_bytes w128 n ++ behind) → length front ≡ at → n < 2 ^ 128 → n ≡ address_at at value
+address_is : (value front after : List ℕ) (n at : ℕ) → value ≡ front ++ (to_be_bytes w128 n ++ after) → length front ≡ at → n < 2 ^ 128 → n ≡ address_at at value
 unfolding address_at
-address_is value front behind n at parts len fits =
-    let here : drop at value ≡ to_be_bytes w128 n ++ behind = ap (drop at) parts ∙ drop_at front (to_be_bytes w128 n ++ behind) at len in
+address_is value front after n at parts len fits =
+    let here : drop at value ≡ to_be_bytes w128 n ++ after = ap (drop at) parts ∙ drop_at front (to_be_bytes w128 n ++ after) at len in
     sym (number_again n fits) ∙ ap (from_be_bytes w128) (sym here)
 
 prefix_at : ℕ → List ℕ → PlainPrefix
 prefix_at at value = record { bits = prefix_bits (drop at value); len = prefix_len (drop at value) }
 
-prefix_is : (value front behind : List ℕ) (p : PlainPrefix) (at : ℕ) → value ≡ front ++ (prefix_field p ++ behind) → length front ≡ at → IsPrefix p → p ≡ prefix_at at value
+prefix_is : (value front after : List ℕ) (p : PlainPrefix) (at : ℕ) → value ≡ front ++ (prefix_field p ++ after) → length front ≡ at → IsPrefix p → p ≡ prefix_at at value
 unfolding prefix_at
-prefix_is value front behind p at parts len valid =
-    let here : drop at value ≡ prefix_field p ++ behind = ap (drop at) parts ∙ drop_at front (prefix_field p ++ behind) at len in
-    let bits : p.bits ≡ prefix_bits (prefix_field p ++ behind) = sym (bits_read p behind valid) in
+prefix_is value front after p at parts len valid =
+    let here : drop at value ≡ prefix_field p ++ after = ap (drop at) parts ∙ drop_at front (prefix_field p ++ after) at len in
+    let bits : p.bits ≡ prefix_bits (prefix_field p ++ after) = sym (bits_read p after valid) in
     let same : PlainPrefix → List ℕ → Type 0 = λ q z. q ≡ record { bits = prefix_bits z; len = prefix_len z } in
     subst (λ z. same p z) (sym here) (ap (λ n. let q : PlainPrefix = record { bits = n; len = p.len } in q) bits)
 
 rest_at : ℕ → List ℕ → List ℕ
 rest_at at value = drop at value
 
-rest_is : (value front behind : List ℕ) (at : ℕ) → value ≡ front ++ behind → length front ≡ at → behind ≡ rest_at at value
+rest_is : (value front after : List ℕ) (at : ℕ) → value ≡ front ++ after → length front ≡ at → after ≡ rest_at at value
 unfolding rest_at
-rest_is value front behind at parts len = sym (ap (drop at) parts ∙ drop_at front behind at len)
+rest_is value front after at parts len = sym (ap (drop at) parts ∙ drop_at front after at len)
 
 subs_at : ℕ → List ℕ → List ℕ
 subs_at len value = drop (len + padding len) value
 
 subs_are : (value fixed subs : List ℕ) (len : ℕ) → HasSubs fixed subs value → length fixed ≡ len → subs ≡ subs_at len value
 unfolding subs_at
-subs_are value fixed subs len (behind, parts, (tlvs, inl none)) same =
+subs_are value fixed subs len (after, parts, (tlvs, inl none)) same =
     let whole : value ≡ fixed = parts ∙ ap (λ (z : List ℕ). fixed ++ z) none.0 ∙ append-nil fixed in
     none.1 ∙ sym (ap (drop (len + padding len)) whole ∙ drop_all (len + padding len) fixed (omega arith))
-subs_are value fixed subs len (behind, parts, (tlvs, inr some)) same =
+subs_are value fixed subs len (after, parts, (tlvs, inr some)) same =
     let zeros : List ℕ = replicate (padding (length fixed)) 0 in
     let whole : value ≡ (fixed ++ zeros) ++ subs = parts ∙ ap (λ (z : List ℕ). fixed ++ z) some ∙ sym (append_assoc fixed zeros subs) in
     let front : length (fixed ++ zeros) ≡ len + padding len = length-append fixed zeros ∙ ap (λ n. length fixed + n) (length-replicate {A = ℕ} (padding (length fixed)) 0) ∙ ap (λ n. n + padding n) same in
@@ -86,7 +86,7 @@ upper_is a b fits = omega arith
 lower_is : (a b : ℕ) → b < 2 ^ 4 → b ≡ two_in_byte a b % 16
 lower_is a b fits = omega arith
 
--- ---- the one item that a TLV can stand for
+-- ---- the one item that a TLV can decode to
 
 item_of : ℕ → List ℕ → PlainItem
 item_of kind value =

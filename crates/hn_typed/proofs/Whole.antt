@@ -1,4 +1,4 @@
--- Where a TLV stands for an item, no cause of a fault holds; and of the causes one is the first.
+-- Where a TLV decodes to an item, no cause of a fault holds; and of the causes one is the first.
 use Rattle.std.proofs.Common.{◌≡◌, ℕ, ◌+◌, ◌<◌, ◌≤◌, List, [], ◌∷◌, ◌++◌, length, drop, refl, sym, ap, subst, ◌∙◌, append_assoc, arith, inl, inr}
 use Rattle.std.specs.Int.{w128, to_be_bytes}
 use Rattle.std.specs.Str.{IsUtf8}
@@ -9,16 +9,16 @@ use Rattle.hn_prefix.specs.Prefix.{PlainPrefix, IsPrefix}
 use Rattle.hn_typed.specs.Item.{PlainItem, RequestNetwork, RequestNode, NodeEndpoint, NetworkState, NodeState, Peer, KeepAlive, Version, External, Delegated, Assigned, Address, Other}
 use Rattle.hn_typed.specs.Fields.{word, two_in_byte, prefix_field, ThenSubs, HasSubs}
 use Rattle.hn_typed.specs.Table.{IsOtherKind, IsItem}
-use Rattle.hn_typed.specs.Fault.{Layout, Subs, PrefixAndSubs, Text, Anything, layout, layout_of, prefix_size, IsPrefixTooLong, HasBitPastPrefix, IsMalformedBehind, IsNoText, OnCause, NoCause, IsFirstCause, IsItemFault}
+use Rattle.hn_typed.specs.Fault.{Layout, Subs, PrefixAndSubs, Text, Anything, layout, layout_of, prefix_size, IsPrefixTooLong, HasBitPastPrefix, IsMalformedAfter, IsNoText, OnCause, NoCause, IsFirstCause, IsItemFault}
 use Rattle.hn_typed.proofs.Causes.{past_prefix, length-prefix_field}
 
 -- no cause holds
 record IsWhole (fields : Layout) (value : List ℕ) : Type 0 where
-  pub not_long : ¬ (IsPrefixTooLong fields.behind (drop fields.size value))
-  pub not_cut : ¬ (length value < fields.size + prefix_size fields.behind (drop fields.size value))
-  pub no_bit : ¬ (HasBitPastPrefix fields.behind (drop fields.size value))
-  pub not_malformed : ¬ (IsMalformedBehind fields.behind (fields.size + prefix_size fields.behind (drop fields.size value)) (drop (fields.size + prefix_size fields.behind (drop fields.size value)) value))
-  pub is_text : ¬ (IsNoText fields.behind (drop (fields.size + prefix_size fields.behind (drop fields.size value)) value))
+  pub not_long : ¬ (IsPrefixTooLong fields.after (drop fields.size value))
+  pub not_cut : ¬ (length value < fields.size + prefix_size fields.after (drop fields.size value))
+  pub no_bit : ¬ (HasBitPastPrefix fields.after (drop fields.size value))
+  pub not_malformed : ¬ (IsMalformedAfter fields.after (fields.size + prefix_size fields.after (drop fields.size value)) (drop (fields.size + prefix_size fields.after (drop fields.size value)) value))
+  pub is_text : ¬ (IsNoText fields.after (drop (fields.size + prefix_size fields.after (drop fields.size value)) value))
 
 no_cause : (fields : Layout) (value : List ℕ) (why : ℕ) → IsWhole fields value → ¬ (IsFirstCause fields value why)
 no_cause fields value why whole (inl long) = whole.not_long long.0
@@ -29,27 +29,27 @@ no_cause fields value why whole (inr (not_long, inr (not_cut, inr (no_bit, inr (
 no_cause fields value why whole (inr (not_long, inr (not_cut, inr (no_bit, inr (not_malformed, inr none))))) = none.1
 
 whole_subs : (size : ℕ) (value fixed subs : List ℕ) → length fixed ≡ size → HasSubs fixed subs value → IsWhole (layout size Subs) value
-whole_subs size value fixed subs len (behind, parts, then) =
-    let all : length value ≡ length fixed + length behind = ap length parts ∙ length-append fixed behind in
+whole_subs size value fixed subs len (after, parts, then) =
+    let all : length value ≡ length fixed + length after = ap length parts ∙ length-append fixed after in
     let size-is : length fixed ≡ size + 0 = omega arith in
-    let rest : drop (size + 0) value ≡ behind = ap (drop (size + 0)) parts ∙ drop_at fixed behind (size + 0) size-is in
+    let rest : drop (size + 0) value ≡ after = ap (drop (size + 0)) parts ∙ drop_at fixed after (size + 0) size-is in
     record {
       not_long = λ no. no;
       not_cut = λ short. omega (arith, all, short, len);
       no_bit = λ no. no;
-      not_malformed = λ lacks. lacks subs (subst (λ z. ThenSubs (size + 0) z subs) (sym rest) (subst (λ n. ThenSubs n behind subs) size-is then));
+      not_malformed = λ lacks. lacks subs (subst (λ z. ThenSubs (size + 0) z subs) (sym rest) (subst (λ n. ThenSubs n after subs) size-is then));
       is_text = λ no. no;
     }
 
 whole_prefix : (size : ℕ) (value fields subs : List ℕ) (p : PlainPrefix) → IsPrefix p → length fields ≡ size → HasSubs (fields ++ prefix_field p) subs value → IsWhole (layout size PrefixAndSubs) value
-whole_prefix size value fields subs p valid len (behind, parts, then) =
-    let past = past_prefix size value fields behind p valid len (parts ∙ append_assoc fields (prefix_field p) behind) in
+whole_prefix size value fields subs p valid len (after, parts, then) =
+    let past = past_prefix size value fields after p valid len (parts ∙ append_assoc fields (prefix_field p) after) in
     let size-is : length (fields ++ prefix_field p) ≡ size + prefix_size PrefixAndSubs (drop size value) = length-append fields (prefix_field p) ∙ omega (arith, past.len, length-prefix_field p valid, len) in
     record {
       not_long = past.not_long;
       not_cut = past.not_cut;
       no_bit = past.no_bit;
-      not_malformed = λ lacks. lacks subs (subst (λ z. ThenSubs (size + prefix_size PrefixAndSubs (drop size value)) z subs) (sym past.rest) (subst (λ n. ThenSubs n behind subs) size-is then));
+      not_malformed = λ lacks. lacks subs (subst (λ z. ThenSubs (size + prefix_size PrefixAndSubs (drop size value)) z subs) (sym past.rest) (subst (λ n. ThenSubs n after subs) size-is then));
       is_text = λ no. no;
     }
 

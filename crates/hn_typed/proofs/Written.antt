@@ -1,4 +1,4 @@
--- The TLV that is written for an item stands for it.
+-- The TLV that is written for an item decodes to it.
 use Rattle.std.proofs.Common.{ℕ, ◌^◌, ◌<◌, ◌≤◌, List, [], ◌∷◌, ◌++◌, length, replicate, All, refl, ap, ◌∙◌, append_assoc, arith, inl, inr}
 use Rattle.std.specs.Int.{w128, to_be_bytes}
 use Rattle.std.proofs.lemmas.List.{append-nil}
@@ -7,7 +7,7 @@ use Rattle.hn_tlv.specs.Grammar.{PlainTlv, padding, HasTlvs}
 use Rattle.hn_typed.specs.Item.{PlainItem, RequestNetwork, RequestNode, NodeEndpoint, NetworkState, NodeState, Peer, KeepAlive, Version, External, Delegated, Assigned, Address, Other}
 use Rattle.hn_typed.specs.Fields.{word, two_in_byte, prefix_field, HasSubs}
 use Rattle.hn_typed.specs.Table.{Spells, IsItem}
-use Rattle.hn_typed.specs.Written.{zeros_before, fixed_of, zeros_of, behind_of, value_of, tlv_of, HasText, HasOtherKind, HasTlvsBehind, IsWritable}
+use Rattle.hn_typed.specs.Written.{zeros_before, fixed_of, zeros_of, tail_of, value_of, tlv_of, HasText, HasOtherKind, HasTlvsAfter, IsWritable}
 
 subs_written : (fixed subs : List ℕ) → HasTlvs subs → HasSubs fixed subs (fixed ++ replicate (zeros_before (length fixed) subs) 0 ++ subs)
 subs_written fixed [] tlvs = ([], ap (λ (z : List ℕ). z ++ []) (append-nil fixed), (tlvs, inl (refl, refl)))
@@ -16,30 +16,30 @@ subs_written fixed (b ∷ bs) tlvs =
     (zeros ++ b ∷ bs, append_assoc fixed zeros (b ∷ bs), (tlvs, inr refl))
 
 spelled : (item : PlainItem) → IsWritable item → Spells (tlv_of item) item
-spelled (RequestNetwork subs) w = (refl, subs_written [] subs w.tlvs_behind)
-spelled (RequestNode node subs) w = (refl, subs_written (word node) subs w.tlvs_behind)
-spelled (NodeEndpoint node endpoint subs) w = (refl, subs_written (word node ++ word endpoint) subs w.tlvs_behind)
-spelled (NetworkState hash subs) w = (refl, subs_written hash subs w.tlvs_behind)
+spelled (RequestNetwork subs) w = (refl, subs_written [] subs w.tlvs_after)
+spelled (RequestNode node subs) w = (refl, subs_written (word node) subs w.tlvs_after)
+spelled (NodeEndpoint node endpoint subs) w = (refl, subs_written (word node ++ word endpoint) subs w.tlvs_after)
+spelled (NetworkState hash subs) w = (refl, subs_written hash subs w.tlvs_after)
 spelled (NodeState node number age hash body) w = (refl, ap (λ (z : List ℕ). z ++ body) (append-nil (word node ++ word number ++ word age ++ hash)) ∙ append_assoc (word node ++ word number ++ word age) hash body)
-spelled (Peer peer peer_endpoint endpoint subs) w = (refl, subs_written (word peer ++ word peer_endpoint ++ word endpoint) subs w.tlvs_behind)
-spelled (KeepAlive endpoint interval subs) w = (refl, subs_written (word endpoint ++ word interval) subs w.tlvs_behind)
+spelled (Peer peer peer_endpoint endpoint subs) w = (refl, subs_written (word peer ++ word peer_endpoint ++ word endpoint) subs w.tlvs_after)
+spelled (KeepAlive endpoint interval subs) w = (refl, subs_written (word endpoint ++ word interval) subs w.tlvs_after)
 spelled (Version caps agent) w = (refl, record { first_reserved = 0; second_reserved = 0; bytes = refl; text = w.text })
-spelled (External subs) w = (refl, subs_written [] subs w.tlvs_behind)
-spelled (Delegated valid preferred prefix subs) w = (refl, subs_written (word valid ++ word preferred ++ prefix_field prefix) subs w.tlvs_behind)
-spelled (Assigned endpoint priority prefix subs) w = (refl, record { reserved = 0; bytes = subs_written (word endpoint ++ two_in_byte 0 priority ∷ prefix_field prefix) subs w.tlvs_behind })
-spelled (Address endpoint address subs) w = (refl, subs_written (word endpoint ++ to_be_bytes w128 address) subs w.tlvs_behind)
+spelled (External subs) w = (refl, subs_written [] subs w.tlvs_after)
+spelled (Delegated valid preferred prefix subs) w = (refl, subs_written (word valid ++ word preferred ++ prefix_field prefix) subs w.tlvs_after)
+spelled (Assigned endpoint priority prefix subs) w = (refl, record { reserved = 0; bytes = subs_written (word endpoint ++ two_in_byte 0 priority ∷ prefix_field prefix) subs w.tlvs_after })
+spelled (Address endpoint address subs) w = (refl, subs_written (word endpoint ++ to_be_bytes w128 address) subs w.tlvs_after)
 spelled (Other kind value) w = (refl, w.other_kind, refl)
 
 pub written_is_item : (item : PlainItem) → IsWritable item → IsItem (tlv_of item) item
 written_is_item item w = record { in_range = w.in_range; spelled = spelled item w }
 
 -- the bytes of a value are those of its parts
-pub value_bytes : (item : PlainItem) → All (λ byte. byte < 2 ^ 8) (fixed_of item) → All (λ byte. byte < 2 ^ 8) (behind_of item) → All (λ byte. byte < 2 ^ 8) (value_of item)
-value_bytes item fixed behind =
+pub value_bytes : (item : PlainItem) → All (λ byte. byte < 2 ^ 8) (fixed_of item) → All (λ byte. byte < 2 ^ 8) (tail_of item) → All (λ byte. byte < 2 ^ 8) (value_of item)
+value_bytes item fixed after =
     let zeros : List ℕ = replicate (zeros_of item) 0 in
     let zero : 0 < 2 ^ 8 = omega arith in
     let front : All (λ byte. byte < 2 ^ 8) (fixed_of item ++ zeros) = All-append (λ byte. byte < 2 ^ 8) (fixed_of item) zeros fixed (All-replicate (λ byte. byte < 2 ^ 8) (zeros_of item) 0 zero) in
-    All-append (λ byte. byte < 2 ^ 8) (fixed_of item ++ zeros) (behind_of item) front behind
+    All-append (λ byte. byte < 2 ^ 8) (fixed_of item ++ zeros) (tail_of item) front after
 
 -- ---- what was read can be written
 
@@ -73,7 +73,7 @@ kind_read tlv (Assigned endpoint priority prefix subs) h = tt
 kind_read tlv (Address endpoint address subs) h = tt
 kind_read tlv (Other kind value) h = h.spelled.1
 
-tlvs_read : (tlv : PlainTlv) (item : PlainItem) → IsItem tlv item → HasTlvsBehind item
+tlvs_read : (tlv : PlainTlv) (item : PlainItem) → IsItem tlv item → HasTlvsAfter item
 tlvs_read tlv (RequestNetwork subs) h = h.spelled.1.2.0
 tlvs_read tlv (RequestNode node subs) h = h.spelled.1.2.0
 tlvs_read tlv (NodeEndpoint node endpoint subs) h = h.spelled.1.2.0
@@ -93,6 +93,6 @@ read_can_be_written tlv item h short = record {
   in_range = h.in_range;
   text = text_read tlv item h;
   other_kind = kind_read tlv item h;
-  tlvs_behind = tlvs_read tlv item h;
+  tlvs_after = tlvs_read tlv item h;
   short = short;
 }

@@ -1,24 +1,24 @@
--- Why a TLV stands for no item, by the first cause from left to right.
+-- Why a TLV decodes to no item, by the first cause from left to right.
 use Rattle.std.specs.Prelude.{◌≡◌, ◌≢◌, ℕ, ◌+◌, ◌-◌, ◌%◌, ◌^◌, ◌<◌, ◌⊎◌, List, drop, take, length, slice_index, ◌==◌, if◌then◌else◌}
 use Rattle.std.specs.Int.{w128, from_be_bytes}
 use Rattle.std.specs.Str.{IsUtf8}
 use Rattle.hn_tlv.specs.Grammar.{PlainTlv}
 use Rattle.hn_typed.specs.Fields.{bytes_for, ThenSubs}
 
--- what stands behind the fixed fields of a value
-pub data Behind : Type 0 where
-  Subs : Behind
-  PrefixAndSubs : Behind
-  Text : Behind
-  Anything : Behind
+-- what stands after the fixed fields of a value
+pub data Following : Type 0 where
+  Subs : Following
+  PrefixAndSubs : Following
+  Text : Following
+  Anything : Following
 
--- the fixed fields of a kind before any prefix: how many bytes they take, and what stands behind them
+-- the fixed fields of a kind before any prefix: how many bytes they take, and what stands after them
 pub record Layout : Type 0 where
   pub size : ℕ
-  pub behind : Behind
+  pub after : Following
 
-abbrev pub layout : ℕ → Behind → Layout
-layout size behind = record { size = size; behind = behind }
+abbrev pub layout : ℕ → Following → Layout
+layout size after = record { size = size; after = after }
 
 abbrev pub layout_of : ℕ → Layout
 layout_of kind =
@@ -40,8 +40,8 @@ layout_of kind =
 abbrev pub prefix_len : List ℕ → ℕ
 prefix_len field = slice_index field 0
 
--- how many bytes the prefix field takes that stands behind the fields, if any
-abbrev pub prefix_size : Behind → List ℕ → ℕ
+-- how many bytes the prefix field takes that stands after the fields, if any
+abbrev pub prefix_size : Following → List ℕ → ℕ
 prefix_size PrefixAndSubs field = 1 + bytes_for (prefix_len field)
 prefix_size _ field = 0
 
@@ -50,28 +50,28 @@ abbrev pub prefix_bits : List ℕ → ℕ
 prefix_bits field = from_be_bytes w128 (take (bytes_for (prefix_len field)) (drop 1 field))
 
 -- a prefix length is there, and above 128
-abbrev pub IsPrefixTooLong : Behind → List ℕ → Type 0
+abbrev pub IsPrefixTooLong : Following → List ℕ → Type 0
 IsPrefixTooLong PrefixAndSubs field = 128 < prefix_len field
 IsPrefixTooLong _ field = ⊥
 
 -- a bit is set past the prefix length
-abbrev pub HasBitPastPrefix : Behind → List ℕ → Type 0
+abbrev pub HasBitPastPrefix : Following → List ℕ → Type 0
 HasBitPastPrefix PrefixAndSubs field = prefix_bits field % 2 ^ (128 - prefix_len field) ≢ 0
 HasBitPastPrefix _ field = ⊥
 
--- behind a fixed part of this length stand no pad of zeros and list of TLVs
+-- after a fixed part of this length stand no pad of zeros and list of TLVs
 abbrev pub LacksSubs : ℕ → List ℕ → Type 0
-LacksSubs len behind = (subs : List ℕ) → ¬ (ThenSubs len behind subs)
+LacksSubs len after = (subs : List ℕ) → ¬ (ThenSubs len after subs)
 
--- what stands behind a fixed part of this length is not what has to
-abbrev pub IsMalformedBehind : Behind → ℕ → List ℕ → Type 0
-IsMalformedBehind Subs len behind = LacksSubs len behind
-IsMalformedBehind PrefixAndSubs len behind = LacksSubs len behind
-IsMalformedBehind _ len behind = ⊥
+-- what stands after a fixed part of this length is not what has to
+abbrev pub IsMalformedAfter : Following → ℕ → List ℕ → Type 0
+IsMalformedAfter Subs len after = LacksSubs len after
+IsMalformedAfter PrefixAndSubs len after = LacksSubs len after
+IsMalformedAfter _ len after = ⊥
 
-abbrev pub IsNoText : Behind → List ℕ → Type 0
-IsNoText Text behind = ¬ (IsUtf8 behind)
-IsNoText _ behind = ⊥
+abbrev pub IsNoText : Following → List ℕ → Type 0
+IsNoText Text after = ¬ (IsUtf8 after)
+IsNoText _ after = ⊥
 
 -- a number that names a cause, where it holds, and else what the others say
 abbrev pub OnCause : Type 0 → ℕ → (ℕ → Type 0) → ℕ → Type 0
@@ -85,17 +85,17 @@ NoCause why = ⊥
 abbrev pub IsFirstCause : Layout → List ℕ → ℕ → Type 0
 IsFirstCause fields value =
     let field = drop fields.size value in
-    let len = fields.size + prefix_size fields.behind field in
-    OnCause (IsPrefixTooLong fields.behind field) 3
+    let len = fields.size + prefix_size fields.after field in
+    OnCause (IsPrefixTooLong fields.after field) 3
     (OnCause (length value < len) 1
-    (OnCause (HasBitPastPrefix fields.behind field) 3
-    (OnCause (IsMalformedBehind fields.behind len (drop len value)) 2
-    (OnCause (IsNoText fields.behind (drop len value)) 4 NoCause))))
+    (OnCause (HasBitPastPrefix fields.after field) 3
+    (OnCause (IsMalformedAfter fields.after len (drop len value)) 2
+    (OnCause (IsNoText fields.after (drop len value)) 4 NoCause))))
 
 abbrev pub IsItemFault : PlainTlv → ℕ → Type 0
 IsItemFault tlv why = IsFirstCause (layout_of tlv.kind) tlv.value why
 
--- the first cause why a prefix field stands for no prefix, wherever it lies
+-- the first cause why a prefix field decodes to no prefix, wherever it lies
 abbrev pub IsPrefixFault : List ℕ → ℕ → Type 0
 IsPrefixFault field =
     OnCause (IsPrefixTooLong PrefixAndSubs field) 3

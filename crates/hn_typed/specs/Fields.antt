@@ -20,14 +20,14 @@ bytes_for bits = (bits + 7) / 8
 abbrev pub prefix_field : PlainPrefix → List ℕ
 prefix_field prefix = prefix.len ∷ take (bytes_for prefix.len) (to_be_bytes w128 prefix.bits)
 
--- Behind a fixed part of this length stands nothing, and there are no sub-TLVs; or zero bytes up to the next multiple
+-- Following a fixed part of this length stands nothing, and there are no sub-TLVs; or zero bytes up to the next multiple
 -- of 4, and then a list of TLVs, which may be empty.
 abbrev pub ThenSubs : ℕ → List ℕ → List ℕ → Type 0
-ThenSubs len behind subs = HasTlvs subs × (((behind ≡ []) × (subs ≡ [])) ⊎ (behind ≡ replicate (padding len) 0 ++ subs))
+ThenSubs len after subs = HasTlvs subs × (((after ≡ []) × (subs ≡ [])) ⊎ (after ≡ replicate (padding len) 0 ++ subs))
 
 -- the value is this fixed part, and then these sub-TLVs
 abbrev pub HasSubs : List ℕ → List ℕ → List ℕ → Type 0
-HasSubs fixed subs value = (behind : List ℕ) × (value ≡ fixed ++ behind) × ThenSubs (length fixed) behind subs
+HasSubs fixed subs value = (after : List ℕ) × (value ≡ fixed ++ after) × ThenSubs (length fixed) after subs
 
 -- the hash of a network's or a node's state: 8 bytes
 abbrev pub IsHash : List ℕ → Type 0

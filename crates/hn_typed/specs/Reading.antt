@@ -6,7 +6,7 @@ use Rattle.hn_typed.specs.Table.{IsItem}
 use Rattle.hn_typed.specs.Fault.{IsItemFault}
 use Rattle.hn_typed.specs.View.{plain_item}
 
--- what reading a value of a kind has to answer: the item that it stands for, or the first cause why it stands for none
+-- what reading a value of a kind has to answer: the item that it decodes to, or the first cause why it decodes to none
 abbrev pub Reads : ℕ → List ℕ → Result Item ℕ → Type 0
 Reads kind value result =
     let tlv : PlainTlv = record { kind = kind; value = value } in

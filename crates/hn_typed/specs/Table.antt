@@ -1,4 +1,4 @@
--- The item table: which TLV stands for which item (RFC 7787, section 7; RFC 7788, section 10).
+-- The item table: which TLV decodes to which item (RFC 7787, section 7; RFC 7788, section 10).
 use Rattle.std.specs.Prelude.{◌≡◌, ◌≢◌, ℕ, ◌<◌, ◌^◌, List, [], ◌∷◌, ◌++◌}
 use Rattle.std.specs.Int.{w128, to_be_bytes}
 use Rattle.std.specs.List.{AllByRecursion}
@@ -70,7 +70,7 @@ InRange (Assigned endpoint priority prefix subs) = Fits 32 endpoint × Fits 4 pr
 InRange (Address endpoint address subs) = Fits 32 endpoint × Fits 128 address
 InRange (Other kind value) = Fits 16 kind
 
--- the TLV stands for the item
+-- the TLV decodes to the item
 pub record IsItem (tlv : PlainTlv) (item : PlainItem) : Type 0 where
   pub in_range : InRange item
   pub spelled : Spells tlv item

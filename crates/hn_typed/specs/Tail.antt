@@ -3,7 +3,7 @@ use Rattle.std.specs.Prelude.{◌≡◌, length}
 use Rattle.hn_typed.specs.declared.writing.Tail.{Tail}
 use Rattle.hn_typed.specs.declared.writing.Tail.TheVariants.{Subs, Bytes}
 use Rattle.hn_typed.specs.Item.{PlainItem, Delegated, Assigned, Address}
-use Rattle.hn_typed.specs.Written.{fixed_of, behind_of, zeros_before, zeros_of}
+use Rattle.hn_typed.specs.Written.{fixed_of, tail_of, zeros_before, zeros_of}
 
 -- an item with a prefix or an address
 abbrev pub HasAddress : PlainItem → Type 0
@@ -12,7 +12,7 @@ HasAddress (Assigned endpoint priority prefix subs) = Unit {0}
 HasAddress (Address endpoint address subs) = Unit {0}
 HasAddress _ = ⊥
 
--- what the program found behind an item's fixed part is what has to stand there
+-- what the program found after an item's fixed part is what has to stand there
 abbrev pub IsTailOf : Tail → PlainItem → Type 0
-IsTailOf (Subs subs) item = (behind_of item ≡ subs.now) × (zeros_of item ≡ zeros_before (length (fixed_of item)) subs.now)
-IsTailOf (Bytes bytes) item = (behind_of item ≡ bytes.now) × (zeros_of item ≡ 0)
+IsTailOf (Subs subs) item = (tail_of item ≡ subs.now) × (zeros_of item ≡ zeros_before (length (fixed_of item)) subs.now)
+IsTailOf (Bytes bytes) item = (tail_of item ≡ bytes.now) × (zeros_of item ≡ 0)

@@ -1,11 +1,8 @@
 -- The items of the program, as the table sees them.
-use Rattle.hn_base.specs.declared.caps.Caps.{Caps}
+pub use Rattle.hn_base.specs.Caps.{plain_caps}
 use Rattle.hn_typed.specs.declared.item.Item.{Item}
 use Rattle.hn_typed.specs.declared.item.Item.TheVariants as of
-use Rattle.hn_typed.specs.Item.{PlainCaps, PlainItem, RequestNetwork, RequestNode, NodeEndpoint, NetworkState, NodeState, Peer, KeepAlive, Version, External, Delegated, Assigned, Address, Other}
-
-abbrev pub plain_caps : Caps → PlainCaps
-plain_caps caps = record { m = caps.m; p = caps.p; h = caps.h; l = caps.l }
+use Rattle.hn_typed.specs.Item.{PlainItem, RequestNetwork, RequestNode, NodeEndpoint, NetworkState, NodeState, Peer, KeepAlive, Version, External, Delegated, Assigned, Address, Other}
 
 -- an item without where it lies in memory
 abbrev pub plain_item : Item → PlainItem

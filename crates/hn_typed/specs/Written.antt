@@ -1,4 +1,4 @@
--- The TLV that is written for an item: its fixed fields, zeros where sub-TLVs follow, and what stands behind.
+-- The TLV that is written for an item: its fixed fields, zeros where sub-TLVs follow, and what stands after.
 use Rattle.std.specs.Prelude.{ℕ, ◌≤◌, List, [], ◌∷◌, ◌++◌, length, replicate}
 use Rattle.std.specs.Int.{w128, to_be_bytes}
 use Rattle.std.specs.Str.{IsUtf8}
@@ -40,46 +40,46 @@ fixed_of (Address endpoint address subs) = word endpoint ++ to_be_bytes w128 add
 fixed_of (Other kind value) = []
 
 -- the sub-TLVs, a node's data, the user agent, or the value of another kind, as they are
-abbrev pub behind_of : PlainItem → List ℕ
-behind_of (RequestNetwork subs) = subs
-behind_of (RequestNode node subs) = subs
-behind_of (NodeEndpoint node endpoint subs) = subs
-behind_of (NetworkState hash subs) = subs
-behind_of (NodeState node number age hash body) = body
-behind_of (Peer peer peer_endpoint endpoint subs) = subs
-behind_of (KeepAlive endpoint interval subs) = subs
-behind_of (Version caps agent) = agent
-behind_of (External subs) = subs
-behind_of (Delegated valid preferred prefix subs) = subs
-behind_of (Assigned endpoint priority prefix subs) = subs
-behind_of (Address endpoint address subs) = subs
-behind_of (Other kind value) = value
+abbrev pub tail_of : PlainItem → List ℕ
+tail_of (RequestNetwork subs) = subs
+tail_of (RequestNode node subs) = subs
+tail_of (NodeEndpoint node endpoint subs) = subs
+tail_of (NetworkState hash subs) = subs
+tail_of (NodeState node number age hash body) = body
+tail_of (Peer peer peer_endpoint endpoint subs) = subs
+tail_of (KeepAlive endpoint interval subs) = subs
+tail_of (Version caps agent) = agent
+tail_of (External subs) = subs
+tail_of (Delegated valid preferred prefix subs) = subs
+tail_of (Assigned endpoint priority prefix subs) = subs
+tail_of (Address endpoint address subs) = subs
+tail_of (Other kind value) = value
 
--- how many zeros stand before sub-TLVs, behind a fixed part of that length: none before no sub-TLVs
+-- how many zeros stand before sub-TLVs, after a fixed part of that length: none before no sub-TLVs
 abbrev pub zeros_before : ℕ → List ℕ → ℕ
 zeros_before len [] = 0
 zeros_before len (byte ∷ bytes) = padding len
 
--- how many zeros stand behind an item's fixed part
+-- how many zeros stand after an item's fixed part
 abbrev pub zeros_of : PlainItem → ℕ
 zeros_of (NodeState node number age hash body) = 0
 zeros_of (Version caps agent) = 0
 zeros_of (Other kind value) = 0
-zeros_of item = zeros_before (length (fixed_of item)) (behind_of item)
+zeros_of item = zeros_before (length (fixed_of item)) (tail_of item)
 
 -- the value that is written for an item, and the TLV
 abbrev pub value_of : PlainItem → List ℕ
-value_of item = fixed_of item ++ replicate (zeros_of item) 0 ++ behind_of item
+value_of item = fixed_of item ++ replicate (zeros_of item) 0 ++ tail_of item
 
 abbrev pub tlv_of : PlainItem → PlainTlv
 tlv_of item = record { kind = kind_of item; value = value_of item }
 
--- what stands behind the fixed fields is as it has to be: sub-TLVs are a list of TLVs
-abbrev pub HasTlvsBehind : PlainItem → Type 0
-HasTlvsBehind (NodeState node number age hash body) = Unit {0}
-HasTlvsBehind (Version caps agent) = Unit {0}
-HasTlvsBehind (Other kind value) = Unit {0}
-HasTlvsBehind item = HasTlvs (behind_of item)
+-- what stands after the fixed fields is as it has to be: sub-TLVs are a list of TLVs
+abbrev pub HasTlvsAfter : PlainItem → Type 0
+HasTlvsAfter (NodeState node number age hash body) = Unit {0}
+HasTlvsAfter (Version caps agent) = Unit {0}
+HasTlvsAfter (Other kind value) = Unit {0}
+HasTlvsAfter item = HasTlvs (tail_of item)
 
 -- the priority of an assigned prefix has 4 bits
 abbrev pub HasPriority : PlainItem → Type 0
@@ -101,5 +101,5 @@ pub record IsWritable (item : PlainItem) : Type 0 where
   pub in_range : InRange item
   pub text : HasText item
   pub other_kind : HasOtherKind item
-  pub tlvs_behind : HasTlvsBehind item
+  pub tlvs_after : HasTlvsAfter item
   pub short : length (value_of item) ≤ 65535

@@ -13,7 +13,7 @@ pub const NO_PREFIX: u8 = 3;
 /// The user agent is not in UTF-8.
 pub const NO_TEXT: u8 = 4;
 
-/// Why a TLV stands for no item (RFC 7787, section 7; RFC 7788, section 10).
+/// Why a TLV decodes to no item (RFC 7787, section 7; RFC 7788, section 10).
 #[derive(Clone, Copy, Debug, PartialEq, Eq)]
 pub struct ItemFault {
     /// The kind of the TLV.

@@ -24,6 +24,8 @@ pub use kind::{
     ADDRESS, ASSIGNED, DELEGATED, EXTERNAL, KEEP_ALIVE, NETWORK_STATE, NODE_ENDPOINT, NODE_STATE,
     PEER, REQUEST_NETWORK, REQUEST_NODE, VERSION,
 };
-pub use laws::{item_fault_is_unique, item_is_unique, read_is_writable, written_is_read};
+pub use laws::{
+    item_fault_is_unique, item_is_unique, item_or_fault, read_is_writable, written_is_read,
+};
 pub use reading::read;
 pub use writing::{value_len, write};

@@ -37,26 +37,26 @@ fn address_of(front: &[u8]) -> u128
     u128::from_be_bytes(filled_up(front))
 }
 
-/// The prefix that begins the bytes, and what is behind it. Refused by the first of these: the length is above 128,
+/// The prefix that begins the bytes, and what follows it. Refused by the first of these: the length is above 128,
 /// `NO_PREFIX`; bytes are missing, `FIELDS_CUT`; a bit is set past the length, `NO_PREFIX`.
 pub(crate) fn split_prefix(field: &[u8]) -> Result<(Prefix, &[u8]), u8>
     ensures valid { IfOk result (λ found. IsPrefix found.0) }
     ensures parts { IfOk result (λ found. field.now ≡ prefix_field found.0 ++ found.1.now) }
     ensures fault { IfErr result (IsPrefixFault field.now) }
 {
-    let Some((&len, behind)) = field.split_first() else {
+    let Some((&len, after)) = field.split_first() else {
         return Err(FIELDS_CUT);
     };
     if len > LONGEST {
         return Err(NO_PREFIX);
     }
     let count = bytes_for(len);
-    if behind.len() < count {
+    if after.len() < count {
         return Err(FIELDS_CUT);
     }
-    let (front, behind) = behind.split_at(count);
+    let (front, after) = after.split_at(count);
     match Prefix::new(address_of(front), len) {
-        Ok(prefix) => Ok((prefix, behind)),
+        Ok(prefix) => Ok((prefix, after)),
         Err(_) => Err(NO_PREFIX),
     }
 }

@@ -9,13 +9,13 @@ use crate::fields::{
 };
 use crate::item::Item;
 use crate::prefix::split_prefix;
-use crate::subs::subs_behind;
+use crate::subs::subs_after;
 use hn_base::{Caps, EpId, NodeId};
 
 pub(crate) fn request_network(value: &[u8]) -> Result<Item<'_>, u8>
     ensures { Reads 1 value.now result }
 {
-    let Some(subs) = subs_behind(0, value) else {
+    let Some(subs) = subs_after(0, value) else {
         return Err(NO_SUBS);
     };
     Ok(Item::RequestNetwork { subs })
@@ -24,10 +24,10 @@ pub(crate) fn request_network(value: &[u8]) -> Result<Item<'_>, u8>
 pub(crate) fn request_node(value: &[u8]) -> Result<Item<'_>, u8>
     ensures { Reads 2 value.now result }
 {
-    let Some((node, behind)) = split_word(value) else {
+    let Some((node, after)) = split_word(value) else {
         return Err(FIELDS_CUT);
     };
-    let Some(subs) = subs_behind(4, behind) else {
+    let Some(subs) = subs_after(4, after) else {
         return Err(NO_SUBS);
     };
     let node = NodeId(node);
@@ -37,10 +37,10 @@ pub(crate) fn request_node(value: &[u8]) -> Result<Item<'_>, u8>
 pub(crate) fn node_endpoint(value: &[u8]) -> Result<Item<'_>, u8>
     ensures { Reads 3 value.now result }
 {
-    let Some((node, endpoint, behind)) = split_two_words(value) else {
+    let Some((node, endpoint, after)) = split_two_words(value) else {
         return Err(FIELDS_CUT);
     };
-    let Some(subs) = subs_behind(8, behind) else {
+    let Some(subs) = subs_after(8, after) else {
         return Err(NO_SUBS);
     };
     let (node, endpoint) = (NodeId(node), EpId(endpoint));
@@ -54,10 +54,10 @@ pub(crate) fn node_endpoint(value: &[u8]) -> Result<Item<'_>, u8>
 pub(crate) fn network_state(value: &[u8]) -> Result<Item<'_>, u8>
     ensures { Reads 4 value.now result }
 {
-    let Some((hash, behind)) = split_hash(value) else {
+    let Some((hash, after)) = split_hash(value) else {
         return Err(FIELDS_CUT);
     };
-    let Some(subs) = subs_behind(8, behind) else {
+    let Some(subs) = subs_after(8, after) else {
         return Err(NO_SUBS);
     };
     let hash = *hash;
@@ -67,10 +67,10 @@ pub(crate) fn network_state(value: &[u8]) -> Result<Item<'_>, u8>
 pub(crate) fn node_state(value: &[u8]) -> Result<Item<'_>, u8>
     ensures { Reads 5 value.now result }
 {
-    let Some((node, number, age, behind)) = split_three_words(value) else {
+    let Some((node, number, age, after)) = split_three_words(value) else {
         return Err(FIELDS_CUT);
     };
-    let Some((hash, body)) = split_hash(behind) else {
+    let Some((hash, body)) = split_hash(after) else {
         return Err(FIELDS_CUT);
     };
     let node = NodeId(node);
@@ -87,10 +87,10 @@ pub(crate) fn node_state(value: &[u8]) -> Result<Item<'_>, u8>
 pub(crate) fn peer(value: &[u8]) -> Result<Item<'_>, u8>
     ensures { Reads 8 value.now result }
 {
-    let Some((peer, peer_endpoint, endpoint, behind)) = split_three_words(value) else {
+    let Some((peer, peer_endpoint, endpoint, after)) = split_three_words(value) else {
         return Err(FIELDS_CUT);
     };
-    let Some(subs) = subs_behind(12, behind) else {
+    let Some(subs) = subs_after(12, after) else {
         return Err(NO_SUBS);
     };
     Ok(Item::Peer {
@@ -104,10 +104,10 @@ pub(crate) fn peer(value: &[u8]) -> Result<Item<'_>, u8>
 pub(crate) fn keep_alive(value: &[u8]) -> Result<Item<'_>, u8>
     ensures { Reads 9 value.now result }
 {
-    let Some((endpoint, interval, behind)) = split_two_words(value) else {
+    let Some((endpoint, interval, after)) = split_two_words(value) else {
         return Err(FIELDS_CUT);
     };
-    let Some(subs) = subs_behind(8, behind) else {
+    let Some(subs) = subs_after(8, after) else {
         return Err(NO_SUBS);
     };
     let endpoint = EpId(endpoint);
@@ -136,7 +136,7 @@ pub(crate) fn version(value: &[u8]) -> Result<Item<'_>, u8>
 pub(crate) fn external(value: &[u8]) -> Result<Item<'_>, u8>
     ensures { Reads 33 value.now result }
 {
-    let Some(subs) = subs_behind(0, value) else {
+    let Some(subs) = subs_after(0, value) else {
         return Err(NO_SUBS);
     };
     Ok(Item::External { subs })
@@ -148,11 +148,11 @@ pub(crate) fn delegated(value: &[u8]) -> Result<Item<'_>, u8>
     let Some((valid, preferred, field)) = split_two_words(value) else {
         return Err(FIELDS_CUT);
     };
-    let (prefix, behind) = match split_prefix(field) {
+    let (prefix, after) = match split_prefix(field) {
         Ok(found) => found,
         Err(why) => return Err(why),
     };
-    let Some(subs) = subs_behind(value.len() - behind.len(), behind) else {
+    let Some(subs) = subs_after(value.len() - after.len(), after) else {
         return Err(NO_SUBS);
     };
     Ok(Item::Delegated {
@@ -166,18 +166,18 @@ pub(crate) fn delegated(value: &[u8]) -> Result<Item<'_>, u8>
 pub(crate) fn assigned(value: &[u8]) -> Result<Item<'_>, u8>
     ensures { Reads 35 value.now result }
 {
-    let Some((endpoint, behind)) = split_word(value) else {
+    let Some((endpoint, after)) = split_word(value) else {
         return Err(FIELDS_CUT);
     };
-    let Some((flags, field)) = behind.split_first() else {
+    let Some((flags, field)) = after.split_first() else {
         return Err(FIELDS_CUT);
     };
     let (_reserved, priority) = halves(*flags);
-    let (prefix, behind) = match split_prefix(field) {
+    let (prefix, after) = match split_prefix(field) {
         Ok(found) => found,
         Err(why) => return Err(why),
     };
-    let Some(subs) = subs_behind(value.len() - behind.len(), behind) else {
+    let Some(subs) = subs_after(value.len() - after.len(), after) else {
         return Err(NO_SUBS);
     };
     Ok(Item::Assigned {
@@ -191,13 +191,13 @@ pub(crate) fn assigned(value: &[u8]) -> Result<Item<'_>, u8>
 pub(crate) fn address(value: &[u8]) -> Result<Item<'_>, u8>
     ensures { Reads 36 value.now result }
 {
-    let Some((endpoint, behind)) = split_word(value) else {
+    let Some((endpoint, after)) = split_word(value) else {
         return Err(FIELDS_CUT);
     };
-    let Some((address, behind)) = split_address(behind) else {
+    let Some((address, after)) = split_address(after) else {
         return Err(FIELDS_CUT);
     };
-    let Some(subs) = subs_behind(20, behind) else {
+    let Some(subs) = subs_after(20, after) else {
         return Err(NO_SUBS);
     };
     Ok(Item::Address {

@@ -15,7 +15,7 @@ use crate::kind::{
 use crate::readers;
 use hn_tlv::Tlv;
 
-// The item that a value of this kind stands for.
+// The item that a value of this kind decodes to.
 fn read_value(kind: u16, value: &[u8]) -> Result<Item<'_>, u8>
     ensures { Reads kind value.now result }
 {
@@ -36,12 +36,12 @@ fn read_value(kind: u16, value: &[u8]) -> Result<Item<'_>, u8>
     }
 }
 
-/// The item that a TLV stands for (RFC 7787, section 7; RFC 7788, section 10). Reserved bits are not looked at.
+/// The item that a TLV decodes to (RFC 7787, section 7; RFC 7788, section 10). Reserved bits are not looked at.
 ///
 /// # Errors
 ///
 /// The first of these, from left to right: a prefix length above 128, `NO_PREFIX`; fixed fields or prefix bytes are
-/// missing, `FIELDS_CUT`; a bit is set past the prefix length, `NO_PREFIX`; behind the fixed part stands neither
+/// missing, `FIELDS_CUT`; a bit is set past the prefix length, `NO_PREFIX`; after the fixed part stands neither
 /// nothing nor a pad of zeros and a list of TLVs, `NO_SUBS`; the user agent is not in UTF-8, `NO_TEXT`.
 pub fn read<'a>(tlv: &Tlv<'a>) -> Result<Item<'a>, ItemFault>
     // What is answered is so.

@@ -286,7 +286,7 @@ fn read_as_well(rt: HostRuntime) -> Result<(), Fail> {
         h: 0,
         l: 4,
     };
-    // Reserved bits that are set, and the whole padding with no sub-TLVs behind it.
+    // Reserved bits that are set, and the whole padding with no sub-TLVs after it.
     assert_read(
         &rt,
         b"\x00\x20\x00\x05\xFF\x01\x04\x04h\x00\x00\x00",
@@ -371,7 +371,7 @@ fn prefix_faults(rt: HostRuntime) {
             b"\x00\x00\x00\x01\x00\x00\x00\x01\x01\x40\xEE",
             NO_PREFIX,
         ),
-        // Part of the padding, padding that is not zero, and no list of TLVs behind it.
+        // Part of the padding, padding that is not zero, and no list of TLVs after it.
         (
             DELEGATED,
             b"\x00\x00\x00\x01\x00\x00\x00\x01\x01\x80\x00",

@@ -4,7 +4,7 @@ ghost use Rattle.std.specs.Prelude.{◌≡◌, ◌+◌, ◌^◌, ◌<◌, ◌≤
 ghost use Rattle.hn_tlv.specs.Grammar.{IsTlv, tlv_size, spelling};
 ghost use Rattle.hn_typed.specs.Fields.{two_in_byte};
 ghost use Rattle.hn_typed.specs.Table.{Fits, IsItem, InRange};
-ghost use Rattle.hn_typed.specs.Written.{kind_of, fixed_of, behind_of, zeros_before, zeros_of, value_of, tlv_of, HasTlvsBehind, HasPriority, HasOtherKind, HasText};
+ghost use Rattle.hn_typed.specs.Written.{kind_of, fixed_of, tail_of, zeros_before, zeros_of, value_of, tlv_of, HasTlvsAfter, HasPriority, HasOtherKind, HasText};
 ghost use Rattle.hn_typed.specs.View.{plain_item};
 ghost use Rattle.hn_typed.specs.Tail.{HasAddress, IsTailOf};
 
@@ -15,9 +15,8 @@ use crate::kind::{
     ADDRESS, ASSIGNED, DELEGATED, EXTERNAL, KEEP_ALIVE, NETWORK_STATE, NODE_ENDPOINT, NODE_STATE,
     PEER, REQUEST_NETWORK, REQUEST_NODE, VERSION,
 };
-use crate::subs::padding;
 use hn_base::{Caps, NoMemory};
-use hn_tlv::size;
+use hn_tlv::{padding, size};
 
 // The number of the item's kind.
 fn kind_of(item: &Item<'_>) -> u16
@@ -118,16 +117,16 @@ fn fixed_part(item: &Item<'_>) -> FixedPart
     }
 }
 
-// What stands behind the fixed part of a value.
+// What stands after the fixed part of a value.
 #[derive(Clone, Copy)]
 enum Tail<'a> {
-    // Sub-TLVs, behind zeros if there are any.
+    // Sub-TLVs, after zeros if there are any.
     Subs(&'a [u8]),
     // Bytes as they are.
     Bytes(&'a [u8]),
 }
 
-// What stands behind the item's fixed part.
+// What stands after the item's fixed part.
 fn tail_of<'a>(item: &Item<'a>) -> Tail<'a>
     ensures bytes { IsTailOf result (plain_item item.now) }
     ensures text { HasText (plain_item item.now) }
@@ -149,19 +148,19 @@ fn tail_of<'a>(item: &Item<'a>) -> Tail<'a>
     }
 }
 
-// A value in parts: the fixed part, how many zeros, and what is behind them.
+// A value in parts: the fixed part, how many zeros, and what follows them.
 #[derive(Drop)]
 struct Parts<'a> {
     fixed: FixedPart,
     zeros: usize,
-    behind: &'a [u8],
+    after: &'a [u8],
 }
 
 // The value of the item, in parts.
 fn parts_of<'a>(item: &Item<'a>) -> Parts<'a>
     ensures fixed { result.fixed ≡ fixed_of (plain_item item.now) }
     ensures zeros { result.zeros ≡ zeros_of (plain_item item.now) }
-    ensures behind { result.behind.now ≡ behind_of (plain_item item.now) }
+    ensures after { result.after.now ≡ tail_of (plain_item item.now) }
     ensures short { (length result.fixed ≤ 25) × (result.zeros ≤ 3) }
     ensures in_range { HasPriority (plain_item item.now) → Fits 16 (kind_of (plain_item item.now))
         → InRange (plain_item item.now) }
@@ -169,7 +168,7 @@ fn parts_of<'a>(item: &Item<'a>) -> Parts<'a>
 {
     let fixed = fixed_part(item);
     let len = fixed.len();
-    let (zeros, behind) = match tail_of(item) {
+    let (zeros, after) = match tail_of(item) {
         Tail::Subs([]) => (0, [].as_slice()),
         Tail::Subs(subs) => (padding(len), subs),
         Tail::Bytes(bytes) => (0, bytes),
@@ -177,7 +176,7 @@ fn parts_of<'a>(item: &Item<'a>) -> Parts<'a>
     Parts {
         fixed,
         zeros,
-        behind,
+        after,
     }
 }
 
@@ -189,7 +188,7 @@ fn put(out: &mut Vec<u8>, bytes: &[u8])
     ensures len { vec_len out.new ≡ vec_len out.old + length bytes.now }
     ensures capacity { vec_capacity out.old ≤ vec_capacity out.new }
 {
-    // It fails only for want of room.
+    // It fails only if there is no room.
     let _ = out.extend_from_slice(bytes);
 }
 
@@ -204,27 +203,27 @@ fn put_zeros(out: &mut Vec<u8>, count: usize)
     put(out, &[0; 3][..count]);
 }
 
-/// The length of the value that `write` makes, in bytes. (no memory)
+/// The length of the value that `write` makes, in bytes. Never allocates.
 pub fn value_len(item: &Item<'_>) -> usize
     ensures { result ≡ length (value_of (plain_item item.now)) }
 {
     let parts = parts_of(item);
-    parts.fixed.len() + parts.zeros + parts.behind.len()
+    parts.fixed.len() + parts.zeros + parts.after.len()
 }
 
-/// Appends the TLV of the item (RFC 7787, section 7; RFC 7788, section 10): reserved bits are zero, and where there are
-/// no sub-TLVs the value ends behind its fixed fields. Reading it gives the item.
+/// Appends the TLV of the item (RFC 7787, section 7; RFC 7788, section 10): reserved bits are zero, and if there are
+/// no sub-TLVs the value ends after its fixed fields. Reading it gives the item.
 ///
 /// The value has at most 65,535 bytes, by `value_len`; a priority is at most 15; sub-TLVs are a list of TLVs; and an
 /// item of another kind has none of the kinds that have a form of their own.
 ///
 /// # Errors
 ///
-/// Only for want of memory, and then `out` is as before.
+/// `NoMemory`, and then `out` is as before.
 pub fn write(item: &Item<'_>, out: &mut Vec<u8>) -> Result<(), NoMemory>
     requires short { length (value_of (plain_item item.now)) ≤ 65535 }
     requires priority { HasPriority (plain_item item.now) }
-    requires subs { HasTlvsBehind (plain_item item.now) }
+    requires subs { HasTlvsAfter (plain_item item.now) }
     requires other_kind { HasOtherKind (plain_item item.now) }
 
     ensures ok { OnOk result (out.new.items ≡ out.old.items ++ spelling (tlv_of (plain_item item.now))) }
@@ -233,20 +232,20 @@ pub fn write(item: &Item<'_>, out: &mut Vec<u8>) -> Result<(), NoMemory>
     ensures with_room { vec_len out.old + tlv_size (length (value_of (plain_item item.now)))
         ≤ vec_capacity out.old → IsOk result }
 
-    // What is written is a TLV, which stands for the item.
+    // What is written is a TLV, which decodes to the item.
     ensures valid { OnOk result (IsTlv (tlv_of (plain_item item.now))) }
     ensures read_back { OnOk result (IsItem (tlv_of (plain_item item.now)) (plain_item item.now)) }
 {
     let kind = kind_of(item);
     let parts = parts_of(item);
-    let (fixed, zeros, behind) = (parts.fixed.as_slice(), parts.zeros, parts.behind);
-    let len = fixed.len() + zeros + behind.len();
+    let (fixed, zeros, after) = (parts.fixed.as_slice(), parts.zeros, parts.after);
+    let len = fixed.len() + zeros + after.len();
     out.reserve(size(len))?;
     put(out, &kind.to_be_bytes());
     put(out, &(len as u16).to_be_bytes());
     put(out, fixed);
     put_zeros(out, zeros);
-    put(out, behind);
+    put(out, after);
     put_zeros(out, padding(len));
     Ok(())
 }

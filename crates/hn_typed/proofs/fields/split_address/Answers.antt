@@ -1,7 +1,7 @@
 use Rattle.std.proofs.Common.{◌≡◌, ◌++◌, List, ℕ, length, take, drop, ap, sym, ◌∙◌, arith}
 use Rattle.std.specs.Int.{w128, from_be_bytes, to_be_bytes}
 use Rattle.std.proofs.lemmas.List.{take-append-drop, length-take-le}
-use Rattle.hn_typed.proofs.BigEndian.{Bytes-from_reads, Bytes-take, whole_is}
+use Rattle.hn_base.proofs.BigEndian.{Bytes-from_reads, Bytes-take, whole_is}
 use Rattle.hn_typed.proofs.fields.split_address.Goals as goal
 
 pub returns-clause-parts : goal.returns-clause-parts

@@ -1,7 +1,7 @@
 use Rattle.std.proofs.Common.{◌≡◌, ◌∷◌, ◌++◌, ℕ, length, take, drop, subst, ap, sym, ◌∙◌, arith}
 use Rattle.hn_prefix.specs.Prefix.{PlainPrefix}
 use Rattle.hn_typed.specs.Fields.{prefix_field, bytes_for}
-use Rattle.hn_typed.proofs.BigEndian.{Bytes, Bytes-from_reads, Bytes-take}
+use Rattle.hn_base.proofs.BigEndian.{Bytes, Bytes-from_reads, Bytes-take}
 use Rattle.hn_typed.proofs.Prefixes.{prefix_read}
 use Rattle.hn_typed.proofs.prefix.split_prefix.Goals as goal
 
@@ -9,16 +9,16 @@ pub returns-in-Ok-clause-parts : goal.returns-in-Ok-clause-parts
 returns-in-Ok-clause-parts c =
     let field = c.args.field.now in
     let len : ℕ = c.in-Some.field-0-0.now in
-    let tail = c.in-Some.behind.now in
+    let tail = c.in-Some.after.now in
     let front = c.split_at.result.0.now in
-    let behind = c.split_at.result.1.now in
+    let after = c.split_at.result.1.now in
     let found : field ≡ len ∷ tail = c.in-Some.ensures.cases.0 in
     let count : c.bytes_for-count.result ≡ bytes_for len = c.bytes_for-count.ensures in
     let front-is : front ≡ take (bytes_for len) tail = c.split_at.ensures.front ∙ ap (λ n. take n tail) count in
-    let behind-is : behind ≡ drop (bytes_for len) tail = c.split_at.ensures.back ∙ ap (λ n. drop n tail) count in
+    let after-is : after ≡ drop (bytes_for len) tail = c.split_at.ensures.back ∙ ap (λ n. drop n tail) count in
     let front_len : length front ≡ bytes_for len = c.split_at.ensures.front_len ∙ count in
     let fits : Bytes front = subst Bytes (sym front-is) (Bytes-take (bytes_for len) tail (subst Bytes found (Bytes-from_reads field (λ i. omega (arith, c.type_inv.field i)))).1) in
-    let read : field ≡ prefix_field (record { bits = c.address_of.result; len = len }) ++ behind =
-    prefix_read field tail front behind len c.address_of.result found front-is behind-is front_len (omega arith) fits c.address_of.ensures in
+    let read : field ≡ prefix_field (record { bits = c.address_of.result; len = len }) ++ after =
+    prefix_read field tail front after len c.address_of.result found front-is after-is front_len (omega arith) fits c.address_of.ensures in
     let same : c.in-Ok.prefix ≡ record { bits = c.address_of.result; len = len } = c.in-Ok.ensures.value in
-    read ∙ ap (λ (p : PlainPrefix). prefix_field p ++ behind) (sym same)
+    read ∙ ap (λ (p : PlainPrefix). prefix_field p ++ after) (sym same)

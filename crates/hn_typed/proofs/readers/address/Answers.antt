@@ -4,9 +4,9 @@ use Rattle.hn_typed.specs.Fields.{word}
 use Rattle.hn_typed.proofs.Causes.{no_subs}
 use Rattle.hn_typed.proofs.readers.address.Goals as goal
 
-pub returns-in_default-subs_behind : goal.returns-in_default-subs_behind
-returns-in_default-subs_behind c =
+pub returns-in_default-subs_after : goal.returns-in_default-subs_after
+returns-in_default-subs_after c =
     let fixed : List ℕ = word c.in-Some.endpoint ++ to_be_bytes w128 c.in-Some-split_address.address in
-    let behind : List ℕ = c.in-Some-split_address.behind.now in
-    let parts : c.args.value.now ≡ fixed ++ behind = c.in-Some.ensures.parts ∙ ap (λ (z : List ℕ). word c.in-Some.endpoint ++ z) c.in-Some-split_address.ensures.parts in
-    no_subs 20 c.args.value.now fixed behind parts refl c.in_default-subs_behind.ensures.none
+    let after : List ℕ = c.in-Some-split_address.after.now in
+    let parts : c.args.value.now ≡ fixed ++ after = c.in-Some.ensures.parts ∙ ap (λ (z : List ℕ). word c.in-Some.endpoint ++ z) c.in-Some-split_address.ensures.parts in
+    no_subs 20 c.args.value.now fixed after parts refl c.in_default-subs_after.ensures.none

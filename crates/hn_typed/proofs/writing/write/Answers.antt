@@ -1,7 +1,7 @@
 use Rattle.std.proofs.Common.{◌^◌, ◌<◌, All, subst, ◌∙◌, arith}
 use Rattle.hn_typed.specs.Item.{PlainItem}
 use Rattle.hn_typed.specs.Table.{Fits}
-use Rattle.hn_typed.specs.Written.{IsWritable, kind_of, fixed_of, behind_of}
+use Rattle.hn_typed.specs.Written.{IsWritable, kind_of, fixed_of, tail_of}
 use Rattle.hn_typed.specs.View.{plain_item}
 use Rattle.hn_typed.proofs.Written.{written_is_item, value_bytes}
 use Rattle.hn_typed.proofs.writing.write.Goals as goal
@@ -11,8 +11,8 @@ returns-clause-valid c =
     let item : PlainItem = plain_item c.args.item.now in
     let kind : kind_of item < 2 ^ 16 = omega (arith, c.kind_of-kind.ensures, c.kind_of-kind.type_inv) in
     let fixed : All (λ byte. byte < 2 ^ 8) (fixed_of item) = subst (All (λ byte. byte < 2 ^ 8)) (c.as_slice-fixed.ensures ∙ c.parts_of-parts.ensures.fixed) c.put-3.ensures.bytes in
-    let behind : All (λ byte. byte < 2 ^ 8) (behind_of item) = subst (All (λ byte. byte < 2 ^ 8)) c.parts_of-parts.ensures.behind c.put-4.ensures.bytes in
-    record { kind_fits = kind; length_fits = omega (arith, c.requires.short); bytes = value_bytes item fixed behind }
+    let after : All (λ byte. byte < 2 ^ 8) (tail_of item) = subst (All (λ byte. byte < 2 ^ 8)) c.parts_of-parts.ensures.after c.put-4.ensures.bytes in
+    record { kind_fits = kind; length_fits = omega (arith, c.requires.short); bytes = value_bytes item fixed after }
 
 pub returns-clause-read_back : goal.returns-clause-read_back
 returns-clause-read_back c =
@@ -22,7 +22,7 @@ returns-clause-read_back c =
       in_range = c.parts_of-parts.ensures.in_range c.requires.priority kind;
       text = c.parts_of-parts.ensures.text;
       other_kind = c.requires.other_kind;
-      tlvs_behind = c.requires.subs;
+      tlvs_after = c.requires.subs;
       short = c.requires.short;
     } in
     written_is_item item writable

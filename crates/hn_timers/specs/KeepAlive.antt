@@ -1,11 +1,11 @@
-use Rattle.std.specs.Prelude.{ℕ, ◌*◌, ◌-◌, ◌<◌, ◌≤◌}
+use Rattle.std.specs.Prelude.{ℕ, ◌*◌, ◌-◌, Bool, ◌&&◌, nat_lt, nat_le}
 
 -- A peer's keep-alives have stopped: it promised some, and for 2.1 times the interval or longer nothing was heard
 -- (RFC 7787, section 6.1.5; the multiplier is that of RFC 7788, section 3). Times are in milliseconds.
-abbrev pub IsExpired : ℕ → ℕ → ℕ → Type 0
-IsExpired contact interval now = (0 < interval) × (21 * interval ≤ 10 * (now - contact))
+abbrev pub is_expired : ℕ → ℕ → ℕ → Bool
+is_expired contact interval now = nat_lt 0 interval && nat_le (21 * interval) (10 * (now - contact))
 
 -- No network state was sent for 20 seconds or longer (RFC 7787, section 6.1; the interval is that of RFC 7788,
 -- section 3).
-abbrev pub IsSilent : ℕ → ℕ → Type 0
-IsSilent sent now = 20000 ≤ now - sent
+abbrev pub is_silent : ℕ → ℕ → Bool
+is_silent sent now = nat_le 20000 (now - sent)

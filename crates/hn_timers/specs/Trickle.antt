@@ -1,6 +1,6 @@
 use Rattle.hn_timers.specs.Interval.{Interval}
-use Rattle.hn_timers.specs.declared.trickle.Trickle.{Trickle}
+use Rattle.hn_timers.specs.declared.trickle.Trickle.TheInside.{Inside}
 
--- A timer without the proofs of what its type keeps.
-abbrev pub interval : Trickle → Interval
+-- the interval that a timer is in
+abbrev pub interval : Inside → Interval
 interval t = record { begin = t.begin; len = t.len; fire = t.fire; heard = t.heard; done = t.done }

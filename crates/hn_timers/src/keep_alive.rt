@@ -1,5 +1,5 @@
-ghost use Rattle.std.specs.Prelude.{◌≤◌, ◌^◌, ◌↔◌, IsTrue};
-ghost use Rattle.hn_timers.specs.KeepAlive.{IsExpired, IsSilent};
+ghost use Rattle.std.specs.Prelude.{◌≡◌, ◌≤◌, ◌^◌};
+ghost use Rattle.hn_timers.specs.KeepAlive.{is_expired, is_silent};
 
 use hn_base::Moment;
 
@@ -15,11 +15,11 @@ pub const KEEP_ALIVE_MULTIPLIER_DENOMINATOR: u64 = 10;
 
 /// Whether a peer that was last heard at `contact`, and that promised a message each `interval` milliseconds, is
 /// to be removed: for 2.1 intervals or more nothing was heard (RFC 7787, section 6.1.5). An interval of 0 says that
-/// no keep-alives are sent, and never expires (RFC 7787, section 7.3.2). (no memory)
+/// no keep-alives are sent, and never expires (RFC 7787, section 7.3.2). Never allocates.
 pub fn expired(contact: Moment, interval: u32, now: Moment) -> bool
     requires contact_is_past { contact ≤ now }
     requires now_in_range { now ≤ 2 ^ 48 }
-    ensures { IsTrue result ↔ IsExpired contact interval now }
+    ensures { result ≡ is_expired contact interval now }
 {
     interval > 0
         && KEEP_ALIVE_MULTIPLIER_DENOMINATOR * (now - contact)
@@ -27,11 +27,11 @@ pub fn expired(contact: Moment, interval: u32, now: Moment) -> bool
 }
 
 /// Whether a keep-alive is due, where a network state was last sent at `sent`: that was `KEEP_ALIVE_INTERVAL` ago
-/// or longer (RFC 7787, sections 6.1.2 and 6.1.3). (no memory)
+/// or longer (RFC 7787, sections 6.1.2 and 6.1.3). Never allocates.
 pub fn silent(sent: Moment, now: Moment) -> bool
     requires sent_is_past { sent ≤ now }
     requires now_in_range { now ≤ 2 ^ 48 }
-    ensures { IsTrue result ↔ IsSilent sent now }
+    ensures { result ≡ is_silent sent now }
 {
     now - sent >= u64::from(KEEP_ALIVE_INTERVAL)
 }

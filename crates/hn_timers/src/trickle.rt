@@ -1,7 +1,8 @@
-ghost use Rattle.std.specs.Prelude.{◌≡◌, ◌≢◌, ◌+◌, ◌/◌, ◌^◌, ◌<◌, ◌≤◌, ◌↔◌, min, IsTrue, true};
-ghost use Rattle.hn_timers.specs.Length.{IsLength, IsLength-prop, next_length};
+ghost use Rattle.std.specs.Prelude.{◌≡◌, ◌≢◌, ◌^◌, ◌≤◌};
+ghost use Rattle.hn_timers.specs.Length.{IsLength, next_length};
 
 use hn_base::Moment;
+use std::marker::Model;
 
 /// The length of the shortest interval, Imin, in milliseconds (RFC 7788, section 3).
 pub const SHORTEST_INTERVAL: u32 = 200;
@@ -23,22 +24,32 @@ pub struct Trickle {
     pub heard: u32,
     /// Whether the timer has fired in this interval.
     pub done: bool,
-    pub ghost of_length: { IsLength len } by { IsLength-prop len },
-    pub ghost begin_in_range: { begin ≤ 2 ^ 48 },
-    pub ghost in_second_half: { begin + len / 2 ≤ fire },
-    pub ghost before_end: { fire < begin + len },
+}
+
+impl Model for Trickle {
+    ghost use Rattle.hn_timers.specs.Interval.{Interval};
+
+    ghost Value = { Interval };
+
+    ghost use Rattle.hn_timers.specs.Interval.{IsInterval};
+    ghost use Rattle.hn_timers.specs.Trickle.{interval};
+
+    ghost view = { interval };
+
+    ghost invariant = { λ t. IsInterval (interval t) };
+
+    ghost inverse = { λ i. record { begin = i.begin; len = i.len; fire = i.fire; heard = i.heard; done = i.done } };
 }
 
 impl Trickle {
-    ghost use Rattle.hn_timers.specs.Trickle.{interval};
-    ghost use Rattle.hn_timers.specs.Interval.{started, IsDue};
+    ghost use Rattle.hn_timers.specs.Interval.{started, counted, has_to_send, fired, has_ended};
 
     /// An interval of `len` milliseconds that begins now; `word`, a random number, says when in its second half it
-    /// fires (RFC 6206, section 4.2, steps 1 and 2). (no memory)
+    /// fires (RFC 6206, section 4.2, steps 1 and 2). Never allocates.
     pub fn start(now: Moment, len: u32, word: u32) -> Trickle
         requires of_length { IsLength len }
         requires now_in_range { now ≤ 2 ^ 48 }
-        ensures { interval result ≡ started now len word }
+        ensures { result ≡ started now len word }
     {
         let half = len / 2;
         Trickle {
@@ -50,22 +61,20 @@ impl Trickle {
         }
     }
 
-    /// Counts a consistent message (RFC 6206, section 4.2, step 3). The count stays at 2^32 - 1. (no memory)
+    /// Counts a consistent message (RFC 6206, section 4.2, step 3). The count stays at 2^32 - 1. Never allocates.
     pub fn hear(&mut self)
-        ensures { interval self.new ≡ record (interval self.old) { heard = min (self.old.heard + 1) u32.MAX } }
+        ensures { self.new ≡ counted self.old }
     {
         self.heard = self.heard.saturating_add(1);
     }
 
     /// Whether to send now: the timer's time has come, it has not fired in this interval, and no consistent message
     /// was heard (RFC 6206, section 4.2, step 4). Once its time has come, it has fired, whatever the answer.
-    /// (no memory)
+    /// Never allocates.
     pub fn fires(&mut self, now: Moment) -> bool
         requires { now ≤ 2 ^ 48 }
-        ensures answer { IsTrue result ↔ (IsDue (interval self.old) now × (self.old.heard ≡ 0)) }
-        ensures due { IsDue (interval self.old) now
-            → interval self.new ≡ record (interval self.old) { done = true } }
-        ensures stays { ¬ IsDue (interval self.old) now → interval self.new ≡ interval self.old }
+        ensures answer { result ≡ has_to_send now self.old }
+        ensures fired { self.new ≡ fired now self.old }
     {
         if self.done || now < self.fire {
             return false;
@@ -74,38 +83,38 @@ impl Trickle {
         self.heard == 0
     }
 
-    /// Whether the interval is over (RFC 6206, section 4.2, step 5). (no memory)
+    /// Whether the interval is over (RFC 6206, section 4.2, step 5). Never allocates.
     pub fn ended(&self, now: Moment) -> bool
         requires { now ≤ 2 ^ 48 }
-        ensures { IsTrue result ↔ (self.now.begin + self.now.len ≤ now) }
+        ensures { result ≡ has_ended now self.now }
     {
         now >= self.begin + u64::from(self.len)
     }
 
     /// Begins the next interval now, twice as long and no longer than `LONGEST_INTERVAL` (RFC 6206, section 4.2,
-    /// step 5). (no memory)
+    /// step 5). Never allocates.
     pub fn next(&mut self, now: Moment, word: u32)
         requires { now ≤ 2 ^ 48 }
-        ensures { interval self.new ≡ started now (next_length self.old.len) word }
+        ensures { self.new ≡ started now (next_length self.old.len) word }
     {
         *self = Trickle::start(now, (2 * self.len).min(LONGEST_INTERVAL), word);
     }
 
     /// Begins an interval of the same length now, as one does who has sent a keep-alive (RFC 7787, section 6.1.2).
-    /// (no memory)
+    /// Never allocates.
     pub fn again(&mut self, now: Moment, word: u32)
         requires { now ≤ 2 ^ 48 }
-        ensures { interval self.new ≡ started now self.old.len word }
+        ensures { self.new ≡ started now self.old.len word }
     {
         *self = Trickle::start(now, self.len, word);
     }
 
     /// Begins an interval of the shortest length now, as an inconsistent message asks where the length is not the
-    /// shortest already (RFC 6206, section 4.2, step 6). (no memory)
+    /// shortest already (RFC 6206, section 4.2, step 6). Never allocates.
     pub fn reset(&mut self, now: Moment, word: u32)
         requires longer { self.old.len ≢ SHORTEST_INTERVAL }
         requires now_in_range { now ≤ 2 ^ 48 }
-        ensures { interval self.new ≡ started now SHORTEST_INTERVAL word }
+        ensures { self.new ≡ started now SHORTEST_INTERVAL word }
     {
         *self = Trickle::start(now, SHORTEST_INTERVAL, word);
     }

@@ -1,8 +1,7 @@
 -- How long hashes and entries are, and what equal entries say.
-use Rattle.std.proofs.Common.{◌≡◌, ℕ, ◌^◌, ◌<◌, List, ◌++◌, length, take, drop, refl, sym, ap, ◌∙◌, arith, length-append}
-use Rattle.std.specs.Int.{w32, to_be_bytes, from_be_bytes}
+use Rattle.std.proofs.Common.{◌≡◌, ℕ, List, ◌++◌, length, take, drop, refl, sym, ap, ◌∙◌, arith, length-append}
+use Rattle.std.specs.Int.{w32, to_be_bytes}
 use Rattle.std.proofs.lemmas.List.{take_at, drop_at, length-take-le}
-use Rattle.std.proofs.lemmas.Nat.{from_be_bytes-to_be_bytes_4}
 use Rattle.md5.specs.Md5.{md5, digest_bytes}
 use Rattle.hn_hash.specs.Hash.{hash_of}
 use Rattle.hn_hash.specs.Network.{entry_of}
@@ -30,8 +29,3 @@ same_parts p q s t len e = (
 pub same_entries : (x y : Leaf) → entry_of x ≡ entry_of y
     → (to_be_bytes w32 x.number ≡ to_be_bytes w32 y.number) × (hash_of x.body ≡ hash_of y.body)
 same_entries x y e = same_parts (to_be_bytes w32 x.number) (to_be_bytes w32 y.number) _ _ refl e
-
--- a number of 32 bits is known by its bytes
-pub same_numbers : (m n : ℕ) → m < 2 ^ 32 → n < 2 ^ 32 → to_be_bytes w32 m ≡ to_be_bytes w32 n → m ≡ n
-same_numbers m n m_fits n_fits e =
-    sym (from_be_bytes-to_be_bytes_4 m m_fits) ∙ ap (from_be_bytes w32) e ∙ from_be_bytes-to_be_bytes_4 n n_fits

@@ -10,7 +10,7 @@ use Rattle.hn_hash.specs.Hash.{Collides}
 use Rattle.hn_hash.specs.Network.{leaf_text, bodies, AreNumbered}
 use Rattle.hn_hash.specs.Agreement.{body_at, CollidesInPlace, IsFirstDifference, IsExhibited, EqualHashesAgreeOrCollide}
 use Rattle.hn_hash.specs.declared.leaf.Leaf.{Leaf}
-use Rattle.hn_hash.proofs.Hashes.{same_numbers}
+use Rattle.hn_base.proofs.BigEndian.{same_words}
 use Rattle.hn_hash.proofs.Leaves.{IsAlike, IsAlike-from_texts, IsAlike-tail, IsAlike-head, same_hash_at}
 
 -- texts are equal or not
@@ -37,7 +37,7 @@ same_or_collide [] (y ∷ ys) alike a_fits b_fits = absurd (omega (arith, alike.
 same_or_collide (x ∷ xs) [] alike a_fits b_fits = absurd (omega (arith, alike.len))
 same_or_collide (x ∷ xs) (y ∷ ys) alike a_fits b_fits =
     let first = IsAlike-head x y xs ys alike in
-    let number_is = same_numbers x.number y.number a_fits.0 b_fits.0 first.0 in
+    let number_is = same_words x.number y.number a_fits.0 b_fits.0 first.0 in
     elim (cases_texts x.body y.body) [
       | inr differ ↦ inr (0, omega arith, record { differ = differ; one_hash = first.1 })
       | inl body_is ↦
@@ -68,7 +68,7 @@ same_from_alike (x ∷ xs) (y ∷ ys) alike a_fits b_fits bodies_are =
     let first = IsAlike-head x y xs ys alike in
     let body_is : x.body ≡ y.body = cc in
     let others_are : bodies xs ≡ bodies ys = cc in
-    let leaf_is = same_leaf x y (same_numbers x.number y.number a_fits.0 b_fits.0 first.0) body_is in
+    let leaf_is = same_leaf x y (same_words x.number y.number a_fits.0 b_fits.0 first.0) body_is in
     let rest_is = same_from_alike xs ys (IsAlike-tail x y xs ys alike) a_fits.1 b_fits.1 others_are in
     cc
 

@@ -15,7 +15,7 @@ pub(crate) fn front_of(digest: &[u8; 16]) -> [u8; 8]
     front
 }
 
-/// The first 8 bytes of the MD5 of the input (RFC 7788, section 3). (no memory)
+/// The first 8 bytes of the MD5 of the input (RFC 7788, section 3). Never allocates.
 pub fn h(bytes: &[u8]) -> [u8; 8]
     ensures { result ≡ hash_of bytes.now }
 {

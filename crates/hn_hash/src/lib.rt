@@ -7,12 +7,14 @@ mod hash;
 mod law;
 mod leaf;
 mod network_state;
+mod part;
 
 pub use agreement::{Agreement, agree};
 pub use hash::h;
 pub use law::equal_hashes_agree_or_collide;
 pub use leaf::Leaf;
-pub use network_state::network;
+pub use network_state::{network, network_of};
+pub use part::Part;
 
 #[cfg(test)]
 mod tests;

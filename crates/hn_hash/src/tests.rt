@@ -60,6 +60,20 @@ fn network_hashes(rt: HostRuntime) -> Result<(), Fail> {
         0xd92c_7c87_6e4d_c22f
     );
     assert_eq!(rt; u64::from_be_bytes(network(&leaves)), 0xb73f_735f_f31b_78a2);
+    let parts = [
+        Part {
+            number: 1,
+            hash: 0x0cc1_75b9_c0f1_b6a8_u64.to_be_bytes(),
+        },
+        Part {
+            number: 0x0102_0304,
+            hash: 0x9001_5098_3cd2_4fb0_u64.to_be_bytes(),
+        },
+    ];
+    assert_eq!(rt;
+        u64::from_be_bytes(network_of(&parts)),
+        0xb73f_735f_f31b_78a2
+    );
     Ok(())
 }
 

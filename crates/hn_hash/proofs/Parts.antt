@@ -1,0 +1,26 @@
+-- The parts of leaves: their text is that of the leaves, and their numbers are those of the leaves.
+use Rattle.std.proofs.Common.{◌≡◌, ◌^◌, ◌<◌, List, [], ◌∷◌, ◌++◌, map, refl, ap, subst}
+use Rattle.std.specs.Prelude.{All}
+use Rattle.std.specs.List.{AllByRecursion}
+use Rattle.std.proofs.lemmas.List.Elements.{recursion_from_All, All-from_recursion}
+use Rattle.hn_hash.specs.Network.{part_of, entry_of, part_text, leaf_text, ArePartsOf, AreNumbered}
+use Rattle.hn_hash.specs.declared.leaf.Leaf.{Leaf}
+use Rattle.hn_hash.specs.declared.part.Part.{Part}
+
+pub part_text-map : (leaves : List Leaf) → part_text (map part_of leaves) ≡ leaf_text leaves
+part_text-map [] = refl
+part_text-map (x ∷ xs) = ap (λ rest. entry_of x ++ rest) (part_text-map xs)
+
+abbrev PartHasNumber : Part → Type 0
+PartHasNumber part = part.number < 2 ^ 32
+
+abbrev LeafHasNumber : Leaf → Type 0
+LeafHasNumber leaf = leaf.number < 2 ^ 32
+
+numbers_of_leaves : (leaves : List Leaf) → AllByRecursion PartHasNumber (map part_of leaves) → AllByRecursion LeafHasNumber leaves
+numbers_of_leaves [] fits = tt
+numbers_of_leaves (x ∷ xs) fits = (fits.0, numbers_of_leaves xs fits.1)
+
+pub AreNumbered-from_parts : (parts : List Part) (leaves : List Leaf) → All (λ (part : Part). part.number < 2 ^ 32) parts → ArePartsOf parts leaves → AreNumbered leaves
+AreNumbered-from_parts parts leaves fits are =
+    All-from_recursion LeafHasNumber leaves (numbers_of_leaves leaves (subst (AllByRecursion PartHasNumber) are (recursion_from_All PartHasNumber parts fits)))

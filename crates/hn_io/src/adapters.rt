@@ -22,7 +22,7 @@ pub struct ReaderSource<R> {
 }
 
 impl<R: Read> ReaderSource<R> {
-    /// A source whose calls have not failed. (no memory)
+    /// A source whose calls have not failed. Never allocates.
     pub fn new(reader: R) -> ReaderSource<R>
         ensures { result.faults ≡ 0 }
     {
@@ -62,7 +62,7 @@ pub struct WriterSink<W> {
 }
 
 impl<W: Write> WriterSink<W> {
-    /// A sink whose calls have not failed. (no memory)
+    /// A sink whose calls have not failed. Never allocates.
     pub fn new(writer: W) -> WriterSink<W>
         ensures { result.faults ≡ 0 }
     {

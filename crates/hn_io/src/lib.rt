@@ -5,6 +5,9 @@
 mod adapters;
 mod draw;
 mod fault;
+mod listed;
+#[cfg(test)]
+mod listed_tests;
 mod memory;
 mod sink;
 mod source;
@@ -12,8 +15,9 @@ mod source;
 mod tests;
 
 pub use adapters::{ReaderSource, WriterSink};
-pub use draw::{Draw, Zeros};
+pub use draw::{Draw, Zeros, below};
 pub use fault::IoFault;
+pub use listed::Listed;
 pub use memory::{MemSink, MemSource};
 pub use sink::Sink;
 pub use source::Source;

@@ -68,7 +68,7 @@ impl Model for MemSource {
 }
 
 impl MemSource {
-    /// A source that has these bytes left. (no memory)
+    /// A source that has these bytes left. Never allocates.
     pub fn new(bytes: Vec<u8>, fails: Vec<u64>) -> MemSource
         ensures left { result.left ≡ bytes.items }
         ensures made { result.calls.made ≡ 0 }
@@ -119,7 +119,7 @@ impl Model for MemSink {
 }
 
 impl MemSink {
-    /// A sink that holds nothing. (no memory)
+    /// A sink that holds nothing. Never allocates.
     pub fn new(alloc: Global, fails: Vec<u64>) -> MemSink
         ensures held { result.held ≡ [] }
         ensures made { result.calls.made ≡ 0 }
@@ -131,7 +131,7 @@ impl MemSink {
         }
     }
 
-    /// What it holds. (no memory)
+    /// What it holds. Never allocates.
     pub fn held(&self) -> &[u8]
         ensures { result.now ≡ self.now.held }
     {

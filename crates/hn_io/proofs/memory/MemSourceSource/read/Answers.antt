@@ -2,7 +2,7 @@ use Rattle.std.proofs.Common.{◌≡◌, ◌+◌, ◌-◌, ◌≤◌, ◌∙◌,
 use Rattle.std.proofs.lemmas.List.{drop-drop, take-append-drop, take_at, take_rest, length-take-le}
 use Rattle.hn_io.proofs.memory.MemSourceSource.read.Goals as goal
 
--- what was copied to the front, and what is left behind it, are what was left
+-- what was copied to the front, and what is left after it, are what was left
 consumed : (items buf copied : List ℕ) (at n : ℕ) → n ≤ length (drop at items) → copied ≡ take n (take (length items - at) (drop at items)) → drop at items ≡ take n (copied ++ drop n buf) ++ drop (at + n) items
 consumed items buf copied at n short is_front =
     let front : copied ≡ take n (drop at items) = is_front ∙ ap (take n) (take_rest items at) in

@@ -2,4 +2,3 @@ mod Cuts
 mod Words
 mod LineTexts
 mod Lists
-mod Zeros

@@ -3,8 +3,11 @@ use Rattle.std.proofs.Common.{◌≡◌, ℕ, List, [], ◌∷◌, ◌++◌, get
 use Rattle.std.specs.List.{AllZip, AllByRecursion, join_with_byte}
 use Rattle.hn_base.specs.NameText.{IsNameText}
 use Rattle.hn_strict.specs.Fields.{ArePriorities}
-use Rattle.hn_strict.specs.Script.{ScriptLine, RouterLine, CapsLine, ShowLine, CompareLine, IsIdText, IsPriorityText, IsWords, IsLineText}
-use Rattle.hn_strict.proofs.Cuts.{Lacks, Above, Lacks-from_above, Lacks-append, cut_once}
+use Rattle.hn_strict.specs.Script.{ScriptLine, RouterLine, CapsLine, ShowLine, CompareLine, IsPriorityText, IsWords, IsLineText}
+use Rattle.hn_base.specs.HexText.{IsIdText}
+use Rattle.hn_base.specs.Splits.{Lacks}
+use Rattle.hn_base.proofs.SplitLemmas.{Lacks-append, same_split}
+use Rattle.hn_strict.proofs.Cuts.{Above, Lacks-from_above}
 use Rattle.hn_strict.proofs.Words.{Above-from_test, Above-name, Above-id, Above-priority, one_id, one_caps}
 
 -- ---- no line has LF in its text
@@ -169,7 +172,7 @@ compare_parts line words h =
 name_first : (front back name rest : List ℕ) → Lacks 32 front → IsNameText name → front ++ 32 ∷ back ≡ name ++ 32 ∷ rest
     → (front ≡ name) × (back ≡ rest)
 name_first front back name rest h n e =
-    cut_once 32 front name back rest h (Lacks-from_above 32 name (omega arith) (Above-name name n)) e
+    same_split 32 front back name rest h (Lacks-from_above 32 name (omega arith) (Above-name name n)) e
 
 pub router_cut : (line : ScriptLine) (words front back : List ℕ) → words ≡ front ++ 32 ∷ back → Lacks 32 front
     → IsLineText line (codes "router" ++ 32 ∷ words) → (id : ℕ) × IsNameText front × IsIdText back id × (line ≡ RouterLine front id)

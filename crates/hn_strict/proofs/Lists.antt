@@ -1,8 +1,9 @@
--- Lines one behind the other, each cut off at its LF.
+-- Lines one after the other, each cut off at its LF.
 use Rattle.std.proofs.Common.{◌≡◌, ◌<◌, ℕ, List, [], ◌∷◌, ◌++◌, length, drop, ap, sym, ◌∙◌, refl, arith, append_assoc}
 use Rattle.std.specs.List.{AllZip, concat}
 use Rattle.hn_strict.specs.Script.{ScriptLine, IsLineText, IsLine, AreLines, AtMostOneScript}
-use Rattle.hn_strict.proofs.Cuts.{Lacks, cut_once, no_cut}
+use Rattle.hn_base.specs.Splits.{Lacks}
+use Rattle.hn_base.proofs.SplitLemmas.{same_split, no_split}
 use Rattle.hn_strict.proofs.LineTexts.{line_lacks, one_line}
 
 pub AreLines-empty : (bytes : List ℕ) → length bytes ≡ 0 → AreLines [] bytes
@@ -26,7 +27,7 @@ pub record FirstLine (line : ScriptLine) (lines : List ScriptLine) (bytes : List
   pub text : List ℕ
   pub rest : List ℕ
   pub is_text : IsLineText line text
-  pub behind : AreLines lines rest
+  pub others : AreLines lines rest
   pub parts : bytes ≡ text ++ 10 ∷ rest
 
 first_piece : (line : ScriptLine) (lines : List ScriptLine) (bytes : List ℕ) (pieces : List (List ℕ))
@@ -36,7 +37,7 @@ first_piece line lines bytes (piece ∷ pieces) z e = record {
   text = z.0.0;
   rest = concat pieces;
   is_text = z.0.1;
-  behind = (pieces, z.1, refl);
+  others = (pieces, z.1, refl);
   parts = e ∙ ap (λ (p : List ℕ). p ++ concat pieces) z.0.2 ∙ append_assoc z.0.0 (10 ∷ []) (concat pieces);
 }
 
@@ -51,16 +52,16 @@ no_lines [] bytes some h k =
     omega arith
 no_lines (line ∷ lines) bytes some h k =
     let f = first_line line lines bytes k in
-    no_cut 10 bytes f.text f.rest h f.parts
+    no_split 10 bytes f.text f.rest h f.parts
 
 -- lines, cut at their first LF
 pub lines_cut : (lines : List ScriptLine) (bytes text rest : List ℕ) → bytes ≡ text ++ 10 ∷ rest → Lacks 10 text → AreLines lines bytes
     → (line : ScriptLine) × (others : List ScriptLine) × IsLineText line text × AreLines others rest
-lines_cut [] bytes text rest e h k = absurd (no_cut 10 [] text rest tt (sym (no_bytes bytes k) ∙ e))
+lines_cut [] bytes text rest e h k = absurd (no_split 10 [] text rest tt (sym (no_bytes bytes k) ∙ e))
 lines_cut (line ∷ lines) bytes text rest e h k =
     let f = first_line line lines bytes k in
-    let same = cut_once 10 text f.text rest f.rest h (line_lacks line f.text f.is_text) (sym e ∙ f.parts) in
-    (line, lines, rw same.0 f.is_text, rw same.1 f.behind)
+    let same = same_split 10 text rest f.text f.rest h (line_lacks line f.text f.is_text) (sym e ∙ f.parts) in
+    (line, lines, rw same.0 f.is_text, rw same.1 f.others)
 
 -- ---- bytes are one list of lines
 
@@ -68,16 +69,16 @@ one_list : (lines others : List ScriptLine) (bytes : List ℕ) → AreLines line
 one_list [] [] bytes h k = refl
 one_list [] (other ∷ others) bytes h k =
     let f = first_line other others bytes k in
-    absurd (no_cut 10 [] f.text f.rest tt (sym (no_bytes bytes h) ∙ f.parts))
+    absurd (no_split 10 [] f.text f.rest tt (sym (no_bytes bytes h) ∙ f.parts))
 one_list (line ∷ lines) [] bytes h k =
     let f = first_line line lines bytes h in
-    absurd (no_cut 10 [] f.text f.rest tt (sym (no_bytes bytes k) ∙ f.parts))
+    absurd (no_split 10 [] f.text f.rest tt (sym (no_bytes bytes k) ∙ f.parts))
 one_list (line ∷ lines) (other ∷ others) bytes h k =
     let f = first_line line lines bytes h in
     let g = first_line other others bytes k in
-    let same = cut_once 10 f.text g.text f.rest g.rest (line_lacks line f.text f.is_text) (line_lacks other g.text g.is_text) (sym f.parts ∙ g.parts) in
+    let same = same_split 10 f.text f.rest g.text g.rest (line_lacks line f.text f.is_text) (line_lacks other g.text g.is_text) (sym f.parts ∙ g.parts) in
     let head = one_line line other f.text f.is_text (rw same.0 g.is_text) in
-    let tail = one_list lines others f.rest f.behind (rw same.1 g.behind) in
+    let tail = one_list lines others f.rest f.others (rw same.1 g.others) in
     cc
 
 pub one_script : AtMostOneScript

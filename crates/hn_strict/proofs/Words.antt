@@ -1,19 +1,17 @@
 -- Names, identifiers and priorities: their bytes are above the space, and each text has one value.
-use Rattle.std.proofs.Common.{◌≡◌, ◌<◌, ℕ, true, List, [], ◌∷◌, ◌++◌, ap, sym, ◌∙◌, refl, arith, ltb}
-use Rattle.std.specs.Int.{w32, to_be_bytes, from_be_bytes}
+use Rattle.std.proofs.Common.{◌≡◌, ◌<◌, ◌≤◌, ℕ, true, List, [], ◌∷◌, ◌++◌, ap, sym, ◌∙◌, refl, arith, ltb}
+use Rattle.std.specs.Char.{digit_value}
 use Rattle.std.specs.List.{AllZip, join_with_byte, list_all}
 use Rattle.std.specs.Str.Parse.{AllDigits}
 use Rattle.std.proofs.lemmas.Bool.{and_parts}
 use Rattle.std.proofs.lemmas.Bool.Decides.{nat_tests}
-use Rattle.std.proofs.lemmas.List.Elements.{All-weaker, recursion_from_All}
-use Rattle.std.proofs.lemmas.Nat.{from_be_bytes-to_be_bytes_4}
-use Rattle.std.proofs.lemmas.Str.Parse.{digit_from_value}
-use Rattle.hex.specs.Hex.{is_hex_digit}
-use Rattle.hex.proofs.HexLemmas.{decode_of-ok, decode_of-same}
 use Rattle.hn_base.specs.NameText.{is_name_byte, IsNameText}
 use Rattle.hn_strict.specs.Fields.{ArePriorities}
-use Rattle.hn_strict.specs.Script.{IsIdText, IsPriorityText}
-use Rattle.hn_strict.proofs.Cuts.{Above, Lacks-from_above, cut_once}
+use Rattle.hn_base.specs.HexText.{IsIdText}
+use Rattle.hn_base.proofs.NumeralLemmas.{same_number}
+use Rattle.hn_base.proofs.SplitLemmas.{same_split}
+use Rattle.hn_strict.specs.Script.{IsPriorityText}
+use Rattle.hn_strict.proofs.Cuts.{Above, Lacks-from_above}
 
 pub Above-from_test : (text : List ℕ) → list_all (ltb 32) text ≡ true → Above text
 Above-from_test [] h = tt
@@ -34,33 +32,30 @@ above_name_bytes (c ∷ text) h =
 pub Above-name : (name : List ℕ) → IsNameText name → Above name
 Above-name name h = above_name_bytes name h.name_bytes
 
-above_hex_digit : (c : ℕ) → is_hex_digit c ≡ true → 32 < c
-above_hex_digit c h = grind (arith, nat_tests)
+-- digits of a base of 16 at most
+above_digit : (base c : ℕ) → base ≤ 16 → digit_value c < base → 32 < c
+above_digit base c small h = grind (arith, nat_tests)
+
+above_digits : (base : ℕ) (digits : List ℕ) → base ≤ 16 → AllDigits base digits → Above digits
+above_digits base [] small h = tt
+above_digits base (c ∷ digits) small h = (above_digit base c small h.0, above_digits base digits small h.1)
 
 pub Above-id : (digits : List ℕ) (id : ℕ) → IsIdText digits id → Above digits
-Above-id digits id h =
-    recursion_from_All (λ b. 32 < b) digits
-    (All-weaker (λ b. is_hex_digit b ≡ true) (λ b. 32 < b) above_hex_digit digits
-    (decode_of-ok digits (to_be_bytes w32 id) h.value).1)
-
-above_digits : (digits : List ℕ) → AllDigits 10 digits → Above digits
-above_digits [] h = tt
-above_digits (c ∷ digits) h =
-    let in_range = digit_from_value c h.0 in
-    (omega arith, above_digits digits h.1)
+Above-id digits id h = above_digits 16 digits (omega arith) h.numeral.digits.1
 
 pub Above-priority : (digits : List ℕ) (priority : ℕ) → IsPriorityText digits priority → Above digits
-Above-priority digits priority h = above_digits digits h.numeral.1
+Above-priority digits priority h = above_digits 10 digits (omega arith) h.numeral.digits.1
 
--- the same digits write one identifier
+-- the same digits write one identifier, and one priority
 pub one_id : (digits : List ℕ) (id other : ℕ) → IsIdText digits id → IsIdText digits other → id ≡ other
-one_id digits id other h k =
-    let bytes : to_be_bytes w32 id ≡ to_be_bytes w32 other = decode_of-same digits _ _ h.value k.value in
-    sym (from_be_bytes-to_be_bytes_4 id h.in_range) ∙ ap (from_be_bytes w32) bytes ∙ from_be_bytes-to_be_bytes_4 other k.in_range
+one_id digits id other h k = same_number 16 8 digits id other h.numeral k.numeral
+
+one_priority : (digits : List ℕ) (n m : ℕ) → IsPriorityText digits n → IsPriorityText digits m → n ≡ m
+one_priority digits n m h k = same_number 10 20 digits n m h.numeral k.numeral
 
 -- ---- priorities in a row
 
--- one priority, and further ones behind a space
+-- one priority, and further ones after a space
 pub ArePriorities-cons : (text digits rest : List ℕ) (priority next : ℕ) (others : List ℕ)
     → IsPriorityText digits priority → ArePriorities rest (next ∷ others) → text ≡ digits ++ 32 ∷ rest
     → ArePriorities text (priority ∷ next ∷ others)
@@ -79,7 +74,7 @@ pub record FirstPriority (text : List ℕ) (priority : ℕ) (others : List ℕ) 
   pub digits : List ℕ
   pub rest : List ℕ
   pub is_text : IsPriorityText digits priority
-  pub behind : ArePriorities rest others
+  pub others_text : ArePriorities rest others
   pub parts : text ≡ digits ++ 32 ∷ rest
 
 first_number : (text : List ℕ) (numbers : List (List ℕ)) (priority next : ℕ) (others : List ℕ)
@@ -91,7 +86,7 @@ first_number text (number ∷ second ∷ numbers) priority next others z e = rec
   digits = number;
   rest = join_with_byte 32 (second ∷ numbers);
   is_text = z.0;
-  behind = (second ∷ numbers, z.1, refl);
+  others_text = (second ∷ numbers, z.1, refl);
   parts = e;
 }
 
@@ -108,18 +103,17 @@ only_number text (number ∷ second ∷ numbers) priority z e = elim z.1 [ ]
 pub last_priority : (text : List ℕ) (priority : ℕ) → ArePriorities text (priority ∷ []) → IsPriorityText text priority
 last_priority text priority h = only_number text h.0 priority h.1 h.2
 
--- behind the first priority stand the others
+-- after the first priority stand the others
 pub other_priorities : (text digits rest : List ℕ) (priority first next : ℕ) (others : List ℕ)
     → IsPriorityText digits priority → text ≡ digits ++ 32 ∷ rest → ArePriorities text (first ∷ next ∷ others)
     → (priority ≡ first) × ArePriorities rest (next ∷ others)
 other_priorities text digits rest priority first next others h e k =
     let f = first_priority text first next others k in
-    let same = cut_once 32 digits f.digits rest f.rest
+    let same = same_split 32 digits rest f.digits f.rest
     (Lacks-from_above 32 digits (omega arith) (Above-priority digits priority h))
     (Lacks-from_above 32 f.digits (omega arith) (Above-priority f.digits first f.is_text))
     (sym e ∙ f.parts) in
-    let value = f.is_text.value in
-    (sym h.value ∙ rw (sym same.0) at value, rw same.1 f.behind)
+    (one_priority digits priority first h (rw same.0 f.is_text), rw same.1 f.others_text)
 
 -- four priorities in a row are written by one text each
 pub one_caps : (text : List ℕ) (m p h l m' p' h' l' : ℕ)
@@ -128,10 +122,10 @@ pub one_caps : (text : List ℕ) (m p h l m' p' h' l' : ℕ)
 one_caps text m p h l m' p' h' l' a b =
     let f = first_priority text m p (h ∷ l ∷ []) a in
     let mb = other_priorities text f.digits f.rest m m' p' (h' ∷ l' ∷ []) f.is_text f.parts b in
-    let g = first_priority f.rest p h (l ∷ []) f.behind in
+    let g = first_priority f.rest p h (l ∷ []) f.others_text in
     let pb = other_priorities f.rest g.digits g.rest p p' h' (l' ∷ []) g.is_text g.parts mb.1 in
-    let k = first_priority g.rest h l [] g.behind in
+    let k = first_priority g.rest h l [] g.others_text in
     let hb = other_priorities g.rest k.digits k.rest h h' l' [] k.is_text k.parts pb.1 in
-    let la = last_priority k.rest l k.behind in
+    let la = last_priority k.rest l k.others_text in
     let lb = last_priority k.rest l' hb.1 in
-    (mb.0, pb.0, hb.0, sym la.value ∙ lb.value)
+    (mb.0, pb.0, hb.0, one_priority k.rest l l' la lb)

@@ -1,10 +1,9 @@
 -- The strict form of a script of routers: which bytes are the script of which lines.
-use Rattle.std.specs.Prelude.{◌≡◌, ℕ, ◌^◌, ◌<◌, ◌≤◌, List, [], ◌∷◌, ◌++◌, length, codes, Ok}
-use Rattle.std.specs.Int.{w32, to_be_bytes}
+use Rattle.std.specs.Prelude.{◌≡◌, ℕ, ◌≤◌, List, [], ◌∷◌, ◌++◌, codes}
 use Rattle.std.specs.List.{AllZip, concat, join_with_byte}
-use Rattle.std.specs.Str.Parse.{IsNumeral, digits_value}
-use Rattle.hex.specs.Hex.{decode_of}
+use Rattle.hn_base.specs.HexText.{IsIdText}
 use Rattle.hn_base.specs.NameText.{IsNameText}
+use Rattle.hn_base.specs.Numeral.{IsShortNumeral}
 
 -- what stands between two words
 abbrev pub space : ℕ
@@ -21,17 +20,9 @@ pub data ScriptLine : Type 0 where
   ShowLine : (name : List ℕ) → ScriptLine
   CompareLine : (left right : List ℕ) → ScriptLine
 
--- eight hexadecimal digits, of either case, that write the four bytes of an identifier
-pub record IsIdText (digits : List ℕ) (id : ℕ) : Type 0 where
-  pub eight : length digits ≡ 8
-  pub in_range : id < 2 ^ 32
-  pub value : decode_of digits ≡ Ok (to_be_bytes w32 id)
-
 -- one to twenty decimal digits of a value from 0 to 7
 pub record IsPriorityText (digits : List ℕ) (priority : ℕ) : Type 0 where
-  pub numeral : IsNumeral 10 digits
-  pub short : length digits ≤ 20
-  pub value : digits_value 10 digits ≡ priority
+  pub numeral : IsShortNumeral 10 20 digits priority
   pub in_range : priority ≤ 7
 
 -- the words of a line: its keyword, and then its names and numbers
@@ -58,13 +49,13 @@ IsNoLineText text = (line : ScriptLine) → IsLineText line text → ⊥
 abbrev pub IsLine : ScriptLine → List ℕ → Type 0
 IsLine line bytes = (text : List ℕ) × IsLineText line text × (bytes ≡ text ++ line_feed ∷ [])
 
--- these lines in order, and nothing behind them
+-- these lines in order, and nothing after them
 abbrev pub AreLines : List ScriptLine → List ℕ → Type 0
 AreLines lines bytes = (pieces : List (List ℕ)) × AllZip IsLine lines pieces × (bytes ≡ concat pieces)
 
 -- the line `hncp 1`, and then these lines
 abbrev pub IsScript : List ScriptLine → List ℕ → Type 0
-IsScript lines bytes = (behind : List ℕ) × AreLines lines behind × (bytes ≡ codes "hncp 1" ++ line_feed ∷ behind)
+IsScript lines bytes = (rest : List ℕ) × AreLines lines rest × (bytes ≡ codes "hncp 1" ++ line_feed ∷ rest)
 
 -- bytes are the script of at most one list of lines
 abbrev pub AtMostOneScript : Type 0

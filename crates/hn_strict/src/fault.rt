@@ -10,7 +10,7 @@ use std::fmt;
 pub enum ParseFault {
     /// The bytes are no script in the strict form.
     NotStrict,
-    /// Want of memory, and nothing else.
+    /// Out of memory, and nothing else.
     NoMemory,
 }
 

@@ -14,7 +14,6 @@
 //! Nothing else is a script.
 #![tactic(auto)]
 
-mod cut;
 mod fault;
 mod fields;
 mod line;

@@ -2,9 +2,8 @@ ghost use Rattle.std.specs.Prelude.{◌++◌, codes, IfSome, IfNone};
 ghost use Rattle.hn_strict.specs.Script.{IsLineText, IsNoLineText};
 ghost use Rattle.hn_strict.specs.Line.{line_of};
 
-use crate::cut::cut;
-use crate::fields::{caps, node_id};
-use hn_base::{Caps, Name, NodeId};
+use crate::fields::caps;
+use hn_base::{Caps, Name, NodeId, split_once};
 
 /// A line of a script.
 #[derive(Clone, Copy, Debug, PartialEq, Eq)]
@@ -20,7 +19,8 @@ pub enum Line {
 }
 
 impl Line {
-    /// The line of this text, which is without LF; `None` exactly where no line has this text. (no memory)
+    /// The line of this text, which is without LF; `None` if and only if no line has this text.
+    /// Never allocates.
     pub fn parse(text: &[u8]) -> Option<Line>
         ensures written { IfSome result (λ line. IsLineText (line_of line) text.now) }
         ensures refused { IfNone result (IsNoLineText text.now) }
@@ -44,8 +44,8 @@ fn router_of(words: &[u8]) -> Option<Line>
     ensures written { IfSome result (λ line. IsLineText (line_of line) (codes "router " ++ words.now)) }
     ensures refused { IfNone result (IsNoLineText (codes "router " ++ words.now)) }
 {
-    let (name, id) = cut(words, b' ')?;
-    Some(Line::Router(Name::new(name)?, node_id(id)?))
+    let (name, id) = split_once(words, b' ')?;
+    Some(Line::Router(Name::new(name)?, NodeId::parse(id)?))
 }
 
 /// The line of the word `caps` and these words.
@@ -53,7 +53,7 @@ fn caps_of(words: &[u8]) -> Option<Line>
     ensures written { IfSome result (λ line. IsLineText (line_of line) (codes "caps " ++ words.now)) }
     ensures refused { IfNone result (IsNoLineText (codes "caps " ++ words.now)) }
 {
-    let (name, numbers) = cut(words, b' ')?;
+    let (name, numbers) = split_once(words, b' ')?;
     Some(Line::Caps(Name::new(name)?, caps(numbers)?))
 }
 
@@ -70,6 +70,6 @@ fn compare_of(words: &[u8]) -> Option<Line>
     ensures written { IfSome result (λ line. IsLineText (line_of line) (codes "compare " ++ words.now)) }
     ensures refused { IfNone result (IsNoLineText (codes "compare " ++ words.now)) }
 {
-    let (left, right) = cut(words, b' ')?;
+    let (left, right) = split_once(words, b' ')?;
     Some(Line::Compare(Name::new(left)?, Name::new(right)?))
 }

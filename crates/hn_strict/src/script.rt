@@ -2,9 +2,9 @@ ghost use Rattle.std.specs.Prelude.{◌≡◌, List, map, IfOk, Err};
 ghost use Rattle.hn_strict.specs.Script.{ScriptLine, AreLines, IsScript, AtMostOneScript};
 ghost use Rattle.hn_strict.specs.Line.{line_of};
 
-use crate::cut::cut;
 use crate::fault::ParseFault;
 use crate::line::Line;
+use hn_base::split_once;
 use std::alloc::Global;
 
 /// The first line of each script, with its LF.
@@ -13,7 +13,7 @@ const FIRST_LINE: &[u8] = b"hncp 1\n";
 /// The lines of a script, in order; the first line, `hncp 1`, is not among them. Memory is taken for the lines alone.
 ///
 /// # Errors
-/// `NotStrict` only where the bytes are no script, and otherwise `NoMemory`.
+/// `NotStrict` only if the bytes are no script, and otherwise `NoMemory`.
 pub fn parse(alloc: Global, bytes: &[u8]) -> Result<Vec<Line>, ParseFault>
     ensures lines { IfOk result (λ lines. IsScript (map line_of lines.items) bytes.now) }
     ensures refused { result ≡ Err ParseFault.NotStrict
@@ -34,14 +34,14 @@ fn parse_lines(alloc: Global, bytes: &[u8]) -> Result<Vec<Line>, ParseFault>
     let mut lines = Vec::new(alloc);
     let mut rest = bytes;
     while !rest.is_empty() {
-        let Some((text, behind)) = cut(rest, b'\n') else {
+        let Some((text, others)) = split_once(rest, b'\n') else {
             return Err(ParseFault::NotStrict);
         };
         let Some(line) = Line::parse(text) else {
             return Err(ParseFault::NotStrict);
         };
         lines.push(line)?;
-        rest = behind;
+        rest = others;
     }
     Ok(lines)
 }

@@ -1,17 +1,18 @@
 -- A cut at the first space gives the one text that the priority before a space can have.
 use Rattle.std.proofs.Common.{sym, ◌∙◌, arith}
-use Rattle.hn_strict.proofs.Cuts.{Lacks-from_all, Lacks-from_above, cut_once, no_cut}
+use Rattle.hn_base.proofs.SplitLemmas.{same_split, no_split}
+use Rattle.hn_strict.proofs.Cuts.{Lacks-from_above}
 use Rattle.hn_strict.proofs.Words.{Above-priority}
 use Rattle.hn_strict.proofs.fields.priority_and_rest.Goals as goal
 
 pub returns-in_err-digits-clause-refused : goal.returns-in_err-digits-clause-refused
 returns-in_err-digits-clause-refused c = rw c.from_residual.ensures (λ digits rest priority h e.
-    no_cut 32 c.args.numbers.now digits rest (Lacks-from_all 32 _ c.in_err-digits.ensures.none) e)
+    no_split 32 c.args.numbers.now digits rest c.in_err-digits.ensures.none e)
 
 pub returns-in_err-priority-clause-refused : goal.returns-in_err-priority-clause-refused
 returns-in_err-priority-clause-refused c = rw c.from_residual-in_err-priority.ensures (λ digits rest priority h e.
     let cut = c.in_ok-digits in
-    let same = cut_once 32 digits cut.digits.now rest cut.rest.now
+    let same = same_split 32 digits rest cut.digits.now cut.rest.now
     (Lacks-from_above 32 digits (omega arith) (Above-priority digits priority h))
-    (Lacks-from_all 32 _ cut.ensures.first) (sym e ∙ cut.ensures.parts) in
+    cut.ensures.found.first (sym e ∙ cut.ensures.found.parts) in
     c.in_err-priority.ensures.refused priority (rw (← same.0) h))

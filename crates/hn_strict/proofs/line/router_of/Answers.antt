@@ -1,30 +1,30 @@
 -- A cut at the first space gives the one text that the name can have.
 use Rattle.std.proofs.Common.{◌∷◌, ◌++◌, ℕ, List, ap, sym, ◌∙◌}
 use Rattle.hn_base.specs.Name.{name_text}
-use Rattle.hn_strict.proofs.Cuts.{Lacks-from_all, no_cut}
+use Rattle.hn_base.proofs.SplitLemmas.{no_split}
 use Rattle.hn_strict.proofs.LineTexts.{router_parts, router_cut, router_text}
 use Rattle.hn_strict.proofs.line.router_of.Goals as goal
 
 pub returns-in_err-name-clause-refused : goal.returns-in_err-name-clause-refused
 returns-in_err-name-clause-refused c = rw c.from_residual.ensures (λ line h.
     let t = router_parts line c.args.words.now h in
-    no_cut 32 c.args.words.now t.name t.digits (Lacks-from_all 32 _ c.in_err-name.ensures.none) t.parts)
+    no_split 32 c.args.words.now t.name t.digits c.in_err-name.ensures.none t.parts)
 
 pub returns-in_err-new-clause-refused : goal.returns-in_err-new-clause-refused
 returns-in_err-new-clause-refused c = rw c.from_residual-in_err-new.ensures (λ line h.
-    let cut = c.in_ok-name.ensures in
-    let t = router_cut line _ _ _ cut.parts (Lacks-from_all 32 _ cut.first) h in
+    let cut = c.in_ok-name.ensures.found in
+    let t = router_cut line _ _ _ cut.parts cut.first h in
     let found = c.in_err-new.ensures.found.1 t.1 in
     cc)
 
-pub returns-in_err-node_id-clause-refused : goal.returns-in_err-node_id-clause-refused
-returns-in_err-node_id-clause-refused c = rw c.from_residual-in_err-node_id.ensures (λ line h.
-    let cut = c.in_ok-name.ensures in
-    let t = router_cut line _ _ _ cut.parts (Lacks-from_all 32 _ cut.first) h in
-    c.in_err-node_id.ensures.refused t.0 t.2)
+pub returns-in_err-parse-clause-refused : goal.returns-in_err-parse-clause-refused
+returns-in_err-parse-clause-refused c = rw c.from_residual-in_err-parse.ensures (λ line h.
+    let cut = c.in_ok-name.ensures.found in
+    let t = router_cut line _ _ _ cut.parts cut.first h in
+    c.in_err-parse.ensures.none t.0 t.2)
 
 pub returns-clause-written : goal.returns-clause-written
 returns-clause-written c =
     let name = c.in_ok-new.field-0 in
-    let text = c.in_ok-name.ensures.parts ∙ ap (λ (n : List ℕ). n ++ 32 ∷ c.in_ok-name.id.now) (sym c.in_ok-new.ensures.text) in
-    router_text (name_text name) c.in_ok-name.id.now c.args.words.now _ text name.is_name c.in_ok-node_id.ensures.written
+    let text = c.in_ok-name.ensures.found.parts ∙ ap (λ (n : List ℕ). n ++ 32 ∷ c.in_ok-name.id.now) (sym c.in_ok-new.ensures.text) in
+    router_text (name_text name) c.in_ok-name.id.now c.args.words.now _ text name.is_name c.in_ok-parse.ensures.found

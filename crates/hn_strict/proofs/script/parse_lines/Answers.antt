@@ -4,7 +4,6 @@ use Rattle.std.proofs.lemmas.Bool.Decides.{nat_tests}
 use Rattle.std.proofs.lemmas.List.{map_push, append-nil}
 use Rattle.hn_strict.specs.Line.{line_of}
 use Rattle.hn_strict.specs.Script.{ScriptLine, AreLines}
-use Rattle.hn_strict.proofs.Cuts.{Lacks-from_all}
 use Rattle.hn_strict.proofs.Lists.{AreLines-empty, AreLines-cons, no_lines, lines_cut}
 use Rattle.hn_strict.proofs.script.parse_lines.Goals as goal
 
@@ -12,18 +11,18 @@ pub returns-in_default-clause-refused : goal.returns-in_default-clause-refused
 returns-in_default-clause-refused c = λ same lines h.
     let more = c.loop-rest.invariant.remaining lines h in
     let some : 0 < length c.loop-rest.rest.now = grind (arith, nat_tests) in
-    no_lines more.0 c.loop-rest.rest.now some (Lacks-from_all 10 _ c.in_default.ensures.none) more.1
+    no_lines more.0 c.loop-rest.rest.now some c.in_default.ensures.none more.1
 
 pub returns-in_default-parse-clause-refused : goal.returns-in_default-parse-clause-refused
 returns-in_default-parse-clause-refused c = λ same lines h.
     let more = c.loop-rest.invariant.remaining lines h in
-    let cut = c.in-Some.ensures in
-    let first = lines_cut more.0 _ _ _ cut.parts (Lacks-from_all 10 _ cut.first) more.1 in
+    let cut = c.in-Some.ensures.found in
+    let first = lines_cut more.0 _ _ _ cut.parts cut.first more.1 in
     c.in_default-parse.ensures.refused first.0 first.2
 
 pub loop-rest-preserved : goal.loop-rest-preserved
 loop-rest-preserved c =
-    let cut = c.in-Some.ensures in
+    let cut = c.in-Some.ensures.found in
     let line = c.in-Some-parse.line in
     let before = map line_of c.loop-rest.lines.items in record {
       completed = λ more h.
@@ -33,7 +32,7 @@ loop-rest-preserved c =
           subst (λ (lines : List ScriptLine). AreLines lines c.args.bytes.now) (sym pushed) whole;
       remaining = λ lines h.
           let more = c.loop-rest.invariant.remaining lines h in
-          let first = lines_cut more.0 _ _ _ cut.parts (Lacks-from_all 10 _ cut.first) more.1 in
+          let first = lines_cut more.0 _ _ _ cut.parts cut.first more.1 in
           (first.1, first.3);
     }
 

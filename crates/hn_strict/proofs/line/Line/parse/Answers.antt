@@ -1,4 +1,4 @@
--- What follows a keyword is what the text has behind it.
+-- What follows a keyword is what the text has after it.
 use Rattle.std.proofs.Common.{Some, codes}
 use Rattle.std.proofs.lemmas.Bool.Decides.{Decides-eqb}
 use Rattle.std.proofs.lemmas.Slice.Eq.{strip_prefix_is}

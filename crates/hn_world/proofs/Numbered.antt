@@ -5,33 +5,31 @@ use Rattle.std.specs.Option.{is_some}
 use Rattle.std.specs.Str.{bytes_eq}
 use Rattle.std.proofs.lemmas.Option.{option_and_then_some}
 use Rattle.std.proofs.lemmas.List.Elements.{All-from_recursion, All-contains}
-use Rattle.hn_world.specs.Home.{Home, Station, Happening, RouterAdded, CapsSet, Trace, Priorities, new_station, with_caps, same_priorities, changed, refusal, stations_after, world_step, replay_from, replay, empty_home}
+use Rattle.hn_base.specs.Caps.{PlainCaps}
+use Rattle.hn_base.proofs.Recursions.{AllByRecursion-push}
+use Rattle.hn_world.specs.Home.{Home, Station, Happening, RouterAdded, CapsSet, Trace, new_station, with_caps, same_priorities, changed, refusal, stations_after, world_step, replay_from, replay, empty_home}
 use Rattle.hn_world.proofs.Replaying.{replay_from-append}
 
 abbrev pub IsNumbered : Station → Type 0
 IsNumbered s = s.node.number < 2 ^ 32
 
-numbered_caps : (caps : Priorities) (s : Station) → IsNumbered s → IsNumbered (with_caps caps s)
+numbered_caps : (caps : PlainCaps) (s : Station) → IsNumbered s → IsNumbered (with_caps caps s)
 numbered_caps caps s h = by_test (same_priorities s.node.caps caps)
   where
     by_test : (same : Bool) → IsNumbered (cond same s (record { name = s.name; running = s.running; node = record { id = s.node.id; number = (s.node.number + 1) % 2 ^ 32; caps = caps } }))
     by_test true = h
     by_test false = omega arith
 
-numbered_changed : (name : List ℕ) (caps : Priorities) (all : List Station) → AllByRecursion IsNumbered all → AllByRecursion IsNumbered (changed name (with_caps caps) all)
+numbered_changed : (name : List ℕ) (caps : PlainCaps) (all : List Station) → AllByRecursion IsNumbered all → AllByRecursion IsNumbered (changed name (with_caps caps) all)
 numbered_changed name caps [] h = tt
 numbered_changed name caps (s ∷ all) h = by_test name caps s all (bytes_eq s.name name) h (numbered_changed name caps all h.1)
   where
-    by_test : (name : List ℕ) (caps : Priorities) (s : Station) (all : List Station) (same : Bool) → AllByRecursion IsNumbered (s ∷ all) → AllByRecursion IsNumbered (changed name (with_caps caps) all) → AllByRecursion IsNumbered (cond same (with_caps caps s ∷ all) (s ∷ changed name (with_caps caps) all))
+    by_test : (name : List ℕ) (caps : PlainCaps) (s : Station) (all : List Station) (same : Bool) → AllByRecursion IsNumbered (s ∷ all) → AllByRecursion IsNumbered (changed name (with_caps caps) all) → AllByRecursion IsNumbered (cond same (with_caps caps s ∷ all) (s ∷ changed name (with_caps caps) all))
     by_test name caps s all true h more = (numbered_caps caps s h.0, h.1)
     by_test name caps s all false h more = (h.0, more)
 
-numbered_added : (all : List Station) (s : Station) → AllByRecursion IsNumbered all → IsNumbered s → AllByRecursion IsNumbered (all ++ s ∷ [])
-numbered_added [] s h here = (here, tt)
-numbered_added (x ∷ all) s h here = (h.0, numbered_added all s h.1 here)
-
 numbered_after : (all : List Station) (event : Happening) → AllByRecursion IsNumbered all → AllByRecursion IsNumbered (stations_after all event)
-numbered_after all (RouterAdded name id) h = numbered_added all (new_station name id) h (omega arith)
+numbered_after all (RouterAdded name id) h = AllByRecursion-push IsNumbered all (new_station name id) h (omega arith)
 numbered_after all (CapsSet name caps) h = numbered_changed name caps all h
 
 numbered_step : (home next : Home) (t : Trace) → AllByRecursion IsNumbered home.stations → world_step home t ≡ Some next → AllByRecursion IsNumbered next.stations

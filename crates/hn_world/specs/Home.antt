@@ -1,19 +1,13 @@
 use Rattle.std.specs.Prelude.{ℕ, ◌+◌, ◌%◌, ◌^◌, Bool, true, ◌==◌, ◌&&◌, if◌then◌else◌, List, [], ◌∷◌, ◌++◌, Option, None, Some, is_some, find}
 use Rattle.std.specs.Option.{option_and_then}
 use Rattle.std.specs.Str.{bytes_eq}
-
--- the four priorities of a node (RFC 7788, section 10.1)
-pub record Priorities : Type 0 where
-  pub m : ℕ
-  pub p : ℕ
-  pub h : ℕ
-  pub l : ℕ
+use Rattle.hn_base.specs.Caps.{PlainCaps}
 
 -- what a router publishes: its node data is the HNCP-Version TLV of its priorities
 pub record Node : Type 0 where
   pub id : ℕ
   pub number : ℕ
-  pub caps : Priorities
+  pub caps : PlainCaps
 
 -- a router of the world, by its name
 pub record Station : Type 0 where
@@ -24,7 +18,7 @@ pub record Station : Type 0 where
 -- what may happen in the world
 pub data Happening : Type 0 where
   RouterAdded : (name : List ℕ) (id : ℕ) → Happening
-  CapsSet : (name : List ℕ) (caps : Priorities) → Happening
+  CapsSet : (name : List ℕ) (caps : PlainCaps) → Happening
 
 -- something that happened, with the random words that it took
 pub record Trace : Type 0 where
@@ -42,19 +36,19 @@ abbrev pub empty_home : Home
 empty_home = record { moment = 0; stations = []; trace = [] }
 
 -- all priorities 0
-abbrev pub no_priorities : Priorities
+abbrev pub no_priorities : PlainCaps
 no_priorities = record { m = 0; p = 0; h = 0; l = 0 }
 
 -- whether two nodes' priorities are the same
-abbrev pub same_priorities : Priorities → Priorities → Bool
+abbrev pub same_priorities : PlainCaps → PlainCaps → Bool
 same_priorities a b = a.m == b.m && a.p == b.p && a.h == b.h && a.l == b.l
 
 -- a new router: all priorities 0, number 1
 abbrev pub new_station : List ℕ → ℕ → Station
 new_station name id = record { name = name; running = true; node = record { id = id; number = 1; caps = no_priorities } }
 
--- a router with these priorities publishes with the next number exactly where they change (RFC 7787, section 4.4)
-abbrev pub with_caps : Priorities → Station → Station
+-- a router with these priorities publishes with the next number if and only if they change (RFC 7787, section 4.4)
+abbrev pub with_caps : PlainCaps → Station → Station
 with_caps caps s =
     if same_priorities s.node.caps caps then s
     else record { name = s.name; running = s.running; node = record { id = s.node.id; number = (s.node.number + 1) % 2 ^ 32; caps = caps } }

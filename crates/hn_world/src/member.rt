@@ -1,7 +1,7 @@
 ghost use Rattle.std.specs.Prelude.{◌≡◌, ◌<◌, ◌++◌, ◌∷◌, [], ℕ, map, length, slice_get, slice_set, IfSome, IfNone, None, Some, OnOk, OnErr};
 ghost use Rattle.hn_base.specs.Name.{name_text};
 ghost use Rattle.hn_world.specs.Home.{Station, station_named, changed, with_caps, new_station, stations_after};
-ghost use Rattle.hn_world.specs.Version.{priorities};
+ghost use Rattle.hn_base.specs.Caps.{plain_caps};
 ghost use Rattle.hn_world.specs.Member.{station_of};
 ghost use Rattle.hn_world.specs.Happening.{happening};
 
@@ -18,7 +18,7 @@ pub struct Member {
     pub router: Router,
 }
 
-/// The place of the router of a name. (no memory)
+/// The place of the router of a name. Never allocates.
 pub fn place_of(members: &[Member], name: &Name) -> Option<usize>
     ensures bound { IfSome result (λ place. place < length members.now) }
     ensures found { IfSome result (λ place. station_named (name_text name.now) (map station_of members.now) ≡ slice_get (map station_of members.now) place) }
@@ -55,7 +55,7 @@ fn add(alloc: Global, members: &mut Vec<Member>, name: Name, id: NodeId) -> Resu
     Ok(())
 }
 
-/// Gives a router its priorities; it publishes with the next number exactly where they change.
+/// Gives a router its priorities; it publishes with the next number if and only if they change.
 fn set_caps(
     alloc: Global,
     members: &mut Vec<Member>,
@@ -64,7 +64,7 @@ fn set_caps(
 ) -> Result<(), NoMemory>
     requires { place < length members.old.items }
     ensures ok { OnOk result ((s : Station) → slice_get (map station_of members.old.items) place ≡ Some s
-        → map station_of members.new.items ≡ slice_set (map station_of members.old.items) place (with_caps (priorities caps) s)) }
+        → map station_of members.new.items ≡ slice_set (map station_of members.old.items) place (with_caps (plain_caps caps) s)) }
     ensures err { OnErr result (members.new.items ≡ members.old.items) }
 {
     let router = &mut members[place].router;

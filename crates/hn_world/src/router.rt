@@ -1,5 +1,6 @@
 ghost use Rattle.std.specs.Prelude.{◌≡◌, ◌+◌, ◌*◌, IfOk};
-ghost use Rattle.hn_world.specs.Version.{priorities, version_tlv};
+ghost use Rattle.hn_base.specs.Caps.{plain_caps};
+ghost use Rattle.hn_world.specs.Version.{version_tlv};
 
 use hn_base::{Bytes, Caps, NoMemory, NodeId};
 use hn_hash::Leaf;
@@ -14,12 +15,12 @@ pub struct Router {
     pub caps: Caps,
     /// Its node data: the HNCP-Version TLV of its priorities (RFC 7788, section 10.1).
     pub body: Bytes,
-    pub ghost encoded: { body ≡ version_tlv (priorities caps) },
+    pub ghost encoded: { body ≡ version_tlv (plain_caps caps) },
 }
 
 /// The HNCP-Version TLV of these priorities, with the user agent `hncp`.
 fn version_tlv(alloc: Global, caps: Caps) -> Result<Bytes, NoMemory>
-    ensures { IfOk result (λ tlv. tlv ≡ version_tlv (priorities caps)) }
+    ensures { IfOk result (λ tlv. tlv ≡ version_tlv (plain_caps caps)) }
 {
     let agent_and_priorities = [
         0,

@@ -1,6 +1,7 @@
 ghost use Rattle.std.specs.Prelude.{◌≡◌, ◌↔◌, ℕ, [], None, Some, Err, map, IsTrue, IsSome, IsSomeAnd, IfOk, OnOk, OnErr, option_copied};
 ghost use Rattle.std.specs.Option.{option_map};
 ghost use Rattle.hn_base.specs.Name.{name_text};
+ghost use Rattle.hn_io.specs.Words.{Took};
 
 use crate::event::{Traced, WEvent, WorldFault};
 use crate::member::{Member, happen, place_of};
@@ -38,7 +39,7 @@ impl World {
     ghost use Rattle.hn_world.specs.Member.{node_of};
     ghost use Rattle.hn_world.specs.Leaves.{leaves_of, Agrees};
 
-    /// A world at moment 0 with nothing in it. (no memory)
+    /// A world at moment 0 with nothing in it. Never allocates.
     pub fn new(alloc: Global) -> World
         ensures empty { result ≡ empty_home }
         ensures replayed { replay result.trace ≡ Some result }
@@ -50,14 +51,14 @@ impl World {
         }
     }
 
-    /// The moment of the world, in milliseconds. (no memory)
+    /// The moment of the world, in milliseconds. Never allocates.
     pub fn moment(&self) -> Moment
         ensures { result ≡ self.now.moment }
     {
         self.moment
     }
 
-    /// The events that were accepted, in order. (no memory)
+    /// The events that were accepted, in order. Never allocates.
     pub fn trace(&self) -> &[Traced]
         ensures events { map trace_of result.now ≡ self.now.trace }
         ensures replayed { replay self.now.trace ≡ Some self.now }
@@ -65,7 +66,7 @@ impl World {
         self.trace.as_slice()
     }
 
-    /// The router of a name, or `None` exactly where there is none. (no memory)
+    /// The router of a name, or `None` if and only if there is none. Never allocates.
     pub fn router(&self, name: &Name) -> Option<&Router>
         ensures { option_map node_of (option_copied result) ≡ option_map (λ s. s.node) (station_named (name_text name.now) self.now.stations) }
     {
@@ -73,7 +74,7 @@ impl World {
         Some(&self.members[place].router)
     }
 
-    /// Whether there is a router of that name and it runs. (no memory)
+    /// Whether there is a router of that name and it runs. Never allocates.
     pub fn running(&self, name: &Name) -> bool
         ensures { IsTrue result ↔ IsSomeAnd (station_named (name_text name.now) self.now.stations) (λ s. IsTrue s.running) }
     {
@@ -101,7 +102,7 @@ impl World {
         agree(alloc, &left, &right)
     }
 
-    /// The code with which the event is refused; `None` exactly where it is accepted. (no memory)
+    /// The code with which the event is refused; `None` if and only if it is accepted. Never allocates.
     fn refusal(&self, event: &WEvent) -> Option<u8>
         ensures { result ≡ refusal self.now (happening event.now) }
     {
@@ -120,12 +121,16 @@ impl World {
         &mut self,
         alloc: Global,
         event: WEvent,
-        _draw: &mut D,
+        draw: &mut D,
     ) -> Result<(), WorldFault>
         ensures step { OnOk result (world_step self.old (record { event = happening event; words = [] }) ≡ Some self.new) }
         ensures refused { (code : ℕ) → (result ≡ Err (WorldFault.Refused code)) ↔ (refusal self.old (happening event) ≡ Some code) }
         ensures err { OnErr result (self.new ≡ self.old) }
         ensures replayed { replay self.new.trace ≡ Some self.new }
+
+        // The words that the trace notes were taken from the draw, and no others; a refusal takes none.
+        ensures drew { OnOk result (Took (D.words draw.old) [] (D.words draw.new)) }
+        ensures undrawn { OnErr result (D.words draw.new ≡ D.words draw.old) }
     {
         if let Some(code) = self.refusal(&event) {
             return Err(WorldFault::Refused(code));

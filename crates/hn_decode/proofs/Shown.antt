@@ -2,18 +2,17 @@
 use Rattle.std.proofs.Common.{◌≡◌, ℕ, zero, suc, ◌+◌, ◌-◌, ◌≤◌, List, [], ◌∷◌, ◌++◌, length, drop, refl, sym, ap, subst, ◌∙◌, append_assoc, arith, inl, inr, Result, Ok, Err, OnOk, IfErr, IsOk}
 use Rattle.std.proofs.lemmas.List.{append-nil, drop_all}
 use Rattle.hn_tlv.specs.declared.fault.TlvFault.{TlvFault}
-use Rattle.hn_tlv.specs.Grammar.{PlainTlv, tlv_size, HasTlvs, IsTlvAt, IsFault, FirstFault}
-use Rattle.hn_tlv.proofs.Places.{splits}
-use Rattle.hn_tlv.proofs.Unique.{no_list}
+use Rattle.hn_tlv.specs.Grammar.{PlainTlv, tlv_size, IsTlvList, HasTlvs, IsTlvAt, IsFault, FirstFault}
 use Rattle.hn_typed.specs.Item.{PlainItem}
 use Rattle.hn_decode.specs.Line.{within, IsLineAbove, IsLineAlone}
-use Rattle.hn_decode.specs.Nested.{InOrder, ShowsList, place_within, Shows, Adds}
+use Rattle.hn_decode.specs.Nested.{InOrder, ShowsList, place_within, Shows, IsShownTo, Adds}
 
--- the text of the TLVs before a place: with that of the TLVs from there on it is the text of the list
-pub record IsShownTo (Shows : ℕ → PlainTlv → List ℕ → Type 0) (place : ℕ) (bytes : List ℕ) (at : ℕ) (text : List ℕ) : Type 0 where
-  pub before_end : at ≤ length bytes
-  pub is_list : HasTlvs (drop at bytes)
-  pub goes_on : (rest : List ℕ) → ShowsList Shows (place + at) (drop at bytes) rest → ShowsList Shows place bytes (text ++ rest)
+-- what the laws of hn_tlv say: the TLV at a place of a list, and the others; and no list where a fault is
+abbrev pub Splits : Type 0
+Splits = (bytes : List ℕ) (at after : ℕ) (t : PlainTlv) (all : List PlainTlv) → IsTlvAt bytes at t after → IsTlvList all (drop at bytes) → (ts : List PlainTlv) × (all ≡ t ∷ ts) × IsTlvList ts (drop after bytes)
+
+abbrev pub NoList : Type 0
+NoList = (bytes : List ℕ) (place why : ℕ) → FirstFault bytes place why → ¬ (HasTlvs bytes)
 
 pub shown_none : (Shows : ℕ → PlainTlv → List ℕ → Type 0) (place : ℕ) (bytes : List ℕ) → HasTlvs bytes → IsShownTo Shows place bytes 0 []
 shown_none Shows place bytes list = record {
@@ -22,7 +21,7 @@ shown_none Shows place bytes list = record {
   goes_on = λ rest s. let here : place + 0 ≡ place = omega arith in subst (λ (n : ℕ). ShowsList Shows n bytes rest) here s;
 }
 
--- the text of a TLV, and of those behind it
+-- the text of a TLV, and of those after it
 list_from : (Shows : ℕ → PlainTlv → List ℕ → Type 0) (place : ℕ) (bytes : List ℕ) (at after : ℕ) (tlv : PlainTlv) (front rest : List ℕ) → IsTlvAt bytes at tlv after
     → Shows (place + at) tlv front → ShowsList Shows (place + after) (drop after bytes) rest → ShowsList Shows (place + at) (drop at bytes) (front ++ rest)
 list_from Shows place bytes at after tlv front rest here shown s =
@@ -33,9 +32,9 @@ list_from Shows place bytes at after tlv front rest here shown s =
       in_order = (front, rest, shown, subst (λ (n : ℕ). InOrder Shows n s.tlvs rest) next s.in_order, refl);
     }
 
-pub shown_more : (Shows : ℕ → PlainTlv → List ℕ → Type 0) (place : ℕ) (bytes : List ℕ) (at after : ℕ) (tlv : PlainTlv) (text front : List ℕ) → IsShownTo Shows place bytes at text
+pub shown_more : Splits → (Shows : ℕ → PlainTlv → List ℕ → Type 0) (place : ℕ) (bytes : List ℕ) (at after : ℕ) (tlv : PlainTlv) (text front : List ℕ) → IsShownTo Shows place bytes at text
     → IsTlvAt bytes at tlv after → Shows (place + at) tlv front → IsShownTo Shows place bytes after (text ++ front)
-shown_more Shows place bytes at after tlv text front h here shown =
+shown_more splits Shows place bytes at after tlv text front h here shown =
     let others = splits bytes at after tlv h.is_list.0 here h.is_list.1 in
     record {
       before_end = here.within;
@@ -51,9 +50,9 @@ shown_all Shows place bytes at text h ends =
     subst (ShowsList Shows place bytes) (append-nil text) (h.goes_on [] nothing)
 
 -- where a list of TLVs goes on, no fault is read
-pub read_in_list : {X : Type 0} (bytes : List ℕ) (at : ℕ) (result : Result X TlvFault) → HasTlvs (drop at bytes) → IfErr result (λ fault. (at ≤ fault.place) × IsFault (drop at bytes) (fault.place - at) fault.why) → IsOk result
-read_in_list bytes at (Ok x) list h = refl
-read_in_list bytes at (Err fault) list h =
+pub read_in_list : {X : Type 0} → NoList → (bytes : List ℕ) (at : ℕ) (result : Result X TlvFault) → HasTlvs (drop at bytes) → IfErr result (λ fault. (at ≤ fault.place) × IsFault (drop at bytes) (fault.place - at) fault.why) → IsOk result
+read_in_list no_list bytes at (Ok x) list h = refl
+read_in_list no_list bytes at (Err fault) list h =
     let first : FirstFault (drop at bytes) (fault.place - at) fault.why =
     record { tlvs = []; front = []; rest = drop at bytes; offset = fault.place - at; before = refl; parts = refl; fault = h.1; place_is = omega arith } in
     absurd (no_list (drop at bytes) (fault.place - at) fault.why first list)
@@ -78,7 +77,7 @@ shows_within below place tlv item line lines above inside =
     subst (λ (n : ℕ). Shows n place tlv (line ++ lines)) (sym levels)
     (shows_within_suc (below - 1) place tlv item line lines (subst (λ (n : ℕ). IsLineAbove n place tlv item line) levels above) inside)
 
--- the text below an item's line, added behind the line
+-- the text below an item's line, added after the line
 pub added_within : {E : Type 0} (below place : ℕ) (tlv : PlainTlv) (inner old start new : List ℕ) (result : Result (Unit {0}) E)
     → ((item : PlainItem) × (inner ≡ within item) × Adds (IsLineAbove below place tlv item) old start)
     → OnOk result (Adds (ShowsList (Shows (below - 1)) (place + 4 + (length tlv.value - length inner)) inner) start new) → OnOk result (Adds (Shows below place tlv) old new)

@@ -1,30 +1,20 @@
 -- What a line says of a TLV: the name of its item, and the item's fields.
-use Rattle.std.specs.Prelude.{ℕ, List, [], ◌∷◌, ◌++◌, codes}
-use Rattle.std.specs.Int.{w32, to_be_bytes}
+use Rattle.std.specs.Prelude.{ℕ, List, ◌++◌, codes}
 use Rattle.std.specs.Fmt.{decimal}
-use Rattle.hex.specs.Hex.{encode_lower}
+use Rattle.hn_base.specs.HexText.{hex_text, id_text}
 use Rattle.hn_prefix.specs.AddressText.{address_text_of}
 use Rattle.hn_prefix.specs.PrefixText.{prefix_text_of}
 use Rattle.hn_typed.specs.Item.{PlainItem, RequestNetwork, RequestNode, NodeEndpoint, NetworkState, NodeState, Peer, KeepAlive, Version, External, Delegated, Assigned, Address, Other}
-
--- bytes in lower-case hexadecimal, `-` for none
-abbrev pub hex_text : List ℕ → List ℕ
-hex_text [] = codes "-"
-hex_text (byte ∷ bytes) = encode_lower (byte ∷ bytes)
-
--- an identifier of a node, in 8 lower-case hexadecimal digits
-abbrev pub id_text : ℕ → List ℕ
-id_text id = encode_lower (to_be_bytes w32 id)
 
 -- an item's name and its fields (RFC 7787, section 7; RFC 7788, section 10), without what lies within it
 abbrev pub item_text : PlainItem → List ℕ
 item_text (RequestNetwork subs) = codes "request-network"
 item_text (RequestNode node subs) = codes "request-node node=" ++ id_text node
 item_text (NodeEndpoint node endpoint subs) = codes "node-endpoint node=" ++ id_text node ++ codes " endpoint=" ++ decimal endpoint
-item_text (NetworkState hash subs) = codes "network-state hash=" ++ encode_lower hash
+item_text (NetworkState hash subs) = codes "network-state hash=" ++ hex_text hash
 item_text (NodeState node number age hash body) =
     codes "node-state node=" ++ id_text node ++ codes " number=" ++ decimal number
-    ++ codes " age=" ++ decimal age ++ codes " hash=" ++ encode_lower hash
+    ++ codes " age=" ++ decimal age ++ codes " hash=" ++ hex_text hash
 item_text (Peer peer peer_endpoint endpoint subs) =
     codes "peer node=" ++ id_text peer ++ codes " endpoint=" ++ decimal peer_endpoint ++ codes " own=" ++ decimal endpoint
 item_text (KeepAlive endpoint interval subs) = codes "keep-alive endpoint=" ++ decimal endpoint ++ codes " interval=" ++ decimal interval
@@ -39,7 +29,7 @@ item_text (Assigned endpoint priority prefix subs) =
 item_text (Address endpoint address subs) = codes "address endpoint=" ++ decimal endpoint ++ codes " address=" ++ address_text_of address
 item_text (Other kind value) = codes "other value=" ++ hex_text value
 
--- what stands there for a TLV that stands for no item: the cause, and the value
+-- what stands there for a TLV that decodes to no item: the cause, and the value
 abbrev pub bad_text : ℕ → List ℕ → List ℕ
 bad_text why value = codes "bad why=" ++ decimal why ++ codes " value=" ++ hex_text value
 

@@ -24,6 +24,11 @@ within (Assigned endpoint priority prefix subs) = subs
 within (Address endpoint address subs) = subs
 within (Other kind value) = []
 
+-- the item has the data of a node within, which may be no list of TLVs
+abbrev pub IsNodeState : PlainItem → Type 0
+IsNodeState (NodeState node number age hash body) = Unit {0}
+IsNodeState _ = ⊥
+
 -- the name of what lies within
 abbrev pub within_name : PlainItem → List ℕ
 within_name (NodeState node number age hash body) = codes "body"
@@ -47,7 +52,7 @@ line_start level place tlv =
 abbrev pub line : ℕ → ℕ → PlainTlv → List ℕ → List ℕ
 line below place tlv text = line_start (deepest - below) place tlv ++ text ++ codes "\n"
 
--- what lies within an item is shown as lines below its own where there are levels below, and it is a list of TLVs
+-- what lies within an item is shown as lines below its own if there are levels below, and it is a list of TLVs
 abbrev pub HasLines : ℕ → PlainItem → Type 0
 HasLines below item = (0 < below) × HasTlvs (within item)
 
@@ -64,7 +69,7 @@ pub record IsItemLine (below place : ℕ) (tlv : PlainTlv) (text : List ℕ) : T
   pub no_lines : ¬ HasLines below item
   pub text_is : text ≡ line below place tlv (item_text item ++ named_bytes (within_name item) (within item))
 
--- the line of a TLV that stands for no item
+-- the line of a TLV that decodes to no item
 pub record IsBadLine (below place : ℕ) (tlv : PlainTlv) (text : List ℕ) : Type 0 where
   pub why : ℕ
   pub is_fault : IsItemFault tlv why

@@ -1,11 +1,11 @@
 -- The text of a list of TLVs: of each its line, and below it the lines of the TLVs within.
-use Rattle.std.specs.Prelude.{◌≡◌, ℕ, zero, suc, ◌+◌, ◌-◌, ◌⊎◌, List, [], ◌∷◌, ◌++◌, length, codes}
+use Rattle.std.specs.Prelude.{◌≡◌, ℕ, zero, suc, ◌+◌, ◌-◌, ◌≤◌, ◌⊎◌, List, [], ◌∷◌, ◌++◌, length, drop, codes}
 use Rattle.std.specs.Fmt.{decimal}
-use Rattle.hn_tlv.specs.Grammar.{PlainTlv, tlv_size, IsTlvList}
+use Rattle.hn_tlv.specs.Grammar.{PlainTlv, tlv_size, IsTlvList, HasTlvs}
 use Rattle.hn_typed.specs.Item.{PlainItem}
 use Rattle.hn_decode.specs.Line.{within, deepest, IsLineAbove, IsLineAlone}
 
--- the texts of TLVs one behind another, of which the first lies at this place
+-- the texts of TLVs one after another, of which the first lies at this place
 abbrev pub InOrder : (ℕ → PlainTlv → List ℕ → Type 0) → ℕ → List PlainTlv → List ℕ → Type 0
 InOrder Shows place [] text = text ≡ []
 InOrder Shows place (tlv ∷ tlvs) text =
@@ -35,11 +35,26 @@ unfoldable pub Shows : ℕ → ℕ → PlainTlv → List ℕ → Type 0
 Shows zero place tlv text = IsLineAlone zero place tlv text
 Shows (suc below) place tlv text = IsLineAlone (suc below) place tlv text ⊎ ShowsWithin (Shows below) (suc below) place tlv text
 
+-- the first line of a text: how many TLVs there are
+abbrev pub first_line : ℕ → List ℕ
+first_line count = codes "tlvs " ++ decimal count ++ codes "\n"
+
 -- the text of a datagram: how many TLVs it is a list of, and their texts in order
 pub record IsDecodeText (bytes text : List ℕ) : Type 0 where
   pub lines : List ℕ
   pub shown : ShowsList (Shows deepest) 0 bytes lines
-  pub text_is : text ≡ codes "tlvs " ++ decimal (length shown.tlvs) ++ codes "\n" ++ lines
+  pub text_is : text ≡ first_line (length shown.tlvs) ++ lines
+
+-- The text of the TLVs before a place `at` of the bytes, which lie at this place: with the text of the TLVs from there
+-- on it is the text of all.
+pub record IsShownTo (Shows : ℕ → PlainTlv → List ℕ → Type 0) (place : ℕ) (bytes : List ℕ) (at : ℕ) (text : List ℕ) : Type 0 where
+  pub before_end : at ≤ length bytes
+  pub is_list : HasTlvs (drop at bytes)
+  pub goes_on : (rest : List ℕ) → ShowsList Shows (place + at) (drop at bytes) rest → ShowsList Shows place bytes (text ++ rest)
+
+-- the lines of a datagram before a place
+abbrev pub IsTextTo : List ℕ → ℕ → List ℕ → Type 0
+IsTextTo bytes at lines = IsShownTo (Shows deepest) 0 bytes at lines
 
 -- the text was longer by a text of that kind
 abbrev pub Adds : (List ℕ → Type 0) → List ℕ → List ℕ → Type 0

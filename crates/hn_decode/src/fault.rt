@@ -1,7 +1,7 @@
 ghost use Rattle.std.specs.Prelude.{◌≡◌};
 
+use hn_base::NoMemory;
 use hn_tlv::TlvFault;
-use std::alloc::AllocError;
 use std::error::Error;
 use std::fmt;
 
@@ -10,7 +10,7 @@ use std::fmt;
 pub enum DecodeFault {
     /// Its bytes are no list of TLVs (RFC 7787, section 7): the first fault.
     Malformed(TlvFault),
-    /// There was no memory for the text.
+    /// Out of memory.
     NoMemory,
 }
 
@@ -35,12 +35,12 @@ impl From<TlvFault> for DecodeFault {
     }
 }
 
-impl From<AllocError> for DecodeFault {
+impl From<NoMemory> for DecodeFault {
     ghost use Rattle.hn_decode.specs.declared.fault.DecodeFault.TheVariants.{NoMemory};
 
     ghost from_gives = { λ _ e. e ≡ NoMemory };
 
-    fn from(_error: AllocError) -> DecodeFault {
+    fn from(_error: NoMemory) -> DecodeFault {
         DecodeFault::NoMemory
     }
 }

@@ -1,4 +1,4 @@
-use crate::item_text::{bad_text, item_text};
+use crate::item_text::{push_bad, push_item};
 use hn_base::{Caps, EpId, NodeId};
 use hn_prefix::Prefix;
 use hn_typed::Item;
@@ -79,7 +79,9 @@ fn node_protocol_items(rt: HostRuntime) -> Result<(), Fail> {
         ),
     ];
     for (item, text) in &table[..] {
-        assert_eq!(rt; item_text(rt.alloc(), item)?.as_str(), *text);
+        let mut said = String::new(rt.alloc());
+        push_item(&mut said, item)?;
+        assert_eq!(rt; said.as_str(), *text);
     }
     Ok(())
 }
@@ -132,18 +134,21 @@ fn home_network_items(rt: HostRuntime) -> Result<(), Fail> {
         ),
     ];
     for (item, text) in &table[..] {
-        assert_eq!(rt; item_text(rt.alloc(), item)?.as_str(), *text);
+        let mut said = String::new(rt.alloc());
+        push_item(&mut said, item)?;
+        assert_eq!(rt; said.as_str(), *text);
     }
     Ok(())
 }
 
 #[test]
-fn values_that_stand_for_no_item(rt: HostRuntime) -> Result<(), Fail> {
+fn values_that_decode_to_no_item(rt: HostRuntime) -> Result<(), Fail> {
     let cut = [0, 0, 0, 1, 2];
-    assert_eq!(rt;
-        bad_text(rt.alloc(), 1, &cut)?.as_str(),
-        "bad why=1 value=0000000102"
-    );
-    assert_eq!(rt; bad_text(rt.alloc(), 3, b"")?.as_str(), "bad why=3 value=-");
+    let mut said = String::new(rt.alloc());
+    push_bad(&mut said, 1, &cut)?;
+    assert_eq!(rt; said.as_str(), "bad why=1 value=0000000102");
+    said.clear();
+    push_bad(&mut said, 3, b"")?;
+    assert_eq!(rt; said.as_str(), "bad why=3 value=-");
     Ok(())
 }

@@ -11,9 +11,9 @@ mod laws;
 mod line;
 mod nested;
 
-pub use datagram::decode;
+pub use datagram::{decode, first_line, push_next};
 pub use fault::DecodeFault;
-pub use laws::decode_text_is_unique;
+pub use laws::{decode_text_exists, decode_text_is_unique, lines_make_the_text};
 
 #[cfg(test)]
 mod tests;

@@ -1,17 +1,20 @@
 //! The line of one TLV.
 
 ghost use Rattle.std.specs.Prelude.{◌≡◌, ◌*◌, ◌≤◌, ◌++◌, replicate, codes, IfOk, OnOk, IfSome, IfNone, string_bytes};
+ghost use Rattle.hn_tlv.specs.Grammar.{PlainTlv};
 ghost use Rattle.hn_tlv.specs.View.{plain};
 ghost use Rattle.hn_typed.specs.Item.{PlainItem};
+ghost use Rattle.hn_typed.specs.Table.{IsItem};
 ghost use Rattle.hn_typed.specs.View.{plain_item};
 ghost use Rattle.hn_decode.specs.Line.{within, within_name, named_bytes, deepest, line_start, HasLines, IsLineAbove, IsLineAlone};
 ghost use Rattle.hn_decode.specs.ItemText.{item_text};
 ghost use Rattle.hn_decode.specs.Nested.{Adds};
 
-use crate::item_text::{bad_text, item_text};
+use crate::item_text::{push_bad, push_item};
+use hn_base::Hex;
 use hn_tlv::{Tlv, check};
 use hn_typed::{Item, read};
-use std::alloc::{AllocError, Global};
+use std::alloc::AllocError;
 
 /// The last level whose TLVs have lines of their own.
 pub(crate) const DEEPEST: u8 = 7;
@@ -74,42 +77,46 @@ fn push_line_start(
 }
 
 // Adds bytes under a name, and nothing for no bytes.
-fn push_named_bytes(
-    alloc: Global,
-    out: &mut String,
-    name: &str,
-    bytes: &[u8],
-) -> Result<(), AllocError>
+fn push_named_bytes(out: &mut String, name: &str, bytes: &[u8]) -> Result<(), AllocError>
     ensures { OnOk result (string_bytes out.new ≡ string_bytes out.old ++ named_bytes name.now bytes.now) }
 {
     if bytes.is_empty() {
         return Ok(());
     }
-    let digits = hex::encode(alloc, bytes)?;
+    let digits = Hex(bytes);
     write!(out, " {name}={digits}")
 }
 
-// What lies within an item, where it has lines of its own.
+// What lies within an item, if it has lines of its own. Sub-TLVs are a list of TLVs, since reading the item has checked
+// them; a node state's body may be none.
 fn shown_below<'a>(item: &Item<'a>, below: u8) -> Option<&'a [u8]>
+    requires { (tlv : PlainTlv) × IsItem tlv (plain_item item.now) }
     ensures none { IfNone result (¬ HasLines below (plain_item item.now)) }
     ensures some { IfSome result (λ inner. HasLines below (plain_item item.now) × (inner.now ≡ within (plain_item item.now))) }
 {
-    let inner = within(item);
-    if below > 0 && check(inner).is_ok() {
-        Some(inner)
-    } else {
-        None
+    if below == 0 {
+        return None;
+    }
+    match *item {
+        Item::NodeState { body, .. } => {
+            if check(body).is_ok() {
+                Some(body)
+            } else {
+                None
+            }
+        }
+        _ => Some(within(item)),
     }
 }
 
-// Adds what a line says of an item, and the end of the line. What lies within is answered where it has lines of its
-// own, and else it stands at the end of the line.
-fn push_item<'a>(
-    alloc: Global,
+// Adds what a line says of an item, and the end of the line. What lies within is answered if it has lines of its own;
+// otherwise it stands at the end of the line.
+fn push_item_line<'a>(
     out: &mut String,
     item: &Item<'a>,
     below: u8,
 ) -> Result<Option<&'a [u8]>, AllocError>
+    requires { (tlv : PlainTlv) × IsItem tlv (plain_item item.now) }
     ensures alone { IfOk result (λ inner. IfNone inner (¬ HasLines below (plain_item item.now)
         × (let item = plain_item item.now in string_bytes out.new ≡ string_bytes out.old
         ++ (item_text item ++ named_bytes (within_name item) (within item) ++ codes "\n")))) }
@@ -117,10 +124,9 @@ fn push_item<'a>(
         × (bytes.now ≡ within (plain_item item.now))
         × (string_bytes out.new ≡ string_bytes out.old ++ (item_text (plain_item item.now) ++ codes "\n")))) }
 {
-    let text = item_text(alloc, item)?;
-    out.push_str(text.as_str())?;
+    push_item(out, item)?;
     let Some(inner) = shown_below(item, below) else {
-        push_named_bytes(alloc, out, within_name(item), within(item))?;
+        push_named_bytes(out, within_name(item), within(item))?;
         out.push_str("\n")?;
         return Ok(None);
     };
@@ -128,9 +134,8 @@ fn push_item<'a>(
     Ok(Some(inner))
 }
 
-/// Adds the line of a TLV with so many levels below its own. What lies within it is answered where it has lines below.
+/// Adds the line of a TLV with so many levels below its own. What lies within it is answered if it has lines below.
 pub(crate) fn push_line<'a>(
-    alloc: Global,
     out: &mut String,
     tlv: &Tlv<'a>,
     place: usize,
@@ -144,10 +149,9 @@ pub(crate) fn push_line<'a>(
 {
     push_line_start(out, tlv, place, DEEPEST - below)?;
     match read(tlv) {
-        Ok(item) => push_item(alloc, out, &item, below),
+        Ok(item) => push_item_line(out, &item, below),
         Err(fault) => {
-            let text = bad_text(alloc, fault.why, tlv.value)?;
-            out.push_str(text.as_str())?;
+            push_bad(out, fault.why, tlv.value)?;
             out.push_str("\n")?;
             Ok(None)
         }

@@ -7,25 +7,22 @@ ghost use Rattle.hn_decode.specs.Line.{deepest};
 ghost use Rattle.hn_decode.specs.Nested.{ShowsList, Shows, Adds};
 
 use crate::line::push_line;
-use hn_tlv::{Tlv, next};
-use std::alloc::{AllocError, Global};
+use hn_tlv::{HEADER_SIZE, Tlv, first_fault_is_unique, list_continues, next};
+use std::alloc::AllocError;
 
-/// How many bytes a TLV's type and length take.
-const HEADER_SIZE: usize = 4;
-
-// The TLV at a place in a list of TLVs, and the place behind it.
-fn tlv_at(bytes: &[u8], at: usize) -> (Tlv<'_>, usize)
+// The TLV at a place in a list of TLVs, and the place after it.
+pub(crate) fn tlv_at(bytes: &[u8], at: usize) -> (Tlv<'_>, usize)
     requires inside { at < length bytes.now }
     requires list { HasTlvs (drop at bytes.now) }
     ensures { IsTlvAt bytes.now at (plain result.0) result.1 }
 {
+    first_fault_is_unique();
     next(bytes, at).unwrap().unwrap()
 }
 
 /// Adds the text of a list of TLVs, of which the first lies at `place`, with so many levels below theirs.
 #[cycle(nested)]
 pub(crate) fn push_list(
-    alloc: Global,
     out: &mut String,
     bytes: &[u8],
     place: usize,
@@ -36,10 +33,11 @@ pub(crate) fn push_list(
     requires levels { below ≤ deepest }
     ensures { OnOk result (Adds (ShowsList (Shows below) place bytes.now) (string_bytes out.old) (string_bytes out.new)) }
 {
+    list_continues();
     let mut at = 0;
     while at < bytes.len() {
         let (tlv, after) = tlv_at(bytes, at);
-        push_tlv(alloc, out, &tlv, place + at, below)?;
+        push_tlv(out, &tlv, place + at, below)?;
         at = after;
     }
     Ok(())
@@ -47,8 +45,7 @@ pub(crate) fn push_list(
 
 /// Adds the text of the TLV at `place`, with so many levels below its own.
 #[cycle(nested)]
-fn push_tlv(
-    alloc: Global,
+pub(crate) fn push_tlv(
     out: &mut String,
     tlv: &Tlv<'_>,
     place: usize,
@@ -58,9 +55,9 @@ fn push_tlv(
     requires levels { below ≤ deepest }
     ensures { OnOk result (Adds (Shows below place (plain tlv.now)) (string_bytes out.old) (string_bytes out.new)) }
 {
-    let Some(inner) = push_line(alloc, out, tlv, place, below)? else {
+    let Some(inner) = push_line(out, tlv, place, below)? else {
         return Ok(());
     };
     let inner_place = place + HEADER_SIZE + (tlv.value.len() - inner.len());
-    push_list(alloc, out, inner, inner_place, below - 1)
+    push_list(out, inner, inner_place, below - 1)
 }

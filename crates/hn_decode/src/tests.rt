@@ -19,7 +19,7 @@ const TEXTS: [(&str, &str); 15] = [
         "0023000E00000001024020010DB8000000010000",
         "tlvs 1\n0 35 14 assigned endpoint=1 priority=2 prefix=2001:db8:0:1::/64\n",
     ),
-    // Two zeros stand before the sub-TLV.
+    // Two zeros lie before the sub-TLV.
     (
         "0023001800000001024020010DB8000000010000007B000178000000",
         "tlvs 1\n0 35 24 assigned endpoint=1 priority=2 prefix=2001:db8:0:1::/64\n  20 123 1 other value=78\n",

@@ -13,7 +13,7 @@ push_list-loop-at-preserved t c =
     let so_far = c.loop-at.invariant in
     let added = c.in_ok-push_tlv.ensures in (
       so_far.0 ++ added.0,
-      shown_more (Shows c.args.below) c.args.place c.args.bytes.now c.loop-at.at c.tlv_at-after.result.1 (plain c.tlv_at-after.result.0) so_far.0 added.0 so_far.1 c.tlv_at-after.ensures added.1,
+      shown_more c.list_continues.ensures.splits (Shows c.args.below) c.args.place c.args.bytes.now c.loop-at.at c.tlv_at-after.result.1 (plain c.tlv_at-after.result.0) so_far.0 added.0 so_far.1 c.tlv_at-after.ensures added.1,
       added.2 ∙ ap (λ (z : List ℕ). z ++ added.0) so_far.2 ∙ append_assoc (string_bytes c.args.out.now) so_far.0 added.0,
     )
 

@@ -1,6 +1,5 @@
 use Rattle.std.proofs.Common.{◌+◌, ◌-◌, ◌*◌, length, string_bytes}
-use Rattle.hn_decode.specs.Nested.{Shows, Adds}
-use Rattle.hn_decode.proofs.Shown.{IsShownTo}
+use Rattle.hn_decode.specs.Nested.{Shows, IsShownTo, Adds}
 use Rattle.hn_decode.proofs.nested.+nested.Given as goal
 
 abbrev pub decreases-push_list : goal.decreases-push_list

@@ -1,5 +1,0 @@
-use Rattle.std.proofs.Common.{append_assoc}
-use Rattle.hn_decode.proofs.item_text.assigned_text.Goals as goal
-
-pub returns : goal.returns
-returns c = simp append_assoc (rw (← c.text-prefix.ensures) c.format.ensures.ok)

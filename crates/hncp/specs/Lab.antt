@@ -18,7 +18,7 @@ abbrev pub status_of : End → ℕ
 status_of Done = 0
 status_of (Refused line code) = 2
 
--- the status of a play, which the sink or want of memory may cut
+-- the status of a play, which the sink or out of memory may cut
 abbrev pub play_status : Result End IoFault → ℕ
 play_status (Ok end) = status_of end
 play_status (Err Failed) = 4

@@ -7,7 +7,7 @@ use hn_world::World;
 
 /// The input was read to its end and the whole text was written.
 pub const DONE: u8 = 0;
-/// The words of the command line are no form; nothing was read or written.
+/// Bad usage: the words of the command line ask for nothing that there is; nothing was read or written.
 pub const NO_FORM: u8 = 1;
 /// The input or one of its lines was refused; the last line written says it.
 pub const REFUSED: u8 = 2;

@@ -15,7 +15,7 @@ use hn_strict::Line;
 use hn_world::{World, WorldFault};
 use std::alloc::Global;
 
-/// The number of the first line behind the line `hncp 1`.
+/// The number of the first line after the line `hncp 1`.
 const FIRST_LINE: u64 = 2;
 
 /// Runs the lines of a script in a world, and hands each line of text to the sink as one piece. The first line that

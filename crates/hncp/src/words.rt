@@ -24,8 +24,8 @@ impl Form {
         }
     }
 
-    /// The form that the words of the command line are, the program's name among them; `None` exactly where they are
-    /// none. (no memory)
+    /// The form that the words of the command line ask for, the program's name among them; `None` if and only if they
+    /// are bad usage. Never allocates.
     pub fn of(words: &[String]) -> Option<Form>
         ensures found { IfSome result (λ form. IsFormOf form (map string_bytes words.now)) }
         ensures none { IfNone result ((form : Form) → IsFormOf form (map string_bytes words.now) → ⊥) }

@@ -1,0 +1,8 @@
+pub mod Places
+pub mod Readings
+pub mod Adding
+pub mod Walking
+pub mod Faults
+pub mod AskedLemmas
+pub mod Pieces
+pub mod Written

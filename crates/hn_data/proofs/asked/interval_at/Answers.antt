@@ -1,0 +1,6 @@
+use Rattle.std.proofs.Common.{rules}
+use Rattle.hn_data.proofs.AskedLemmas.{find_is_first}
+use Rattle.hn_data.proofs.asked.interval_at.Goals as goal
+
+pub returns : goal.returns
+returns c = rw (find_is_first c.args.e.0 c.args.intervals.now) (search rules)

@@ -1,0 +1,22 @@
+use Rattle.std.proofs.Common.{List, [], ◌∷◌, ◌++◌, subst}
+use Rattle.std.proofs.lemmas.Result.{on_ok_weaker}
+use Rattle.std.proofs.lemmas.List.{append-nil}
+use Rattle.hn_tlv.specs.View.{plain}
+use Rattle.hn_typed.specs.Item.{PlainItem}
+use Rattle.hn_typed.specs.View.{plain_item}
+use Rattle.hn_data.specs.Items.{IsReading}
+use Rattle.hn_data.proofs.Adding.{reads_one, reads_none, readings_join}
+use Rattle.hn_data.proofs.kept.Kept.add.Goals as goal
+
+pub returns-in-Ok : goal.returns-in-Ok
+returns-in-Ok c =
+    let tlv = plain c.args.tlv.now in
+    let item = plain_item c.in-Ok.item in
+    on_ok_weaker c.add_item.result (λ more tlvs kept.
+    (kept.0 ++ item ∷ [], readings_join tlvs (tlv ∷ []) kept.0 (item ∷ []) kept.1 (reads_one tlv item c.in-Ok.ensures.item), more kept.0 kept.2)) c.add_item.ensures
+
+pub returns-in-Err : goal.returns-in-Err
+returns-in-Err c tlvs kept =
+    let tlv = plain c.args.tlv.now in
+    let read = readings_join tlvs (tlv ∷ []) kept.0 [] kept.1 (reads_none tlv c.in-Err.field-0.why c.in-Err.ensures.fault) in
+    (kept.0, subst (λ (xs : List PlainItem). IsReading (tlvs ++ tlv ∷ []) xs) (append-nil kept.0) read, kept.2)

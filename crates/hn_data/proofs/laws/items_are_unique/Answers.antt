@@ -1,0 +1,5 @@
+use Rattle.hn_data.proofs.Readings.{items_unique}
+use Rattle.hn_data.proofs.laws.items_are_unique.Goals as goal
+
+pub returns : goal.returns
+returns c = items_unique

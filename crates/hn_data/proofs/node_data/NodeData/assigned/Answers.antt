@@ -1,0 +1,10 @@
+use Rattle.std.proofs.Common.{Contains, ◌∙◌}
+use Rattle.std.specs.List.{filter_map}
+use Rattle.hn_data.specs.Said.{assigned_of}
+use Rattle.hn_data.proofs.Readings.{contains_read}
+use Rattle.hn_data.proofs.node_data.NodeData.assigned.Goals as goal
+
+pub returns : goal.returns
+returns c a =
+    let is = c.kept.ensures in
+    contains_read c.args.self.now is.items (filter_map assigned_of is.items) c.as_slice.result.now a (λ items. Contains (filter_map assigned_of items) a) (c.as_slice.ensures.value ∙ is.says.assigned_are) is.are (λ h. h, λ h. h)

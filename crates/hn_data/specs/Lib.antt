@@ -1,0 +1,9 @@
+pub mod Walk
+pub mod Items
+pub mod Kept
+pub mod Peers
+pub mod Said
+pub mod Delegations
+pub mod OwnData
+pub mod View
+pub mod Links

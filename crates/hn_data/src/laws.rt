@@ -1,0 +1,36 @@
+//! Laws of the items of node data (RFC 7787, section 7).
+//!
+//! Each is the contract of a function that does nothing: call it to know its law.
+
+ghost use Rattle.std.specs.Prelude.{◌≡◌, ℕ, List};
+ghost use Rattle.hn_tlv.specs.Grammar.{HasTlvs};
+ghost use Rattle.hn_typed.specs.Item.{PlainItem};
+ghost use Rattle.hn_data.specs.Items.{AreItems, Reads};
+ghost use Rattle.hn_data.specs.OwnData.{AreBytes, IsAscendingSet};
+
+use crate::node_data::NodeData;
+
+/// Node data have at most one list of items.
+pub fn items_are_unique()
+    ensures { (bytes : List ℕ) (a b : List PlainItem) → AreItems bytes a → AreItems bytes b → a ≡ b }
+{}
+
+/// Node data are a list of TLVs, and have items.
+pub fn node_data_has_items(data: &NodeData)
+    ensures list { HasTlvs data.now }
+    ensures items { Reads data.now (λ _. Unit {0}) }
+{
+    let _kept = data.kept();
+}
+
+/// Pieces have at most one such bytes: those of the pieces in ascending order, each once.
+pub fn ascending_set_is_unique()
+    ensures { (pieces : List (List ℕ)) (a b : List ℕ) → IsAscendingSet pieces a → IsAscendingSet pieces b → a ≡ b }
+{}
+
+/// Bytes have eight bits.
+pub(crate) fn are_bytes(bytes: &[u8])
+    ensures { AreBytes bytes.now }
+{
+    let _bytes = bytes;
+}

@@ -1,0 +1,163 @@
+ghost use Rattle.std.specs.Prelude.{◌≡◌, ◌↔◌, ℕ, All, length, IsTrue, Err, Contains, IfOk, OnOk, IsNone, IfNone, IfSome, IsSomeAnd};
+ghost use Rattle.std.specs.List.Sorted.{IsStrictlySortedBy};
+ghost use Rattle.hn_tlv.specs.Grammar.{PlainTlv, HasTlvs, IsTlvAt, FirstFault};
+ghost use Rattle.hn_typed.specs.Item.{PlainItem};
+ghost use Rattle.hn_data.specs.Items.{Reads};
+ghost use Rattle.hn_data.specs.OwnData.{IsEncoded, IsWrittenIn, IsAscendingSet};
+ghost use Rattle.hn_data.specs.Walk.{IsPlace, IsFoundAt, Decodes};
+ghost use Rattle.hn_data.specs.declared.fault.DataFault.TheVariants.{Tlv};
+ghost use Rattle.hn_data.specs.Kept.{IsKept};
+ghost use Rattle.hn_data.specs.Peers.{HasPeer, peer_cmp};
+ghost use Rattle.hn_data.specs.Delegations.{HasDelegation, HasExternal};
+ghost use Rattle.hn_data.specs.Said.{HasAssigned};
+
+use crate::fault::DataFault;
+use crate::kept::Kept;
+use crate::laws::{are_bytes, node_data_has_items};
+use crate::own_data::ascending_set;
+use crate::reading::read_kept;
+use crate::said::{AssignedPrefix, Delegation, PeerLink};
+use crate::walk::tlv_at;
+use hn_base::{Bytes, NoMemory};
+use hn_tlv::check;
+use hn_typed::{Item, ItemFault, read};
+use std::alloc::Global;
+use std::marker::Model;
+use std::rc::Rc;
+
+/// Node data, and what others ask of it.
+#[derive(Debug, Drop)]
+struct Inner {
+    bytes: Bytes,
+    kept: Kept,
+}
+
+/// A node's data, a list of TLVs (RFC 7787, section 7.2.3), read once when it is made; contracts see its bytes.
+/// What is shared shares its memory.
+#[derive(Debug, Drop)]
+pub struct NodeData {
+    shared: Rc<Inner, Global>,
+}
+
+impl Model for NodeData {
+    ghost use Rattle.std.specs.Prelude.{ℕ, List};
+    ghost use Rattle.hn_data.specs.Kept.{IsKept};
+
+    ghost Value = { List ℕ };
+
+    ghost view = { λ d. d.shared.value.bytes };
+
+    ghost invariant = { λ d. IsKept d.shared.value.bytes d.shared.value.kept };
+}
+
+// Reads a list of TLVs.
+fn read_data(alloc: Global, bytes: Bytes) -> Result<NodeData, NoMemory>
+    requires { HasTlvs bytes }
+    ensures { IfOk result (λ d. d ≡ bytes) }
+{
+    let kept = read_kept(alloc, bytes.as_slice())?;
+    Ok(NodeData {
+        shared: Rc::new(alloc, Inner { bytes, kept })?,
+    })
+}
+
+impl NodeData {
+    /// Reads node data, and keeps the bytes as they are.
+    ///
+    /// # Errors
+    ///
+    /// `Tlv` if and only if the bytes are no list of TLVs (RFC 7787, section 7), with the first fault, as
+    /// `hn_tlv::check` gives it, which takes no memory.
+    pub fn from_bytes(alloc: Global, bytes: &[u8]) -> Result<NodeData, DataFault>
+        ensures data { IfOk result (λ d. d ≡ bytes.now) }
+        ensures listed { OnOk result (HasTlvs bytes.now) }
+        ensures refused { (place why : ℕ)
+            → (result ≡ Err (Tlv (record { place = place; why = why }))) ↔ FirstFault bytes.now place why }
+    {
+        check(bytes)?;
+        let copy = Bytes::copy_of(alloc, bytes)?;
+        Ok(read_data(alloc, copy)?)
+    }
+
+    /// The items that are encoded in the pieces, in strictly ascending order of their bytes, each once.
+    pub fn from_items(alloc: Global, items: &[Bytes]) -> Result<NodeData, NoMemory>
+        requires { All IsEncoded items.now }
+        ensures set { IfOk result (λ d. IsAscendingSet items.now d) }
+        ensures items { IfOk result (λ d. Reads d (λ read. (item : PlainItem) → Contains read item ↔ IsWrittenIn items.now item)) }
+    {
+        let bytes = ascending_set(alloc, items)?;
+        are_bytes(bytes.as_slice());
+        read_data(alloc, bytes)
+    }
+
+    /// The bytes. Never allocates.
+    pub fn bytes(&self) -> &[u8]
+        ensures { result.now ≡ self.now }
+    {
+        self.shared.bytes.as_slice()
+    }
+
+    /// What is kept beside the bytes.
+    pub(crate) fn kept(&self) -> &Kept
+        ensures { IsKept self.now result.now }
+    {
+        &self.shared.kept
+    }
+
+    /// The TLV at a place: its item, or why it has none (RFC 7787, section 7; RFC 7788, section 10), and the place
+    /// after it. `None` if and only if the place is the end. Never allocates.
+    pub fn item(&self, at: usize) -> Option<(Result<Item<'_>, ItemFault>, usize)>
+        requires { IsPlace self.now at }
+        // What is answered is so.
+        ensures end { IfNone result (at ≡ length self.now) }
+        ensures found { IfSome result (IsFoundAt self.now at) }
+        ensures place { IfSome result (λ found. IsPlace self.now found.1) }
+
+        // What is so is answered.
+        ensures at_end { at ≡ length self.now → IsNone result }
+        ensures at_tlv { (tlv : PlainTlv) (after : ℕ) → IsTlvAt self.now at tlv after
+            → IsSomeAnd result (λ found. Decodes tlv found.0 × (found.1 ≡ after)) }
+    {
+        node_data_has_items(self);
+        let (tlv, after) = tlv_at(self.bytes(), at)?;
+        Some((read(&tlv), after))
+    }
+
+    /// The same data, which shares its memory.
+    pub fn share(&self) -> Result<NodeData, NoMemory>
+        ensures { IfOk result (λ shared. shared ≡ self.now) }
+    {
+        Ok(NodeData {
+            shared: self.shared.clone()?,
+        })
+    }
+
+    /// The peers that the node says it has, in ascending order, each once (RFC 7787, section 7.3.1). Never allocates.
+    pub fn peers(&self) -> &[PeerLink]
+        ensures ascending { IsStrictlySortedBy peer_cmp result.now }
+        ensures exact { (link : PeerLink) → Contains result.now link ↔ HasPeer self.now link }
+    {
+        self.kept().peers.as_slice()
+    }
+
+    /// The delegated prefixes inside the node's External-Connections (RFC 7788, section 10.2.1). Never allocates.
+    pub fn delegations(&self) -> &[Delegation]
+        ensures { (d : Delegation) → Contains result.now d ↔ HasDelegation self.now d }
+    {
+        self.kept().delegations.as_slice()
+    }
+
+    /// The node's assigned prefixes (RFC 7788, section 10.3). Never allocates.
+    pub fn assigned(&self) -> &[AssignedPrefix]
+        ensures { (a : AssignedPrefix) → Contains result.now a ↔ HasAssigned self.now a }
+    {
+        self.kept().assigned.as_slice()
+    }
+
+    /// Whether the node has an External-Connection (RFC 7788, section 10.2). Never allocates.
+    pub fn has_external(&self) -> bool
+        ensures { IsTrue result ↔ HasExternal self.now }
+    {
+        self.kept().external
+    }
+}

@@ -1,0 +1,36 @@
+//! Node data read once.
+
+ghost use Rattle.std.specs.Prelude.{[], OnOk, IfOk};
+ghost use Rattle.hn_tlv.specs.Grammar.{HasTlvs};
+ghost use Rattle.hn_data.specs.Items.{Reads};
+ghost use Rattle.hn_data.specs.Kept.{AreKept, IsKept};
+
+use crate::kept::Kept;
+use crate::walk::tlv_at;
+use hn_base::{NoMemory, sort_to_set};
+use std::alloc::Global;
+
+// Adds what the TLVs say to nothing.
+fn add_all(kept: &mut Kept, bytes: &[u8]) -> Result<(), NoMemory>
+    requires none { AreKept [] kept.old }
+    requires list { HasTlvs bytes.now }
+    ensures { OnOk result (Reads bytes.now (λ items. AreKept items kept.new)) }
+{
+    let mut place = 0;
+    while let Some((tlv, after)) = tlv_at(bytes, place) {
+        kept.add(&tlv)?;
+        place = after;
+    }
+    Ok(())
+}
+
+/// What the bytes say.
+pub(crate) fn read_kept(alloc: Global, bytes: &[u8]) -> Result<Kept, NoMemory>
+    requires { HasTlvs bytes.now }
+    ensures { IfOk result (IsKept bytes.now) }
+{
+    let mut kept = Kept::new(alloc);
+    add_all(&mut kept, bytes)?;
+    sort_to_set(&mut kept.peers);
+    Ok(kept)
+}

@@ -1,0 +1,6 @@
+pub mod Places
+pub mod Maps
+pub mod Losses
+pub mod Answering
+pub mod Changing
+pub mod Uniqueness

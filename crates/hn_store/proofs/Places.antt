@@ -1,0 +1,154 @@
+-- What the place of a node says of the map.
+use Rattle.std.proofs.Common.{◌≡◌, ◌<◌, ◌≤◌, ℕ, zero, suc, Bool, true, false, List, [], ◌∷◌, length, filter, take, drop, get_or, set, Some, None, Result, Ok, Err, refl, sym, ap, inl, inr, arith}
+use Rattle.std.specs.Prelude.{find, insert, IfOk, IfErr, ◌==◌, nat_lt}
+use Rattle.std.specs.Option.{option_map}
+use Rattle.std.specs.List.{HoldsAt}
+use Rattle.std.specs.List.Sorted.{IsStrictlySortedBy, IsSearchInRange, IsBinarySearchResult, IsNonDecreasingBy}
+use Rattle.std.specs.Ordering.{nat_cmp}
+use Rattle.std.proofs.lemmas.Bool.Decides.{nat_tests}
+use Rattle.std.proofs.lemmas.Bool.{lt-ltb, le-ltb, eq-eqb, ne_eqb, cases_lt}
+use Rattle.std.specs.Cmp.{ranked}
+use Rattle.std.specs.Ordering.{ordering_index}
+use Rattle.std.specs.declared.cmp.Ordering.TheVariants.{Less, Equal, Greater}
+use Rattle.std.proofs.Math.Seq.{take-nil, drop-nil}
+use Rattle.std.proofs.lemmas.List.{get_or-map, length-map, set_split}
+use Rattle.std.proofs.lemmas.Map.Keys.{below_from_sorted}
+use Rattle.hn_store.specs.declared.stored.Stored.{Stored}
+use Rattle.hn_store.specs.declared.stored.HeldNode.{HeldNode}
+use Rattle.hn_store.specs.Nodes.{ids_of, held, entry, put}
+use Rattle.hn_store.specs.Place.{IsPlaceOf, IsGapFor}
+
+-- ---- a test that all elements below a place pass, and none from there on, or the other way round
+
+filter_none : {X : Type 0} (p : X → Bool) (xs : List X) → ((k : ℕ) (d : X) → k < length xs → p (get_or xs k d) ≡ false) → filter p xs ≡ []
+filter_none p [] none = refl
+filter_none p (x ∷ xs) none = rw (none 0 x (omega arith)) (filter_none p xs (λ k d lt. none (suc k) d (omega arith)))
+
+filter_all : {X : Type 0} (p : X → Bool) (xs : List X) → ((k : ℕ) (d : X) → k < length xs → p (get_or xs k d) ≡ true) → filter p xs ≡ xs
+filter_all p [] all = refl
+filter_all p (x ∷ xs) all = rw (all 0 x (omega arith)) (ap (λ ys. x ∷ ys) (filter_all p xs (λ k d lt. all (suc k) d (omega arith))))
+
+pub filter-front : {X : Type 0} (p : X → Bool) (xs : List X) (i : ℕ) → ((k : ℕ) (d : X) → k < i → k < length xs → p (get_or xs k d) ≡ true)
+    → ((k : ℕ) (d : X) → i ≤ k → k < length xs → p (get_or xs k d) ≡ false) → filter p xs ≡ take i xs
+filter-front p [] i front back = sym (take-nil i)
+filter-front p (x ∷ xs) zero front back = filter_none p (x ∷ xs) (λ k d lt. back k d (omega arith) lt)
+filter-front p (x ∷ xs) (suc i) front back =
+    rw (front 0 x (omega arith) (omega arith)) (ap (λ ys. x ∷ ys) (filter-front p xs i (λ k d lt in'. front (suc k) d (omega arith) (omega arith)) (λ k d le lt. back (suc k) d (omega arith) (omega arith))))
+
+pub filter-back : {X : Type 0} (p : X → Bool) (xs : List X) (i : ℕ) → ((k : ℕ) (d : X) → k < i → k < length xs → p (get_or xs k d) ≡ false)
+    → ((k : ℕ) (d : X) → i ≤ k → k < length xs → p (get_or xs k d) ≡ true) → filter p xs ≡ drop i xs
+filter-back p [] i front back = sym (drop-nil i)
+filter-back p (x ∷ xs) zero front back = filter_all p (x ∷ xs) (λ k d lt. back k d (omega arith) lt)
+filter-back p (x ∷ xs) (suc i) front back =
+    rw (front 0 x (omega arith) (omega arith)) (filter-back p xs i (λ k d lt in'. front (suc k) d (omega arith) (omega arith)) (λ k d le lt. back (suc k) d (omega arith) (omega arith)))
+
+pub find-at : {X : Type 0} (p : X → Bool) (xs : List X) (i : ℕ) (d : X) → i < length xs → ((k : ℕ) (e : X) → k < i → p (get_or xs k e) ≡ false)
+    → p (get_or xs i d) ≡ true → find p xs ≡ Some (get_or xs i d)
+find-at p [] i d lt before here = absurd (omega arith)
+find-at p (x ∷ xs) zero d lt before here = rw here refl
+find-at p (x ∷ xs) (suc i) d lt before here = rw (before 0 x (omega arith)) (find-at p xs i d (omega arith) (λ k e less. before (suc k) e (omega arith)) here)
+
+pub find-none : {X : Type 0} (p : X → Bool) (xs : List X) → ((k : ℕ) (d : X) → k < length xs → p (get_or xs k d) ≡ false) → find p xs ≡ None
+find-none p [] none = refl
+find-none p (x ∷ xs) none = rw (none 0 x (omega arith)) (find-none p xs (λ k d lt. none (suc k) d (omega arith)))
+
+-- ---- binary search
+
+-- nodes in ascending order rise from place to place
+pub rises : (xs : List HeldNode) → IsStrictlySortedBy nat_cmp (ids_of xs) → (i j : ℕ) (d : HeldNode) → i < j → j < length xs → (get_or xs i d).id.0 < (get_or xs j d).id.0
+rises xs up i j d lt within =
+    let n = length-map xs (λ (x : HeldNode). x.id.0) in
+    let below = below_from_sorted (ids_of xs) i j d.id.0 up lt (omega arith) in
+    let at_i = get_or-map (λ (x : HeldNode). x.id.0) xs i d d.id.0 (omega arith) in
+    let at_j = get_or-map (λ (x : HeldNode). x.id.0) xs j d d.id.0 within in
+    rw (← at_i, ← at_j) below
+
+searchable : (xs : List HeldNode) (id : ℕ) → IsStrictlySortedBy nat_cmp (ids_of xs) → IsNonDecreasingBy (λ y. ordering_index (nat_cmp y.id.0 id)) xs
+searchable xs id up i j d le within =
+    elim (cases_lt i j) [
+      | inl lt ↦ ordered (get_or xs i d).id.0 (get_or xs j d).id.0 id (let less = rises xs up i j d lt within in omega arith)
+      | inr ge ↦ let same : i ≡ j = omega arith in rw same (omega arith)
+    ]
+  where
+    ordered : (a b id : ℕ) → a ≤ b → ordering_index (nat_cmp a id) ≤ ordering_index (nat_cmp b id)
+    ordered a b id le = grind (arith, nat_tests)
+
+pub searched : (xs : List HeldNode) (id : ℕ) (r : Result ℕ ℕ) → IsStrictlySortedBy nat_cmp (ids_of xs) → IsSearchInRange r (length xs)
+    → IsBinarySearchResult (λ y. nat_cmp y.id.0 id) xs r → IfOk r (IsPlaceOf xs id) × IfErr r (IsGapFor xs id)
+searched xs id (Ok i) up within at =
+    let here : HoldsAt (λ (node : HeldNode). node.id.0 ≡ id) xs i = λ d. ranked (get_or xs i d).id.0 id Equal (sym (at d)) in (
+      record {
+        within = within;
+        here = here;
+        before = λ k d low lt. let is = here d in let less = rises xs up k i d lt within in omega arith;
+        after = λ k d lt in'. let is = here d in let less = rises xs up i k d (omega arith) in' in omega arith;
+      },
+      tt,
+    )
+searched xs id (Err i) up within at =
+    let parts = at (searchable xs id up) in (
+      tt,
+      record {
+        within = within;
+        before = λ k d low lt. ranked (get_or xs k d).id.0 id Less (sym (parts.0 k d low lt));
+        after = λ k d low lt. ranked (get_or xs k d).id.0 id Greater (sym (parts.1 k d low lt));
+      },
+    )
+
+-- ---- what the map says there
+
+pub held-at : (xs : List HeldNode) (id i : ℕ) (d : HeldNode) → IsPlaceOf xs id i → held xs id ≡ Some (get_or xs i d).stored
+held-at xs id i d p =
+    let found = find-at (λ (x : HeldNode). x.id.0 == id) xs i d p.within (λ k e lt. other (get_or xs k e) id (p.before k e (omega arith) lt)) (eq-eqb (get_or xs i d).id.0 id (p.here d)) in
+    ap (option_map (λ (x : HeldNode). x.stored)) found
+  where
+    other : (x : HeldNode) (id : ℕ) → x.id.0 < id → (x.id.0 == id) ≡ false
+    other x id lt = ne_eqb x.id.0 id (λ same. omega arith)
+
+pub held-none : (xs : List HeldNode) (id i : ℕ) → IsGapFor xs id i → held xs id ≡ None
+held-none xs id i g =
+    let none = find-none (λ (x : HeldNode). x.id.0 == id) xs (λ k d lt. ne_eqb (get_or xs k d).id.0 id (apart k d lt)) in
+    ap (option_map (λ (x : HeldNode). x.stored)) none
+  where
+    apart : (k : ℕ) (d : HeldNode) → k < length xs → (get_or xs k d).id.0 ≡ id → ⊥
+    apart k d lt same =
+        elim (cases_lt k i) [
+          | inl before ↦ let less = g.before k d (omega arith) before in omega arith
+          | inr after ↦ let more = g.after k d after lt in omega arith
+        ]
+
+-- what stands before the entry of a node in the map, and after it
+fronts : (xs : List HeldNode) (id i : ℕ) → IsGapFor xs id i → take i xs ≡ filter (λ x. nat_lt x.id.0 id) xs
+fronts xs id i g =
+    sym (filter-front (λ (x : HeldNode). nat_lt x.id.0 id) xs i (λ k d lt in'. lt-ltb (get_or xs k d).id.0 id (g.before k d (omega arith) lt)) (λ k d le lt. let more = g.after k d le lt in le-ltb (get_or xs k d).id.0 id (omega arith)))
+
+backs : (xs : List HeldNode) (id i : ℕ) → IsGapFor xs id i → drop i xs ≡ filter (λ x. nat_lt id x.id.0) xs
+backs xs id i g =
+    sym (filter-back (λ (x : HeldNode). nat_lt id x.id.0) xs i (λ k d lt in'. let less = g.before k d (omega arith) lt in le-ltb id (get_or xs k d).id.0 (omega arith)) (λ k d le lt. lt-ltb id (get_or xs k d).id.0 (g.after k d le lt)))
+
+pub put-in : (xs : List HeldNode) (id i : ℕ) (stored : Stored) → IsGapFor xs id i → insert xs i (entry id stored) ≡ put id stored xs
+put-in xs id i stored g =
+    let front = fronts xs id i g in
+    let back = backs xs id i g in
+    cc
+
+pub put-at : (xs : List HeldNode) (id i : ℕ) (stored : Stored) → IsPlaceOf xs id i → set xs i (entry id stored) ≡ put id stored xs
+put-at xs id i stored p =
+    let split = set_split xs i (entry id stored) p.within in
+    let front : take i xs ≡ filter (λ x. nat_lt x.id.0 id) xs = sym (filter-front (λ (x : HeldNode). nat_lt x.id.0 id) xs i (λ k d lt in'. lt-ltb (get_or xs k d).id.0 id (p.before k d (omega arith) lt)) (λ k d le lt. le-ltb (get_or xs k d).id.0 id (from_here k d le lt))) in
+    let back : drop (suc i) xs ≡ filter (λ x. nat_lt id x.id.0) xs = sym (filter-back (λ (x : HeldNode). nat_lt id x.id.0) xs (suc i) (λ k d lt in'. le-ltb id (get_or xs k d).id.0 (up_to_here k d lt in')) (λ k d le lt. lt-ltb id (get_or xs k d).id.0 (p.after k d (omega arith) lt))) in
+    cc
+  where
+    from_here : (k : ℕ) (d : HeldNode) → i ≤ k → k < length xs → id ≤ (get_or xs k d).id.0
+    from_here k d le lt =
+        elim (cases_lt i k) [
+          | inl after ↦ let more = p.after k d (omega arith) lt in omega arith
+          | inr before ↦ let here = p.here d in let same : k ≡ i = omega arith in rw same (omega arith)
+        ]
+
+    up_to_here : (k : ℕ) (d : HeldNode) → k < suc i → k < length xs → (get_or xs k d).id.0 ≤ id
+    up_to_here k d lt in' =
+        elim (cases_lt k i) [
+          | inl before ↦ let less = p.before k d (omega arith) before in omega arith
+          | inr after ↦ let here = p.here d in let same : k ≡ i = omega arith in rw same (omega arith)
+        ]

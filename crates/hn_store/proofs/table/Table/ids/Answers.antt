@@ -1,0 +1,11 @@
+use Rattle.std.proofs.Common.{◌∙◌, map, ap, sym, subst}
+use Rattle.std.specs.List.Sorted.{IsStrictlySortedBy}
+use Rattle.hn_base.specs.NodeIds.{node_cmp}
+use Rattle.hn_store.specs.declared.stored.HeldNode.{HeldNode}
+use Rattle.hn_store.proofs.Maps.{ascending-ids}
+use Rattle.hn_store.proofs.table.Table.ids.Goals as goal
+
+pub returns-clause-ascending : goal.returns-clause-ascending
+returns-clause-ascending c =
+    let ids = c.from.ensures ∙ c.in_ok-ids.ensures ∙ ap (map (λ (node : HeldNode). node.id)) c.deref.ensures.value in
+    subst (IsStrictlySortedBy node_cmp) (sym ids) (ascending-ids c.self.inside.nodes.items c.self.invariant.ascending)

@@ -1,0 +1,13 @@
+use Rattle.std.proofs.Common.{◌≡◌, ◌∙◌, sym, ap, arith}
+use Rattle.std.specs.List.{list_any}
+use Rattle.std.proofs.lemmas.Grind.{common_steps}
+use Rattle.hn_store.specs.Loss.{is_to_mark}
+use Rattle.hn_store.specs.Nodes.{Nodes}
+use Rattle.hn_store.proofs.Losses.{marked-unneeded}
+use Rattle.hn_store.proofs.table.Table.needs_mark.Goals as goal
+
+pub returns-clause-unneeded : goal.returns-clause-unneeded
+returns-clause-unneeded c unneeded now =
+    let needed : c.has_to_mark.result ≡ list_any (is_to_mark c.args.reach.now) c.args.self.now.entries = grind (arith, common_steps) in
+    let same = marked-unneeded c.args.reach.now now c.args.self.now.entries (sym needed ∙ unneeded) in
+    ap (λ entries. let n : Nodes = record c.args.self.now { entries = entries } in n) same

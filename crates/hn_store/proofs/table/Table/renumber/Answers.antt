@@ -1,0 +1,52 @@
+use Rattle.std.proofs.Common.{◌≡◌, ◌≢◌, ◌∙◌, List, set, ap, sym, subst, rules}
+use Rattle.hn_store.specs.declared.state.Took.TheVariants.{Ask, Renumbered}
+use Rattle.hn_store.specs.declared.stored.Stored.{Stored}
+use Rattle.hn_store.specs.declared.stored.HeldNode.{HeldNode}
+use Rattle.hn_store.specs.Nodes.{Nodes, IsTable}
+use Rattle.hn_store.specs.Place.{IsPlaceOf}
+use Rattle.hn_store.specs.Acceptance.{plain_state, held_part, renumbered, entries_after}
+use Rattle.hn_store.specs.AcceptanceParts.{IsOfNumber}
+use Rattle.hn_store.proofs.Changing.{ask_unknown, ask_other, renumber_same, IsTable-there, sound_there, sound_renumbered, after_renumbered}
+use Rattle.hn_store.proofs.table.Table.renumber.Goals as goal
+
+pub returns-in_default-clause-took : goal.returns-in_default-clause-took
+returns-in_default-clause-took c =
+    let entries = ap (λ (n : Nodes). n.entries) c.self.view_is in
+    let s = plain_state c.args.state.now in
+    subst (λ (es : List HeldNode). IsOfNumber (held_part es s.node) s Ask) (c.deref.ensures.value ∙ entries) (ask_unknown c.deref.result.now s.node c.in_default.field-0 s c.in_default.ensures.absent)
+
+pub returns-then-ne-clause-took : goal.returns-then-ne-clause-took
+returns-then-ne-clause-took c =
+    let entries = ap (λ (n : Nodes). n.entries) c.self.view_is in
+    let s = plain_state c.args.state.now in
+    let place = subst (λ (es : List HeldNode). IsPlaceOf es s.node c.in-Ok.place) c.deref.ensures.value c.in-Ok.ensures.found in
+    let other : c.index_mut-node.result.now.stored.hash ≢ s.hash = search rules in
+    subst (λ (es : List HeldNode). IsOfNumber (held_part es s.node) s Ask) entries (ask_other c.self.inside.nodes.items s.node c.in-Ok.place c.index_mut-node.result.now s place c.index_mut-node.ensures.value other)
+
+pub invariant_of-self-2 : goal.invariant_of-self-2
+invariant_of-self-2 c =
+    let s = plain_state c.args.state.now in
+    let place = subst (λ (es : List HeldNode). IsPlaceOf es s.node c.in-Ok.place) c.deref.ensures.value c.in-Ok.ensures.found in
+    let x = c.index_mut-node.result.now in
+    let one = sound_there c.self.inside.limit c.self.inside.nodes.items s.node c.in-Ok.place x c.self.invariant place c.index_mut-node.ensures.value in
+    let P = λ (stored : Stored). IsTable (record { limit = c.self.inside.limit; entries = set c.self.inside.nodes.items c.in-Ok.place (record { id = x.id; stored = stored }) }) in
+    subst P (sym c.renumber.ensures) (IsTable-there c.self.inside.limit c.self.inside.nodes.items s.node c.in-Ok.place x (renumbered s c.args.now x.stored) c.self.invariant place c.index_mut-node.ensures.value (sound_renumbered s c.args.now x.stored one))
+
+pub returns-clause-took : goal.returns-clause-took
+returns-clause-took c =
+    let entries = ap (λ (n : Nodes). n.entries) c.self.view_is in
+    let s = plain_state c.args.state.now in
+    let place = subst (λ (es : List HeldNode). IsPlaceOf es s.node c.in-Ok.place) c.deref.ensures.value c.in-Ok.ensures.found in
+    let same : c.index_mut-node.result.now.stored.hash ≡ s.hash = search rules in
+    subst (λ (es : List HeldNode). IsOfNumber (held_part es s.node) s Renumbered) entries (renumber_same c.self.inside.nodes.items s.node c.in-Ok.place c.index_mut-node.result.now s place c.index_mut-node.ensures.value same)
+
+pub returns-clause-after : goal.returns-clause-after
+returns-clause-after c =
+    let s = plain_state c.args.state.now in
+    let xs = c.self.inside.nodes.items in
+    let x = c.index_mut-node.result.now in
+    let place = subst (λ (es : List HeldNode). IsPlaceOf es s.node c.in-Ok.place) c.deref.ensures.value c.in-Ok.ensures.found in
+    let write = λ (stored : Stored). let n : Nodes = record { limit = c.self.inside.limit; entries = set xs c.in-Ok.place (record { id = x.id; stored = stored }) } in n in
+    let with_entries = λ (es : List HeldNode). let n : Nodes = record { limit = c.self.inside.limit; entries = es } in n in
+    ap write c.renumber.ensures ∙ ap with_entries (after_renumbered xs c.in-Ok.place x s c.args.now place c.index_mut-node.ensures.value)
+    ∙ ap (λ (n : Nodes). let m : Nodes = record { limit = n.limit; entries = entries_after n.entries s c.args.now Renumbered } in m) c.self.view_is

@@ -1,0 +1,55 @@
+use Rattle.std.proofs.Common.{◌≡◌, ◌≢◌, ◌<◌, ◌∙◌, ℕ, List, Some, None, length, set, ap, sym, subst, arith}
+use Rattle.std.specs.Prelude.{insert}
+use Rattle.hn_store.specs.declared.stored.HeldNode.{HeldNode}
+use Rattle.hn_store.specs.Nodes.{Nodes, IsTable, held, entry, put}
+use Rattle.hn_store.specs.Place.{IsPlaceOf, IsGapFor}
+use Rattle.hn_store.specs.Acceptance.{plain_state, kept}
+use Rattle.hn_store.proofs.Places.{held-none}
+use Rattle.hn_store.proofs.Maps.{IsTable-insert}
+use Rattle.hn_store.proofs.Changing.{IsTable-there, sound_kept, after_replaced, after_inserted}
+use Rattle.hn_store.proofs.table.Table.store.Goals as goal
+
+pub invariant_of-self : goal.invariant_of-self
+invariant_of-self c =
+    let s = plain_state c.args.state.now in
+    let xs = c.self.inside.nodes.items in
+    let x = c.index_mut-node.result.now in
+    let place = subst (λ (es : List HeldNode). IsPlaceOf es s.node c.in-Ok.place) c.deref.ensures.value c.in-Ok.ensures.found in
+    let one = sound_kept s c.args.now (Some x.stored) c.args.body c.requires.same c.requires.short c.requires.listed c.requires.hashed in
+    let P = λ (body : List ℕ). IsTable (record { limit = c.self.inside.limit; entries = set xs c.in-Ok.place (record { id = x.id; stored = record (kept s c.args.now (Some x.stored)) { body = body } }) }) in
+    subst P (sym c.requires.same) (IsTable-there c.self.inside.limit xs s.node c.in-Ok.place x (kept s c.args.now (Some x.stored)) c.self.invariant place c.index_mut-node.ensures.value one)
+
+pub returns-in-Ok-clause-ok : goal.returns-in-Ok-clause-ok
+returns-in-Ok-clause-ok c =
+    let s = plain_state c.args.state.now in
+    let xs = c.self.inside.nodes.items in
+    let x = c.index_mut-node.result.now in
+    let place = subst (λ (es : List HeldNode). IsPlaceOf es s.node c.in-Ok.place) c.deref.ensures.value c.in-Ok.ensures.found in
+    let with_entries = λ (es : List HeldNode). let n : Nodes = record { limit = c.self.inside.limit; entries = es } in n in
+    let write = λ (body : List ℕ). set xs c.in-Ok.place (record { id = x.id; stored = record (kept s c.args.now (Some x.stored)) { body = body } }) in
+    ap (λ body. with_entries (write body)) c.requires.same
+    ∙ ap with_entries (after_replaced xs c.in-Ok.place x s c.args.now place c.index_mut-node.ensures.value)
+    ∙ ap (λ (n : Nodes). let m : Nodes = record { limit = n.limit; entries = put s.node (kept s c.args.now (held n.entries s.node)) n.entries } in m) c.self.view_is
+
+pub invariant_of-self-in-Err : goal.invariant_of-self-in-Err
+invariant_of-self-in-Err c =
+    let s = plain_state c.args.state.now in
+    let xs = c.self.inside.nodes.items in
+    let gap = subst (λ (es : List HeldNode). IsGapFor es s.node c.in-Err.place) c.deref.ensures.value c.in-Err.ensures.absent in
+    let one = sound_kept s c.args.now None c.args.body c.requires.same c.requires.short c.requires.listed c.requires.hashed in
+    let room : length xs ≢ c.self.inside.limit = subst (λ (n : Nodes). held n.entries s.node ≡ None → length n.entries ≢ n.limit) (sym c.self.view_is) c.requires.room (held-none xs s.node c.in-Err.place gap) in
+    let within = c.self.invariant.within in
+    let less : length xs < c.self.inside.limit = omega arith in
+    let with_body = ap (λ (body : List ℕ). insert xs c.in-Err.place (entry s.node (record (kept s c.args.now None) { body = body }))) c.requires.same in
+    let P = λ (es : List HeldNode). IsTable (record { limit = c.self.inside.limit; entries = es }) in
+    subst P (sym (c.in_ok-insert-in-Err.ensures.items ∙ with_body)) (IsTable-insert c.self.inside.limit s.node c.in-Err.place (kept s c.args.now None) xs c.self.invariant gap less one)
+
+pub returns-in_ok-insert-in-Err-clause-ok : goal.returns-in_ok-insert-in-Err-clause-ok
+returns-in_ok-insert-in-Err-clause-ok c =
+    let s = plain_state c.args.state.now in
+    let xs = c.self.inside.nodes.items in
+    let gap = subst (λ (es : List HeldNode). IsGapFor es s.node c.in-Err.place) c.deref.ensures.value c.in-Err.ensures.absent in
+    let with_entries = λ (es : List HeldNode). let n : Nodes = record { limit = c.self.inside.limit; entries = es } in n in
+    let with_body = ap (λ (body : List ℕ). insert xs c.in-Err.place (entry s.node (record (kept s c.args.now None) { body = body }))) c.requires.same in
+    ap with_entries (c.in_ok-insert-in-Err.ensures.items ∙ with_body ∙ after_inserted xs c.in-Err.place s c.args.now gap)
+    ∙ ap (λ (n : Nodes). let m : Nodes = record { limit = n.limit; entries = put s.node (kept s c.args.now (held n.entries s.node)) n.entries } in m) c.self.view_is

@@ -1,0 +1,6 @@
+pub mod Nodes
+pub mod Place
+pub mod Acceptance
+pub mod AcceptanceParts
+pub mod Loss
+pub mod Laws

@@ -1,0 +1,21 @@
+//! The table of the other nodes of a home: what is held of each, and what comes of a node state that arrives
+//! (RFC 7787, sections 4.4 and 4.6).
+#![tactic(auto)]
+
+mod acceptance;
+mod laws;
+mod loss;
+mod place;
+mod state;
+mod stored;
+mod table;
+
+pub use acceptance::BODY_LIMIT;
+pub use laws::{acceptance_is_unique, others_stay, own_stays, put_changes_one_node};
+pub use loss::GRACE;
+pub use state::{OwnLeaf, State, Took};
+pub use stored::{HeldNode, Stored};
+pub use table::{LARGE_LIMIT, LIMIT, Table};
+
+#[cfg(test)]
+mod tests;

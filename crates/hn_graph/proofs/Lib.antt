@@ -1,0 +1,5 @@
+mod Ways
+mod Leads
+mod Marking
+mod Found
+mod Progress

@@ -1,0 +1,55 @@
+use Rattle.std.proofs.Common.{rules, ◌≡◌, ◌↔◌, ◌∷◌, ◌++◌, [], List, ℕ, length, replicate, false, get_or, refl, slice_get, Some, arith, subst, Contains}
+use Rattle.std.proofs.lemmas.List.Elements.{Contains-push, Contains-get_or}
+use Rattle.std.proofs.lemmas.List.{nil_from_length}
+use Rattle.std.proofs.lemmas.Result.{IfOk-weaker}
+use Rattle.std.proofs.lemmas.Option.{slice_get_read, slice_get_within}
+use Rattle.hn_graph.specs.Search.{HasMarked, HasFound}
+use Rattle.hn_graph.proofs.Progress.{IsUnderway, begin, visit, finish}
+use Rattle.hn_graph.proofs.reachability.reach.Goals as goal
+
+pub loop-place-init : goal.loop-place-init
+loop-place-init c =
+    let nodes = c.args.nodes.now in
+    let m = c.in_ok-mark.ensures in
+    let unmarked : c.in_ok-found.found.items ≡ replicate (length nodes) false = search rules in
+    let marked : HasMarked (c.in-Some.start ∷ []) (replicate (length nodes) false) [] c.mark.new.found.items c.mark.new.visits.items =
+    subst (λ (v : List ℕ). HasMarked (c.in-Some.start ∷ []) (replicate (length nodes) false) v c.mark.new.found.items c.mark.new.visits.items) c.new-visits.ensures.items (rw (← unmarked) m) in
+    begin c.args.own.0 nodes c.in-Some.start c.mark.new.found.items c.mark.new.visits.items c.requires.ascending c.in-Some.ensures.within c.in-Some.ensures.found marked
+
+pub bounds-nodes-place : goal.bounds-nodes-place
+bounds-nodes-place c = c.loop-place.invariant.visits_nodes c.in-Some-pop.place (rw c.in-Some-pop.ensures.items (Contains-push c.pop.new.self.items c.in-Some-pop.place))
+
+pub offset_bounds-nodes-place : goal.offset_bounds-nodes-place
+offset_bounds-nodes-place c =
+    let within = c.loop-place.invariant.visits_nodes c.in-Some-pop.place (rw c.in-Some-pop.ensures.items (Contains-push c.pop.new.self.items c.in-Some-pop.place)) in
+    search rules
+
+pub mark-requires-in-Some-pop : goal.mark-requires-in-Some-pop
+mark-requires-in-Some-pop c k d lt =
+    let there : Contains c.in_ok-places.places.items (get_or c.deref.result.now k d) = rw (← c.deref.ensures.value) (Contains-get_or c.deref.result.now k d lt) in
+    let next = (c.in_ok-places.ensures (get_or c.deref.result.now k d)).0 there in
+    let within = slice_get_within c.args.nodes.now (get_or c.deref.result.now k d) next.y next.at in
+    let same = c.loop-place.invariant.same_length in
+    omega arith
+
+pub loop-place-preserved : goal.loop-place-preserved
+loop-place-preserved c =
+    let nodes = c.args.nodes.now in
+    let place = c.in-Some-pop.place in
+    let x = c.index-nodes-place.result in
+    let popped = c.in-Some-pop.ensures.items in
+    let within = c.loop-place.invariant.visits_nodes place (rw popped (Contains-push c.pop.new.self.items place)) in
+    let at : slice_get nodes place ≡ Some x = slice_get_read nodes (length nodes) place x refl within c.index-nodes-place.is in
+    let u : IsUnderway c.args.own.0 nodes c.loop-place.found.items (c.pop.new.self.items ++ place ∷ []) = rw (← popped) c.loop-place.invariant in
+    let m : HasMarked c.in_ok-places.places.items c.loop-place.found.items c.pop.new.self.items c.mark-in-Some-pop.new.found.items c.mark-in-Some-pop.new.visits.items = rw (← c.deref.ensures.value) c.in_ok-mark-2.ensures in
+    visit c.args.own.0 nodes x place c.in_ok-places.places.items c.loop-place.found.items c.pop.new.self.items c.mark-in-Some-pop.new.found.items c.mark-in-Some-pop.new.visits.items u at c.in_ok-places.ensures m
+
+pub returns-clause-exact : goal.returns-clause-exact
+returns-clause-exact c =
+    let nodes = c.args.nodes.now in
+    let visited : c.loop-place.visits.items ≡ [] = nil_from_length c.loop-place.visits.items (search rules) in
+    let u : IsUnderway c.args.own.0 nodes c.loop-place.found.items [] = rw (← visited) c.loop-place.invariant in
+    IfOk-weaker c.found_ids.result _ _ (λ ids are y.
+    let ends = finish c.args.own.0 nodes c.loop-place.found.items y u in
+    let exact : Contains ids y ↔ HasFound nodes c.loop-place.found.items y = rw (← c.deref-2.ensures.value) (are y) in
+    (λ h. ends.0 (exact.0 h), λ r. exact.1 (ends.1 r))) c.found_ids.ensures.exact

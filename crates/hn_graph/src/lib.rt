@@ -1,0 +1,11 @@
+//! Reachability: which nodes a router sees through mutual links (RFC 7787, section 4.6).
+#![tactic(auto)]
+
+mod laws;
+mod reachability;
+mod search;
+#[cfg(test)]
+mod tests;
+
+pub use laws::{own_is_reachable, reachable_is_a_node};
+pub use reachability::reach;

@@ -1,0 +1,32 @@
+ghost use Rattle.std.specs.Prelude.{◌↔◌, IfOk};
+ghost use Rattle.std.specs.List.{Contains};
+ghost use Rattle.std.specs.List.Sorted.{IsStrictlySortedBy};
+ghost use Rattle.hn_base.specs.NodeIds.{node_cmp};
+ghost use Rattle.hn_base.specs.declared.ids.NodeId.{NodeId};
+ghost use Rattle.hn_data.specs.View.{IsNetwork};
+ghost use Rattle.hn_graph.specs.Path.{IsReachable};
+
+use crate::search::{found_ids, mark, next_places};
+use hn_base::{NoMemory, NodeId, NodeIds};
+use hn_data::{Entry, place_of};
+use std::alloc::Global;
+
+/// The identifiers of the nodes that can be reached from the own node, the own one among them, in ascending order (RFC
+/// 7787, section 4.6). The nodes are in strictly ascending order of their identifiers, and the own one is among them.
+pub fn reach(alloc: Global, own: NodeId, nodes: &[Entry]) -> Result<NodeIds, NoMemory>
+    requires { IsNetwork own.0 nodes.now }
+    ensures ascending { IfOk result (IsStrictlySortedBy node_cmp) }
+    ensures exact { IfOk result (λ reached. (y : NodeId) → Contains reached y ↔ IsReachable own.0 nodes.now y.0) }
+{
+    let mut found = vec![in alloc; false; nodes.len()]?;
+    let mut visits = Vec::new(alloc);
+    let Some(start) = place_of(nodes, own) else {
+        unreachable!()
+    };
+    mark(&[start], &mut found, &mut visits)?;
+    while let Some(place) = visits.pop() {
+        let places = next_places(alloc, nodes, &nodes[place])?;
+        mark(&places, &mut found, &mut visits)?;
+    }
+    found_ids(alloc, nodes, &found)
+}

@@ -1,0 +1,4 @@
+mod Elections
+mod InView
+mod Candidates
+mod Joined

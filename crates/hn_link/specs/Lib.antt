@@ -1,0 +1,3 @@
+pub mod CommonLink
+pub mod Election
+pub mod Standing

@@ -1,0 +1,14 @@
+//! Common Links and who serves on them (RFC 7788, sections 4 and 6.1).
+#![tactic(auto)]
+
+mod common_link;
+mod election;
+mod laws;
+mod rank;
+
+pub use common_link::common;
+pub use election::elected;
+pub use laws::{common_link_is_unique, elected_is_unique};
+
+#[cfg(test)]
+mod tests;

@@ -1,0 +1,4 @@
+pub mod Passing
+mod PeerLemmas
+mod Filling
+mod Packings

@@ -1,0 +1,119 @@
+ghost use Rattle.std.specs.Prelude.{◌≡◌, ◌<◌, ◌≤◌, ◌↔◌, [], length, take, drop, All, IsTrue, IfOk};
+ghost use Rattle.hn_tlv.specs.Grammar.{spelling};
+ghost use Rattle.hn_dncp.specs.Packing.{sender_tlv, IsFilled, IsPacking, IsShort};
+
+use hn_base::{Bytes, EpId, NoMemory, NodeId};
+use hn_typed::{Item, write};
+use std::alloc::Global;
+use std::marker::Model;
+
+/// The most bytes of a datagram that holds more than one TLV after its Node Endpoint.
+pub const MOST_DATAGRAM_BYTES: usize = 4_000;
+
+/// Datagrams, in the order in which they are sent. Contracts see the list of them, each as its bytes.
+#[derive(Debug, Drop)]
+pub struct Datagrams {
+    items: Vec<Bytes>,
+}
+
+impl Model for Datagrams {
+    ghost use Rattle.std.specs.Prelude.{List, ℕ};
+
+    ghost Value = { List (List ℕ) };
+
+    ghost view = { λ d. d.items.items };
+}
+
+impl Datagrams {
+    /// The datagrams. Never allocates.
+    pub fn as_slice(&self) -> &[Bytes]
+        ensures { result.now ≡ self.now }
+    {
+        self.items.as_slice()
+    }
+
+    /// The datagrams, one by one. Never allocates.
+    pub fn into_vec(self) -> Vec<Bytes>
+        ensures { result.items ≡ self }
+    {
+        self.items
+    }
+
+    /// How many there are. Never allocates.
+    pub fn len(&self) -> usize
+        ensures { result ≡ length self.now }
+    {
+        self.items.len()
+    }
+
+    /// Whether there are none. Never allocates.
+    pub fn is_empty(&self) -> bool
+        ensures { IsTrue result ↔ (self.now ≡ []) }
+    {
+        self.items.is_empty()
+    }
+}
+
+// The Node Endpoint with which a datagram begins.
+fn sender(alloc: Global, own: NodeId, endpoint: EpId) -> Result<Vec<u8>, NoMemory>
+    ensures { IfOk result (λ bytes. bytes.items ≡ spelling (sender_tlv own endpoint)) }
+{
+    let mut bytes = Vec::new(alloc);
+    let item = Item::NodeEndpoint {
+        node: own,
+        endpoint,
+        subs: &[],
+    };
+    write(&item, &mut bytes)?;
+    Ok(bytes)
+}
+
+// A datagram with as many TLVs from the front as it holds, and how many these are.
+fn fill(
+    alloc: Global,
+    own: NodeId,
+    endpoint: EpId,
+    tlvs: &[Bytes],
+) -> Result<(Bytes, usize), NoMemory>
+    requires { 0 < length tlvs.now }
+    ensures within { IfOk result (λ filled. filled.1 ≤ length tlvs.now) }
+    ensures filled { IfOk result (λ filled.
+        IsFilled own endpoint (take filled.1 tlvs.now) (drop filled.1 tlvs.now) filled.0) }
+{
+    let mut datagram = sender(alloc, own, endpoint)?;
+    datagram.extend_from_slice(tlvs[0].as_slice())?;
+    for count in 1..tlvs.len() {
+        let tlv = tlvs[count].as_slice();
+        if datagram.len().saturating_add(tlv.len()) > MOST_DATAGRAM_BYTES {
+            return Ok((Bytes::from(datagram), count));
+        }
+        datagram.extend_from_slice(tlv)?;
+    }
+    Ok((Bytes::from(datagram), tlvs.len()))
+}
+
+/// Packs TLVs, in order, into the datagrams that this endpoint of the own node sends (RFC 7787, section 4.2). Each
+/// datagram begins with the Node Endpoint of its sender. A TLV begins a new datagram if and only if it would carry
+/// one that already holds a further TLV past 4,000 bytes. Without TLVs there is no datagram.
+///
+/// # Errors
+///
+/// Out of memory.
+pub fn pack(
+    alloc: Global,
+    own: NodeId,
+    endpoint: EpId,
+    tlvs: &[Bytes],
+) -> Result<Datagrams, NoMemory>
+    ensures packed { IfOk result (IsPacking own endpoint tlvs.now) }
+    ensures short { IfOk result (All (IsShort tlvs.now)) }
+{
+    let mut datagrams = Vec::new(alloc);
+    let mut at = 0;
+    while at < tlvs.len() {
+        let (datagram, count) = fill(alloc, own, endpoint, &tlvs[at..])?;
+        datagrams.push(datagram)?;
+        at += count;
+    }
+    Ok(Datagrams { items: datagrams })
+}

@@ -1,0 +1,51 @@
+ghost use Rattle.std.specs.Prelude.{◌≡◌, ◌^◌, ◌≤◌, IfOk};
+ghost use Rattle.hn_dncp.specs.Port.{begun};
+
+use crate::peers::Peers;
+use hn_base::{EpId, Moment, NoMemory};
+use hn_timers::{SHORTEST_INTERVAL, Trickle};
+use std::alloc::Global;
+
+/// An endpoint of the own node, attached to a link (RFC 7787, section 2).
+#[derive(Debug, Drop)]
+pub struct Port {
+    /// Its identifier.
+    pub id: EpId,
+    /// When its Network State is sent (RFC 7787, section 4.3).
+    pub trickle: Trickle,
+    /// When its timers last sent a Network State, or when it was attached.
+    pub sent: Moment,
+    /// When it last asked for the network state.
+    pub asked: Option<Moment>,
+    /// Its peers.
+    pub peers: Peers,
+}
+
+impl Port {
+    /// An endpoint that is attached now; the word says when Trickle first fires. Never allocates.
+    pub fn start(alloc: Global, id: EpId, now: Moment, word: u32) -> Port
+        requires { now ≤ 2 ^ 48 }
+        ensures { result ≡ begun id now word }
+    {
+        Port {
+            id,
+            trickle: Trickle::start(now, SHORTEST_INTERVAL, word),
+            sent: now,
+            asked: None,
+            peers: Peers::new(alloc),
+        }
+    }
+
+    /// The same endpoint, with its peers in new memory.
+    pub fn copy(&self, alloc: Global) -> Result<Port, NoMemory>
+        ensures { IfOk result (λ copy. copy ≡ self.now) }
+    {
+        Ok(Port {
+            id: self.id,
+            trickle: self.trickle,
+            sent: self.sent,
+            asked: self.asked,
+            peers: self.peers.copy(alloc)?,
+        })
+    }
+}

@@ -1,0 +1,82 @@
+-- What lists that ascend by pairs have for a pair.
+use Rattle.std.proofs.Common.{◌≡◌, ◌∙◌, ◌↔◌, ◌⊎◌, ℕ, List, [], ◌∷◌, Contains, Option, None, Some, Ordering, refl, sym, ap, subst, inl, inr, ⊎_elim}
+use Rattle.std.specs.declared.cmp.Ordering.TheVariants.{Less, Equal, Greater}
+use Rattle.std.specs.Ordering.{on, ordering_reverse}
+use Rattle.std.proofs.lemmas.Cmp.{tied_itself, on_total}
+use Rattle.std.proofs.lemmas.List.Elements.{All-contains, All-from_recursion}
+use Rattle.std.proofs.lemmas.Map.Keys.{sorted_head, sorted_tail}
+use Rattle.hn_base.proofs.AscendingLists.{Contains-head, Contains-tail, Contains-cases, ascending_unique}
+use Rattle.hn_assign.specs.declared.assigned.Wish.{Wish}
+use Rattle.hn_assign.specs.declared.pair.Pair.{Pair}
+use Rattle.hn_assign.specs.Pair.{pair_cmp, IsAscending, HasAt, Updates, KeepsWished}
+use Rattle.hn_assign.proofs.Joins.{not_below_itself}
+use Rattle.hn_assign.proofs.Members.{nothing_in}
+use Rattle.hn_assign.proofs.Orders.{pair_total, pair_exact}
+
+-- two pairs are the same, or not
+pub pair_cases : (p q : Pair) → (p ≡ q) ⊎ (¬ (p ≡ q))
+pair_cases p q = by_order (pair_cmp p q) refl
+  where
+    by_order : (o : Ordering) → pair_cmp p q ≡ o → (p ≡ q) ⊎ (¬ (p ≡ q))
+    by_order Less e = inr (λ same. not_below_itself p q same e)
+    by_order Equal e = inl (pair_exact p q e)
+    by_order Greater e = inr (λ same. not_below_itself q p (sym same) (pair_total.antisymm q p ∙ ap ordering_reverse e))
+
+module _ {A : Type 0} (key : A → Pair) where
+  below : (x : A) (xs : List A) (y : A) → IsAscending key (x ∷ xs) → Contains xs y → ¬ (key x ≡ key y)
+  below x xs y up h same = not_below_itself (key x) (key y) same (All-contains (λ z. pair_cmp (key x) (key z) ≡ Less) xs y (All-from_recursion (λ z. pair_cmp (key x) (key z) ≡ Less) xs (sorted_head (on key pair_cmp) x xs up)) h)
+
+  -- a pair has one element at most
+  pub one_of : (xs : List A) (x y : A) → IsAscending key xs → Contains xs x → Contains xs y → key x ≡ key y → x ≡ y
+  one_of [] x y up hx hy same = absurd (nothing_in x hx)
+  one_of (z ∷ xs) x y up hx hy same =
+      ⊎_elim
+      (λ (zx : z ≡ x). ⊎_elim (λ (zy : z ≡ y). sym zx ∙ zy) (λ (ty : Contains xs y). absurd (below z xs y up ty (ap key zx ∙ same))) (Contains-cases z xs y hy))
+      (λ (tx : Contains xs x). ⊎_elim (λ (zy : z ≡ y). absurd (below z xs x up tx (ap key zy ∙ sym same))) (λ (ty : Contains xs y). one_of xs x y (sorted_tail (on key pair_cmp) z xs up) tx ty same) (Contains-cases z xs y hy))
+      (Contains-cases z xs x hx)
+
+  -- what a list has for a pair is one
+  pub has_one : (pair : Pair) (xs : List A) (a b : Option A) → IsAscending key xs → HasAt key pair a xs → HasAt key pair b xs → a ≡ b
+  has_one pair xs None None up a b = refl
+  has_one pair xs None (Some y) up a b = absurd (a y b.0 b.1)
+  has_one pair xs (Some x) None up a b = absurd (b x a.0 a.1)
+  has_one pair xs (Some x) (Some y) up a b = ap Some (one_of xs x y up a.0 b.0 (a.1 ∙ sym b.1))
+
+  -- an element of the pair is what the list has for it
+  pub is_had : (pair : Pair) (xs : List A) (a : Option A) (x : A) → IsAscending key xs → HasAt key pair a xs → Contains xs x → key x ≡ pair → a ≡ Some x
+  is_had pair xs a x up has h is = has_one pair xs a (Some x) up has (h, is)
+
+  -- and what it has is an element
+  pub had_is : (pair : Pair) (xs : List A) (a : Option A) (x : A) → HasAt key pair a xs → a ≡ Some x → Contains xs x × (key x ≡ pair)
+  had_is pair xs a x has is = subst (λ (o : Option A). HasAt key pair o xs) is has
+
+  -- two lists with the same elements
+  pub same_list : (xs ys : List A) → IsAscending key xs → IsAscending key ys → ((x : A) → Contains xs x ↔ Contains ys x) → xs ≡ ys
+  same_list xs ys = ascending_unique (on key pair_cmp) (on_total key pair_total) xs ys
+
+  -- an update has one result
+  pub updates_one : (pair : Pair) (new : Option A) (before a b : List A) → Updates key pair new before a → Updates key pair new before b → a ≡ b
+  updates_one pair new before a b ua ub = same_list a b ua.ascending ub.ascending (λ x. (there a b ua ub x, there b a ub ua x))
+    where
+      there : (a b : List A) → Updates key pair new before a → Updates key pair new before b → (x : A) → Contains a x → Contains b x
+      there a b ua ub x h =
+          ⊎_elim (λ (is : key x ≡ pair). (had_is pair b new x ub.here (is_had pair a new x ua.ascending ua.here h is)).0)
+          (λ (not : ¬ (key x ≡ pair)). (ub.others x not).1 ((ua.others x not).0 h))
+          (pair_cases (key x) pair)
+
+  -- what other pairs have stays
+  pub has_still : (pair other : Pair) (new has : Option A) (before after : List A) → Updates key pair new before after → ¬ (other ≡ pair) → HasAt key other has before → HasAt key other has after
+  has_still pair other new None before after u not none = λ x h is. none x ((u.others x (λ same. not (sym is ∙ same))).0 h) is
+  has_still pair other new (Some y) before after u not some = ((u.others y (λ same. not (sym some.1 ∙ same))).1 some.0, some.1)
+
+  pub had_still : (pair other : Pair) (new has : Option A) (before after : List A) → Updates key pair new before after → ¬ (other ≡ pair) → HasAt key other has after → HasAt key other has before
+  had_still pair other new None before after u not none = λ x h is. none x ((u.others x (λ same. not (sym is ∙ same))).1 h) is
+  had_still pair other new (Some y) before after u not some = ((u.others y (λ same. not (sym some.1 ∙ same))).0 some.0, some.1)
+
+  -- where a pair keeps what it has, the list stays
+  pub updates_none : (pair : Pair) (has : Option A) (before after : List A) → IsAscending key before → HasAt key pair has before → Updates key pair has before after → after ≡ before
+  updates_none pair has before after up here u = updates_one pair has before after before u (record { ascending = up; here = here; others = λ x not. (λ h. h, λ h. h) })
+
+  -- what is kept of wished pairs is one
+  pub keeps_one : (wishes : List Wish) (before a b : List A) → KeepsWished key wishes before a → KeepsWished key wishes before b → a ≡ b
+  keeps_one wishes before a b ka kb = same_list a b ka.ascending kb.ascending (λ x. (λ h. (kb.those x).1 ((ka.those x).0 h), λ h. (ka.those x).1 ((kb.those x).0 h)))

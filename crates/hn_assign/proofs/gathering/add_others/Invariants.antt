@@ -1,0 +1,8 @@
+use Rattle.std.proofs.Common.{take}
+use Rattle.hn_assign.specs.declared.assigned.Advertised.{Advertised}
+use Rattle.hn_assign.specs.Gathered.{IsOfOther}
+use Rattle.hn_assign.proofs.Grown.{Grown}
+use Rattle.hn_assign.proofs.gathering.add_others.Given as goal
+
+abbrev pub invariant-loop-node : goal.invariant-loop-node
+invariant-loop-node l = Grown (IsOfOther l.own.0) l.initial.items.items (take l.node-index l.nodes) l.items.items

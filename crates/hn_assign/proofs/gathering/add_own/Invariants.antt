@@ -1,0 +1,8 @@
+use Rattle.std.proofs.Common.{take}
+use Rattle.hn_assign.specs.declared.assigned.Advertised.{Advertised}
+use Rattle.hn_assign.specs.Gathered.{IsOwn}
+use Rattle.hn_assign.proofs.Grown.{Grown}
+use Rattle.hn_assign.proofs.gathering.add_own.Given as goal
+
+abbrev pub invariant-loop-c : goal.invariant-loop-c
+invariant-loop-c l = Grown (IsOwn l.own.0) l.initial.items.items (take l.c-index l.assigned) l.items.items

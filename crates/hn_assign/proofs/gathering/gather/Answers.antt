@@ -1,0 +1,13 @@
+use Rattle.std.proofs.Common.{◌↔◌, ◌⊎◌, List, Contains, subst}
+use Rattle.hn_data.specs.View.{plain_view}
+use Rattle.hn_assign.specs.declared.assigned.Assigned.{Assigned}
+use Rattle.hn_assign.specs.Gathered.{IsOwn}
+use Rattle.hn_assign.proofs.Gathers.{advertised_all}
+use Rattle.hn_assign.proofs.gathering.gather.Goals as goal
+
+pub returns : goal.returns
+returns c a =
+    let others = c.add_others.new.items.items in
+    let all = c.add_own.new.items.items in
+    advertised_all (plain_view c.args.view.now) c.args.held.now.assigned c.new-items.result.items others all a c.new-items.ensures.items (c.in_ok-add_others.ensures a)
+    (subst (λ (cs : List Assigned). Contains all a ↔ (Contains others a ⊎ ((x : Assigned) × Contains cs x × IsOwn c.args.view.now.own.0 x a))) c.as_slice.ensures.value (c.in_ok-add_own.ensures a))

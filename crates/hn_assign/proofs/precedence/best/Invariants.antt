@@ -1,0 +1,6 @@
+use Rattle.std.proofs.Common.{take}
+use Rattle.hn_assign.specs.Best.{IsBestIfAny}
+use Rattle.hn_assign.proofs.precedence.best.Given as goal
+
+abbrev pub invariant-loop-a : goal.invariant-loop-a
+invariant-loop-a l = IsBestIfAny (take l.a-index l.advertised) l.own.0 l.common l.delegated l.best

@@ -1,0 +1,29 @@
+-- What holds of a router's wishes and assignments at each moment.
+use Rattle.std.specs.Prelude.{◌≡◌, ℕ, ◌≤◌, List, Some, All}
+use Rattle.hn_prefix.specs.Prefix.{IsWithin}
+use Rattle.hn_assign.specs.declared.assigned.Assigned.{Assigned}
+use Rattle.hn_assign.specs.declared.assigned.Wish.{Wish}
+use Rattle.hn_assign.specs.Pair.{IsAscending, wish_pair}
+
+-- a wish is for a delegated prefix of length 64 at most, and for prefixes of a length from 1 to 64
+pub record IsFitting (wish : Wish) : Type 0 where
+  pub delegated : wish.delegated.len ≤ 64
+  pub at_least : 1 ≤ wish.length
+  pub at_most : wish.length ≤ 64
+
+-- the wishes of a router: one for a pair at most, in ascending order
+pub record AreWishes (wishes : List Wish) : Type 0 where
+  pub ascending : IsAscending wish_pair wishes
+  pub fitting : All IsFitting wishes
+
+-- the prefix of an assignment is inside its delegated prefix
+abbrev pub IsInDelegated : Assigned → Type 0
+IsInDelegated c = IsWithin c.prefix c.delegated
+
+-- an assignment was made at this moment or before
+abbrev pub IsPast : ℕ → Assigned → Type 0
+IsPast now c = c.since ≤ now
+
+-- an assignment that is published has priority 2
+abbrev pub HasOwnPriority : Assigned → Type 0
+HasOwnPriority c = (priority : ℕ) → c.published ≡ Some priority → priority ≡ 2

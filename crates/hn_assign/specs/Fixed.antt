@@ -1,0 +1,28 @@
+-- When the assignment subroutine leaves all assignments as they are.
+use Rattle.std.specs.Prelude.{◌≡◌, ◌↔◌, ℕ, false, List, Option, None, Contains, map}
+use Rattle.hn_assign.specs.declared.assigned.Advertised.{Advertised}
+use Rattle.hn_assign.specs.declared.assigned.Assigned.{Assigned}
+use Rattle.hn_assign.specs.declared.assigned.Wish.{Wish}
+use Rattle.hn_assign.specs.declared.backoff.Backoff.{Backoff}
+use Rattle.hn_assign.specs.declared.held.Held.{Held}
+use Rattle.hn_assign.specs.Pair.{assigned_pair, wish_pair, HasAt}
+use Rattle.hn_assign.specs.Rest.{IsAtRest}
+
+-- an assignment apart from its mark of application
+abbrev pub unmarked : Assigned → Assigned
+unmarked c = record c { applied = false }
+
+-- no assignment is made, changed or destroyed; marks of application are no change
+abbrev pub IsUnchanged : List Assigned → List Assigned → Type 0
+IsUnchanged before after = map unmarked after ≡ map unmarked before
+
+-- the backoffs are those of the wished pairs without an assignment, each due at this moment
+abbrev pub AreDue : List Wish → ℕ → Held → Type 0
+AreDue wishes now held = (b : Backoff) → Contains held.backoffs b ↔ ((wish : Wish) × Contains wishes wish
+    × HasAt assigned_pair (wish_pair wish) None held.assigned
+    × (b ≡ record { delegated = wish.delegated; endpoint = wish.endpoint; due = now }))
+
+-- each wished pair, with the assignment that it has, is at rest
+abbrev pub AreAtRest : List Advertised → ℕ → List Wish → List Assigned → Type 0
+AreAtRest advertised own wishes assigned = (wish : Wish) → Contains wishes wish
+    → (c : Option Assigned) → HasAt assigned_pair (wish_pair wish) c assigned → IsAtRest advertised own wish c

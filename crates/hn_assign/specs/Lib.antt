@@ -1,0 +1,14 @@
+pub mod Advertised
+pub mod Best
+pub mod Facts
+pub mod Fixed
+pub mod Gathered
+pub mod Lines
+pub mod Marks
+pub mod Pair
+pub mod Rest
+pub mod Scene
+pub mod Slot
+pub mod Step
+pub mod Subroutine
+pub mod Unassigned

@@ -1,0 +1,62 @@
+//! Laws of the assignment subroutine (RFC 7695, section 4.1).
+//!
+//! Each is the contract of a function that does nothing: call it to know its law.
+
+ghost use Rattle.std.specs.Prelude.{◌≡◌, ◌≤◌, ◌↔◌, ℕ, List, Some, All};
+ghost use Rattle.hn_io.specs.Words.{Begins};
+ghost use Rattle.hn_data.specs.View.{PlainView};
+ghost use Rattle.hn_assign.specs.declared.assigned.Advertised.{Advertised};
+ghost use Rattle.hn_assign.specs.declared.assigned.Assigned.{Assigned};
+ghost use Rattle.hn_assign.specs.declared.assigned.Wish.{Wish};
+ghost use Rattle.hn_assign.specs.declared.held.Held.{Held};
+ghost use Rattle.hn_assign.specs.declared.held.Ran.{Ran};
+ghost use Rattle.hn_assign.specs.Facts.{IsInDelegated, IsPast, HasOwnPriority};
+ghost use Rattle.hn_assign.specs.Fixed.{IsUnchanged, AreDue, AreAtRest};
+ghost use Rattle.hn_assign.specs.Gathered.{AreAdvertised};
+ghost use Rattle.hn_assign.specs.Pair.{IsAscending, IsWished, assigned_pair, backoff_pair, wish_pair};
+ghost use Rattle.hn_assign.specs.Subroutine.{IsSubroutine};
+
+/// What the subroutine keeps of each assignment: its prefix is inside its delegated prefix; it was made at the moment
+/// of the view or before; where it is published, its priority is 2.
+pub fn subroutine_keeps()
+    ensures inside { (view : PlainView) (wishes : List Wish) (held : Held) (ran : Ran) → IsSubroutine view wishes held ran
+        → All IsInDelegated held.assigned → All IsInDelegated ran.held.assigned }
+    ensures past { (view : PlainView) (wishes : List Wish) (held : Held) (ran : Ran) → IsSubroutine view wishes held ran
+        → All (IsPast view.now) held.assigned → All (IsPast view.now) ran.held.assigned }
+    ensures priority { (view : PlainView) (wishes : List Wish) (held : Held) (ran : Ran) → IsSubroutine view wishes held ran
+        → All HasOwnPriority held.assigned → All HasOwnPriority ran.held.assigned }
+{}
+
+/// What the subroutine leaves: both lists strictly ascend by delegated prefix and endpoint, and have nothing for a pair
+/// without a wish.
+pub fn subroutine_leaves()
+    ensures assigned { (view : PlainView) (wishes : List Wish) (held : Held) (ran : Ran) → IsSubroutine view wishes held ran
+        → IsAscending assigned_pair ran.held.assigned }
+    ensures backoffs { (view : PlainView) (wishes : List Wish) (held : Held) (ran : Ran) → IsSubroutine view wishes held ran
+        → IsAscending backoff_pair ran.held.backoffs }
+    ensures wished { (view : PlainView) (wishes : List Wish) (held : Held) (ran : Ran) → IsSubroutine view wishes held ran
+        → All (λ c. IsWished wishes (assigned_pair c)) ran.held.assigned }
+    ensures awaited { (view : PlainView) (wishes : List Wish) (held : Held) (ran : Ran) → IsSubroutine view wishes held ran
+        → All (λ b. IsWished wishes (backoff_pair b)) ran.held.backoffs }
+{}
+
+/// The subroutine has at most one result: that of one view, wishes, held and stream of words.
+pub fn subroutine_has_one_result()
+    ensures { (view : PlainView) (wishes : List Wish) (held : Held) (a b : Ran) (stream : ℕ → ℕ)
+        → IsSubroutine view wishes held a → IsSubroutine view wishes held b
+        → Begins a.words stream → Begins b.words stream → a ≡ b }
+{}
+
+/// The subroutine leaves all assignments as they are, marks of application aside, if and only if each pair is at rest.
+///
+/// So it is where all assignments are of wished pairs, and the backoffs are those of the wished pairs without an
+/// assignment, due at the moment of the view; whatever the words are.
+pub fn rest_is_unchanged()
+    ensures { (view : PlainView) (wishes : List Wish) (held : Held) (ran : Ran) (advertised : List Advertised)
+        → IsAscending wish_pair wishes → IsAscending assigned_pair held.assigned
+        → All (λ c. IsWished wishes (assigned_pair c)) held.assigned
+        → AreDue wishes view.now held
+        → AreAdvertised view held.assigned advertised
+        → IsSubroutine view wishes held ran
+        → IsUnchanged held.assigned ran.held.assigned ↔ AreAtRest advertised view.own wishes held.assigned }
+{}

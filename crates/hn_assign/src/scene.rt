@@ -1,0 +1,68 @@
+ghost use Rattle.std.specs.Prelude.{◌≡◌, ◌≤◌, ◌↔◌, IsTrue, IfSome, IfNone};
+ghost use Rattle.hn_assign.specs.Scene.{plain_scene, IsBestFor, IsValidFor, IsFreeFor, HasNoFreeFor, IsFirstFreeFor, new_assigned};
+
+use crate::assigned::{Advertised, Assigned, Wish};
+use crate::known::Known;
+use crate::precedence::{best, valid};
+use hn_base::{Moment, NodeId};
+use hn_prefix::Prefix;
+
+/// What a pair is judged by: the router and the moment, the wish for the pair, and the advertised prefixes.
+#[derive(Clone, Copy, Debug)]
+pub struct Scene<'a> {
+    pub own: NodeId,
+    pub now: Moment,
+    pub wish: &'a Wish,
+    pub known: &'a Known,
+}
+
+impl Scene<'_> {
+    /// The best prefix for the pair.
+    pub(crate) fn best(&self) -> Option<Advertised>
+        ensures { IsBestFor (plain_scene self.entry.now) result }
+    {
+        best(
+            self.known.as_slice(),
+            self.own,
+            self.wish.common.as_slice(),
+            &self.wish.delegated,
+        )
+    }
+
+    /// Whether an assignment of the pair is valid.
+    pub(crate) fn is_valid(&self, c: &Assigned) -> bool
+        ensures { IsTrue result ↔ IsValidFor (plain_scene self.entry.now) c.now }
+    {
+        valid(
+            self.known.as_slice(),
+            self.own,
+            self.wish.common.as_slice(),
+            c,
+        )
+    }
+
+    /// The first free prefix for the pair, in cyclic order from a place.
+    pub(crate) fn first_free(&self, start: u32) -> Option<Prefix>
+        requires { self.now.wish.now.length ≤ 64 }
+        ensures first { IfSome result (IsFirstFreeFor (plain_scene self.entry.now) start) }
+        ensures free { IfSome result (IsFreeFor (plain_scene self.entry.now)) }
+        ensures none { IfNone result (HasNoFreeFor (plain_scene self.entry.now)) }
+    {
+        self.known
+            .first_free(&self.wish.delegated, start, self.wish.length)
+    }
+
+    /// An assignment of the pair, from now on.
+    pub(crate) fn assignment(&self, prefix: Prefix, published: Option<u8>) -> Assigned
+        ensures { result ≡ new_assigned (plain_scene self.entry.now) prefix published }
+    {
+        Assigned {
+            delegated: self.wish.delegated,
+            endpoint: self.wish.endpoint,
+            prefix,
+            published,
+            since: self.now,
+            applied: false,
+        }
+    }
+}

@@ -1,0 +1,58 @@
+ghost use Rattle.std.specs.Prelude.{◌≡◌, ◌^◌, ◌≤◌, ◌++◌, false, IfOk, OnOk};
+ghost use Rattle.std.specs.Option.{option_to_list};
+ghost use Rattle.hn_data.specs.View.{plain_view};
+ghost use Rattle.hn_assign.specs.Gathered.{AreAdvertised};
+ghost use Rattle.hn_assign.specs.Step.{IsStep, StepTook};
+
+use crate::assigned::Wish;
+use crate::held::Ran;
+use crate::known::Known;
+use crate::pair::Paired;
+use crate::scene::Scene;
+use hn_base::{NoMemory, Words};
+use hn_data::View;
+use hn_io::Draw;
+
+impl Ran {
+    /// The turn of a pair: whether it changed an assignment.
+    pub(crate) fn step<'a, D: Draw>(
+        &mut self,
+        view: &View<'_>,
+        known: &'a Known,
+        wish: &'a Wish,
+        draw: &mut D,
+    ) -> Result<bool, NoMemory>
+        requires known { AreAdvertised (plain_view view.now) self.old.held.assigned known.now }
+        requires length { wish.now.length ≤ 64 }
+        requires moment { view.now.now ≤ 2 ^ 48 }
+        ensures step { IfOk result (λ _. StepTook (plain_view view.entry.now) wish.now (D.words draw.old) (D.words draw.new) self.old self.new) }
+        ensures unchanged { IfOk result (λ changed. changed ≡ false → self.new.held.assigned ≡ self.old.held.assigned) }
+    {
+        let pair = wish.pair();
+        let before = self.held.slot(&pair);
+        let scene = Scene {
+            own: view.own,
+            now: view.now,
+            wish,
+            known,
+        };
+        let turn = scene.turn(&before, draw);
+        add(&mut self.words, turn.word)?;
+        self.held
+            .backoffs
+            .change(&pair, &before.backoff, &turn.slot.backoff)?;
+        self.held
+            .assigned
+            .change(&pair, &before.assigned, &turn.slot.assigned)
+    }
+}
+
+/// Adds a word, where there is one.
+fn add(words: &mut Words, word: Option<u32>) -> Result<(), NoMemory>
+    ensures { OnOk result (words.new ≡ words.old ++ option_to_list word) }
+{
+    match word {
+        None => Ok(()),
+        Some(word) => words.push(word),
+    }
+}

@@ -1,0 +1,87 @@
+ghost use Rattle.std.specs.Prelude.{◌^◌, ◌≤◌, All, IfOk};
+ghost use Rattle.hn_io.specs.Words.{Took};
+ghost use Rattle.hn_data.specs.View.{plain_view, IsNetwork};
+ghost use Rattle.hn_assign.specs.Facts.{AreWishes, IsInDelegated, IsPast, HasOwnPriority};
+ghost use Rattle.hn_assign.specs.Pair.{IsAscending, assigned_pair, backoff_pair, wish_pair};
+ghost use Rattle.hn_assign.specs.Subroutine.{IsBegun, IsSubroutine};
+
+use crate::assigned::Wish;
+use crate::held::{Held, Ran};
+use crate::known::Known;
+use crate::wishes::Wishes;
+use hn_base::{NoMemory, Words};
+use hn_data::View;
+use hn_io::Draw;
+use std::alloc::Global;
+
+/// The assignment subroutine for all pairs of a used delegated prefix and an attached endpoint, one wish for each
+/// (RFC 7695, section 4.1), at the moment of the view.
+///
+/// First the assignments and backoffs of other pairs are destroyed. Then each pair has its turn, in ascending order by
+/// delegated prefix and endpoint, and sees what those before it changed. Last, assignments that were kept for 10,000 ms
+/// are marked applied (RFC 7695, section 4.3). One word of the draw is taken for each backoff that is set and one for
+/// each assignment that is made, in order.
+pub fn subroutine<D: Draw>(
+    alloc: Global,
+    view: &View<'_>,
+    wishes: &Wishes,
+    held: &Held,
+    draw: &mut D,
+) -> Result<Ran, NoMemory>
+    requires network { IsNetwork view.now.own.0 view.now.nodes.now }
+    requires moment { view.now.now ≤ 2 ^ 48 }
+    requires inside { All IsInDelegated held.now.assigned }
+    requires past { All (IsPast view.now.now) held.now.assigned }
+    ensures subroutine { IfOk result (IsSubroutine (plain_view view.entry.now) wishes.now held.now) }
+    ensures drew { IfOk result (λ ran. Took (D.words draw.old) ran.words (D.words draw.new)) }
+
+    // So what holds of each assignment still holds, and the lists are in order.
+    ensures ascending { IfOk result (λ ran. IsAscending assigned_pair ran.held.assigned
+        × IsAscending backoff_pair ran.held.backoffs) }
+    ensures inside { IfOk result (λ ran. All IsInDelegated ran.held.assigned) }
+    ensures past { IfOk result (λ ran. All (IsPast view.entry.now.now) ran.held.assigned) }
+    ensures priority { All HasOwnPriority held.now.assigned → IfOk result (λ ran. All HasOwnPriority ran.held.assigned) }
+{
+    let ran = run(alloc, view, wishes.as_slice(), held, draw)?;
+    Ok(ran)
+}
+
+/// The subroutine, with the wishes as a slice.
+fn run<D: Draw>(
+    alloc: Global,
+    view: &View<'_>,
+    wishes: &[Wish],
+    held: &Held,
+    draw: &mut D,
+) -> Result<Ran, NoMemory>
+    requires network { IsNetwork view.now.own.0 view.now.nodes.now }
+    requires moment { view.now.now ≤ 2 ^ 48 }
+    requires wishes { AreWishes wishes.now }
+    ensures subroutine { IfOk result (IsSubroutine (plain_view view.entry.now) wishes.now held.now) }
+    ensures drew { IfOk result (λ ran. Took (D.words draw.old) ran.words (D.words draw.new)) }
+{
+    let mut ran = begin(alloc, wishes, held)?;
+    let mut known = Known::gather(alloc, view, &ran.held)?;
+    for wish in wishes {
+        if ran.step(view, &known, wish, draw)? {
+            known = Known::gather(alloc, view, &ran.held)?;
+        }
+    }
+    ran.held.assigned.mark(view.now);
+    Ok(ran)
+}
+
+/// Where the subroutine begins.
+fn begin(alloc: Global, wishes: &[Wish], held: &Held) -> Result<Ran, NoMemory>
+    requires { IsAscending wish_pair wishes.now }
+    ensures { IfOk result (IsBegun wishes.now held.now) }
+{
+    let held = Held {
+        assigned: held.assigned.wished(alloc, wishes)?,
+        backoffs: held.backoffs.wished(alloc, wishes)?,
+    };
+    Ok(Ran {
+        held,
+        words: Words::new(alloc),
+    })
+}

@@ -1,0 +1,12 @@
+pub mod Endpoints
+pub mod Greatest
+pub mod HomeTests
+pub mod Links
+pub mod Members
+pub mod Orders
+pub mod Publishers
+pub mod RestTests
+pub mod Tests
+pub mod Unsound
+pub mod Views
+pub mod WrittenLemmas

@@ -1,0 +1,5 @@
+use Rattle.hn_sound.proofs.Links.{sound}
+use Rattle.hn_sound.proofs.laws.home_at_rest_is_sound.Goals as goal
+
+pub returns : goal.returns
+returns c = sound

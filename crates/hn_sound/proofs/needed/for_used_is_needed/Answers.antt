@@ -1,0 +1,19 @@
+use Rattle.std.proofs.Common.{refl, arith, None}
+use Rattle.hn_sound.specs.Homes.{not_used, first, second}
+use Rattle.hn_sound.specs.Premises.Premise.{ForUsed}
+use Rattle.hn_sound.specs.Written.{delegated, subnet}
+use Rattle.hn_sound.proofs.HomeTests.{home_but_from, each_pair_from}
+use Rattle.hn_sound.proofs.RestTests.{is_at_rest, at_rest_from}
+use Rattle.hn_sound.proofs.Unsound.{no_lonely}
+use Rattle.hn_sound.proofs.WrittenLemmas.{has_it, has_none}
+use Rattle.hn_sound.proofs.needed.for_used_is_needed.Goals as goal
+
+pub returns : goal.returns
+returns c = record {
+  all_other = home_but_from ForUsed not_used refl;
+  at_rest = each_pair_from _ is_at_rest at_rest_from not_used refl;
+  not_sound = λ sound.
+      let found = no_lonely not_used sound delegated (0, omega arith, refl) second first _
+      (has_it not_used second delegated (subnet 0) (1, omega arith, refl) None (1, omega arith, refl)) (0, omega arith, refl) refl in
+      has_none not_used first delegated found.0 refl found.1;
+}

@@ -1,0 +1,19 @@
+use Rattle.std.proofs.Common.{refl, arith}
+use Rattle.hn_sound.specs.Homes.{two_publishers, first, second}
+use Rattle.hn_sound.specs.Conditions.Condition.{GreaterKey}
+use Rattle.hn_sound.specs.Written.{delegated, subnet}
+use Rattle.hn_sound.proofs.HomeTests.{home_from, each_pair_from}
+use Rattle.hn_sound.proofs.RestTests.{is_at_rest_but, at_rest_but_from}
+use Rattle.hn_sound.proofs.Unsound.{one_published}
+use Rattle.hn_sound.proofs.WrittenLemmas.{publishes_it, two_routers}
+use Rattle.hn_sound.proofs.needed.greater_key_is_needed.Goals as goal
+
+pub returns : goal.returns
+returns c = record {
+  is_home = home_from two_publishers refl;
+  at_rest_but = each_pair_from _ (is_at_rest_but GreaterKey) (at_rest_but_from GreaterKey) two_publishers refl;
+  not_sound = λ sound.
+      two_routers (one_published two_publishers sound delegated (0, omega arith, refl) first second _ _ 2 2
+      (publishes_it two_publishers first delegated (subnet 0) (0, omega arith, refl) 2 (0, omega arith, refl))
+      (publishes_it two_publishers second delegated (subnet 1) (1, omega arith, refl) 2 (1, omega arith, refl)) refl).0;
+}

@@ -1,0 +1,27 @@
+-- A home at rest: no router would make, change or destroy an assignment.
+use Rattle.std.specs.Prelude.{ℕ, List, Option, Some, None, Contains}
+use Rattle.hn_prefix.specs.Prefix.{PlainPrefix}
+use Rattle.hn_assign.specs.declared.assigned.Advertised.{Advertised}
+use Rattle.hn_assign.specs.declared.assigned.Assigned.{Assigned}
+use Rattle.hn_assign.specs.declared.assigned.Wish.{Wish}
+use Rattle.hn_assign.specs.Rest.{IsAtRest}
+use Rattle.hn_sound.specs.Home.{Home, Endpoint, HasAssignment, advertised, wish_of}
+
+-- the assignment of an endpoint for a used prefix, if it has one
+abbrev pub IsAssignmentOf : Home → Endpoint → PlainPrefix → Option Assigned → Type 0
+IsAssignmentOf home e d None = (c : Assigned) → ¬ HasAssignment home e d c
+IsAssignmentOf home e d (Some c) = HasAssignment home e d c
+
+-- a fact of a pair, as its router sees the home: the advertised prefixes, the identifier of the router, the wish, and
+-- the assignment of the pair, if it has one
+abbrev pub PairFact : Type 1
+PairFact = List Advertised → ℕ → Wish → Option Assigned → Type 0
+
+-- the fact holds of each pair of an endpoint and a used prefix
+abbrev pub EachPair : PairFact → Home → Type 0
+EachPair P home =
+    (e : Endpoint) (d : PlainPrefix) → Contains home.endpoints e → Contains home.used d
+    → (c : Option Assigned) × IsAssignmentOf home e d c × P (advertised home) e.node.0 (wish_of home e d) c
+
+abbrev pub IsHomeAtRest : Home → Type 0
+IsHomeAtRest home = EachPair IsAtRest home

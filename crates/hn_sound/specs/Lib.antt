@@ -1,0 +1,10 @@
+pub mod AtRest
+pub mod Conditions
+pub mod Home
+pub mod Homes
+pub mod Members
+pub mod Needed
+pub mod Premises
+pub mod Sound
+pub mod Worked
+pub mod Written

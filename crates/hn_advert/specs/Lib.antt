@@ -1,0 +1,4 @@
+pub mod Layout
+pub mod Advert
+pub mod Fault
+pub mod Reading

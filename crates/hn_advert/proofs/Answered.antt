@@ -1,5 +1,6 @@
 -- Which answers are those of bytes with a fault.
-use Rattle.std.proofs.Common.{◌≡◌, ℕ, ◌↔◌, List, Result, Ok, Err, refl, subst}
+use Rattle.std.proofs.Common.{◌≡◌, ℕ, ◌↔◌, List, Result, Ok, Err, refl}
+use Rattle.hn_base.proofs.Results.{tells_fault, tells_none}
 use Rattle.hn_advert.specs.declared.advert.Advert.{Advert}
 use Rattle.hn_advert.specs.declared.fault.RaFault.{RaFault}
 use Rattle.hn_advert.specs.declared.fault.ReadFault.{ReadFault}
@@ -11,28 +12,28 @@ use Rattle.hn_advert.proofs.Unique.{no_advert, same_fault}
 abbrev Answer : Type 0
 Answer = Result Advert ReadFault
 
+abbrev IsIts : List ℕ → RaFault → Type 0
+IsIts bytes fault = AdvertFault bytes fault.place fault.why
+
 -- the answer is a fault if and only if the bytes have it
 abbrev pub IsFaultExactly : List ℕ → Answer → Type 0
 IsFaultExactly bytes answer = (place why : ℕ) → (answer ≡ Err (Ra (record { place = place; why = why }))) ↔ AdvertFault bytes place why
 
-refuses : RaFault → Answer
-refuses fault = Err (Ra fault)
+told_apart : (fault other : RaFault) → Ra fault ≡ Ra other → fault ≡ other
+told_apart fault other e = cc
 
-same_refusal : (f g : RaFault) → refuses f ≡ refuses g → f ≡ g
-unfolding refuses
-same_refusal f g e = cc
+one_fault : (bytes : List ℕ) (fault other : RaFault) → IsIts bytes fault → IsIts bytes other → fault ≡ other
+one_fault bytes fault other f g = let same = same_fault bytes fault.place other.place fault.why other.why f g in λ i. record { place = same.0 i; why = same.1 i }
 
 pub fault_is_answered : (bytes : List ℕ) (fault : RaFault) → AdvertFault bytes fault.place fault.why → IsFaultExactly bytes (Err (Ra fault))
-unfolding refuses
-fault_is_answered bytes fault f place why = (
-  λ e. subst (λ (g : RaFault). AdvertFault bytes g.place g.why) (same_refusal fault (record { place = place; why = why }) e) f,
-  λ g.
-      let same = same_fault bytes fault.place place fault.why why f g in
-      rw (same.0, same.1) refl,
-)
+fault_is_answered bytes fault f place why = tells_fault Ra (IsIts bytes) told_apart (one_fault bytes) (Err (Ra fault)) fault refl f (record { place = place; why = why })
+
+-- any other answer, to bytes that are an advertisement
+other_is_answered : (bytes : List ℕ) (advert : Advert) (answer : Answer) → IsAdvert bytes advert → ((fault : RaFault) → ¬ (answer ≡ Err (Ra fault))) → IsFaultExactly bytes answer
+other_is_answered bytes advert answer is untold place why = tells_none Ra (IsIts bytes) answer untold (λ fault f. no_advert bytes fault.place fault.why advert f is) (record { place = place; why = why })
 
 pub advert_is_answered : (bytes : List ℕ) (advert : Advert) → IsAdvert bytes advert → IsFaultExactly bytes (Ok advert)
-advert_is_answered bytes advert is place why = (λ e. absurd cc, λ f. absurd (no_advert bytes place why advert f is))
+advert_is_answered bytes advert is = other_is_answered bytes advert (Ok advert) is (λ fault e. cc)
 
 pub memory_is_answered : (bytes : List ℕ) (advert : Advert) → IsAdvert bytes advert → IsFaultExactly bytes (Err NoMemory)
-memory_is_answered bytes advert is place why = (λ e. absurd cc, λ f. absurd (no_advert bytes place why advert f is))
+memory_is_answered bytes advert is = other_is_answered bytes advert (Err NoMemory) is (λ fault e. cc)

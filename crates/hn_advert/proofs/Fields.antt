@@ -15,7 +15,7 @@ use Rattle.hn_advert.specs.Reading.{HasFlags, HasHeaderFirst, HasOptionFirst}
 abbrev pub AreOctets : List ℕ → Type 0
 AreOctets bytes = (i : ℕ) → get_or bytes i 0 < 256
 
-octets : (bs : List ℕ) → Bytes bs → AreOctets bs
+pub octets : (bs : List ℕ) → Bytes bs → AreOctets bs
 octets [] h i = omega arith
 octets (b ∷ bs) h zero = h.0
 octets (b ∷ bs) h (suc i) = octets bs h.1 i

@@ -1,9 +1,10 @@
 -- A message that is read piece by piece: its header, and option after option.
-use Rattle.std.proofs.Common.{◌≡◌, ℕ, ◌+◌, ◌-◌, List, [], ◌∷◌, ◌++◌, length, Option, Some, None, option_to_list, refl, sym, ap, ◌∙◌, append_assoc, arith}
-use Rattle.std.specs.List.{AllByRecursion, filter_map, cons_option}
+use Rattle.std.proofs.Common.{◌≡◌, ℕ, ◌+◌, ◌-◌, List, [], ◌∷◌, ◌++◌, length, Option, option_to_list, refl, sym, ap, ◌∙◌, append_assoc, arith}
+use Rattle.std.specs.List.{filter_map, cons_option}
 use Rattle.std.proofs.lemmas.Grind.{flat_map-append}
 use Rattle.std.proofs.lemmas.List.{append-nil, length-append}
-use Rattle.std.proofs.lemmas.List.Elements.{filter_map-append}
+use Rattle.hn_base.proofs.Parts.{filter_map-push}
+use Rattle.hn_base.proofs.Recursions.{AllByRecursion-append}
 use Rattle.hn_advert.specs.declared.advert.Info.{Info}
 use Rattle.hn_advert.specs.declared.advert.Advert.{Advert}
 use Rattle.hn_advert.specs.declared.header.Fixed.{Fixed}
@@ -69,20 +70,12 @@ pub record IsReadTo (bytes rest : List ℕ) (infos : List Info) : Type 0 where
   pub parts : bytes ≡ options_bytes options ++ rest
   pub infos_are : filter_map info_of options ≡ infos
 
-pub all_append : {X : Type 0} (P : X → Type 0) (xs ys : List X) → AllByRecursion P xs → AllByRecursion P ys → AllByRecursion P (xs ++ ys)
-all_append P [] ys f g = g
-all_append P (x ∷ xs) ys f g = (f.0, all_append P xs ys f.1 g)
-
-one_info : (info : Option Info) → cons_option info [] ≡ option_to_list info
-one_info None = refl
-one_info (Some info) = refl
-
 pub reads_more : (bytes rest after : List ℕ) (infos : List Info) (info : Option Info) → IsReadTo bytes rest infos → HasOptionFirst rest info after → IsReadTo bytes after (infos ++ option_to_list info)
 reads_more bytes rest after infos info read b = record {
   options = read.options ++ b.option ∷ [];
-  fit = all_append IsNdOption read.options (b.option ∷ []) read.fit (b.fits, tt);
+  fit = AllByRecursion-append IsNdOption read.options (b.option ∷ []) read.fit (b.fits, tt);
   parts = rw (flat_map-append option_bytes read.options (b.option ∷ []), append-nil (option_bytes b.option), append_assoc (options_bytes read.options) (option_bytes b.option) after) (read.parts ∙ ap (λ (z : List ℕ). options_bytes read.options ++ z) b.parts);
-  infos_are = rw (filter_map-append info_of read.options (b.option ∷ []), read.infos_are, b.info_is, one_info info) refl;
+  infos_are = rw (filter_map-push info_of read.options b.option, read.infos_are, b.info_is) refl;
 }
 
 pub reads_all : (bytes rest : List ℕ) (infos : List Info) → IsReadTo bytes rest infos → rest ≡ [] → HasInfos bytes infos

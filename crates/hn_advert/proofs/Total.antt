@@ -3,7 +3,8 @@ use Rattle.std.proofs.Common.{◌≡◌, ℕ, zero, suc, ◌+◌, ◌*◌, ◌^�
 use Rattle.std.specs.Int.{w128, from_be_bytes}
 use Rattle.std.specs.List.{cons_option}
 use Rattle.std.proofs.lemmas.Bool.{cases_lt, cases_eq}
-use Rattle.std.proofs.lemmas.List.{get_or-take, get_or-append-add, get_or_past, length-append}
+use Rattle.std.proofs.lemmas.List.{get_or-take, get_or-append-add, length-append}
+use Rattle.std.proofs.lemmas.List.Elements.{recursion_from_All}
 use Rattle.hn_advert.specs.declared.advert.Info.{Info}
 use Rattle.hn_advert.specs.declared.advert.Advert.{Advert}
 use Rattle.hn_advert.specs.declared.header.Fixed.{Fixed}
@@ -11,7 +12,7 @@ use Rattle.hn_advert.specs.Layout.{NdOption, PrefixOption, OtherOption, option_b
 use Rattle.hn_advert.specs.Advert.{IsAdvert}
 use Rattle.hn_advert.specs.Fault.{units_of, HasWholeOption, IsOptionFault, IsFirstOptionFault, AdvertFault}
 use Rattle.hn_advert.specs.Reading.{HasHeaderFirst, HasOptionFirst, HasInfos}
-use Rattle.hn_advert.proofs.Fields.{AreOctets, octets_front, octets_after, flags_in, header_begins, prefix_begins, other_begins, fixed_in}
+use Rattle.hn_advert.proofs.Fields.{AreOctets, octets, octets_front, octets_after, flags_in, header_begins, prefix_begins, other_begins, fixed_in}
 use Rattle.hn_advert.proofs.Steps.{advert_of_parts, has_fault, infos_cons, fault_cons}
 
 -- ---- one option
@@ -120,13 +121,6 @@ total_message bytes fits long kind code =
     let flags = flags_in byte (octets_front bytes fs 16 fits refl 5) in
     total_header bytes rest (fixed_in fs (not (eqb (bit_and byte 128) 0)) (not (eqb (bit_and byte 64) 0))) (header_begins bytes fs rest _ _ fits long fs_kind fs_code refl refl flags) (total_options (length rest) rest (omega arith) (octets_after bytes rest 16 fits refl))
 
-octets_of : (bytes : List ℕ) → All (λ byte. byte < 2 ^ 8) bytes → AreOctets bytes
-octets_of bytes all i =
-    elim (cases_lt i (length bytes)) [
-      | inl here ↦ all i 0 here
-      | inr past ↦ rw (get_or_past bytes i 0 past) (omega arith)
-    ]
-
 pub advert_or_fault : (bytes : List ℕ) → All (λ byte. byte < 2 ^ 8) bytes → ((advert : Advert) × IsAdvert bytes advert) ⊎ ((place why : ℕ) × AdvertFault bytes place why)
 advert_or_fault bytes all =
     elim (cases_lt (length bytes) 16) [
@@ -135,7 +129,7 @@ advert_or_fault bytes all =
           elim (cases_eq (get_or bytes 0 0) 134) [
             | inl kind ↦
                 elim (cases_eq (get_or bytes 1 0) 0) [
-                  | inl code ↦ total_message bytes (octets_of bytes all) long kind code
+                  | inl code ↦ total_message bytes (octets bytes (recursion_from_All (λ byte. byte < 2 ^ 8) bytes all)) long kind code
                   | inr other ↦ inr (1, 3, inl (inr (inr (refl, (long, kind, other, refl)))))
                 ]
             | inr other ↦ inr (0, 2, inl (inr (inl (refl, (long, other, refl)))))

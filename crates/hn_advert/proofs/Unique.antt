@@ -1,8 +1,9 @@
 -- What the one outcome says of two readings of the same bytes.
 use Rattle.std.proofs.Common.{◌≡◌, ℕ, ◌+◌, ◌^◌, ◌<◌, Bool, true, false, List, [], ◌∷◌, ◌++◌, length, get_or, refl, sym, ap, subst, ◌∙◌, append_assoc, arith, inl, inr}
-use Rattle.std.specs.Int.{w16, w32, to_be_bytes, from_be_bytes}
+use Rattle.std.specs.Int.{w16, to_be_bytes, from_be_bytes}
 use Rattle.std.proofs.lemmas.List.{length-append}
-use Rattle.std.proofs.lemmas.Nat.{from_be_bytes-to_be_bytes_2, from_be_bytes-to_be_bytes_4}
+use Rattle.std.proofs.lemmas.Nat.{from_be_bytes-to_be_bytes_2}
+use Rattle.hn_base.proofs.BigEndian.{same_words}
 use Rattle.hn_advert.specs.declared.advert.Advert.{Advert}
 use Rattle.hn_advert.specs.Layout.{Header, IsHeader, flags_byte, header_bytes, NdOption, IsNdOption, option_bytes}
 use Rattle.hn_advert.specs.Advert.{AreOptions, options_bytes, IsAdvert}
@@ -85,9 +86,6 @@ no_first_fault bytes place why h f = no_options_then_fault f.options h.options f
 same_two : (m n : ℕ) → m < 2 ^ 16 → n < 2 ^ 16 → to_be_bytes w16 m ≡ to_be_bytes w16 n → m ≡ n
 same_two m n p q e = sym (from_be_bytes-to_be_bytes_2 m p) ∙ ap (from_be_bytes w16) e ∙ from_be_bytes-to_be_bytes_2 n q
 
-same_four : (m n : ℕ) → m < 2 ^ 32 → n < 2 ^ 32 → to_be_bytes w32 m ≡ to_be_bytes w32 n → m ≡ n
-same_four m n p q e = sym (from_be_bytes-to_be_bytes_4 m p) ∙ ap (from_be_bytes w32) e ∙ from_be_bytes-to_be_bytes_4 n q
-
 same_flags : (m o n p : Bool) (r s : ℕ) → r < 2 ^ 6 → s < 2 ^ 6 → flags_byte m o r ≡ flags_byte n p s → (m ≡ n) × (o ≡ p) × (r ≡ s)
 same_flags true true true true r s few some e = (refl, refl, omega arith)
 same_flags true true true false r s few some e = absurd (omega arith)
@@ -112,8 +110,8 @@ same_header h k x y f g e =
     let hop_limit : h.hop_limit ≡ k.hop_limit = cc in
     let flags = same_flags h.managed h.other k.managed k.other h.reserved k.reserved f.reserved g.reserved cc in
     let lifetime = same_two h.lifetime k.lifetime f.lifetime g.lifetime cc in
-    let reachable = same_four h.reachable_time k.reachable_time f.reachable_time g.reachable_time cc in
-    let retrans = same_four h.retrans_timer k.retrans_timer f.retrans_timer g.retrans_timer cc in
+    let reachable = same_words h.reachable_time k.reachable_time f.reachable_time g.reachable_time cc in
+    let retrans = same_words h.retrans_timer k.retrans_timer f.retrans_timer g.retrans_timer cc in
     let all : h ≡ k = λ i. record {
       checksum = checksum i;
       hop_limit = hop_limit i;

@@ -4,11 +4,11 @@ use Rattle.std.specs.List.{AllByRecursion, filter_map, cons_option}
 use Rattle.std.proofs.lemmas.List.{flat_map_more, map_push, take_more, take_all}
 use Rattle.std.proofs.Math.Nat.{mod-add-div'}
 use Rattle.hn_prefix.specs.Prefix.{PlainPrefix, IsPrefix, prefix_containing}
+use Rattle.hn_base.proofs.Recursions.{AllByRecursion-append}
 use Rattle.hn_advert.specs.declared.advert.Info.{Info}
 use Rattle.hn_advert.specs.declared.advert.Advert.{Advert}
 use Rattle.hn_advert.specs.Layout.{NdOption, IsHeader, IsNdOption, header_bytes, option_bytes}
 use Rattle.hn_advert.specs.Advert.{info_of, AreOptions, options_bytes, IsAdvert, header_of, option_of, advert_bytes, IsInfo, IsInRange}
-use Rattle.hn_advert.proofs.Steps.{all_append}
 
 header_fits : (a : Advert) → a.lifetime < 2 ^ 16 → IsHeader (header_of a)
 header_fits a fits = record {
@@ -69,7 +69,7 @@ writes_more out new a count i so_far here is fit more =
     let next : take (count + 1) a.infos ≡ take count a.infos ++ i ∷ [] = take_more a.infos count i here ∙ ap (λ (j : Info). take count a.infos ++ j ∷ []) (sym is) in
     record {
       written = more ∙ ap (λ (z : List ℕ). z ++ option_bytes (option_of i)) so_far.written ∙ flat_map_more option_bytes (header_bytes (header_of a)) (map option_of (take count a.infos)) (option_of i) ∙ ap (λ (os : List NdOption). header_bytes (header_of a) ++ options_bytes os) (sym (ap (map option_of) next ∙ map_push option_of (take count a.infos) i));
-      in_range = rw next (all_append IsInfo (take count a.infos) (i ∷ []) so_far.in_range (fit, tt));
+      in_range = rw next (AllByRecursion-append IsInfo (take count a.infos) (i ∷ []) so_far.in_range (fit, tt));
     }
 
 pub all_written : (out : List ℕ) (a : Advert) (count : ℕ) → IsWrittenTo out a count → length a.infos ≤ count → a.lifetime < 2 ^ 16 → (out ≡ advert_bytes a) × IsAdvert out a

@@ -1,16 +1,14 @@
 -- What lists that ascend by pairs have for a pair.
-use Rattle.std.proofs.Common.{◌≡◌, ◌∙◌, ◌↔◌, ◌⊎◌, ℕ, List, [], ◌∷◌, Contains, Option, None, Some, Ordering, refl, sym, ap, subst, inl, inr, ⊎_elim}
+use Rattle.std.proofs.Common.{◌≡◌, ◌∙◌, ◌↔◌, ◌⊎◌, List, [], ◌∷◌, Contains, Option, None, Some, Ordering, refl, sym, ap, subst, inl, inr, ⊎_elim}
 use Rattle.std.specs.declared.cmp.Ordering.TheVariants.{Less, Equal, Greater}
 use Rattle.std.specs.Ordering.{on, ordering_reverse}
-use Rattle.std.proofs.lemmas.Cmp.{tied_itself, on_total}
+use Rattle.std.proofs.lemmas.Cmp.{on_total}
 use Rattle.std.proofs.lemmas.List.Elements.{All-contains, All-from_recursion}
 use Rattle.std.proofs.lemmas.Map.Keys.{sorted_head, sorted_tail}
-use Rattle.hn_base.proofs.AscendingLists.{Contains-head, Contains-tail, Contains-cases, ascending_unique}
+use Rattle.hn_base.proofs.AscendingLists.{not_below_itself, nothing_in, Contains-cases, ascending_unique}
 use Rattle.hn_assign.specs.declared.assigned.Wish.{Wish}
 use Rattle.hn_assign.specs.declared.pair.Pair.{Pair}
 use Rattle.hn_assign.specs.Pair.{pair_cmp, IsAscending, HasAt, Updates, KeepsWished}
-use Rattle.hn_assign.proofs.Joins.{not_below_itself}
-use Rattle.hn_assign.proofs.Members.{nothing_in}
 use Rattle.hn_assign.proofs.Orders.{pair_total, pair_exact}
 
 -- two pairs are the same, or not
@@ -18,13 +16,13 @@ pub pair_cases : (p q : Pair) → (p ≡ q) ⊎ (¬ (p ≡ q))
 pair_cases p q = by_order (pair_cmp p q) refl
   where
     by_order : (o : Ordering) → pair_cmp p q ≡ o → (p ≡ q) ⊎ (¬ (p ≡ q))
-    by_order Less e = inr (λ same. not_below_itself p q same e)
+    by_order Less e = inr (λ same. not_below_itself pair_cmp pair_total p q same e)
     by_order Equal e = inl (pair_exact p q e)
-    by_order Greater e = inr (λ same. not_below_itself q p (sym same) (pair_total.antisymm q p ∙ ap ordering_reverse e))
+    by_order Greater e = inr (λ same. not_below_itself pair_cmp pair_total q p (sym same) (pair_total.antisymm q p ∙ ap ordering_reverse e))
 
 module _ {A : Type 0} (key : A → Pair) where
   below : (x : A) (xs : List A) (y : A) → IsAscending key (x ∷ xs) → Contains xs y → ¬ (key x ≡ key y)
-  below x xs y up h same = not_below_itself (key x) (key y) same (All-contains (λ z. pair_cmp (key x) (key z) ≡ Less) xs y (All-from_recursion (λ z. pair_cmp (key x) (key z) ≡ Less) xs (sorted_head (on key pair_cmp) x xs up)) h)
+  below x xs y up h same = not_below_itself pair_cmp pair_total (key x) (key y) same (All-contains (λ z. pair_cmp (key x) (key z) ≡ Less) xs y (All-from_recursion (λ z. pair_cmp (key x) (key z) ≡ Less) xs (sorted_head (on key pair_cmp) x xs up)) h)
 
   -- a pair has one element at most
   pub one_of : (xs : List A) (x y : A) → IsAscending key xs → Contains xs x → Contains xs y → key x ≡ key y → x ≡ y

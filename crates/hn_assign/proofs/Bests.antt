@@ -1,14 +1,13 @@
 -- The best of a list that grows.
-use Rattle.std.proofs.Common.{◌≡◌, ◌≢◌, ℕ, ◌+◌, ◌<◌, ◌⊎◌, Bool, true, false, cond, List, [], ◌∷◌, ◌++◌, length, take, get_or, Contains, Option, Some, None, MatchOption, Ordering, refl, sym, subst, ap, ◌∙◌, inl, inr, ⊎_elim, arith}
+use Rattle.std.proofs.Common.{◌≡◌, ◌≢◌, ℕ, ◌⊎◌, true, false, cond, List, [], ◌∷◌, ◌++◌, Contains, Option, Some, None, MatchOption, Ordering, refl, sym, subst, ap, ◌∙◌, inl, inr, ⊎_elim}
 use Rattle.std.specs.declared.cmp.Ordering.TheVariants.{Less, Equal, Greater}
 use Rattle.std.specs.Ordering.{is_lt, is_gt, ordering_reverse}
 use Rattle.std.proofs.lemmas.Cmp.{upto, tied_itself}
-use Rattle.std.proofs.lemmas.List.{take_more}
 use Rattle.std.proofs.lemmas.List.Elements.{Contains-push, Contains-push_cases, Contains-append_left}
 use Rattle.hn_prefix.specs.Prefix.{PlainPrefix, IsWithin}
 use Rattle.hn_assign.specs.declared.assigned.Advertised.{Advertised}
 use Rattle.hn_assign.specs.Advertised.{Link, IsOnLink, advertised_cmp}
-use Rattle.hn_assign.specs.Best.{IsCandidate, IsBest, HasNoBest, IsBestIfAny}
+use Rattle.hn_assign.specs.Best.{IsCandidate, IsBest, IsBestIfAny}
 use Rattle.hn_assign.proofs.Orders.{advertised_total}
 
 -- what makes an advertised prefix a candidate

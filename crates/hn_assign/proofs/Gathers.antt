@@ -1,7 +1,7 @@
 -- What is advertised of nodes and of the router's own assignments.
-use Rattle.std.proofs.Common.{◌≡◌, ◌≢◌, ◌↔◌, ◌⊎◌, ◌∙◌, ℕ, List, [], ◌∷◌, ◌++◌, Contains, Option, None, Some, refl, sym, ap, subst, inl, inr, ⊎_elim, arith}
+use Rattle.std.proofs.Common.{◌≡◌, ◌↔◌, ◌⊎◌, ◌∙◌, ℕ, List, [], Contains, Option, None, Some, refl, sym, ap, subst, inl, inr, ⊎_elim}
 use Rattle.hn_base.specs.declared.ids.NodeId.{NodeId}
-use Rattle.hn_base.specs.declared.key.Key.{Key}
+use Rattle.hn_base.proofs.AscendingLists.{nothing_in}
 use Rattle.hn_data.specs.View.{PlainView}
 use Rattle.hn_data.specs.Said.{HasAssigned}
 use Rattle.hn_data.specs.declared.said.AssignedPrefix.{AssignedPrefix}
@@ -55,9 +55,6 @@ pub advertised_all : (view : PlainView) (assigned : List Assigned) (none others 
     → Contains others a ↔ (Contains none a ⊎ ((entry : Entry) × Contains view.nodes entry × IsOfOther view.own entry a))
     → Contains all a ↔ (Contains others a ⊎ ((c : Assigned) × Contains assigned c × IsOwn view.own c a)) → Contains all a ↔ IsAdvertised view assigned a
 advertised_all view assigned none others all a is first second = (
-  λ h. ⊎_elim (λ o. ⊎_elim (λ n. absurd (nothing (subst (λ (xs : List Advertised). Contains xs a) is n))) (λ e. inl e) (first.0 o)) (λ c. inr c) (second.0 h),
+  λ h. ⊎_elim (λ o. ⊎_elim (λ n. absurd (nothing_in a (subst (λ (xs : List Advertised). Contains xs a) is n))) (λ e. inl e) (first.0 o)) (λ c. inr c) (second.0 h),
   ⊎_elim (λ e. second.1 (inl (first.1 (inr e)))) (λ c. second.1 (inr c)),
 )
-  where
-    nothing : Contains {X = Advertised} [] a → ⊥
-    nothing (k, within, at) = omega (arith, within)

@@ -1,28 +1,20 @@
 -- A list that is strictly ascending by pairs: the part before a pair, what is there, and the part after it.
-use Rattle.std.proofs.Common.{◌≡◌, ◌↔◌, ◌⊎◌, ℕ, ◌+◌, ◌<◌, ◌≤◌, suc, zero, List, [], ◌∷◌, ◌++◌, length, take, drop, get_or, Contains, Option, Some, None, IfSome, Result, Ok, Err, Ordering, false, IsTrue, is_ok, append_assoc, refl, sym, ap, ◌∙◌, subst, inl, inr, ⊎_elim, arith, add-one}
-use Rattle.std.specs.declared.cmp.Ordering.TheVariants.{Less, Equal, Greater}
-use Rattle.std.specs.List.{AllByRecursion, AllWithin, All}
+use Rattle.std.proofs.Common.{◌≡◌, ◌↔◌, ◌⊎◌, ℕ, ◌+◌, ◌<◌, ◌≤◌, suc, zero, List, [], ◌∷◌, ◌++◌, length, take, drop, get_or, Contains, Option, Some, None, IfSome, Result, Ok, Err, false, IsTrue, is_ok, refl, sym, ap, ◌∙◌, subst, inl, inr, ⊎_elim, arith}
+use Rattle.std.specs.declared.cmp.Ordering.TheVariants.{Less, Greater}
+use Rattle.std.specs.List.{AllByRecursion, AllWithin}
 use Rattle.std.specs.List.Sorted.{IsStrictlySortedBy, IsSearchInRange, IsBinarySearchResult}
 use Rattle.std.specs.Option.{option_to_list}
 use Rattle.std.specs.Ordering.{on, ordering_reverse, is_lt}
 use Rattle.std.proofs.Math.Seq.{drop-cons}
-use Rattle.std.proofs.lemmas.Cmp.{tied_itself, on_total}
 use Rattle.std.proofs.lemmas.List.{take-append-drop}
 use Rattle.std.proofs.lemmas.List.Elements.{All-contains, All-from_recursion, Contains-append_left, Contains-append_right, Contains-append_cases, Contains-get_or}
 use Rattle.std.proofs.lemmas.List.Sorted.{searchable_from_sorted}
 use Rattle.std.proofs.lemmas.Map.Keys.{sorted_head, sorted_tail, Less-from_sorted}
-use Rattle.hn_base.proofs.AscendingLists.{Contains-head, Contains-tail, Contains-cases}
+use Rattle.hn_base.proofs.AscendingLists.{not_below_itself, Contains-head, Contains-tail, Contains-cases}
 use Rattle.hn_base.proofs.Recursions.{AllByRecursion-append, AllByRecursion-weaker}
 use Rattle.hn_assign.specs.declared.pair.Pair.{Pair}
 use Rattle.hn_assign.specs.Pair.{pair_cmp, IsAscending, IsPlace, HasAt, Updates}
 use Rattle.hn_assign.proofs.Orders.{pair_total, pair_exact}
-
--- a pair is not below itself
-pub not_below_itself : (p q : Pair) → p ≡ q → pair_cmp p q ≡ Less → ⊥
-not_below_itself p q same less =
-    let equal : pair_cmp q q ≡ Equal = tied_itself pair_total q in
-    let clash : pair_cmp q q ≡ Less = subst (λ (r : Pair). pair_cmp r q ≡ Less) same less in
-    cc
 
 greater_is_above : (p q : Pair) → pair_cmp p q ≡ Greater → pair_cmp q p ≡ Less
 greater_is_above p q e = pair_total.antisymm q p ∙ ap ordering_reverse e
@@ -83,10 +75,10 @@ module _ {A : Type 0} (key : A → Pair) where
       (beside pair m front back is s.below s.above)
 
   in_front : (pair : Pair) (front : List A) (x : A) → Below pair front → Contains front x → ¬ (key x ≡ pair)
-  in_front pair front x below h same = not_below_itself (key x) pair same (All-contains (λ y. pair_cmp (key y) pair ≡ Less) front x (All-from_recursion (λ y. pair_cmp (key y) pair ≡ Less) front below) h)
+  in_front pair front x below h same = not_below_itself pair_cmp pair_total (key x) pair same (All-contains (λ y. pair_cmp (key y) pair ≡ Less) front x (All-from_recursion (λ y. pair_cmp (key y) pair ≡ Less) front below) h)
 
   in_back : (pair : Pair) (back : List A) (x : A) → Above pair back → Contains back x → ¬ (key x ≡ pair)
-  in_back pair back x above h same = not_below_itself pair (key x) (sym same) (All-contains (λ y. pair_cmp pair (key y) ≡ Less) back x (All-from_recursion (λ y. pair_cmp pair (key y) ≡ Less) back above) h)
+  in_back pair back x above h same = not_below_itself pair_cmp pair_total pair (key x) (sym same) (All-contains (λ y. pair_cmp pair (key y) ≡ Less) back x (All-from_recursion (λ y. pair_cmp pair (key y) ≡ Less) back above) h)
 
   pub has_joined : (pair : Pair) (front : List A) (m : Option A) (back : List A) → Sides pair front back → IfSome m (λ x. key x ≡ pair) → HasAt key pair m (joined front m back)
   has_joined pair front None back s is = λ x h. ⊎_elim (in_front pair front x s.below) (in_back pair back x s.above) (Contains-append_cases front back x h)

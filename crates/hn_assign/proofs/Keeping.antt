@@ -1,8 +1,9 @@
 -- A loop that keeps the elements of wished pairs.
-use Rattle.std.proofs.Common.{◌≡◌, ◌↔◌, ◌⊎◌, ◌∙◌, ℕ, ◌+◌, ◌<◌, ◌≤◌, suc, List, [], ◌∷◌, ◌++◌, length, take, drop, get_or, Contains, sym, ap, subst, ⊎_elim, append_assoc, add-one, arith}
+use Rattle.std.proofs.Common.{◌≡◌, ◌↔◌, ◌∙◌, ℕ, ◌+◌, ◌<◌, ◌≤◌, suc, List, [], ◌∷◌, ◌++◌, length, take, drop, get_or, Contains, sym, ap, subst, ⊎_elim, append_assoc, add-one}
 use Rattle.std.proofs.Math.Seq.{drop-cons}
 use Rattle.std.proofs.lemmas.List.{take_all, append-nil, drop_all}
 use Rattle.std.proofs.lemmas.List.Elements.{Contains-push, Contains-push_cases, Contains-append_left}
+use Rattle.hn_base.proofs.AscendingLists.{nothing_in}
 use Rattle.hn_assign.specs.declared.assigned.Wish.{Wish}
 use Rattle.hn_assign.specs.declared.pair.Pair.{Pair}
 use Rattle.hn_assign.specs.Pair.{IsAscending, IsWished, KeepsWished}
@@ -15,11 +16,8 @@ module _ {A : Type 0} (key : A → Pair) (wishes : List Wish) where
     pub ascending : IsAscending key (kept ++ drop i xs)
     pub those : (x : A) → Contains kept x ↔ Contains (take i xs) x × IsWished wishes (key x)
 
-  nothing : (x : A) → ¬ (Contains [] x)
-  nothing x (k, within, at) = omega (arith, within)
-
   pub keeping_none : (xs : List A) → IsAscending key xs → IsKeeping xs 0 []
-  keeping_none xs up = record { ascending = up; those = λ x. (λ h. absurd (nothing x h), λ h. absurd (nothing x h.0)) }
+  keeping_none xs up = record { ascending = up; those = λ x. (λ h. absurd (nothing_in x h), λ h. absurd (nothing_in x h.0)) }
 
   whole : (xs : List A) (i : ℕ) (x : A) (kept : List A) → i < length xs → x ≡ get_or xs i x → IsAscending key (kept ++ drop i xs) → IsAscending key (kept ++ x ∷ drop (suc i) xs)
   whole xs i x kept within is up = subst (λ (ys : List A). IsAscending key (kept ++ ys)) (drop-cons xs i x within ∙ ap (λ y. y ∷ drop (suc i) xs) (sym is)) up

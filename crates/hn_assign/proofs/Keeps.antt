@@ -1,9 +1,10 @@
 -- What holds of each assignment through the subroutine.
-use Rattle.std.proofs.Common.{◌≡◌, ◌∙◌, ◌↔◌, ◌⊎◌, ℕ, ◌-◌, ◌≤◌, Bool, true, false, cond, leb, arith, List, [], ◌∷◌, Contains, map, Option, None, Some, IfSome, refl, sym, ap, subst, inl, inr, ⊎_elim}
+use Rattle.std.proofs.Common.{◌≡◌, ◌∙◌, ◌⊎◌, ℕ, ◌-◌, ◌≤◌, Bool, true, false, cond, leb, arith, List, [], ◌∷◌, Contains, map, Option, None, Some, IfSome, refl, sym, ap, subst, inl, inr, ⊎_elim}
 use Rattle.std.specs.Prelude.{All}
 use Rattle.std.proofs.lemmas.List.Elements.{All-contains, Contains-get_or}
 use Rattle.hn_data.specs.View.{PlainView}
 use Rattle.hn_prefix.specs.Prefix.{PlainPrefix, IsWithin}
+use Rattle.hn_base.proofs.AscendingLists.{Contains-from_map}
 use Rattle.hn_assign.specs.declared.assigned.Advertised.{Advertised}
 use Rattle.hn_assign.specs.declared.assigned.Assigned.{Assigned}
 use Rattle.hn_assign.specs.declared.assigned.Wish.{Wish}
@@ -12,12 +13,11 @@ use Rattle.hn_assign.specs.declared.held.Ran.{Ran}
 use Rattle.hn_assign.specs.declared.slot.Slot.{Slot}
 use Rattle.hn_assign.specs.Lines.{IfValid, IsLine, IsTurn}
 use Rattle.hn_assign.specs.Marks.{marked}
-use Rattle.hn_assign.specs.Pair.{assigned_pair, wish_pair, HasAt, Updates}
+use Rattle.hn_assign.specs.Pair.{assigned_pair, wish_pair, HasAt}
 use Rattle.hn_assign.specs.Scene.{PlainScene, IsBestFor, new_assigned, scene_of}
 use Rattle.hn_assign.specs.Step.{IsStep}
 use Rattle.hn_assign.specs.Subroutine.{AreSteps, IsSubroutine}
 use Rattle.hn_assign.proofs.Ats.{pair_cases, is_had}
-use Rattle.hn_assign.proofs.Members.{from_map}
 
 -- of each element
 abbrev pub Each : {A : Type 0} → (A → Type 0) → List A → Type 0
@@ -80,7 +80,7 @@ module _ (now : ℕ) (P : Assigned → Type 0) (stable : IsStable now P) where
 
   marks_keep : (moment : ℕ) (xs : List Assigned) → Each P xs → Each P (map (marked moment) xs)
   marks_keep moment xs each c h =
-      let was = from_map (marked moment) xs c h in
+      let was = Contains-from_map (marked moment) xs c h in
       subst P was.2 (by_test (leb 10000 (moment - was.0.since)) was.0 (each was.0 was.1))
     where
       by_test : (b : Bool) (c : Assigned) → P c → P (cond b (record c { applied = true }) c)

@@ -1,7 +1,7 @@
 -- What the subroutine leaves: lists in order, of wished pairs.
-use Rattle.std.proofs.Common.{◌≡◌, ◌∙◌, ◌↔◌, ◌⊎◌, ℕ, List, [], ◌∷◌, Contains, map, Option, refl, sym, ap, subst, ⊎_elim}
+use Rattle.std.proofs.Common.{◌≡◌, ◌∙◌, List, [], ◌∷◌, Contains, Option, sym, ap, subst, ⊎_elim}
 use Rattle.std.specs.Prelude.{All}
-use Rattle.hn_base.proofs.AscendingLists.{Contains-head, Contains-tail}
+use Rattle.hn_base.proofs.AscendingLists.{Contains-from_map, Contains-head, Contains-tail}
 use Rattle.hn_data.specs.View.{PlainView}
 use Rattle.hn_assign.specs.declared.assigned.Assigned.{Assigned}
 use Rattle.hn_assign.specs.declared.assigned.Wish.{Wish}
@@ -15,7 +15,6 @@ use Rattle.hn_assign.specs.Subroutine.{AreSteps, IsSubroutine}
 use Rattle.hn_assign.proofs.Ats.{pair_cases}
 use Rattle.hn_assign.proofs.Keeps.{Each, each_all}
 use Rattle.hn_assign.proofs.Marking.{ascending_marked, marked_pair}
-use Rattle.hn_assign.proofs.Members.{from_map}
 use Rattle.hn_assign.proofs.Soles.{IsInOrder}
 use Rattle.hn_assign.proofs.Unchanged.{steps_in_order}
 
@@ -56,7 +55,7 @@ pub assigned_wished : (view : PlainView) (wishes : List Wish) (held : Held) (ran
 assigned_wished view wishes held ran run =
     let last = (last_wished view wishes held ran run).assigned in
     each_all (λ (c : Assigned). IsWished wishes (assigned_pair c)) ran.held.assigned
-    (λ c h. let was = from_map (marked view.now) run.last.held.assigned c (subst (λ (r : Ran). Contains r.held.assigned c) run.marks h) in
+    (λ c h. let was = Contains-from_map (marked view.now) run.last.held.assigned c (subst (λ (r : Ran). Contains r.held.assigned c) run.marks h) in
     subst (IsWished wishes) (sym (marked_pair view.now was.0) ∙ ap assigned_pair was.2) (last was.0 was.1))
 
 pub backoffs_wished : (view : PlainView) (wishes : List Wish) (held : Held) (ran : Ran) → IsSubroutine view wishes held ran → All (λ b. IsWished wishes (backoff_pair b)) ran.held.backoffs

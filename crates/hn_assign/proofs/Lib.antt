@@ -10,7 +10,6 @@ pub mod Keeping
 pub mod Keeps
 pub mod Leaves
 pub mod Marking
-pub mod Members
 pub mod Orders
 pub mod Rests
 pub mod Sames

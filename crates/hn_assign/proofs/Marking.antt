@@ -1,6 +1,5 @@
 -- Marks of application leave pairs, and the order, as they are.
 use Rattle.std.proofs.Common.{◌≡◌, ℕ, ◌-◌, Bool, true, false, cond, leb, List, [], ◌∷◌, map, ap, refl, sym, subst}
-use Rattle.std.specs.Ordering.{on}
 use Rattle.std.specs.List.Sorted.{IsStrictlySortedBy}
 use Rattle.hn_base.proofs.AscendingLists.{sorted_parts}
 use Rattle.hn_assign.specs.declared.assigned.Assigned.{Assigned}

@@ -1,11 +1,7 @@
 -- Pairs at rest, and the subroutine.
-use Rattle.std.proofs.Common.{◌≡◌, ◌∙◌, ◌↔◌, ◌⊎◌, ℕ, ◌<◌, ◌≤◌, IsTrue, List, [], ◌∷◌, Contains, map, Option, None, Some, refl, sym, ap, subst, inl, inr, ⊎_elim, arith}
+use Rattle.std.proofs.Common.{◌≡◌, ◌∙◌, ◌⊎◌, ℕ, ◌<◌, IsTrue, List, [], ◌∷◌, Contains, map, Option, None, Some, refl, sym, ap, subst, inl, inr, ⊎_elim, arith}
 use Rattle.std.specs.Option.{option_map}
-use Rattle.std.specs.Ordering.{on}
-use Rattle.std.specs.declared.cmp.Ordering.TheVariants.{Less}
-use Rattle.std.proofs.lemmas.List.Elements.{All-contains, All-from_recursion}
-use Rattle.std.proofs.lemmas.Map.Keys.{sorted_head, sorted_tail}
-use Rattle.hn_base.proofs.AscendingLists.{Contains-head, Contains-tail, Contains-cases}
+use Rattle.hn_base.proofs.AscendingLists.{Contains-map, Contains-from_map, Contains-head, Contains-tail}
 use Rattle.hn_data.specs.View.{PlainView}
 use Rattle.hn_prefix.specs.Prefix.{PlainPrefix}
 use Rattle.hn_assign.specs.declared.assigned.Advertised.{Advertised}
@@ -18,21 +14,19 @@ use Rattle.hn_assign.specs.declared.pair.Pair.{Pair}
 use Rattle.hn_assign.specs.declared.slot.Slot.{Slot}
 use Rattle.hn_base.specs.Key.{IsAbove}
 use Rattle.hn_assign.specs.Advertised.{key_of}
-use Rattle.hn_assign.specs.Best.{IsBestIfAny, HasNoBest, HasNoFree}
-use Rattle.hn_assign.specs.Fixed.{unmarked, IsUnchanged, AreDue, AreAtRest}
+use Rattle.hn_assign.specs.Best.{HasNoFree}
+use Rattle.hn_assign.specs.Fixed.{unmarked, IsUnchanged, AreAtRest}
 use Rattle.hn_assign.specs.Gathered.{AreAdvertised}
-use Rattle.hn_assign.specs.Lines.{IfValid, IsAhead, IsLine, IsTurn}
+use Rattle.hn_assign.specs.Lines.{IfValid, IsAhead, IsLine}
 use Rattle.hn_assign.specs.Marks.{marked}
-use Rattle.hn_assign.specs.Pair.{assigned_pair, backoff_pair, wish_pair, pair_cmp, IsAscending, IsWished, HasAt, Updates, KeepsWished}
-use Rattle.hn_assign.specs.Rest.{IsIdle, IsAlone, IsAheadOfBest, IsFollowing, IsAtRest}
-use Rattle.hn_assign.specs.Scene.{PlainScene, IsBestFor, IsValidFor, IsFreeFor, HasNoFreeFor, scene_of}
+use Rattle.hn_assign.specs.Pair.{assigned_pair, wish_pair, IsAscending, IsWished, HasAt, Updates, KeepsWished}
+use Rattle.hn_assign.specs.Rest.{IsIdle, IsAheadOfBest, IsAtRest}
+use Rattle.hn_assign.specs.Scene.{PlainScene, IsBestFor, IsValidFor, IsFreeFor, scene_of}
 use Rattle.hn_assign.specs.Step.{IsStep}
 use Rattle.hn_assign.specs.Subroutine.{AreSteps, IsSubroutine}
-use Rattle.hn_assign.proofs.Ats.{has_one, is_had, had_is, has_still, same_list, updates_none}
-use Rattle.hn_assign.proofs.Joins.{not_below_itself}
+use Rattle.hn_assign.proofs.Ats.{is_had, same_list, updates_none}
 use Rattle.hn_assign.proofs.Marking.{marked_is}
-use Rattle.hn_assign.proofs.Members.{contains_map, from_map}
-use Rattle.hn_assign.proofs.Sames.{Same, same_back, same_advertised, best_in, best_one, valid_in, free_in, none_in}
+use Rattle.hn_assign.proofs.Sames.{Same, same_advertised, best_in, best_one, valid_in, none_in}
 
 -- ---- one turn
 
@@ -133,10 +127,10 @@ rest_unchanged view wishes held ran adv up all are run rest =
 pub alike : (pair : Pair) (xs ys : List Assigned) (a b : Option Assigned) → IsAscending assigned_pair xs → IsAscending assigned_pair ys → map unmarked xs ≡ map unmarked ys → HasAt assigned_pair pair a xs → HasAt assigned_pair pair b ys → option_map unmarked a ≡ option_map unmarked b
 alike pair xs ys None None up_x up_y same p q = refl
 alike pair xs ys None (Some y) up_x up_y same p q =
-    let there = from_map unmarked xs (unmarked y) (subst (λ (zs : List Assigned). Contains zs (unmarked y)) (sym same) (contains_map unmarked ys y q.0)) in
+    let there = Contains-from_map unmarked xs (unmarked y) (subst (λ (zs : List Assigned). Contains zs (unmarked y)) (sym same) (Contains-map unmarked ys y q.0)) in
     absurd (p there.0 there.1 (ap assigned_pair there.2 ∙ q.1))
 alike pair xs ys (Some x) b up_x up_y same p q =
-    let there = from_map unmarked ys (unmarked x) (subst (λ (zs : List Assigned). Contains zs (unmarked x)) same (contains_map unmarked xs x p.0)) in
+    let there = Contains-from_map unmarked ys (unmarked x) (subst (λ (zs : List Assigned). Contains zs (unmarked x)) same (Contains-map unmarked xs x p.0)) in
     let is : b ≡ Some there.0 = is_had assigned_pair pair ys b there.0 up_y q there.1 (ap assigned_pair there.2 ∙ p.1) in
     ap Some (sym there.2) ∙ ap (option_map unmarked) (sym is)
 

@@ -1,20 +1,19 @@
 -- Lists of the same advertised prefixes give the same best, valid and free prefixes.
-use Rattle.std.proofs.Common.{◌≡◌, ◌∙◌, ◌↔◌, ◌⊎◌, ℕ, ◌<◌, ◌+◌, List, Contains, map, length, get_or, Option, None, Some, Ordering, refl, sym, ap, subst, inl, inr, ⊎_elim, arith}
-use Rattle.std.specs.Prelude.{All, Any}
+use Rattle.std.proofs.Common.{◌≡◌, ◌∙◌, ◌↔◌, ℕ, ◌<◌, List, Contains, Option, None, Some, Ordering, refl, sym, ap, subst, ⊎_elim, arith}
 use Rattle.std.specs.declared.cmp.Ordering.TheVariants.{Less, Equal, Greater}
 use Rattle.std.specs.Ordering.{ordering_reverse}
 use Rattle.std.proofs.lemmas.Bool.{cases_lt}
-use Rattle.std.proofs.lemmas.List.Elements.{All-contains, Contains-get_or}
+use Rattle.std.proofs.lemmas.List.Elements.{All-contains}
 use Rattle.hn_data.specs.View.{PlainView}
 use Rattle.hn_prefix.specs.Prefix.{PlainPrefix, Overlaps}
 use Rattle.hn_prefix.specs.Free.{IsFree, IsTaken, IsFirstFree, sub_prefix_after}
+use Rattle.hn_base.proofs.AscendingLists.{Contains-map, Contains-from_map}
 use Rattle.hn_assign.specs.declared.assigned.Advertised.{Advertised}
 use Rattle.hn_assign.specs.declared.assigned.Assigned.{Assigned}
 use Rattle.hn_assign.specs.Advertised.{Link, advertised_cmp}
-use Rattle.hn_assign.specs.Best.{IsCandidate, IsBest, HasNoBest, IsBestIfAny, IsValid, IsFreeIn, HasNoFree}
+use Rattle.hn_assign.specs.Best.{IsCandidate, IsBest, IsBestIfAny, IsValid, IsFreeIn, HasNoFree}
 use Rattle.hn_assign.specs.Gathered.{AreAdvertised}
 use Rattle.hn_assign.proofs.Frees.{prefixes}
-use Rattle.hn_assign.proofs.Members.{contains_map, from_map}
 use Rattle.hn_assign.proofs.Orders.{advertised_total, advertised_exact}
 
 -- two lists have the same elements
@@ -62,9 +61,9 @@ none_in a b d len same none p free = none p (free_in b a d len p (same_back a b 
 -- a prefix that is free is not taken by the same prefixes
 clash : (a b : List Advertised) (p : PlainPrefix) → Same a b → IsFree (prefixes a) p → IsTaken (prefixes b) p → ⊥
 clash a b p same free (k, t, within, at, overlaps) =
-    let x = from_map (λ x. x.prefix) b t (k, within, at) in
+    let x = Contains-from_map (λ x. x.prefix) b t (k, within, at) in
     let both = same x.0 in
-    All-contains (λ q. ¬ (Overlaps q p)) (prefixes a) x.0.prefix free (contains_map (λ x. x.prefix) a x.0 (both.1 x.1)) (subst (λ (q : PlainPrefix). Overlaps q p) (sym x.2) overlaps)
+    All-contains (λ q. ¬ (Overlaps q p)) (prefixes a) x.0.prefix free (Contains-map (λ x. x.prefix) a x.0 (both.1 x.1)) (subst (λ (q : PlainPrefix). Overlaps q p) (sym x.2) overlaps)
 
 -- the first free one is one
 pub first_one : (a b : List Advertised) (d : PlainPrefix) (start len : ℕ) (p q : PlainPrefix) → Same a b → IsFirstFree d start (prefixes a) len p → IsFirstFree d start (prefixes b) len q → p ≡ q

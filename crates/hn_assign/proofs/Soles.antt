@@ -1,5 +1,5 @@
 -- A line of the table, a step and the subroutine have at most one result over one stream of words.
-use Rattle.std.proofs.Common.{◌≡◌, ◌∙◌, ◌↔◌, ◌⊎◌, ℕ, ◌<◌, ◌≤◌, ◌%◌, IsTrue, List, [], ◌∷◌, ◌++◌, Contains, map, Option, None, Some, refl, sym, ap, subst, inl, inr, ⊎_elim, arith}
+use Rattle.std.proofs.Common.{◌≡◌, ◌∙◌, ◌⊎◌, ℕ, ◌<◌, ◌≤◌, ◌%◌, IsTrue, List, [], ◌∷◌, ◌++◌, Option, None, Some, sym, ap, subst, inl, inr, arith}
 use Rattle.hn_data.specs.View.{PlainView}
 use Rattle.hn_io.specs.Words.{Begins}
 use Rattle.hn_prefix.specs.Prefix.{PlainPrefix}
@@ -10,16 +10,15 @@ use Rattle.hn_assign.specs.declared.backoff.Backoff.{Backoff}
 use Rattle.hn_assign.specs.declared.held.Held.{Held}
 use Rattle.hn_assign.specs.declared.held.Ran.{Ran}
 use Rattle.hn_assign.specs.declared.slot.Slot.{Slot}
-use Rattle.hn_assign.specs.Lines.{IfValid, IsAhead, IsLine, IsTurn, following}
-use Rattle.hn_assign.specs.Marks.{marked}
-use Rattle.hn_assign.specs.Pair.{assigned_pair, backoff_pair, wish_pair, IsAscending, HasAt, Updates}
-use Rattle.hn_assign.specs.Scene.{PlainScene, IsBestFor, IsValidFor, IsFreeFor, HasNoFreeFor, IsFirstFreeFor, new_assigned, scene_of}
+use Rattle.hn_assign.specs.Lines.{IfValid, IsLine, IsTurn}
+use Rattle.hn_assign.specs.Pair.{assigned_pair, backoff_pair, wish_pair, IsAscending, Updates}
+use Rattle.hn_assign.specs.Scene.{PlainScene, IsFreeFor, HasNoFreeFor, IsFirstFreeFor, new_assigned, scene_of}
 use Rattle.hn_assign.specs.Step.{IsStep}
-use Rattle.hn_assign.specs.Subroutine.{AreSteps, IsBegun, IsSubroutine, with_marks}
-use Rattle.hn_assign.specs.Unassigned.{HasFree, IsUnassigned, backoff_after}
+use Rattle.hn_assign.specs.Subroutine.{AreSteps, IsSubroutine, with_marks}
+use Rattle.hn_assign.specs.Unassigned.{IsUnassigned, backoff_after}
 use Rattle.hn_assign.proofs.Ats.{has_one, updates_one, keeps_one}
 use Rattle.hn_assign.proofs.Begins.{begins_front, same_word}
-use Rattle.hn_assign.proofs.Sames.{Same, same_back, same_advertised, best_in, best_one, valid_in, free_in, none_in, first_one}
+use Rattle.hn_assign.proofs.Sames.{Same, same_back, same_advertised, best_in, best_one, valid_in, free_in, first_one}
 
 -- what comes of a turn: what the pair has, and the words
 abbrev pub Turned : Type 0

@@ -1,11 +1,11 @@
 -- Where the subroutine changes no assignment, each pair is at rest.
-use Rattle.std.proofs.Common.{◌≡◌, ◌∙◌, ◌↔◌, ◌⊎◌, ℕ, List, [], ◌∷◌, Contains, map, Option, None, Some, refl, sym, ap, subst, inl, inr, ⊎_elim, arith}
+use Rattle.std.proofs.Common.{◌≡◌, ◌∙◌, ℕ, List, [], ◌∷◌, Contains, map, Option, None, Some, refl, sym, ap, subst, ⊎_elim, arith}
 use Rattle.std.specs.Option.{option_map}
 use Rattle.std.specs.Ordering.{on}
 use Rattle.std.specs.declared.cmp.Ordering.TheVariants.{Less}
 use Rattle.std.proofs.lemmas.List.Elements.{All-contains, All-from_recursion}
 use Rattle.std.proofs.lemmas.Map.Keys.{sorted_head, sorted_tail}
-use Rattle.hn_base.proofs.AscendingLists.{Contains-head, Contains-tail, Contains-cases}
+use Rattle.hn_base.proofs.AscendingLists.{not_below_itself, Contains-head, Contains-tail, Contains-cases}
 use Rattle.hn_data.specs.View.{PlainView}
 use Rattle.hn_assign.specs.declared.assigned.Advertised.{Advertised}
 use Rattle.hn_assign.specs.declared.assigned.Assigned.{Assigned}
@@ -20,10 +20,10 @@ use Rattle.hn_assign.specs.Pair.{assigned_pair, backoff_pair, wish_pair, pair_cm
 use Rattle.hn_assign.specs.Rest.{IsAtRest}
 use Rattle.hn_assign.specs.Step.{IsStep}
 use Rattle.hn_assign.specs.Subroutine.{AreSteps, IsSubroutine}
+use Rattle.hn_assign.proofs.Orders.{pair_total}
 use Rattle.hn_assign.proofs.Ats.{has_one, has_still, updates_none}
-use Rattle.hn_assign.proofs.Joins.{not_below_itself}
 use Rattle.hn_assign.proofs.Rests.{begun_same, marks_unchanged, alike, line_rests, rest_in}
-use Rattle.hn_assign.proofs.Sames.{same_advertised, same_back}
+use Rattle.hn_assign.proofs.Sames.{same_advertised}
 use Rattle.hn_assign.proofs.Soles.{IsInOrder, step_in_order}
 
 -- the backoff of a wish that is due at a moment
@@ -37,7 +37,7 @@ DueIn wishes xs now backoffs = (wish : Wish) → Contains wishes wish → HasAt 
 -- a later wish is for another pair
 later_other : (wish : Wish) (wishes : List Wish) (w : Wish) → IsAscending wish_pair (wish ∷ wishes) → Contains wishes w → ¬ (wish_pair wish ≡ wish_pair w)
 later_other wish wishes w up h same =
-    not_below_itself (wish_pair wish) (wish_pair w) same (All-contains (λ z. pair_cmp (wish_pair wish) (wish_pair z) ≡ Less) wishes w (All-from_recursion (λ z. pair_cmp (wish_pair wish) (wish_pair z) ≡ Less) wishes (sorted_head (on wish_pair pair_cmp) wish wishes up)) h)
+    not_below_itself pair_cmp pair_total (wish_pair wish) (wish_pair w) same (All-contains (λ z. pair_cmp (wish_pair wish) (wish_pair z) ≡ Less) wishes w (All-from_recursion (λ z. pair_cmp (wish_pair wish) (wish_pair z) ≡ Less) wishes (sorted_head (on wish_pair pair_cmp) wish wishes up)) h)
 
 pub steps_in_order : (view : PlainView) (wishes : List Wish) (before after : Ran) → IsInOrder before → AreSteps view wishes before after → IsInOrder after
 steps_in_order view [] before after up same = subst IsInOrder (sym same) up

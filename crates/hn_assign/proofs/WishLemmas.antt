@@ -1,6 +1,5 @@
 -- Wishes, and one more.
-use Rattle.std.proofs.Common.{◌≡◌, ◌↔◌, ◌⊎◌, ℕ, List, [], Contains, Option, None, Some, refl, sym, subst, inl, inr, ⊎_elim, arith}
-use Rattle.std.specs.Prelude.{All}
+use Rattle.std.proofs.Common.{◌≡◌, ◌↔◌, ◌⊎◌, List, [], Contains, Option, None, Some, subst, inl, inr, ⊎_elim, arith}
 use Rattle.hn_assign.specs.declared.assigned.Wish.{Wish}
 use Rattle.hn_assign.specs.Facts.{IsFitting, AreWishes}
 use Rattle.hn_assign.specs.Pair.{wish_pair, HasAt, Updates}

@@ -5,34 +5,12 @@ ghost use Rattle.hn_assign.specs.Gathered.{IsOfNode, IsOfOther, IsOwn, AreAdvert
 
 use crate::assigned::{Advertised, Assigned};
 use crate::held::Held;
-use hn_base::{Key, NoMemory, NodeId};
+use hn_base::{Key, NoMemory, NodeId, Sequence};
 use hn_data::{Entry, View, version};
 use std::alloc::Global;
-use std::marker::Model;
 
-/// Advertised prefixes, in no order. Contracts see their list.
-#[derive(Debug, Drop)]
-pub struct AdvertisedPrefixes {
-    items: Vec<Advertised>,
-}
-
-impl Model for AdvertisedPrefixes {
-    ghost use Rattle.std.specs.Prelude.{List};
-    ghost use Rattle.hn_assign.specs.declared.assigned.Advertised.{Advertised};
-
-    ghost Value = { List Advertised };
-
-    ghost view = { λ a. a.items.items };
-}
-
-impl AdvertisedPrefixes {
-    /// The advertised prefixes. Never allocates.
-    pub fn as_slice(&self) -> &[Advertised]
-        ensures { result.now ≡ self.now }
-    {
-        self.items.as_slice()
-    }
-}
+/// Advertised prefixes, in no order.
+pub type AdvertisedPrefixes = Sequence<Advertised>;
 
 /// The advertised prefixes as a router sees them: the Assigned-Prefix TLVs of the other reachable nodes that have an
 /// HNCP-Version, and the router's own published assignments (RFC 7695, section 3; RFC 7788, section 10.3).
@@ -43,7 +21,7 @@ pub fn gather(alloc: Global, view: &View<'_>, held: &Held) -> Result<AdvertisedP
     let mut items = Vec::new(alloc);
     add_others(&mut items, view.own, view.nodes)?;
     add_own(&mut items, view.own, held.assigned.as_slice())?;
-    Ok(AdvertisedPrefixes { items })
+    Ok(AdvertisedPrefixes::from(items))
 }
 
 /// Adds what other nodes advertise.

@@ -9,7 +9,7 @@ use crate::gathering::{AdvertisedPrefixes, gather};
 use crate::held::Held;
 use hn_base::NoMemory;
 use hn_data::View;
-use hn_prefix::{Prefix, first_free};
+use hn_prefix::{Prefix, first_free, sub_prefixes_are_all, within_is_not_shorter};
 use std::alloc::Global;
 use std::marker::Model;
 
@@ -64,9 +64,11 @@ impl Known {
         ensures free { IfSome result (IsFreeIn self.now outer.now len) }
         ensures none { IfNone result (HasNoFree self.now outer.now len) }
     {
+        within_is_not_shorter();
         if outer.len() > len {
             return None;
         }
+        sub_prefixes_are_all(outer, len);
         first_free(outer, u128::from(start), &self.taken, len)
     }
 }

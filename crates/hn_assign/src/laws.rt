@@ -2,7 +2,7 @@
 //!
 //! Each is the contract of a function that does nothing: call it to know its law.
 
-ghost use Rattle.std.specs.Prelude.{◌≡◌, ◌≤◌, ◌↔◌, ℕ, List, Some, All};
+ghost use Rattle.std.specs.Prelude.{◌≡◌, ◌≤◌, ◌↔◌, ℕ, List, Option, Some, All};
 ghost use Rattle.hn_io.specs.Words.{Begins};
 ghost use Rattle.hn_data.specs.View.{PlainView};
 ghost use Rattle.hn_assign.specs.declared.assigned.Advertised.{Advertised};
@@ -10,11 +10,27 @@ ghost use Rattle.hn_assign.specs.declared.assigned.Assigned.{Assigned};
 ghost use Rattle.hn_assign.specs.declared.assigned.Wish.{Wish};
 ghost use Rattle.hn_assign.specs.declared.held.Held.{Held};
 ghost use Rattle.hn_assign.specs.declared.held.Ran.{Ran};
+ghost use Rattle.hn_assign.specs.declared.slot.Slot.{Slot};
 ghost use Rattle.hn_assign.specs.Facts.{IsInDelegated, IsPast, HasOwnPriority};
 ghost use Rattle.hn_assign.specs.Fixed.{IsUnchanged, AreDue, AreAtRest};
 ghost use Rattle.hn_assign.specs.Gathered.{AreAdvertised};
+ghost use Rattle.hn_assign.specs.Lines.{IsKept, IsAdopted, IsKeptAhead, IsYielded, IsReplaced};
 ghost use Rattle.hn_assign.specs.Pair.{IsAscending, IsWished, assigned_pair, backoff_pair, wish_pair};
+ghost use Rattle.hn_assign.specs.Scene.{PlainScene, IsBestFor};
 ghost use Rattle.hn_assign.specs.Subroutine.{IsSubroutine};
+
+/// At most one line of the table applies to a pair: its best prefix is one, and the lines that are for the same best
+/// prefix and assignment exclude each other.
+pub fn lines_exclude_each_other()
+    ensures best { (at : PlainScene) (x y : Option Advertised) → IsBestFor at x → IsBestFor at y → x ≡ y }
+    ensures alone { (at : PlainScene) (c : Assigned) (before x y : Slot) → IsKept at c before x → ¬ (IsAdopted at c before y) }
+    ensures yielded { (at : PlainScene) (best : Advertised) (c : Assigned) (before x y : Slot)
+        → IsKeptAhead at best c before x → ¬ (IsYielded at best c before y) }
+    ensures replaced { (at : PlainScene) (best : Advertised) (c : Assigned) (before x y : Slot)
+        → IsKeptAhead at best c before x → ¬ (IsReplaced at best c y) }
+    ensures other { (at : PlainScene) (best : Advertised) (c : Assigned) (before x y : Slot)
+        → IsYielded at best c before x → ¬ (IsReplaced at best c y) }
+{}
 
 /// What the subroutine keeps of each assignment: its prefix is inside its delegated prefix; it was made at the moment
 /// of the view or before; where it is published, its priority is 2.

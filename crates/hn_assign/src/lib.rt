@@ -17,6 +17,8 @@ mod scene;
 mod slot;
 mod step;
 mod subroutines;
+#[cfg(test)]
+mod tests;
 mod turn;
 mod unassigned;
 mod wishes;
@@ -27,7 +29,10 @@ pub use backoff::Backoff;
 pub use backoffs::Backoffs;
 pub use gathering::{AdvertisedPrefixes, gather};
 pub use held::{Held, Ran};
-pub use laws::{rest_is_unchanged, subroutine_has_one_result, subroutine_keeps, subroutine_leaves};
+pub use laws::{
+    lines_exclude_each_other, rest_is_unchanged, subroutine_has_one_result, subroutine_keeps,
+    subroutine_leaves,
+};
 pub use pair::Pair;
 pub use precedence::{PRIORITY, best, valid};
 pub use subroutines::subroutine;

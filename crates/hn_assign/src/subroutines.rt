@@ -11,7 +11,7 @@ use crate::known::Known;
 use crate::wishes::Wishes;
 use hn_base::{NoMemory, Words};
 use hn_data::View;
-use hn_io::Draw;
+use hn_io::{Draw, words_join};
 use std::alloc::Global;
 
 /// The assignment subroutine for all pairs of a used delegated prefix and an attached endpoint, one wish for each
@@ -60,6 +60,7 @@ fn run<D: Draw>(
     ensures subroutine { IfOk result (IsSubroutine (plain_view view.entry.now) wishes.now held.now) }
     ensures drew { IfOk result (λ ran. Took (D.words draw.old) ran.words (D.words draw.new)) }
 {
+    words_join();
     let mut ran = begin(alloc, wishes, held)?;
     let mut known = Known::gather(alloc, view, &ran.held)?;
     for wish in wishes {

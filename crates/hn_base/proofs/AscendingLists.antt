@@ -1,11 +1,11 @@
 -- Lists in strictly ascending order.
-use Rattle.std.proofs.Common.{◌≡◌, ◌↔◌, ℕ, ◌<◌, ◌≤◌, ◌+◌, Bool, IsTrue, true, false, List, [], ◌∷◌, length, get_or, Contains, Result, Ok, Err, is_ok, Ordering, map, refl, sym, ◌∙◌, ap, subst, inl, inr, ◌⊎◌, ⊎_elim, arith, suc, zero}
+use Rattle.std.proofs.Common.{◌≡◌, ◌↔◌, ℕ, ◌<◌, ◌≤◌, ◌+◌, Bool, IsTrue, true, false, List, [], ◌∷◌, ◌++◌, length, get_or, Contains, Result, Ok, Err, is_ok, Ordering, map, refl, sym, ◌∙◌, ap, subst, inl, inr, ◌⊎◌, ⊎_elim, arith, suc, zero}
 use Rattle.std.specs.declared.cmp.Ordering.TheVariants.{Less, Equal, Greater}
 use Rattle.std.specs.Cmp.{IsTotalOrder, IsEquivalence}
 use Rattle.std.specs.List.{AllByRecursion, dedup}
 use Rattle.std.specs.List.Sorted.{IsStrictlySortedBy, IsSorted, IsSearchInRange, IsBinarySearchResult}
 use Rattle.std.specs.Cmp.Lexicographic.{slice_cmp}
-use Rattle.std.specs.Ordering.{is_eq, is_lt, eq_by_cmp, nat_cmp, on, ordering_reverse, ordering_then}
+use Rattle.std.specs.Ordering.{is_eq, is_lt, eq_by_cmp, nat_cmp, on, then_cmp, ordering_reverse, ordering_then}
 use Rattle.std.proofs.lemmas.Bool.{cases_lt}
 use Rattle.std.proofs.lemmas.Cmp.{tied_itself, ranked, by_ranked}
 use Rattle.std.proofs.lemmas.List.Elements.{All-from_recursion, All-contains}
@@ -13,6 +13,7 @@ use Rattle.std.proofs.lemmas.List.Kept.{Any-dedup, Contains-dedup, Contains-from
 use Rattle.std.proofs.lemmas.List.Sorted.{searchable_from_sorted}
 use Rattle.std.proofs.lemmas.Map.Keys.{sorted_head, sorted_tail, Less-from_sorted}
 use Rattle.hn_base.specs.Ascending.{IsExact}
+use Rattle.hn_base.proofs.Recursions.{AllByRecursion-push}
 
 -- ---- Contains, element by element
 
@@ -43,6 +44,12 @@ dedup_same R E exact ties e xs x = (Contains-from_dedup E xs x, Contains-dedup e
 
 -- ---- search
 
+pub not_below_itself : {K : Type 0} (R : K → K → Ordering) → IsTotalOrder R → (x y : K) → x ≡ y → ¬ (R x y ≡ Less)
+not_below_itself R o x y same less =
+    let equal : R x x ≡ Equal = tied_itself o x in
+    let turned : R x y ≡ R x x = ap (R x) (sym same) in
+    cc
+
 less_apart : {K : Type 0} (R : K → K → Ordering) → IsTotalOrder R → (x y : K) → R x y ≡ Less → is_lt (R y x) ≡ false
 less_apart R o x y h = ap is_lt (o.antisymm y x ∙ ap ordering_reverse h)
 
@@ -63,7 +70,7 @@ found {K} R o exact xs x (Err i) up within at =
 
 -- ---- one list for a set
 
-nothing_in : {K : Type 0} (x : K) → ¬ (Contains {X = K} [] x)
+pub nothing_in : {K : Type 0} (x : K) → ¬ (Contains {X = K} [] x)
 nothing_in x (k, lt, at) = omega (arith, lt)
 
 below_head : {K : Type 0} (R : K → K → Ordering) (x : K) (xs : List K) → IsStrictlySortedBy R (x ∷ xs) → (y : K) → Contains xs y → R x y ≡ Less
@@ -102,6 +109,15 @@ ascending_unique R o (x ∷ xs) (y ∷ ys) p q same =
     let tails : xs ≡ ys = ascending_unique R o xs ys (sorted_tail R x xs p) (sorted_tail R y ys q)
     (λ z. (behind R o x y xs ys heads p (λ v. (same v).0) z, behind R o y x ys xs (sym heads) q (λ v. (same v).1) z)) in
     rw (heads, tails) refl
+
+-- an element that is above all others goes to the end
+pub sorted_push : {K : Type 0} (R : K → K → Ordering) (xs : List K) (x : K) → IsStrictlySortedBy R xs → ((y : K) → Contains xs y → R y x ≡ Less) → IsStrictlySortedBy R (xs ++ x ∷ [])
+unfolding IsStrictlySortedBy
+sorted_push R [] x up below = (tt, tt)
+sorted_push R (y ∷ ys) x up below = (
+  AllByRecursion-push (λ z. R y z ≡ Less) ys x up.0 (below y (Contains-head y ys)),
+  sorted_push R ys x up.1 (λ z h. below z (Contains-tail y ys z h)),
+)
 
 -- ---- order by a part of each element
 
@@ -151,10 +167,17 @@ dedup_parts_same {K} {J} f R E exact ties e xs j = (
 pub exact_nat : IsExact nat_cmp
 exact_nat x y h = by_ranked (x < y) (x ≡ y) (y < x) (nat_cmp x y) (ranked x y (nat_cmp x y) refl) (λ less _. absurd (cc)) (λ _ e. e) (λ greater _. absurd (cc))
 
-both_equal : (a b : Ordering) → ordering_then a b ≡ Equal → (a ≡ Equal) × (b ≡ Equal)
+pub both_equal : (a b : Ordering) → ordering_then a b ≡ Equal → (a ≡ Equal) × (b ≡ Equal)
 both_equal Less b h = absurd (cc)
 both_equal Equal b h = (refl, h)
 both_equal Greater b h = absurd (cc)
+
+-- the order by two parts that tell an element, each in an exact order
+pub exact_then : {K A B : Type 0} (f : K → A) (g : K → B) (R : A → A → Ordering) (S : B → B → Ordering) → IsExact R → IsExact S
+    → ((x y : K) → f x ≡ f y → g x ≡ g y → x ≡ y) → IsExact (then_cmp (on f R) (on g S))
+exact_then f g R S exact_R exact_S told x y h =
+    let both = both_equal (R (f x) (f y)) (S (g x) (g y)) h in
+    told x y (exact_R (f x) (f y) both.0) (exact_S (g x) (g y) both.1)
 
 -- lists in the order of an exact order of their elements
 pub exact_lists : {K : Type 0} (R : K → K → Ordering) → IsExact R → IsExact (slice_cmp R)

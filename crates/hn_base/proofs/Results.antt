@@ -1,5 +1,5 @@
 -- What is known of a result.
-use Rattle.std.proofs.Common.{◌≡◌, Result, Ok, Err, MatchResult, IfOk, refl, ap, ◌∙◌}
+use Rattle.std.proofs.Common.{◌≡◌, ◌↔◌, Result, Ok, Err, MatchResult, IfOk, refl, sym, ap, subst, ◌∙◌}
 use Rattle.std.specs.Prelude.{IsOk, IsErr}
 
 pub not_ok : {A E : Type 0} (e : E) (x : A) → Err e ≡ Ok x → ⊥
@@ -7,6 +7,9 @@ not_ok e x same = absurd cc
 
 pub same_ok : {A E : Type 0} (x y : A) → ◌≡◌ {A = Result A E} (Ok x) (Ok y) → x ≡ y
 same_ok x y same = cc
+
+pub same_error : {A E : Type 0} (x y : E) → ◌≡◌ {A = Result A E} (Err x) (Err y) → x ≡ y
+same_error x y same = cc
 
 -- two values of one result
 pub one_value : {A E : Type 0} (r : Result A E) (x y : A) → r ≡ Ok x → r ≡ Ok y → x ≡ y
@@ -25,3 +28,14 @@ ok_with (Err e) x y ok is same = absurd cc
 pub ok_where : {A E : Type 0} (r : Result A E) (P : A → Type 0) (Q : E → Type 0) (U : Type 0) → MatchResult r P (λ e. ¬ U × Q e) → U → IsOk r
 ok_where (Ok x) P Q U cases holds = refl
 ok_where (Err e) P Q U cases holds = absurd (cases.0 holds)
+
+-- which faults of a kind a result tells, where at most one is so
+module _ {X E F : Type 0} (wrap : F → E) (P : F → Type 0) where
+  pub tells_fault : ((f g : F) → wrap f ≡ wrap g → f ≡ g) → ((f g : F) → P f → P g → f ≡ g) → (r : Result X E) (f : F) → r ≡ Err (wrap f) → P f → (g : F) → (r ≡ Err (wrap g)) ↔ P g
+  tells_fault apart one r f answer is g = (
+    λ e. subst P (apart f g (same_error {A = X} (wrap f) (wrap g) (sym answer ∙ e))) is,
+    λ other. answer ∙ ap (λ h. Err (wrap h)) (one f g is other),
+  )
+
+  pub tells_none : (r : Result X E) → ((g : F) → ¬ (r ≡ Err (wrap g))) → ((g : F) → ¬ P g) → (g : F) → (r ≡ Err (wrap g)) ↔ P g
+  tells_none r untold none g = (λ e. absurd (untold g e), λ is. absurd (none g is))

@@ -1,9 +1,10 @@
 -- What one more item adds to what is kept.
 use Rattle.std.proofs.Common.{◌≡◌, ◌↔◌, ℕ, ◌⊎◌, inl, inr, ⊎_elim, Bool, IsTrue, true, false, ◌||◌, List, [], ◌∷◌, ◌++◌, Option, Some, None, option_to_list, Contains, refl, sym, ap, subst, ◌∙◌, arith}
 use Rattle.std.specs.Option.{option_map, option_or}
-use Rattle.std.specs.List.{filter_map, cons_option}
-use Rattle.std.proofs.lemmas.List.Elements.{Contains-append_left, Contains-append_right, Contains-append_cases, filter_map-append}
+use Rattle.std.specs.List.{filter_map}
+use Rattle.std.proofs.lemmas.List.Elements.{Contains-append_left, Contains-append_right, Contains-append_cases}
 use Rattle.hn_base.proofs.AscendingLists.{Contains-head, Contains-cases}
+use Rattle.hn_base.proofs.Parts.{filter_map-push}
 use Rattle.hn_tlv.specs.Grammar.{PlainTlv}
 use Rattle.hn_typed.specs.Item.{PlainItem, PlainCaps, External}
 use Rattle.hn_typed.specs.Table.{IsItem}
@@ -12,7 +13,7 @@ use Rattle.hn_data.specs.Items.{IsReading, AreItems, Reads, first_of}
 use Rattle.hn_data.specs.Said.{caps_of, version_of}
 use Rattle.hn_data.specs.Delegations.{delegation_of, IsDelegatedIn, IsConnected}
 use Rattle.hn_data.specs.declared.said.Delegation.{Delegation}
-use Rattle.hn_data.proofs.Readings.{items_unique}
+use Rattle.hn_data.proofs.Readings.{HasOneReading}
 
 -- ---- readings
 
@@ -32,17 +33,10 @@ readings_join (tlv ∷ a) b x y (inr p) q = inr (p.0, p.1, readings_join a b x y
 pub contains_append : {A : Type 0} (xs ys : List A) (x : A) → Contains (xs ++ ys) x ↔ (Contains xs x ⊎ Contains ys x)
 contains_append xs ys x = (Contains-append_cases xs ys x, λ h. ⊎_elim (Contains-append_left xs ys x) (Contains-append_right xs ys x) h)
 
-one_said : {A : Type 0} (o : Option A) → cons_option o [] ≡ option_to_list o
-one_said None = refl
-one_said (Some x) = refl
-
 -- a list of what items say, with what one more says
-pub said_more : {A : Type 0} (f : PlainItem → Option A) (items : List PlainItem) (item : PlainItem) → filter_map f (items ++ item ∷ []) ≡ filter_map f items ++ option_to_list (f item)
-said_more f items item = filter_map-append f items (item ∷ []) ∙ ap (λ ys. filter_map f items ++ ys) (one_said (f item))
-
 pub list_more : {A : Type 0} (f : PlainItem → Option A) (items : List PlainItem) (item : PlainItem) (old new : List A) (said : Option A)
     → old ≡ filter_map f items → said ≡ f item → new ≡ old ++ option_to_list said → new ≡ filter_map f (items ++ item ∷ [])
-list_more f items item old new said was is more = more ∙ ap (λ ys. old ++ option_to_list ys) is ∙ ap (λ xs. xs ++ option_to_list (f item)) was ∙ sym (said_more f items item)
+list_more f items item old new said was is more = more ∙ ap (λ ys. old ++ option_to_list ys) is ∙ ap (λ xs. xs ++ option_to_list (f item)) was ∙ sym (filter_map-push f items item)
 
 -- the same of the set of what items say
 pub set_more : {A : Type 0} (f : PlainItem → Option A) (items : List PlainItem) (item : PlainItem) (old new : List A) (said : Option A)
@@ -53,8 +47,8 @@ set_more {A} f items item old new said was is more a =
     let now : new ≡ old ++ last = more ∙ ap (λ ys. old ++ option_to_list ys) is in
     let both = contains_append old last a in
     let other = contains_append (filter_map f items) last a in (
-      λ h. subst (λ (xs : List A). Contains xs a) (sym (said_more f items item)) (other.1 (⊎_elim (λ g. inl ((was a).0 g)) (λ g. inr g) (both.0 (subst (λ (xs : List A). Contains xs a) now h)))),
-      λ h. subst (λ (xs : List A). Contains xs a) (sym now) (both.1 (⊎_elim (λ g. inl ((was a).1 g)) (λ g. inr g) (other.0 (subst (λ (xs : List A). Contains xs a) (said_more f items item) h)))),
+      λ h. subst (λ (xs : List A). Contains xs a) (sym (filter_map-push f items item)) (other.1 (⊎_elim (λ g. inl ((was a).0 g)) (λ g. inr g) (both.0 (subst (λ (xs : List A). Contains xs a) now h)))),
+      λ h. subst (λ (xs : List A). Contains xs a) (sym now) (both.1 (⊎_elim (λ g. inl ((was a).1 g)) (λ g. inr g) (other.0 (subst (λ (xs : List A). Contains xs a) (filter_map-push f items item) h)))),
     )
 
 -- ---- the version: the first one
@@ -75,7 +69,7 @@ pub version_more : {C : Type 0} (plain : C → PlainCaps) (items : List PlainIte
     → option_map plain old ≡ version_of items → option_map plain said ≡ caps_of item → option_map plain (option_or old said) ≡ version_of (items ++ item ∷ [])
 version_more plain items item old said was is =
     mapped_or plain old said ∙ ap (λ a. option_or a (option_map plain said)) was ∙ ap (option_or (version_of items)) (is ∙ sym (first_said (caps_of item)))
-    ∙ sym (first_append (filter_map caps_of items) (option_to_list (caps_of item))) ∙ ap first_of (sym (said_more caps_of items item))
+    ∙ sym (first_append (filter_map caps_of items) (option_to_list (caps_of item))) ∙ ap first_of (sym (filter_map-push caps_of items item))
 
 -- ---- External-Connections
 
@@ -123,23 +117,23 @@ same_subs : (a b : List ℕ) → External a ≡ External b → a ≡ b
 same_subs a b e = cc
 
 -- an External-Connection has those of its items inside
-pub delegates_inner : (subs : List ℕ) (inner : List PlainItem) (d : Delegation)
-    → AreItems subs inner → Contains (filter_map delegation_of inner) d ↔ IsDelegatedIn (External subs ∷ []) d
-delegates_inner subs inner d are = (
+delegates_inner : (subs : List ℕ) (inner : List PlainItem) (d : Delegation)
+    → HasOneReading subs → AreItems subs inner → Contains (filter_map delegation_of inner) d ↔ IsDelegatedIn (External subs ∷ []) d
+delegates_inner subs inner d one are = (
   λ h. record { subs = subs; external = Contains-head (External subs) []; inside = (inner, are, h) },
   λ h. let same : subs ≡ h.subs = same_subs subs h.subs (only (External subs) (External h.subs) h.external) in
       let are' : AreItems subs h.inside.0 = subst (λ (b : List ℕ). AreItems b h.inside.0) (sym same) h.inside.1 in
-      subst (λ (xs : List PlainItem). Contains (filter_map delegation_of xs) d) (items_unique subs h.inside.0 inner are' are) h.inside.2,
+      subst (λ (xs : List PlainItem). Contains (filter_map delegation_of xs) d) (one h.inside.0 inner are' are) h.inside.2,
 )
 
 -- a list with the delegated prefixes inside an External-Connection
 pub inner_more : (subs : List ℕ) (old new : List Delegation)
-    → Reads subs (λ inner. new ≡ old ++ filter_map delegation_of inner)
+    → HasOneReading subs → Reads subs (λ inner. new ≡ old ++ filter_map delegation_of inner)
     → (d : Delegation) → Contains new d ↔ (Contains old d ⊎ IsDelegatedIn (External subs ∷ []) d)
-inner_more subs old new r d =
+inner_more subs old new one r d =
     let said = filter_map delegation_of r.0 in
     let parts = contains_append old said d in
-    let inside = delegates_inner subs r.0 d r.1 in (
+    let inside = delegates_inner subs r.0 d one r.1 in (
       λ h. ⊎_elim (λ g. inl g) (λ g. inr (inside.0 g)) (parts.0 (subst (λ (xs : List Delegation). Contains xs d) r.2 h)),
       λ h. subst (λ (xs : List Delegation). Contains xs d) (sym r.2) (parts.1 (⊎_elim (λ g. inl g) (λ g. inr (inside.1 g)) h)),
     )

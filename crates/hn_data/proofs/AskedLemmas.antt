@@ -6,7 +6,7 @@ use Rattle.hn_typed.specs.Item.{PlainItem, PlainCaps}
 use Rattle.hn_data.specs.Items.{AreItems, first_of}
 use Rattle.hn_data.specs.Said.{version_of, interval_at, HasVersion}
 use Rattle.hn_data.specs.declared.said.Interval.{Interval}
-use Rattle.hn_data.proofs.Readings.{items_unique}
+use Rattle.hn_data.proofs.Readings.{HasOneReading}
 
 some_or_none : {C : Type 0} (plain : C → PlainCaps) (bytes : List ℕ) (items : List PlainItem) (kept : Option C) → AreItems bytes items → option_map plain kept ≡ version_of items
     → IsSome kept → HasVersion bytes
@@ -17,11 +17,11 @@ is_there : {C : Type 0} (plain : C → PlainCaps) (kept : Option C) (caps : Plai
 is_there plain None caps e = absurd (cc)
 is_there plain (Some c) caps e = refl
 
-pub version_found : {C : Type 0} (plain : C → PlainCaps) (bytes : List ℕ) (items : List PlainItem) (kept : Option C) → AreItems bytes items → option_map plain kept ≡ version_of items
+pub version_found : {C : Type 0} (plain : C → PlainCaps) (bytes : List ℕ) (items : List PlainItem) (kept : Option C) → HasOneReading bytes → AreItems bytes items → option_map plain kept ≡ version_of items
     → IsSome kept ↔ HasVersion bytes
-version_found plain bytes items kept are is = (
+version_found plain bytes items kept one are is = (
   some_or_none plain bytes items kept are is,
-  λ (caps, (others, read, first)). is_there plain kept caps (is ∙ ap version_of (items_unique bytes items others are read) ∙ first),
+  λ (caps, (others, read, first)). is_there plain kept caps (is ∙ ap version_of (one items others are read) ∙ first),
 )
 
 this_or_rest : (passes : Bool) (x : Interval) (rest : List ℕ) (found : Option Interval) → first_of rest ≡ option_map (λ i. i.interval) found

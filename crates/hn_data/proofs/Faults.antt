@@ -1,27 +1,31 @@
 -- Which bytes are no node data.
-use Rattle.std.proofs.Common.{◌≡◌, ℕ, ◌↔◌, List, Result, Err, refl, subst, ◌∙◌}
+use Rattle.std.proofs.Common.{◌≡◌, ℕ, ◌↔◌, List, Result, Err}
+use Rattle.hn_base.proofs.Results.{tells_fault, tells_none}
 use Rattle.hn_tlv.specs.declared.fault.TlvFault.{TlvFault}
 use Rattle.hn_tlv.specs.Grammar.{HasTlvs, FirstFault}
-use Rattle.hn_tlv.proofs.Unique.{no_list, same_first_fault}
 use Rattle.hn_data.specs.declared.fault.DataFault.{DataFault}
 use Rattle.hn_data.specs.declared.fault.DataFault.TheVariants.{Tlv}
+
+abbrev IsFirst : List ℕ → TlvFault → Type 0
+IsFirst bytes fault = FirstFault bytes fault.place fault.why
 
 -- the answer is that fault if and only if it is the first one
 abbrev pub TellsFault : {X : Type 0} → List ℕ → Result X DataFault → ℕ → ℕ → Type 0
 TellsFault bytes result place why = (result ≡ Err (Tlv (record { place = place; why = why }))) ↔ FirstFault bytes place why
 
-same_told : {X : Type 0} (result : Result X DataFault) (fault other : TlvFault) → result ≡ Err (Tlv fault) → result ≡ Err (Tlv other) → fault ≡ other
-same_told result fault other e f = cc
+told_apart : (fault other : TlvFault) → Tlv fault ≡ Tlv other → fault ≡ other
+told_apart fault other e = cc
 
-pub tells_fault : {X : Type 0} (bytes : List ℕ) (result : Result X DataFault) (fault : TlvFault) → result ≡ Err (Tlv fault) → FirstFault bytes fault.place fault.why
-    → (place why : ℕ) → TellsFault bytes result place why
-tells_fault bytes result fault answer first place why =
-    let told : TlvFault = record { place = place; why = why } in (
-      λ e. let same = same_told result fault told answer e in subst (λ (f : TlvFault). FirstFault bytes f.place f.why) same first,
-      λ other. let same = same_first_fault bytes fault.place place fault.why why first other in answer ∙ rw (same.0, same.1) refl,
-    )
+-- the law of first faults
+module _ (same_fault : (bytes : List ℕ) (p q v w : ℕ) → FirstFault bytes p v → FirstFault bytes q w → (p ≡ q) × (v ≡ w))
+    (no_list : (bytes : List ℕ) (place why : ℕ) → FirstFault bytes place why → ¬ (HasTlvs bytes)) where
+  one_first : (bytes : List ℕ) (fault other : TlvFault) → IsFirst bytes fault → IsFirst bytes other → fault ≡ other
+  one_first bytes fault other f g = let same = same_fault bytes fault.place other.place fault.why other.why f g in λ i. record { place = same.0 i; why = same.1 i }
 
-pub tells_other : {X : Type 0} (bytes : List ℕ) (result : Result X DataFault) → HasTlvs bytes → ((fault : TlvFault) → ¬ (result ≡ Err (Tlv fault)))
-    → (place why : ℕ) → TellsFault bytes result place why
-tells_other bytes result list other place why =
-    (λ e. absurd (other (record { place = place; why = why }) e), λ first. absurd (no_list bytes place why first list))
+  pub tells_first : {X : Type 0} (bytes : List ℕ) (result : Result X DataFault) (fault : TlvFault) → result ≡ Err (Tlv fault) → FirstFault bytes fault.place fault.why
+      → (place why : ℕ) → TellsFault bytes result place why
+  tells_first bytes result fault answer first place why = tells_fault Tlv (IsFirst bytes) told_apart (one_first bytes) result fault answer first (record { place = place; why = why })
+
+  pub tells_other : {X : Type 0} (bytes : List ℕ) (result : Result X DataFault) → HasTlvs bytes → ((fault : TlvFault) → ¬ (result ≡ Err (Tlv fault)))
+      → (place why : ℕ) → TellsFault bytes result place why
+  tells_other bytes result list untold place why = tells_none Tlv (IsFirst bytes) result untold (λ fault first. no_list bytes fault.place fault.why first list) (record { place = place; why = why })

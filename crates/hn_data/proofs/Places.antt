@@ -1,109 +1,29 @@
--- Nodes by their identifiers, and where their peers lead.
-use Rattle.std.proofs.Common.{◌≡◌, ℕ, ◌<◌, ◌≤◌, List, [], ◌∷◌, length, get_or, map, Some, Ok, Err, Result, Ordering, MatchResult, refl, sym, ◌∙◌, ap, subst, ⊎_elim, arith, slice_get, suc, zero, Option, IfSome, IfNone}
-use Rattle.std.specs.declared.cmp.Ordering.TheVariants.{Less, Equal, Greater}
-use Rattle.std.specs.Cmp.{IsTotalOrder}
-use Rattle.std.specs.List.{Contains}
-use Rattle.std.specs.List.Sorted.{IsStrictlySortedBy, IsSearchInRange, IsBinarySearchResult}
-use Rattle.std.specs.Option.{option_map}
-use Rattle.std.specs.Ordering.{on, nat_cmp}
+-- Where the peers of nodes stand.
+use Rattle.std.proofs.Common.{◌≡◌, ℕ, List, Some, Ok, Err, Result, MatchResult, sym, ◌∙◌, ap, subst, slice_get, Option, IfSome, IfNone}
+use Rattle.std.specs.List.Sorted.{IsStrictlySortedBy}
+use Rattle.std.specs.Ordering.{nat_cmp}
 use Rattle.std.specs.Result.{result_ok}
-use Rattle.std.proofs.lemmas.Bool.{cases_lt}
-use Rattle.std.proofs.lemmas.Cmp.{on_total, tied_itself, ranked, by_ranked}
-use Rattle.std.proofs.lemmas.List.{length-map}
-use Rattle.std.proofs.lemmas.List.Sorted.{searchable_from_sorted}
-use Rattle.std.proofs.lemmas.Map.Keys.{below_from_sorted}
-use Rattle.std.proofs.lemmas.Option.{slice_get-map, slice_get_read, slice_get-get_or, same_Some, none-some, get_or_from_slice_get, slice_get_within}
+use Rattle.std.proofs.lemmas.Option.{same_Some}
+use Rattle.hn_base.proofs.Parts.{part_stands, part_is, one_place_of}
 use Rattle.hn_data.specs.Links.{IsPeerAt}
 use Rattle.hn_data.specs.Peers.{IsLinked}
 use Rattle.hn_data.specs.View.{ids_of}
 use Rattle.hn_data.specs.declared.said.PeerLink.{PeerLink}
 use Rattle.hn_data.specs.declared.view.Entry.{Entry}
-use Rattle.hn_base.specs.Ascending.{IsExact}
-use Rattle.hn_base.proofs.AscendingLists.{sorted_from_strictly, sorted_parts}
-
--- the element that has a part which stands at a place of the parts
-pub part_at : {K J : Type 0} (f : K → J) (xs : List K) (k : ℕ) (j : J) → slice_get (map f xs) k ≡ Some j → (x : K) × (slice_get xs k ≡ Some x) × (f x ≡ j)
-part_at f [] k j at = absurd (none-some j at)
-part_at f (x ∷ xs) zero j at = (x, refl, same_Some (f x) j at)
-part_at f (x ∷ xs) (suc k) j at = part_at f xs k j at
-
--- the same, where the parts have it at some place
-pub part_of : {K J : Type 0} (f : K → J) (xs : List K) (j : J) → Contains (map f xs) j → (k : ℕ) × (x : K) × (slice_get xs k ≡ Some x) × (f x ≡ j)
-part_of f xs j (k, lt, is) =
-    let p = part_at f xs k j (slice_get_read (map f xs) (length (map f xs)) k j refl lt (sym is)) in
-    (k, p.0, p.1, p.2)
-
-pub part_stands : {K J : Type 0} (f : K → J) (xs : List K) (k : ℕ) (x : K) → slice_get xs k ≡ Some x → slice_get (map f xs) k ≡ Some (f x)
-part_stands f xs k x at = slice_get-map f xs k ∙ ap (option_map f) at
-
--- a binary search by a part of the elements, which ascend by it
-pub found_by : {K J : Type 0} (f : K → J) (R : J → J → Ordering) → IsTotalOrder R → IsExact R → (xs : List K) (j : J) (r : Result ℕ ℕ) → IsStrictlySortedBy R (map f xs)
-    → IsSearchInRange r (length xs) → IsBinarySearchResult (λ x. R (f x) j) xs r
-    → MatchResult r (λ i. (i < length xs) × (slice_get (map f xs) i ≡ Some j)) (λ _. ¬ (Contains (map f xs) j))
-found_by {K} {J} f R o exact xs j (Ok i) up within at =
-    let lt : i < length (map f xs) = simp length-map within in
-    let here = slice_get-get_or (map f xs) i j lt in
-    let p = part_at f xs i (get_or (map f xs) i j) here in
-    let read : get_or xs i p.0 ≡ p.0 = get_or_from_slice_get xs i p.0 p.0 p.1 in
-    let same : f p.0 ≡ j = exact (f p.0) j (subst (λ (x : K). R (f x) j ≡ Equal) read (at p.0)) in
-    (within, part_stands f xs i p.0 p.1 ∙ ap Some same)
-found_by {K} {J} f R o exact xs j (Err i) up within at =
-    let sorted = sorted_from_strictly (on f R) (on_total f o) xs ((sorted_parts f R xs).1 up) in
-    let parts = at (searchable_from_sorted o f xs j sorted) in
-    λ h.
-    let p = part_of f xs j h in
-    let lt : p.0 < length xs = slice_get_within xs p.0 p.1 p.2 in
-    let read : get_or xs p.0 p.1 ≡ p.1 = get_or_from_slice_get xs p.0 p.1 p.1 p.2 in
-    let equal : R (f (get_or xs p.0 p.1)) j ≡ Equal = rw (read, p.3) (tied_itself o j) in
-    ⊎_elim (λ (below : p.0 < i). absurd (let less : R (f (get_or xs p.0 p.1)) j ≡ Less = parts.0 p.0 p.1 (omega arith) below in cc))
-    (λ (above : i ≤ p.0). absurd (let greater : R (f (get_or xs p.0 p.1)) j ≡ Greater = parts.1 p.0 p.1 above lt in cc))
-    (cases_lt p.0 i)
-
-pub exact_nat : IsExact nat_cmp
-exact_nat x y h = by_ranked (x < y) (x ≡ y) (y < x) (nat_cmp x y) (ranked x y (nat_cmp x y) refl) (λ less _. absurd (cc)) (λ _ e. e) (λ greater _. absurd (cc))
 
 -- what the `Ok` of a search says
 pub said_of_ok : (r : Result ℕ ℕ) (o : Option ℕ) (P : ℕ → Type 0) (Q : Type 0) → o ≡ result_ok r → MatchResult r P (λ _. Q) → IfSome o P × IfNone o Q
 said_of_ok (Ok i) o P Q is holds = rw is (holds, tt)
 said_of_ok (Err i) o P Q is holds = rw is (tt, holds)
 
--- numbers that ascend stand at one place each
-pub one_place : (xs : List ℕ) → IsStrictlySortedBy nat_cmp xs → (i k j : ℕ) → slice_get xs i ≡ Some j → slice_get xs k ≡ Some j → i ≡ k
-one_place xs up i k j a b =
-    let lt_i : i < length xs = slice_get_within xs i j a in
-    let lt_k : k < length xs = slice_get_within xs k j b in
-    let read_i : get_or xs i 0 ≡ j = get_or_from_slice_get xs i j 0 a in
-    let read_k : get_or xs k 0 ≡ j = get_or_from_slice_get xs k j 0 b in
-    ⊎_elim (λ (below : i < k). absurd (let less = below_from_sorted xs i k 0 up below lt_k in omega (arith, less)))
-    (λ (rest : k ≤ i). ⊎_elim (λ (above : k < i). absurd (let less = below_from_sorted xs k i 0 up above lt_i in omega (arith, less)))
-    (λ (le : i ≤ k). omega arith) (cases_lt k i))
-    (cases_lt i k)
-
-pub contains_at : {K : Type 0} (xs : List K) (k : ℕ) (x : K) → slice_get xs k ≡ Some x → Contains xs x
-contains_at xs k x at = (k, slice_get_within xs k x at, get_or_from_slice_get xs k x x at)
-
-pub id_at : (nodes : List Entry) (place : ℕ) (y : Entry) → slice_get nodes place ≡ Some y → slice_get (ids_of nodes) place ≡ Some y.id.0
-id_at nodes place y at = part_stands (λ n. n.id.0) nodes place y at
-
 pub peer_at : (nodes : List Entry) (x : Entry) (link : PeerLink) (place : ℕ) → IsPeerAt nodes x link place → slice_get (ids_of nodes) place ≡ Some link.peer.0
-peer_at nodes x link place leads = id_at nodes place leads.y leads.at ∙ ap Some leads.is_peer
-
--- the node at a place has the identifier that stands there
-pub id_is : (nodes : List Entry) (place id : ℕ) (y : Entry) → slice_get nodes place ≡ Some y → slice_get (ids_of nodes) place ≡ Some id → y.id.0 ≡ id
-id_is nodes place id y at is = same_Some y.id.0 id (sym (id_at nodes place y at) ∙ is)
+peer_at nodes x link place leads = part_stands (λ n. n.id.0) nodes place leads.y leads.at ∙ ap Some leads.is_peer
 
 -- a link leads to the one node that is the peer
 pub leads_to_peer : (nodes : List Entry) → IsStrictlySortedBy nat_cmp (ids_of nodes) → (x : Entry) (link : PeerLink) (place other : ℕ) (y : Entry)
     → slice_get nodes place ≡ Some y → slice_get (ids_of nodes) place ≡ Some link.peer.0 → IsPeerAt nodes x link other
     → IsLinked x.body x.id.0 link.endpoint.0 y.body y.id.0 link.peer_endpoint.0
 leads_to_peer nodes up x link place other y at is leads =
-    let same : other ≡ place = one_place (ids_of nodes) up other place link.peer.0 (peer_at nodes x link other leads) is in
+    let same : other ≡ place = one_place_of (λ n. n.id.0) nodes up other place leads.y y leads.at at (leads.is_peer ∙ sym (part_is (λ n. n.id.0) nodes place link.peer.0 y at is)) in
     let one : leads.y ≡ y = same_Some leads.y y (sym leads.at ∙ ap (slice_get nodes) same ∙ at) in
     subst (λ (z : Entry). IsLinked x.body x.id.0 link.endpoint.0 z.body z.id.0 link.peer_endpoint.0) one leads.linked
-
--- nodes whose identifiers ascend are one where their identifiers are equal
-pub one_node : (nodes : List Entry) → IsStrictlySortedBy nat_cmp (ids_of nodes) → (place : ℕ) (x y : Entry) → slice_get nodes place ≡ Some x → Contains nodes y → y.id.0 ≡ x.id.0 → y ≡ x
-one_node nodes up place x y at (k, lt, is) same =
-    let there : slice_get nodes k ≡ Some y = slice_get_read nodes (length nodes) k y refl lt (sym is) in
-    let one : k ≡ place = one_place (ids_of nodes) up k place x.id.0 (id_at nodes k y there ∙ ap Some same) (id_at nodes place x at) in
-    same_Some y x (sym there ∙ ap (slice_get nodes) one ∙ at)

@@ -3,14 +3,11 @@ use Rattle.std.proofs.Common.{◌≡◌, ◌↔◌, ◌∙◌, ℕ, ◌<◌, ◌
 use Rattle.std.specs.List.{concat}
 use Rattle.std.proofs.lemmas.List.{append-nil}
 use Rattle.std.proofs.lemmas.List.Elements.{All-contains, All-weaker, All-contains_itself, All-tail, All-head, Contains-append_left, Contains-append_right}
-use Rattle.hn_base.proofs.AscendingLists.{Contains-head, Contains-tail, Contains-cases}
+use Rattle.hn_base.proofs.AscendingLists.{nothing_in, Contains-head, Contains-tail, Contains-cases}
 use Rattle.hn_tlv.specs.Grammar.{PlainTlv, IsTlv, IsTlvList, header, unpadded, padding, spelling}
-use Rattle.hn_tlv.proofs.Unique.{same_begin}
 use Rattle.hn_typed.specs.Item.{PlainItem, RequestNetwork, RequestNode, NodeEndpoint, NetworkState, NodeState, Peer, KeepAlive, Version, External, Delegated, Assigned, Address, Other}
 use Rattle.hn_typed.specs.Table.{IsItem, InRange}
 use Rattle.hn_typed.specs.Written.{kind_of, value_of, tlv_of, IsWritable}
-use Rattle.hn_typed.proofs.Unique.{same_item}
-use Rattle.hn_typed.proofs.Written.{written_is_item}
 use Rattle.hn_data.specs.Items.{IsReading, Reads}
 use Rattle.hn_data.specs.OwnData.{AreBytes, IsEncoded, IsWrittenIn, IsAscendingSet}
 
@@ -46,14 +43,6 @@ written_tlv item w bytes =
       bytes = back (λ byte. byte < 2 ^ 8) (header (kind_of item) (length value)) value (front (λ byte. byte < 2 ^ 8) (unpadded (tlv_of item)) zeros bytes);
     }
 
--- one TLV is written for at most one item
-same_written : (item other : PlainItem) → IsWritable item → IsWritable other → AreBytes (spelling (tlv_of item)) → spelling (tlv_of item) ≡ spelling (tlv_of other) → item ≡ other
-same_written item other w v bytes e =
-    let one = written_tlv item w bytes in
-    let two = written_tlv other v (subst AreBytes e bytes) in
-    let tlvs : tlv_of item ≡ tlv_of other = (same_begin (tlv_of item) (tlv_of other) [] [] one two (append-nil (spelling (tlv_of item)) ∙ e ∙ sym (append-nil (spelling (tlv_of other))))).0 in
-    same_item (tlv_of item) item other (written_is_item item w) (subst (λ (tlv : PlainTlv). IsItem tlv other) (sym tlvs) (written_is_item other v))
-
 -- pieces that are the TLVs of items: their TLVs, and the items that these are read as
 pub record AreWritten (pieces : List (List ℕ)) (bytes : List ℕ) : Type 0 where
   pub tlvs : List PlainTlv
@@ -62,49 +51,58 @@ pub record AreWritten (pieces : List (List ℕ)) (bytes : List ℕ) : Type 0 whe
   pub read : IsReading tlvs items
   pub exact : (item : PlainItem) → Contains items item ↔ IsWrittenIn pieces item
 
-nothing : {A : Type 0} (x : A) → Contains [] x → ⊥
-nothing x (k, lt, at) = omega (arith, lt)
+-- the laws of TLVs and of items
+module _ (same_begin : (t u : PlainTlv) (x y : List ℕ) → IsTlv t → IsTlv u → spelling t ++ x ≡ spelling u ++ y → (t ≡ u) × (x ≡ y))
+    (same_item : (tlv : PlainTlv) (item other : PlainItem) → IsItem tlv item → IsItem tlv other → item ≡ other)
+    (written_is_item : (item : PlainItem) → IsWritable item → IsItem (tlv_of item) item) where
+  -- one TLV is written for at most one item
+  same_written : (item other : PlainItem) → IsWritable item → IsWritable other → AreBytes (spelling (tlv_of item)) → spelling (tlv_of item) ≡ spelling (tlv_of other) → item ≡ other
+  same_written item other w v bytes e =
+      let one = written_tlv item w bytes in
+      let two = written_tlv other v (subst AreBytes e bytes) in
+      let tlvs : tlv_of item ≡ tlv_of other = (same_begin (tlv_of item) (tlv_of other) [] [] one two (append-nil (spelling (tlv_of item)) ∙ e ∙ sym (append-nil (spelling (tlv_of other))))).0 in
+      same_item (tlv_of item) item other (written_is_item item w) (subst (λ (tlv : PlainTlv). IsItem tlv other) (sym tlvs) (written_is_item other v))
 
-written_first : (piece : List ℕ) (pieces : List (List ℕ)) (first : PlainItem) (rest : List PlainItem) → IsWritable first → piece ≡ spelling (tlv_of first) → AreBytes piece
-    → ((item : PlainItem) → Contains rest item ↔ IsWrittenIn pieces item) → (item : PlainItem) → Contains (first ∷ rest) item ↔ IsWrittenIn (piece ∷ pieces) item
-written_first piece pieces first rest w spelled bytes exact item = (
-  λ h. ⊎_elim (λ (e : first ≡ item). (subst IsWritable e w, subst (λ (p : List ℕ). Contains (piece ∷ pieces) p) (spelled ∙ ap (λ i. spelling (tlv_of i)) e) (Contains-head piece pieces)))
-      (λ (g : Contains rest item). let there = (exact item).0 g in (there.0, Contains-tail piece pieces (spelling (tlv_of item)) there.1))
-      (Contains-cases first rest item h),
-  λ h. ⊎_elim (λ (e : piece ≡ spelling (tlv_of item)). subst (λ (i : PlainItem). Contains (first ∷ rest) i) (same_written first item w h.0 (subst AreBytes spelled bytes) (sym spelled ∙ e)) (Contains-head first rest))
-      (λ (g : Contains pieces (spelling (tlv_of item))). Contains-tail first rest item ((exact item).1 (h.0, g)))
-      (Contains-cases piece pieces (spelling (tlv_of item)) h.1),
-)
+  written_first : (piece : List ℕ) (pieces : List (List ℕ)) (first : PlainItem) (rest : List PlainItem) → IsWritable first → piece ≡ spelling (tlv_of first) → AreBytes piece
+      → ((item : PlainItem) → Contains rest item ↔ IsWrittenIn pieces item) → (item : PlainItem) → Contains (first ∷ rest) item ↔ IsWrittenIn (piece ∷ pieces) item
+  written_first piece pieces first rest w spelled bytes exact item = (
+    λ h. ⊎_elim (λ (e : first ≡ item). (subst IsWritable e w, subst (λ (p : List ℕ). Contains (piece ∷ pieces) p) (spelled ∙ ap (λ i. spelling (tlv_of i)) e) (Contains-head piece pieces)))
+        (λ (g : Contains rest item). let there = (exact item).0 g in (there.0, Contains-tail piece pieces (spelling (tlv_of item)) there.1))
+        (Contains-cases first rest item h),
+    λ h. ⊎_elim (λ (e : piece ≡ spelling (tlv_of item)). subst (λ (i : PlainItem). Contains (first ∷ rest) i) (same_written first item w h.0 (subst AreBytes spelled bytes) (sym spelled ∙ e)) (Contains-head first rest))
+        (λ (g : Contains pieces (spelling (tlv_of item))). Contains-tail first rest item ((exact item).1 (h.0, g)))
+        (Contains-cases piece pieces (spelling (tlv_of item)) h.1),
+  )
 
-pub are_written : (pieces : List (List ℕ)) → All IsEncoded pieces → AreBytes (concat pieces) → AreWritten pieces (concat pieces)
-are_written [] encoded bytes = record { tlvs = []; items = []; list = refl; read = refl; exact = λ item. (λ h. absurd (nothing item h), λ h. absurd (nothing (spelling (tlv_of item)) h.1)) }
-are_written (piece ∷ pieces) encoded bytes =
-    let (first, is) = All-head IsEncoded piece pieces encoded in
-    let here : AreBytes piece = front (λ byte. byte < 2 ^ 8) piece (concat pieces) bytes in
-    let rest = are_written pieces (All-tail IsEncoded piece pieces encoded) (back (λ byte. byte < 2 ^ 8) piece (concat pieces) bytes) in
-    record {
-      tlvs = tlv_of first ∷ rest.tlvs;
-      items = first ∷ rest.items;
-      list = (concat pieces, written_tlv first is.writable (subst AreBytes is.spelled here), ap (λ (z : List ℕ). z ++ concat pieces) is.spelled, rest.list);
-      read = inl (first, rest.items, written_is_item first is.writable, refl, rest.read);
-      exact = written_first piece pieces first rest.items is.writable is.spelled here rest.exact;
-    }
+  are_written : (pieces : List (List ℕ)) → All IsEncoded pieces → AreBytes (concat pieces) → AreWritten pieces (concat pieces)
+  are_written [] encoded bytes = record { tlvs = []; items = []; list = refl; read = refl; exact = λ item. (λ h. absurd (nothing_in item h), λ h. absurd (nothing_in (spelling (tlv_of item)) h.1)) }
+  are_written (piece ∷ pieces) encoded bytes =
+      let (first, is) = All-head IsEncoded piece pieces encoded in
+      let here : AreBytes piece = front (λ byte. byte < 2 ^ 8) piece (concat pieces) bytes in
+      let rest = are_written pieces (All-tail IsEncoded piece pieces encoded) (back (λ byte. byte < 2 ^ 8) piece (concat pieces) bytes) in
+      record {
+        tlvs = tlv_of first ∷ rest.tlvs;
+        items = first ∷ rest.items;
+        list = (concat pieces, written_tlv first is.writable (subst AreBytes is.spelled here), ap (λ (z : List ℕ). z ++ concat pieces) is.spelled, rest.list);
+        read = inl (first, rest.items, written_is_item first is.writable, refl, rest.read);
+        exact = written_first piece pieces first rest.items is.writable is.spelled here rest.exact;
+      }
 
--- the same of the ascending set of pieces
-pub set_is_written : (pieces : List (List ℕ)) (bytes : List ℕ) → All IsEncoded pieces → AreBytes bytes → IsAscendingSet pieces bytes → AreWritten pieces bytes
-set_is_written pieces bytes encoded are set =
-    let each : All IsEncoded set.ascending = All-weaker (Contains set.ascending) IsEncoded (λ piece h. All-contains IsEncoded pieces piece encoded ((set.same piece).0 h)) set.ascending (All-contains_itself set.ascending) in
-    let written = are_written set.ascending each (subst AreBytes set.joined are) in
-    record {
-      tlvs = written.tlvs;
-      items = written.items;
-      list = subst (IsTlvList written.tlvs) (sym set.joined) written.list;
-      read = written.read;
-      exact = λ item. (
-        λ h. let there = (written.exact item).0 h in (there.0, (set.same (spelling (tlv_of item))).0 there.1),
-        λ h. (written.exact item).1 (h.0, (set.same (spelling (tlv_of item))).1 h.1),
-      );
-    }
+  -- the same of the ascending set of pieces
+  pub set_is_written : (pieces : List (List ℕ)) (bytes : List ℕ) → All IsEncoded pieces → AreBytes bytes → IsAscendingSet pieces bytes → AreWritten pieces bytes
+  set_is_written pieces bytes encoded are set =
+      let each : All IsEncoded set.ascending = All-weaker (Contains set.ascending) IsEncoded (λ piece h. All-contains IsEncoded pieces piece encoded ((set.same piece).0 h)) set.ascending (All-contains_itself set.ascending) in
+      let written = are_written set.ascending each (subst AreBytes set.joined are) in
+      record {
+        tlvs = written.tlvs;
+        items = written.items;
+        list = subst (IsTlvList written.tlvs) (sym set.joined) written.list;
+        read = written.read;
+        exact = λ item. (
+          λ h. let there = (written.exact item).0 h in (there.0, (set.same (spelling (tlv_of item))).0 there.1),
+          λ h. (written.exact item).1 (h.0, (set.same (spelling (tlv_of item))).1 h.1),
+        );
+      }
 
 pub reads_written : (pieces : List (List ℕ)) (bytes now : List ℕ) → now ≡ bytes → AreWritten pieces bytes → Reads now (λ read. (item : PlainItem) → Contains read item ↔ IsWrittenIn pieces item)
 reads_written pieces bytes now same written = (written.items, record { tlvs = written.tlvs; list = subst (IsTlvList written.tlvs) (sym same) written.list; read = written.read }, written.exact)

@@ -12,10 +12,11 @@ ghost use Rattle.hn_data.specs.Delegations.{delegation_of, IsDelegatedIn};
 ghost use Rattle.hn_data.specs.declared.said.Delegation.{Delegation};
 
 use crate::kept::push_said;
+use crate::laws::items_are_unique;
 use crate::said::Delegation;
 use crate::walk::tlv_at;
 use hn_base::NoMemory;
-use hn_tlv::Tlv;
+use hn_tlv::{Tlv, list_grows};
 use hn_typed::{Item, read};
 
 // What a Delegated-Prefix says.
@@ -52,6 +53,7 @@ fn add_inner(list: &mut Vec<Delegation>, subs: &[u8]) -> Result<(), NoMemory>
     requires { HasTlvs subs.now }
     ensures { OnOk result (Reads subs.now (λ inner. list.new.items ≡ list.old.items ++ filter_map delegation_of inner)) }
 {
+    list_grows();
     let mut place = 0;
     while let Some((tlv, after)) = tlv_at(subs, place) {
         add_delegation(list, &tlv)?;
@@ -65,6 +67,7 @@ pub(crate) fn add_delegations(list: &mut Vec<Delegation>, item: &Item<'_>) -> Re
     requires { (tlv : PlainTlv) × IsItem tlv (plain_item item.now) }
     ensures { OnOk result ((d : Delegation) → Contains list.new.items d ↔ (Contains list.old.items d ⊎ IsDelegatedIn (plain_item item.now ∷ []) d)) }
 {
+    items_are_unique();
     match item {
         Item::External { subs } => add_inner(list, subs),
         _ => Ok(()),

@@ -9,18 +9,24 @@ ghost use Rattle.hn_data.specs.Items.{AreItems, Reads};
 ghost use Rattle.hn_data.specs.OwnData.{AreBytes, IsAscendingSet};
 
 use crate::node_data::NodeData;
+use hn_tlv::list_is_unique;
+use hn_typed::{item_fault_is_unique, item_is_unique};
 
 /// Node data have at most one list of items.
 pub fn items_are_unique()
     ensures { (bytes : List ℕ) (a b : List PlainItem) → AreItems bytes a → AreItems bytes b → a ≡ b }
-{}
+{
+    list_is_unique();
+    item_is_unique();
+    item_fault_is_unique();
+}
 
 /// Node data are a list of TLVs, and have items.
-pub fn node_data_has_items(data: &NodeData)
-    ensures list { HasTlvs data.now }
-    ensures items { Reads data.now (λ _. Unit {0}) }
+pub fn node_data_has_items(node_data: &NodeData)
+    ensures list { HasTlvs node_data.now }
+    ensures items { Reads node_data.now (λ _. Unit {0}) }
 {
-    let _kept = data.kept();
+    let _kept = node_data.kept();
 }
 
 /// Pieces have at most one such bytes: those of the pieces in ascending order, each once.

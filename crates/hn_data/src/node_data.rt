@@ -1,8 +1,8 @@
-ghost use Rattle.std.specs.Prelude.{◌≡◌, ◌↔◌, ℕ, All, length, IsTrue, Err, Contains, IfOk, OnOk, IsNone, IfNone, IfSome, IsSomeAnd};
+ghost use Rattle.std.specs.Prelude.{◌≡◌, ◌↔◌, ℕ, List, All, length, IsTrue, Err, Contains, IfOk, OnOk, IsNone, IfNone, IfSome, IsSomeAnd};
 ghost use Rattle.std.specs.List.Sorted.{IsStrictlySortedBy};
 ghost use Rattle.hn_tlv.specs.Grammar.{PlainTlv, HasTlvs, IsTlvAt, FirstFault};
 ghost use Rattle.hn_typed.specs.Item.{PlainItem};
-ghost use Rattle.hn_data.specs.Items.{Reads};
+ghost use Rattle.hn_data.specs.Items.{AreItems, Reads};
 ghost use Rattle.hn_data.specs.OwnData.{IsEncoded, IsWrittenIn, IsAscendingSet};
 ghost use Rattle.hn_data.specs.Walk.{IsPlace, IsFoundAt, Decodes};
 ghost use Rattle.hn_data.specs.declared.fault.DataFault.TheVariants.{Tlv};
@@ -13,14 +13,14 @@ ghost use Rattle.hn_data.specs.Said.{HasAssigned};
 
 use crate::fault::DataFault;
 use crate::kept::Kept;
-use crate::laws::{are_bytes, node_data_has_items};
+use crate::laws::{are_bytes, items_are_unique, node_data_has_items};
 use crate::own_data::ascending_set;
 use crate::reading::read_kept;
 use crate::said::{AssignedPrefix, Delegation, PeerLink};
 use crate::walk::tlv_at;
 use hn_base::{Bytes, NoMemory};
-use hn_tlv::check;
-use hn_typed::{Item, ItemFault, read};
+use hn_tlv::{check, first_fault_is_unique, list_grows, spelling_is_prefix_free, tlv_is_unique};
+use hn_typed::{Item, ItemFault, item_is_unique, read, written_is_read};
 use std::alloc::Global;
 use std::marker::Model;
 use std::rc::Rc;
@@ -74,6 +74,7 @@ impl NodeData {
         ensures refused { (place why : ℕ)
             → (result ≡ Err (Tlv (record { place = place; why = why }))) ↔ FirstFault bytes.now place why }
     {
+        first_fault_is_unique();
         check(bytes)?;
         let copy = Bytes::copy_of(alloc, bytes)?;
         Ok(read_data(alloc, copy)?)
@@ -85,6 +86,9 @@ impl NodeData {
         ensures set { IfOk result (λ d. IsAscendingSet items.now d) }
         ensures items { IfOk result (λ d. Reads d (λ read. (item : PlainItem) → Contains read item ↔ IsWrittenIn items.now item)) }
     {
+        spelling_is_prefix_free();
+        item_is_unique();
+        written_is_read();
         let bytes = ascending_set(alloc, items)?;
         are_bytes(bytes.as_slice());
         read_data(alloc, bytes)
@@ -97,10 +101,12 @@ impl NodeData {
         self.shared.bytes.as_slice()
     }
 
-    /// What is kept beside the bytes.
+    /// What is kept beside the bytes, which is of all their items.
     pub(crate) fn kept(&self) -> &Kept
-        ensures { IsKept self.now result.now }
+        ensures kept { IsKept self.now result.now }
+        ensures unique { (a b : List PlainItem) → AreItems self.now a → AreItems self.now b → a ≡ b }
     {
+        items_are_unique();
         &self.shared.kept
     }
 
@@ -118,6 +124,8 @@ impl NodeData {
         ensures at_tlv { (tlv : PlainTlv) (after : ℕ) → IsTlvAt self.now at tlv after
             → IsSomeAnd result (λ found. Decodes tlv found.0 × (found.1 ≡ after)) }
     {
+        list_grows();
+        tlv_is_unique();
         node_data_has_items(self);
         let (tlv, after) = tlv_at(self.bytes(), at)?;
         Some((read(&tlv), after))

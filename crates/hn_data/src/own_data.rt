@@ -10,7 +10,7 @@ ghost use Rattle.hn_typed.specs.View.{plain_item};
 ghost use Rattle.hn_data.specs.OwnData.{IsEncoding, IsAscendingSet};
 
 use hn_base::{Bytes, NoMemory};
-use hn_typed::{Item, write};
+use hn_typed::{Item, read_is_writable, write};
 use std::alloc::Global;
 
 // The pieces in ascending order of their bytes, each once.
@@ -55,6 +55,7 @@ pub fn encode(alloc: Global, item: &Item<'_>) -> Result<Bytes, NoMemory>
     requires other_kind { HasOtherKind (plain_item item.now) }
     ensures { IfOk result (λ bytes. IsEncoding bytes (plain_item item.now)) }
 {
+    read_is_writable();
     let mut bytes = Vec::new(alloc);
     write(item, &mut bytes)?;
     Ok(Bytes::from(bytes))

@@ -8,6 +8,7 @@ ghost use Rattle.hn_data.specs.Kept.{AreKept, IsKept};
 use crate::kept::Kept;
 use crate::walk::tlv_at;
 use hn_base::{NoMemory, sort_to_set};
+use hn_tlv::list_grows;
 use std::alloc::Global;
 
 // Adds what the TLVs say to nothing.
@@ -16,6 +17,7 @@ fn add_all(kept: &mut Kept, bytes: &[u8]) -> Result<(), NoMemory>
     requires list { HasTlvs bytes.now }
     ensures { OnOk result (Reads bytes.now (λ items. AreKept items kept.new)) }
 {
+    list_grows();
     let mut place = 0;
     while let Some((tlv, after)) = tlv_at(bytes, place) {
         kept.add(&tlv)?;

@@ -11,7 +11,7 @@ use Rattle.hn_typed.specs.Table.{IsItem}
 use Rattle.hn_typed.specs.Fault.{IsItemFault}
 use Rattle.hn_decode.specs.ItemText.{item_text, bad_text}
 use Rattle.hn_decode.specs.Line.{within, within_name, named_bytes, line, HasLines, IsNodeState, IsLineAbove}
-use Rattle.hn_decode.specs.Nested.{InOrder, ShowsList, place_within, Shows, first_line, IsDecodeText}
+use Rattle.hn_decode.specs.Nested.{InOrder, ShowsList, place_within, Shows, first_line, IsDecodeText, IsTextTo}
 use Rattle.hn_decode.proofs.Within.{list_within}
 use Rattle.hn_decode.proofs.Shown.{shows_line, shows_within}
 
@@ -116,3 +116,13 @@ module _ (item_or_fault : (tlv : PlainTlv) → IsTlv tlv → ((item : PlainItem)
   text_exists bytes list =
       let told = list_shown (Shows 7) (shown 7) 0 bytes list in
       (first_line (length told.1.tlvs) ++ told.0, record { lines = told.0; shown = told.1; text_is = refl })
+
+  -- lines up to a place, and those of the rest
+  pub text_goes_on : ((a b : List PlainTlv) (bytes : List ℕ) → IsTlvList a bytes → IsTlvList b bytes → a ≡ b) → (bytes lines : List ℕ) (at : ℕ) (tlvs : List PlainTlv) → IsTlvList tlvs bytes → IsTextTo bytes at lines
+      → (rest : List ℕ) × IsDecodeText bytes (first_line (length tlvs) ++ (lines ++ rest))
+  text_goes_on unique bytes lines at tlvs list so_far =
+      let rest = list_shown (Shows 7) (shown 7) (0 + at) (drop at bytes) so_far.is_list in
+      let told = so_far.goes_on rest.0 rest.1 in
+      let same = unique told.tlvs tlvs bytes told.is_list list in
+      let Told : List PlainTlv → Type 0 = λ all. IsDecodeText bytes (first_line (length all) ++ (lines ++ rest.0)) in
+      (rest.0, subst Told same (record { lines = lines ++ rest.0; shown = told; text_is = refl }))

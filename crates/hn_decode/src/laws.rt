@@ -35,3 +35,14 @@ pub fn lines_make_the_text()
 {
     list_is_unique();
 }
+
+/// The lines of a datagram before a place are followed by more, and with these they make its text.
+pub fn lines_go_on()
+    ensures { (bytes lines : List ℕ) (at : ℕ) (tlvs : List PlainTlv) → IsTlvList tlvs bytes → IsTextTo bytes at lines
+        → (rest : List ℕ) × IsDecodeText bytes (first_line (length tlvs) ++ (lines ++ rest)) }
+{
+    item_or_fault();
+    list_or_first_fault();
+    first_fault_is_unique();
+    list_is_unique();
+}

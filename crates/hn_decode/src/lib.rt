@@ -13,7 +13,7 @@ mod nested;
 
 pub use datagram::{decode, first_line, push_next};
 pub use fault::DecodeFault;
-pub use laws::{decode_text_exists, decode_text_is_unique, lines_make_the_text};
+pub use laws::{decode_text_exists, decode_text_is_unique, lines_go_on, lines_make_the_text};
 
 #[cfg(test)]
 mod tests;

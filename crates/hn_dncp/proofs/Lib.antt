@@ -1,4 +1,4 @@
-pub mod Passing
 mod PeerLemmas
 mod Filling
 mod Packings
+mod Hearing

@@ -15,7 +15,7 @@ mod tick;
 
 pub use ask::LEAST_TIME_BETWEEN_REQUESTS;
 pub use greet::Greet;
-pub use laws::{packing_is_read, packing_is_unique};
+pub use laws::{packing_is_read, packing_is_unique, peers_stay};
 pub use packing::{Datagrams, MOST_DATAGRAM_BYTES, pack};
 pub use peers::{MOST_PEERS, Neighbour, Peers};
 pub use port::Port;

@@ -1,58 +1,16 @@
-ghost use Rattle.std.specs.Prelude.{◌≡◌, ◌<◌, ◌≤◌, ◌↔◌, [], length, take, drop, All, IsTrue, IfOk};
+ghost use Rattle.std.specs.Prelude.{◌≡◌, ◌<◌, ◌≤◌, length, take, drop, All, IfOk};
 ghost use Rattle.hn_tlv.specs.Grammar.{spelling};
 ghost use Rattle.hn_dncp.specs.Packing.{sender_tlv, IsFilled, IsPacking, IsShort};
 
-use hn_base::{Bytes, EpId, NoMemory, NodeId};
+use hn_base::{Bytes, EpId, NoMemory, NodeId, Sequence};
 use hn_typed::{Item, write};
 use std::alloc::Global;
-use std::marker::Model;
 
 /// The most bytes of a datagram that holds more than one TLV after its Node Endpoint.
 pub const MOST_DATAGRAM_BYTES: usize = 4_000;
 
-/// Datagrams, in the order in which they are sent. Contracts see the list of them, each as its bytes.
-#[derive(Debug, Drop)]
-pub struct Datagrams {
-    items: Vec<Bytes>,
-}
-
-impl Model for Datagrams {
-    ghost use Rattle.std.specs.Prelude.{List, ℕ};
-
-    ghost Value = { List (List ℕ) };
-
-    ghost view = { λ d. d.items.items };
-}
-
-impl Datagrams {
-    /// The datagrams. Never allocates.
-    pub fn as_slice(&self) -> &[Bytes]
-        ensures { result.now ≡ self.now }
-    {
-        self.items.as_slice()
-    }
-
-    /// The datagrams, one by one. Never allocates.
-    pub fn into_vec(self) -> Vec<Bytes>
-        ensures { result.items ≡ self }
-    {
-        self.items
-    }
-
-    /// How many there are. Never allocates.
-    pub fn len(&self) -> usize
-        ensures { result ≡ length self.now }
-    {
-        self.items.len()
-    }
-
-    /// Whether there are none. Never allocates.
-    pub fn is_empty(&self) -> bool
-        ensures { IsTrue result ↔ (self.now ≡ []) }
-    {
-        self.items.is_empty()
-    }
-}
+/// Datagrams, in the order in which they are sent.
+pub type Datagrams = Sequence<Bytes>;
 
 // The Node Endpoint with which a datagram begins.
 fn sender(alloc: Global, own: NodeId, endpoint: EpId) -> Result<Vec<u8>, NoMemory>
@@ -108,12 +66,12 @@ pub fn pack(
     ensures packed { IfOk result (IsPacking own endpoint tlvs.now) }
     ensures short { IfOk result (All (IsShort tlvs.now)) }
 {
-    let mut datagrams = Vec::new(alloc);
+    let mut datagrams = Datagrams::new(alloc);
     let mut at = 0;
     while at < tlvs.len() {
         let (datagram, count) = fill(alloc, own, endpoint, &tlvs[at..])?;
         datagrams.push(datagram)?;
         at += count;
     }
-    Ok(Datagrams { items: datagrams })
+    Ok(datagrams)
 }

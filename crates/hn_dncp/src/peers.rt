@@ -6,7 +6,7 @@ ghost use Rattle.hn_dncp.specs.Hash.{contacted};
 
 use crate::greet::Greet;
 use hn_base::{Addr, EpId, Moment, NoMemory, NodeId};
-use std::alloc::Global;
+use std::alloc::{AllocError, Global};
 use std::marker::Model;
 
 /// The most peers of an endpoint.
@@ -52,6 +52,16 @@ impl Model for Peers {
     ghost invariant = { λ p. ArePeers p.items.items };
 }
 
+impl Clone for Peers {
+    ghost is_clone = { λ peers copy. copy ≡ peers };
+
+    fn clone(&self) -> Result<Peers, AllocError> {
+        Ok(Peers {
+            items: self.items.clone()?,
+        })
+    }
+}
+
 /// The place of a peer.
 fn place_of(peers: &[Neighbour], node: NodeId, endpoint: EpId) -> Option<usize>
     ensures { result ≡ position (is_peer node endpoint) peers.now }
@@ -67,15 +77,6 @@ impl Peers {
         Peers {
             items: Vec::new(alloc),
         }
-    }
-
-    /// The same peers, in new memory.
-    pub fn copy(&self, alloc: Global) -> Result<Peers, NoMemory>
-        ensures { IfOk result (λ copy. copy ≡ self.now) }
-    {
-        Ok(Peers {
-            items: Vec::from_slice(alloc, &self.items)?,
-        })
     }
 
     /// The peers, in the order in which they came. Never allocates.

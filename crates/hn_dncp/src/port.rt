@@ -1,10 +1,10 @@
-ghost use Rattle.std.specs.Prelude.{◌≡◌, ◌^◌, ◌≤◌, IfOk};
+ghost use Rattle.std.specs.Prelude.{◌≡◌, ◌^◌, ◌≤◌};
 ghost use Rattle.hn_dncp.specs.Port.{begun};
 
 use crate::peers::Peers;
-use hn_base::{EpId, Moment, NoMemory};
+use hn_base::{EpId, Moment};
 use hn_timers::{SHORTEST_INTERVAL, Trickle};
-use std::alloc::Global;
+use std::alloc::{AllocError, Global};
 
 /// An endpoint of the own node, attached to a link (RFC 7787, section 2).
 #[derive(Debug, Drop)]
@@ -35,17 +35,19 @@ impl Port {
             peers: Peers::new(alloc),
         }
     }
+}
 
-    /// The same endpoint, with its peers in new memory.
-    pub fn copy(&self, alloc: Global) -> Result<Port, NoMemory>
-        ensures { IfOk result (λ copy. copy ≡ self.now) }
-    {
+/// The clone has its peers in new memory.
+impl Clone for Port {
+    ghost is_clone = { λ port copy. copy ≡ port };
+
+    fn clone(&self) -> Result<Port, AllocError> {
         Ok(Port {
             id: self.id,
             trickle: self.trickle,
             sent: self.sent,
             asked: self.asked,
-            peers: self.peers.copy(alloc)?,
+            peers: self.peers.clone()?,
         })
     }
 }

@@ -52,7 +52,7 @@ fn peers_are_greeted(rt: HostRuntime) -> Result<(), Fail> {
     peer.contact = 7;
     peer.addr = ELSEWHERE;
     assert!(rt; port.peers.find(NodeId(9), EpId(1)).copied() == Some(peer));
-    let copy = port.copy(rt.alloc())?;
+    let copy = port.clone()?;
     assert_eq!(rt; copy.peers.as_slice(), port.peers.as_slice());
     assert_eq!(rt; port.peers.len(), 64);
     assert!(rt; !port.peers.is_empty());

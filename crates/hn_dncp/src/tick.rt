@@ -7,7 +7,7 @@ ghost use Rattle.hn_dncp.specs.Tick.{after_firing, after_interval, after_keep_al
 
 use crate::port::Port;
 use hn_base::Moment;
-use hn_io::Draw;
+use hn_io::{Draw, words_join};
 use hn_timers::silent;
 
 /// What a tick did at an endpoint.
@@ -62,8 +62,7 @@ impl Port {
 
     // A keep-alive is sent, where one is due: the word that the new interval took.
     fn keep_alive<D: Draw>(&mut self, now: Moment, draw: &mut D) -> Option<u32>
-        requires sent_is_past { self.old.sent ≤ now }
-        requires now_in_range { now ≤ 2 ^ 48 }
+        requires { now ≤ 2 ^ 48 }
         ensures port { self.new ≡ after_keep_alive now (unwrap_or result 0) self.old }
         ensures word { is_some result ≡ is_silent self.old.sent now }
         ensures drew { Took (D.words draw.old) (option_to_list result) (D.words draw.new) }
@@ -82,8 +81,7 @@ impl Port {
     /// 20 seconds, one is sent as a keep-alive, and an interval of the same length begins (RFC 7787, section 6.1.2).
     /// Never allocates.
     pub fn tick<D: Draw>(&mut self, now: Moment, draw: &mut D) -> Renewed
-        requires sent_is_past { self.old.sent ≤ now }
-        requires now_in_range { now ≤ 2 ^ 48 }
+        requires { now ≤ 2 ^ 48 }
         ensures port { self.new ≡ ticked now (words_of result) self.old }
         ensures sends { result.sends ≡ tick_sends now self.old }
 
@@ -94,6 +92,7 @@ impl Port {
         ensures drawn { result.drawn ≡ words_of result ++ replicate (2 - result.words) 0 }
         ensures drew { Took (D.words draw.old) (words_of result) (D.words draw.new) }
     {
+        words_join();
         let fires = self.fire(now);
         let next = self.begin_next(now, draw);
         let again = self.keep_alive(now, draw);

@@ -3,3 +3,4 @@ mod Leads
 mod Marking
 mod Found
 mod Progress
+mod Staying

@@ -5,10 +5,8 @@ use Rattle.std.proofs.lemmas.Bool.{cases_eq}
 use Rattle.std.proofs.lemmas.List.{length-set, get_or-set_same, get_or-set_other, length_push}
 use Rattle.std.proofs.lemmas.List.Elements.{Contains-push, Contains-push_cases, Contains-append_left}
 use Rattle.std.proofs.lemmas.List.Sums.{sum_by-set}
+use Rattle.hn_base.proofs.AscendingLists.{nothing_in}
 use Rattle.hn_graph.specs.Search.{IsFound, HasMarked}
-
-pub nothing_in : (k : ℕ) → ¬ (Contains {X = ℕ} [] k)
-nothing_in k (i, lt, at) = omega (arith, lt)
 
 pub none_marked : (found : List Bool) (visits : List ℕ) → HasMarked [] found visits found visits
 none_marked found visits = record {

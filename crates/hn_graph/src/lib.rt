@@ -7,5 +7,5 @@ mod search;
 #[cfg(test)]
 mod tests;
 
-pub use laws::{own_is_reachable, reachable_is_a_node};
+pub use laws::{own_is_reachable, reachability_stays, reachable_is_a_node};
 pub use reachability::reach;

@@ -1,5 +1,5 @@
 -- The words that several calls took, one call after another.
-use Rattle.std.proofs.Common.{◌≡◌, ℕ, List, ◌++◌, Option, subst, append_assoc}
+use Rattle.std.proofs.Common.{ℕ, List, ◌++◌, Option, subst, append_assoc}
 use Rattle.hn_io.specs.Words.{IsAt, Took}
 
 -- two calls took the words of the first, and then those of the second

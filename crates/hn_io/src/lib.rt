@@ -5,6 +5,7 @@
 mod adapters;
 mod draw;
 mod fault;
+mod law;
 mod listed;
 #[cfg(test)]
 mod listed_tests;
@@ -17,6 +18,7 @@ mod tests;
 pub use adapters::{ReaderSource, WriterSink};
 pub use draw::{Draw, Zeros, below};
 pub use fault::IoFault;
+pub use law::words_join;
 pub use listed::Listed;
 pub use memory::{MemSink, MemSource};
 pub use sink::Sink;

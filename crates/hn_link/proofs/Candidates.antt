@@ -1,17 +1,17 @@
 -- The ranks of the nodes on a link, endpoint by endpoint.
-use Rattle.std.proofs.Common.{◌≡◌, ◌⊎◌, ℕ, ◌+◌, ◌<◌, ◌≤◌, List, Some, None, Option, Ordering, refl, sym, ◌∙◌, ap, subst, inl, inr, ⊎_elim, arith, slice_get, Contains, length, cond, IfSome, IfNone}
+use Rattle.std.proofs.Common.{◌≡◌, ◌⊎◌, ℕ, ◌+◌, ◌≤◌, List, Some, None, Option, Ordering, refl, sym, ◌∙◌, ap, subst, inl, inr, ⊎_elim, slice_get, length, cond, IfSome, IfNone}
 use Rattle.std.specs.declared.cmp.Ordering.TheVariants.{Less, Equal, Greater}
 use Rattle.std.specs.Option.{option_map, option_map_or}
 use Rattle.std.specs.Ordering.{ord_max, ordering_reverse, is_lt}
-use Rattle.std.proofs.lemmas.Bool.{cases_lt}
-use Rattle.std.proofs.lemmas.Cmp.{tied_itself}
-use Rattle.std.proofs.lemmas.Option.{same_Some, slice_get_read}
+use Rattle.std.proofs.lemmas.Option.{slice_get_read}
 use Rattle.hn_base.specs.declared.ids.NodeId.{NodeId}
 use Rattle.hn_base.specs.declared.ids.EpId.{EpId}
 use Rattle.hn_base.specs.declared.letter.Letter.{Letter}
+use Rattle.hn_base.proofs.AscendingLists.{not_below_itself}
+use Rattle.hn_base.proofs.Firsts.{IsOfFirst, first_further, first_last, first_cases, first_of_all}
+use Rattle.hn_base.proofs.Parts.{contains_at}
 use Rattle.hn_typed.specs.Item.{PlainCaps}
 use Rattle.hn_data.specs.View.{PlainView}
-use Rattle.hn_data.proofs.Places.{contains_at}
 use Rattle.hn_link.specs.declared.rank.Rank.{Rank}
 use Rattle.hn_link.specs.Election.{IsServing, rank_of, rank_cmp, IsCandidate, IsElected, HasNoCandidate}
 use Rattle.hn_link.specs.Standing.{HasRank, IsGreatest, IsBest}
@@ -19,8 +19,8 @@ use Rattle.hn_link.proofs.Elections.{rank_total, exact_rank}
 
 -- ---- the greatest of some ranks, and one more
 
-not_below_itself : (r : Rank) → ¬ (rank_cmp r r ≡ Less)
-not_below_itself r h = let tied = tied_itself rank_total r in absurd (cc)
+not_below : (x r : Rank) → x ≡ r → ¬ (rank_cmp r x ≡ Less)
+not_below x r is = not_below_itself rank_cmp rank_total r x (sym is)
 
 -- the greater of the greatest and the next one, by how these compare
 greater_of : (P P' : Rank → Type 0) (b r : Rank) (o : Ordering) → rank_cmp r b ≡ o → IsGreatest P b → ((x : Rank) → P x → P' x) → P' r → ((x : Rank) → P' x → P x ⊎ (x ≡ r))
@@ -28,19 +28,19 @@ greater_of : (P P' : Rank → Type 0) (b r : Rank) (o : Ordering) → rank_cmp r
 greater_of P P' b r Less e g wider here only = record {
   among = wider b g.among;
   greatest = λ x p h. ⊎_elim (λ (old : P x). g.greatest x old h)
-      (λ (is : x ≡ r). not_below_itself r (rank_total.trans r b r e (subst (λ (z : Rank). rank_cmp b z ≡ Less) is h)))
+      (λ (is : x ≡ r). not_below x r is (rank_total.trans r b x e h))
       (only x p);
 }
 greater_of P P' b r Equal e g wider here only = record {
   among = here;
   greatest = λ x p h. ⊎_elim (λ (old : P x). g.greatest x old (subst (λ (z : Rank). rank_cmp z x ≡ Less) (exact_rank r b e) h))
-      (λ (is : x ≡ r). not_below_itself r (subst (λ (z : Rank). rank_cmp r z ≡ Less) is h))
+      (λ (is : x ≡ r). not_below x r is h)
       (only x p);
 }
 greater_of P P' b r Greater e g wider here only = record {
   among = here;
   greatest = λ x p h. ⊎_elim (λ (old : P x). g.greatest x old (rank_total.trans b r x (rank_total.antisymm b r ∙ ap ordering_reverse e) h))
-      (λ (is : x ≡ r). not_below_itself r (subst (λ (z : Rank). rank_cmp r z ≡ Less) is h))
+      (λ (is : x ≡ r). not_below x r is h)
       (only x p);
 }
 
@@ -48,7 +48,7 @@ pub best_more : (P P' : Rank → Type 0) (best : Option Rank) (r : Rank) → IsB
     → IsBest P' (Some (option_map_or (λ b. ord_max rank_cmp b r) best r))
 best_more P P' None r were wider here only = record {
   among = here;
-  greatest = λ x p. ⊎_elim (λ (old : P x). absurd (were x old)) (λ (e : x ≡ r). subst (λ (z : Rank). ¬ (rank_cmp r z ≡ Less)) (sym e) (not_below_itself r)) (only x p);
+  greatest = λ x p. ⊎_elim (λ (old : P x). absurd (were x old)) (not_below x r) (only x p);
 }
 best_more P P' (Some b) r were wider here only = greater_of P P' b r (rank_cmp r b) refl were wider here only
 
@@ -59,28 +59,8 @@ best_same P P' (Some b) were to from = record { among = to b were.among; greates
 
 -- ---- the ranks of the nodes of the first n endpoints
 
-pub record RanksBefore (view : PlainView) (letter : Letter) (common : List (NodeId × EpId)) (n : ℕ) (rank : Rank) : Type 0 where
-  pub k : ℕ
-  pub at : NodeId × EpId
-  pub before : k < n
-  pub stands : slice_get common k ≡ Some at
-  pub has : HasRank view letter at.0 rank
-
-pub none_before : (view : PlainView) (letter : Letter) (common : List (NodeId × EpId)) → IsBest (RanksBefore view letter common 0) None
-none_before view letter common rank h = let before = h.before in omega arith
-
-ranks_further : (view : PlainView) (letter : Letter) (common : List (NodeId × EpId)) (n : ℕ) (rank : Rank) → RanksBefore view letter common n rank → RanksBefore view letter common (n + 1) rank
-ranks_further view letter common n rank h = record { k = h.k; at = h.at; before = (let before = h.before in omega arith); stands = h.stands; has = h.has }
-
-ranks_cases : (view : PlainView) (letter : Letter) (common : List (NodeId × EpId)) (n : ℕ) (at : NodeId × EpId) (rank : Rank) → slice_get common n ≡ Some at
-    → RanksBefore view letter common (n + 1) rank → RanksBefore view letter common n rank ⊎ HasRank view letter at.0 rank
-ranks_cases view letter common n at rank stands h =
-    ⊎_elim (λ (below : h.k < n). inl (record { k = h.k; at = h.at; before = below; stands = h.stands; has = h.has }))
-    (λ (rest : n ≤ h.k).
-    let last : h.k ≡ n = let before = h.before in omega arith in
-    let one : h.at ≡ at = same_Some h.at at (sym h.stands ∙ ap (slice_get common) last ∙ stands) in
-    inr (subst (λ (a : NodeId × EpId). HasRank view letter a.0 rank) one h.has))
-    (cases_lt h.k n)
+abbrev pub RanksBefore : PlainView → Letter → List (NodeId × EpId) → ℕ → Rank → Type 0
+RanksBefore view letter common n rank = IsOfFirst (λ _ at. HasRank view letter at.0 rank) common n
 
 -- the node of the next endpoint serves
 pub candidate_more : (view : PlainView) (letter : Letter) (common : List (NodeId × EpId)) (n : ℕ) (at : NodeId × EpId) (best : Option Rank) (r : Rank)
@@ -88,21 +68,21 @@ pub candidate_more : (view : PlainView) (letter : Letter) (common : List (NodeId
     → ((caps : PlainCaps) → IsServing view letter at.0 caps → r ≡ rank_of letter caps at.0)
     → IsBest (RanksBefore view letter common (n + 1)) (Some (option_map_or (λ b. ord_max rank_cmp b r) best r))
 candidate_more view letter common n at best r were stands has each =
-    best_more (RanksBefore view letter common n) (RanksBefore view letter common (n + 1)) best r were (ranks_further view letter common n)
-    (record { k = n; at = at; before = omega arith; stands = stands; has = has })
+    best_more (RanksBefore view letter common n) (RanksBefore view letter common (n + 1)) best r were (λ x. first_further (λ _ a. HasRank view letter a.0 x) common n)
+    (first_last (λ _ a. HasRank view letter a.0 r) common n at stands has)
     (λ x h. ⊎_elim (λ (old : RanksBefore view letter common n x). inl old)
     (λ (new : HasRank view letter at.0 x). inr (new.is_it ∙ sym (each new.caps new.serves)))
-    (ranks_cases view letter common n at x stands h))
+    (first_cases (λ _ a. HasRank view letter a.0 x) common n at stands h))
 
 -- the node of the next endpoint does not serve
 pub candidate_same : (view : PlainView) (letter : Letter) (common : List (NodeId × EpId)) (n : ℕ) (at : NodeId × EpId) (best : Option Rank)
     → IsBest (RanksBefore view letter common n) best → slice_get common n ≡ Some at → ((caps : PlainCaps) → ¬ (IsServing view letter at.0 caps))
     → IsBest (RanksBefore view letter common (n + 1)) best
 candidate_same view letter common n at best were stands none =
-    best_same (RanksBefore view letter common n) (RanksBefore view letter common (n + 1)) best were (ranks_further view letter common n)
+    best_same (RanksBefore view letter common n) (RanksBefore view letter common (n + 1)) best were (λ x. first_further (λ _ a. HasRank view letter a.0 x) common n)
     (λ x h. ⊎_elim (λ (old : RanksBefore view letter common n x). old)
     (λ (new : HasRank view letter at.0 x). absurd (none new.caps new.serves))
-    (ranks_cases view letter common n at x stands h))
+    (first_cases (λ _ a. HasRank view letter a.0 x) common n at stands h))
 
 -- ---- all endpoints
 
@@ -110,23 +90,19 @@ candidate_same view letter common n at best were stands none =
 candidate_rank : (view : PlainView) (letter : Letter) (common : List (NodeId × EpId)) (n : ℕ) (id : NodeId) (caps : PlainCaps) → length common ≤ n
     → IsCandidate view common letter id caps → RanksBefore view letter common n (rank_of letter caps id)
 candidate_rank view letter common n id caps all candidate =
-    let there = candidate.on_link in record {
-      k = there.0;
-      at = (id, candidate.endpoint);
-      before = (let lt = there.1 in omega arith);
-      stands = slice_get_read common (length common) there.0 (id, candidate.endpoint) refl there.1 (sym there.2);
-      has = record { caps = caps; serves = candidate.serves; is_it = refl };
-    }
+    let there = candidate.on_link in
+    let stands = slice_get_read common (length common) there.0 (id, candidate.endpoint) refl there.1 (sym there.2) in
+    first_of_all (λ _ a. HasRank view letter a.0 (rank_of letter caps id)) common n there.0 (id, candidate.endpoint) all stands (record { caps = caps; serves = candidate.serves; is_it = refl })
 
 pub elected_from_best : (view : PlainView) (letter : Letter) (common : List (NodeId × EpId)) (n : ℕ) (best : Rank) → length common ≤ n
     → IsBest (RanksBefore view letter common n) (Some best) → IsElected view common letter best.node
 elected_from_best view letter common n best all is =
     let among = is.among in
-    let has = among.has in
-    let same : best.node ≡ among.at.0 = ap (λ r. r.node) has.is_it in
+    let has = among.fact in
+    let same : best.node ≡ among.x.0 = ap (λ r. r.node) has.is_it in
     subst (IsElected view common letter) (sym same) (record {
       caps = has.caps;
-      candidate = record { endpoint = among.at.1; on_link = contains_at common among.k among.at among.stands; serves = has.serves };
+      candidate = record { endpoint = among.x.1; on_link = contains_at common among.k among.x among.at; serves = has.serves };
       greatest = λ other others candidate h. is.greatest (rank_of letter others other) (candidate_rank view letter common n other others all candidate)
           (subst (λ (r : Rank). rank_cmp r (rank_of letter others other) ≡ Less) (sym has.is_it) h);
     })

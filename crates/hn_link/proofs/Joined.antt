@@ -1,29 +1,27 @@
 -- The endpoints that are linked with an own endpoint, peer by peer.
-use Rattle.std.proofs.Common.{◌≡◌, ◌⊎◌, ◌↔◌, ℕ, ◌+◌, ◌<◌, ◌≤◌, List, [], ◌∷◌, ◌++◌, length, Some, refl, sym, ◌∙◌, ap, subst, inl, inr, ⊎_elim, arith, slice_get, Contains, Option, None, IfSome, IfNone, IsTrue, is_some}
+use Rattle.std.proofs.Common.{◌≡◌, ◌⊎◌, ◌↔◌, ℕ, ◌+◌, ◌≤◌, List, [], ◌∷◌, ◌++◌, length, Some, refl, sym, ◌∙◌, ap, subst, inl, inr, ⊎_elim, slice_get, Contains, Option, None, IfSome, IfNone, IsTrue, is_some}
 use Rattle.std.specs.List.Sorted.{IsStrictlySortedBy}
 use Rattle.std.specs.Ordering.{nat_cmp}
-use Rattle.std.proofs.lemmas.Bool.{cases_lt}
 use Rattle.std.proofs.lemmas.List.Elements.{Contains-push, Contains-push_cases, Contains-append_left}
-use Rattle.std.proofs.lemmas.Option.{same_Some, slice_get_read}
+use Rattle.std.proofs.lemmas.Option.{slice_get_read}
 use Rattle.hn_base.specs.declared.ids.NodeId.{NodeId}
 use Rattle.hn_base.specs.declared.ids.EpId.{EpId}
-use Rattle.hn_base.proofs.AscendingLists.{Contains-head, Contains-cases}
+use Rattle.hn_base.proofs.AscendingLists.{nothing_in, Contains-head, Contains-cases}
+use Rattle.hn_base.proofs.Firsts.{IsOfFirst, none_of_first, first_further, first_last, first_cases, first_of_all}
+use Rattle.hn_base.proofs.Parts.{one_element, contains_at}
 use Rattle.hn_data.specs.Links.{IsPeerAt}
 use Rattle.hn_data.specs.Peers.{IsLinked, HasPeer, peer_link}
 use Rattle.hn_data.specs.View.{PlainView, ids_of}
 use Rattle.hn_data.specs.declared.said.PeerLink.{PeerLink}
 use Rattle.hn_data.specs.declared.view.Entry.{Entry}
-use Rattle.hn_data.proofs.Places.{one_node, contains_at}
 use Rattle.hn_link.specs.CommonLink.{IsLinkedWithOwn, IsOwnEndpoint, IsOnCommonLink, IsJoined}
 
 -- one of the first n peers is joined, and this is its endpoint
-pub record IsJoinedBefore (nodes : List Entry) (own : Entry) (e : ℕ) (links : List PeerLink) (n : ℕ) (at : NodeId × EpId) : Type 0 where
-  pub k : ℕ
-  pub link : PeerLink
-  pub before : k < n
-  pub stands : slice_get links k ≡ Some link
-  pub joined : IsJoined nodes own e link
-  pub is_it : (link.peer, link.peer_endpoint) ≡ at
+abbrev pub IsJoinedAs : List Entry → Entry → ℕ → NodeId × EpId → PeerLink → Type 0
+IsJoinedAs nodes own e at link = IsJoined nodes own e link × ((link.peer, link.peer_endpoint) ≡ at)
+
+abbrev pub IsJoinedBefore : List Entry → Entry → ℕ → List PeerLink → ℕ → NodeId × EpId → Type 0
+IsJoinedBefore nodes own e links n at = IsOfFirst (λ _ link. IsJoinedAs nodes own e at link) links n
 
 -- a list has the own endpoint, and the endpoints of the first n peers that are joined
 abbrev pub AreJoined : List Entry → Entry → ℕ → List PeerLink → ℕ → NodeId × EpId → List (NodeId × EpId) → Type 0
@@ -31,22 +29,9 @@ AreJoined nodes own e links n first endpoints = (at : NodeId × EpId) → Contai
 
 pub none_joined : (nodes : List Entry) (own : Entry) (e : ℕ) (links : List PeerLink) (first : NodeId × EpId) → AreJoined nodes own e links 0 first (first ∷ [])
 none_joined nodes own e links first at = (
-  λ h. ⊎_elim (λ (is : first ≡ at). inl is) (λ (rest : Contains {X = NodeId × EpId} [] at). absurd (let lt = rest.1 in omega arith)) (Contains-cases first [] at h),
-  λ h. ⊎_elim (λ (is : first ≡ at). subst (Contains (first ∷ [])) is (Contains-head first [])) (λ (j : IsJoinedBefore nodes own e links 0 at). absurd (let before = j.before in omega arith)) h,
+  λ h. ⊎_elim (λ (is : first ≡ at). inl is) (λ (rest : Contains {X = NodeId × EpId} [] at). absurd (nothing_in at rest)) (Contains-cases first [] at h),
+  λ h. ⊎_elim (λ (is : first ≡ at). subst (Contains (first ∷ [])) is (Contains-head first [])) (λ (j : IsJoinedBefore nodes own e links 0 at). absurd (none_of_first (λ _ link. IsJoinedAs nodes own e at link) links j)) h,
 )
-
-joined_further : (nodes : List Entry) (own : Entry) (e : ℕ) (links : List PeerLink) (n : ℕ) (at : NodeId × EpId) → IsJoinedBefore nodes own e links n at → IsJoinedBefore nodes own e links (n + 1) at
-joined_further nodes own e links n at h = record { k = h.k; link = h.link; before = (let before = h.before in omega arith); stands = h.stands; joined = h.joined; is_it = h.is_it }
-
-joined_cases : (nodes : List Entry) (own : Entry) (e : ℕ) (links : List PeerLink) (n : ℕ) (link : PeerLink) (at : NodeId × EpId) → slice_get links n ≡ Some link
-    → IsJoinedBefore nodes own e links (n + 1) at → IsJoinedBefore nodes own e links n at ⊎ (IsJoined nodes own e link × ((link.peer, link.peer_endpoint) ≡ at))
-joined_cases nodes own e links n link at stands h =
-    ⊎_elim (λ (below : h.k < n). inl (record { k = h.k; link = h.link; before = below; stands = h.stands; joined = h.joined; is_it = h.is_it }))
-    (λ (rest : n ≤ h.k).
-    let last : h.k ≡ n = let before = h.before in omega arith in
-    let one : h.link ≡ link = same_Some h.link link (sym h.stands ∙ ap (slice_get links) last ∙ stands) in
-    inr (subst (IsJoined nodes own e) one h.joined, ap (λ l. (l.peer, l.peer_endpoint)) (sym one) ∙ h.is_it))
-    (cases_lt h.k n)
 
 -- the next peer is joined
 pub joined_more : (nodes : List Entry) (own : Entry) (e : ℕ) (links : List PeerLink) (n : ℕ) (link : PeerLink) (first : NodeId × EpId) (endpoints : List (NodeId × EpId))
@@ -54,24 +39,24 @@ pub joined_more : (nodes : List Entry) (own : Entry) (e : ℕ) (links : List Pee
     → AreJoined nodes own e links (n + 1) first (endpoints ++ (link.peer, link.peer_endpoint) ∷ [])
 joined_more nodes own e links n link first endpoints were stands joined at =
     let new : NodeId × EpId = (link.peer, link.peer_endpoint) in (
-      λ h. ⊎_elim (λ (old : Contains endpoints at). ⊎_elim (λ (is : first ≡ at). inl is) (λ (j : IsJoinedBefore nodes own e links n at). inr (joined_further nodes own e links n at j)) ((were at).0 old))
-          (λ (is : new ≡ at). inr (record { k = n; link = link; before = omega arith; stands = stands; joined = joined; is_it = is }))
+      λ h. ⊎_elim (λ (old : Contains endpoints at). ⊎_elim (λ (is : first ≡ at). inl is) (λ (j : IsJoinedBefore nodes own e links n at). inr (first_further (λ _ l. IsJoinedAs nodes own e at l) links n j)) ((were at).0 old))
+          (λ (is : new ≡ at). inr (first_last (λ _ l. IsJoinedAs nodes own e at l) links n link stands (joined, is)))
           (Contains-push_cases endpoints new at h),
       λ h. ⊎_elim (λ (is : first ≡ at). Contains-append_left endpoints (new ∷ []) at ((were at).1 (inl is)))
           (λ (j : IsJoinedBefore nodes own e links (n + 1) at). ⊎_elim (λ (old : IsJoinedBefore nodes own e links n at). Contains-append_left endpoints (new ∷ []) at ((were at).1 (inr old)))
-          (λ (last : IsJoined nodes own e link × (new ≡ at)). subst (Contains (endpoints ++ new ∷ [])) last.1 (Contains-push endpoints new))
-          (joined_cases nodes own e links n link at stands j)) h,
+          (λ (last : IsJoinedAs nodes own e at link). subst (Contains (endpoints ++ new ∷ [])) last.1 (Contains-push endpoints new))
+          (first_cases (λ _ l. IsJoinedAs nodes own e at l) links n link stands j)) h,
     )
 
 -- the next peer is not joined
 pub joined_same : (nodes : List Entry) (own : Entry) (e : ℕ) (links : List PeerLink) (n : ℕ) (link : PeerLink) (first : NodeId × EpId) (endpoints : List (NodeId × EpId))
     → AreJoined nodes own e links n first endpoints → slice_get links n ≡ Some link → ¬ (IsJoined nodes own e link) → AreJoined nodes own e links (n + 1) first endpoints
 joined_same nodes own e links n link first endpoints were stands apart at = (
-  λ h. ⊎_elim (λ (is : first ≡ at). inl is) (λ (j : IsJoinedBefore nodes own e links n at). inr (joined_further nodes own e links n at j)) ((were at).0 h),
+  λ h. ⊎_elim (λ (is : first ≡ at). inl is) (λ (j : IsJoinedBefore nodes own e links n at). inr (first_further (λ _ l. IsJoinedAs nodes own e at l) links n j)) ((were at).0 h),
   λ h. ⊎_elim (λ (is : first ≡ at). (were at).1 (inl is))
       (λ (j : IsJoinedBefore nodes own e links (n + 1) at). ⊎_elim (λ (old : IsJoinedBefore nodes own e links n at). (were at).1 (inr old))
-      (λ (last : IsJoined nodes own e link × ((link.peer, link.peer_endpoint) ≡ at)). absurd (apart last.0))
-      (joined_cases nodes own e links n link at stands j)) h,
+      (λ (last : IsJoinedAs nodes own e at link). absurd (apart last.0))
+      (first_cases (λ _ l. IsJoinedAs nodes own e at l) links n link stands j)) h,
 )
 
 -- linked endpoints, by equal names
@@ -81,23 +66,25 @@ relinked a b x x' e e' y y' f f' p q r s h = rw (← p, ← q, ← r, ← s) h
 joined_then_linked : (view : PlainView) (own : Entry) (place e : ℕ) (links : List PeerLink) (n : ℕ) (at : NodeId × EpId) → slice_get view.nodes place ≡ Some own → own.id.0 ≡ view.own
     → IsJoinedBefore view.nodes own e links n at → IsLinkedWithOwn view e at.0.0 at.1.0
 joined_then_linked view own place e links n at there own_is j =
-    let leads = j.joined.leads in
-    let node_is : leads.y.id.0 ≡ at.0.0 = leads.is_peer ∙ ap (λ p. p.0.0) j.is_it in
+    let link = j.x in
+    let led = j.fact.0 in
+    let leads = led.leads in
+    let node_is : leads.y.id.0 ≡ at.0.0 = leads.is_peer ∙ ap (λ p. p.0.0) j.fact.1 in
     record {
       own = own;
       own_there = contains_at view.nodes place own there;
       own_is = own_is;
       node = leads.y;
-      node_there = contains_at view.nodes j.joined.place leads.y leads.at;
+      node_there = contains_at view.nodes led.place leads.y leads.at;
       node_is = node_is;
-      linked = relinked own.body leads.y.body own.id.0 view.own j.link.endpoint.0 e leads.y.id.0 at.0.0 j.link.peer_endpoint.0 at.1.0 own_is j.joined.here node_is (ap (λ p. p.1.0) j.is_it) leads.linked;
+      linked = relinked own.body leads.y.body own.id.0 view.own link.endpoint.0 e leads.y.id.0 at.0.0 link.peer_endpoint.0 at.1.0 own_is led.here node_is (ap (λ p. p.1.0) j.fact.1) leads.linked;
     }
 
 linked_then_joined : (view : PlainView) (own : Entry) (place e : ℕ) (links : List PeerLink) (n : ℕ) (at : NodeId × EpId) → IsStrictlySortedBy nat_cmp (ids_of view.nodes)
     → slice_get view.nodes place ≡ Some own → own.id.0 ≡ view.own → length links ≤ n → ((link : PeerLink) → Contains links link ↔ HasPeer own.body link)
     → IsLinkedWithOwn view e at.0.0 at.1.0 → IsJoinedBefore view.nodes own e links n at
 linked_then_joined view own place e links n at up there own_is all are l =
-    let one : l.own ≡ own = one_node view.nodes up place own l.own there l.own_there (l.own_is ∙ sym own_is) in
+    let one : l.own ≡ own = one_element (λ n. n.id.0) view.nodes up place own l.own there l.own_there (l.own_is ∙ sym own_is) in
     let linked : IsLinked own.body view.own e l.node.body at.0.0 at.1.0 = subst (λ (o : Entry). IsLinked o.body view.own e l.node.body at.0.0 at.1.0) one l.linked in
     let link = peer_link at.0.0 at.1.0 e in
     let listed = (are link).1 linked.there in
@@ -109,14 +96,7 @@ linked_then_joined view own place e links n at up there own_is all are l =
       is_peer = l.node_is;
       linked = relinked own.body l.node.body view.own own.id.0 e e at.0.0 l.node.id.0 at.1.0 at.1.0 (sym own_is) refl (sym l.node_is) refl linked;
     } in
-    record {
-      k = listed.0;
-      link = link;
-      before = (let lt = listed.1 in omega arith);
-      stands = stands;
-      joined = record { here = refl; place = node_at.0; leads = leads };
-      is_it = refl;
-    }
+    first_of_all (λ _ l. IsJoinedAs view.nodes own e at l) links n listed.0 link all stands (record { here = refl; place = node_at.0; leads = leads }, refl)
 
 -- all peers that the own node says: the list is the Common Link
 pub common_from_joined : (view : PlainView) (own : Entry) (place : ℕ) (id : NodeId) (e : EpId) (links : List PeerLink) (n : ℕ) (endpoints : List (NodeId × EpId)) → IsStrictlySortedBy nat_cmp (ids_of view.nodes)

@@ -1,5 +1,5 @@
 -- How an election has come out so far.
-use Rattle.std.specs.Prelude.{◌≡◌, ℕ, Option, MatchOption}
+use Rattle.std.specs.Prelude.{◌≡◌, Option, MatchOption}
 use Rattle.std.specs.declared.cmp.Ordering.TheVariants.{Less}
 use Rattle.hn_base.specs.declared.ids.NodeId.{NodeId}
 use Rattle.hn_base.specs.declared.letter.Letter.{Letter}

@@ -1,7 +1,8 @@
 use Rattle.std.proofs.Common.{◌≡◌, ℕ, ◌+◌, ◌-◌, ◌*◌, ◌/◌, ◌%◌, ◌^◌, ◌<◌, ◌≤◌, ◌↔◌, ◌⊎◌, inl, inr, refl, arith, ap, ◌∙◌, sym}
 use Rattle.std.proofs.Math.Nat.{le_refl, div-add-mod, div-eq_of_lt-le}
-use Rattle.std.proofs.lemmas.Nat.{pow_pos, pow-add, mul-le, shr_below, shr-shr}
+use Rattle.std.proofs.lemmas.Nat.{pow_below, pow_pos, pow-add, mul-le, shr_below}
 use Rattle.std.proofs.lemmas.Bool.{cases_lt}
+use Rattle.hn_base.proofs.LeadingBits.{alike_in_shorter}
 use Rattle.hn_prefix.specs.Prefix.{PlainPrefix, IsPrefix, IsInside, IsWithin, Overlaps, last_address}
 
 -- a number in one block with a multiple of the blocks' size is not below the multiple, nor a size above it
@@ -55,6 +56,17 @@ within_range p q valid_p valid_q = (
       inside_from_range p a valid_p (omega arith) (omega arith)),
 )
 
+-- and then it is not shorter
+pub not_shorter : (p q : PlainPrefix) → IsPrefix p → IsPrefix q → IsWithin p q → q.len ≤ p.len
+not_shorter p q valid_p valid_q within =
+    let range = (within_range q p valid_q valid_p).0 within in
+    elim (cases_lt p.len q.len) [
+      | inl shorter ↦ absurd (
+          let smaller : 2 ^ (128 - q.len) < 2 ^ (128 - p.len) = pow_below (128 - q.len) (128 - p.len) (omega (arith, valid_q.len_in_range, shorter)) in
+          omega (arith, range.0, range.1, smaller, pow_pos (128 - p.len), pow_pos (128 - q.len)))
+      | inr longer ↦ longer
+    ]
+
 -- two prefixes overlap where their ranges of addresses do
 pub overlap_range : (p q : PlainPrefix) → IsPrefix p → IsPrefix q → Overlaps p q ↔ (p.bits ≤ last_address q) × (q.bits ≤ last_address p)
 overlap_range p q valid_p valid_q = (
@@ -69,17 +81,10 @@ overlap_range p q valid_p valid_q = (
       ]),
 )
 
--- what begins alike in the longer length begins alike in the shorter
-nested_bits : (a b short long : ℕ) → short ≤ long → a / 2 ^ (128 - long) ≡ b / 2 ^ (128 - long) → a / 2 ^ (128 - short) ≡ b / 2 ^ (128 - short)
-nested_bits a b short long shorter same =
-    let more : ℕ = (128 - short) - (128 - long) in
-    let sum : 128 - short ≡ (128 - long) + more = omega arith in
-    rw (sum, ← shr-shr a (128 - long) more, ← shr-shr b (128 - long) more) (ap (λ n. n / 2 ^ more) same)
-
 -- of two prefixes that overlap the longer is within the other
 within_shorter : (short long : PlainPrefix) → short.len ≤ long.len → Overlaps short long → IsWithin long short
 within_shorter short long shorter overlap a inside =
-    nested_bits a overlap.0 short.len long.len shorter (inside ∙ sym overlap.2) ∙ overlap.1
+    alike_in_shorter a overlap.0 short.len long.len shorter (inside ∙ sym overlap.2) ∙ overlap.1
 
 pub overlap_is_nesting_lem : (p q : PlainPrefix) → Overlaps p q ↔ (IsWithin p q ⊎ IsWithin q p)
 overlap_is_nesting_lem p q = (

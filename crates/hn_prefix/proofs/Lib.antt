@@ -1,8 +1,8 @@
-pub mod Blocks
-pub mod GapLemmas
-pub mod Jumps
-pub mod Masks
-pub mod Places
-pub mod ReadLemmas
-pub mod Rounds
-pub mod WriteLemmas
+mod Blocks
+mod GapLemmas
+mod Jumps
+mod Masks
+mod Places
+mod ReadLemmas
+mod Rounds
+mod WriteLemmas

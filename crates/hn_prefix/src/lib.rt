@@ -18,6 +18,7 @@ pub use free::first_free;
 pub use laws::{groups_are_the_address, written_form_is_one, written_form_is_read};
 pub use parse::{BadText, parse_address};
 pub use prefix::{
-    BadPrefix, Prefix, inside_is_range, order_is_total, overlap_is_nesting, sub_prefixes_are_all,
+    BadPrefix, Prefix, inside_is_range, order_is_total, overlap_is_nesting, prefixes_are_ranges,
+    sub_prefixes_are_all, within_is_not_shorter,
 };
 pub use text::{PrefixText, address_text};

@@ -213,8 +213,13 @@ fn ends_in_zeros(bits: u128, len: u8) -> bool
 }
 
 /// Two prefixes overlap if and only if one is within the other: they never share a part only.
-pub fn overlap_is_nesting(p: &Prefix, q: &Prefix)
-    ensures { Overlaps p.now q.now ↔ (IsWithin p.now q.now ⊎ IsWithin q.now p.now) }
+pub fn overlap_is_nesting()
+    ensures { (p q : PlainPrefix) → Overlaps p q ↔ (IsWithin p q ⊎ IsWithin q p) }
+{}
+
+/// A prefix within another is at least as long.
+pub fn within_is_not_shorter()
+    ensures { (p q : PlainPrefix) → IsPrefix p → IsPrefix q → IsWithin p q → q.len ≤ p.len }
 {}
 
 /// The addresses inside are those from the lowest to the highest one, whose bits past the length are all ones.
@@ -223,6 +228,14 @@ pub fn inside_is_range(p: &Prefix)
 {
     let _ = &p.bits;
 }
+
+/// A prefix is within another, or overlaps it, where its addresses are or do, from the lowest to the highest.
+pub fn prefixes_are_ranges()
+    ensures within { (p q : PlainPrefix) → IsPrefix p → IsPrefix q
+        → IsWithin q p ↔ (p.bits ≤ q.bits) × (last_address q ≤ last_address p) }
+    ensures overlap { (p q : PlainPrefix) → IsPrefix p → IsPrefix q
+        → Overlaps p q ↔ (p.bits ≤ last_address q) × (q.bits ≤ last_address p) }
+{}
 
 /// The prefixes of a length inside another are its sub-prefixes, one at each place below their number.
 pub fn sub_prefixes_are_all(outer: &Prefix, len: u8)

@@ -1,7 +1,9 @@
 -- Candidates for the best assignment of a link are what is published there for the delegated prefix, and the greatest
 -- key among them is that of the best one.
-use Rattle.std.proofs.Common.{◌≡◌, ◌≢◌, ℕ, ◌⊎◌, inl, inr, Option, Some, None, refl, sym, ap, ◌∙◌, subst}
+use Rattle.std.proofs.Common.{◌≡◌, ◌≢◌, ℕ, ◌⊎◌, inl, inr, Option, Some, None, refl, sym, ap, ◌∙◌, subst, rules}
 use Rattle.std.specs.Prelude.{Contains, unwrap_or}
+use Rattle.std.specs.Cmp.{IsTotalOrder}
+use Rattle.std.specs.Cmp.Rules.{comparing}
 use Rattle.std.specs.declared.cmp.Ordering.{Ordering}
 use Rattle.std.specs.declared.cmp.Ordering.TheVariants.{Less, Equal, Greater}
 use Rattle.std.specs.Ordering.{on, ordering_then}
@@ -10,6 +12,7 @@ use Rattle.std.proofs.lemmas.Cmp.{on_total, tied_itself}
 use Rattle.hn_base.specs.declared.ids.EpId.{EpId}
 use Rattle.hn_base.specs.declared.key.Key.{Key}
 use Rattle.hn_base.specs.Key.{key_cmp}
+use Rattle.hn_base.proofs.Keys.{same_node, key_total, exact_key}
 use Rattle.hn_prefix.specs.Prefix.{PlainPrefix, IsWithin, Overlaps, prefix_cmp}
 use Rattle.hn_assign.specs.declared.assigned.Advertised.{Advertised}
 use Rattle.hn_assign.specs.declared.assigned.Assigned.{Assigned}
@@ -19,7 +22,7 @@ use Rattle.hn_sound.specs.Home.{Home, Endpoint, Held, HasAssignment, HasPublishe
 use Rattle.hn_sound.specs.Premises.{Meets, IsHome}
 use Rattle.hn_sound.specs.Premises.Premise.{OneLink, OnceOnLink, UsedApart, ForUsed, PublishedInside, OneEach}
 use Rattle.hn_sound.specs.Sound.{IsGreatest, HasNoPublisher}
-use Rattle.hn_sound.proofs.Endpoints.{same_endpoint, same_node, same_key, key_cmp_total, prefix_cmp_total, cases_node, cases_id, cases_prefix}
+use Rattle.hn_sound.proofs.Endpoints.{same_endpoint, cases_node, cases_id, cases_prefix}
 use Rattle.hn_sound.proofs.Members.{find_one, IsGreatestOf, greatest_of}
 use Rattle.hn_sound.proofs.Views.{to_advertised, from_advertised, to_common_link, from_common_link}
 
@@ -88,8 +91,10 @@ module _ (home : Home) where
 
   pub key_tells : (e f : Endpoint) (p q : ℕ) → Meets home OneLink → Contains home.endpoints e → Contains home.endpoints f → key_cmp (key_at p e) (key_at q f) ≡ Equal → e ≡ f
   key_tells e f p q on_one e_there f_there equal =
-      let same = same_key (key_at p e) (key_at q f) equal in
-      same_endpoint e f same.0 same.1 (on_one e f e_there f_there same.0 same.1)
+      let same = exact_key (key_at p e) (key_at q f) equal in
+      let node = ap (λ (k : Key). k.node) same in
+      let id = ap (λ (k : Key). k.endpoint) same in
+      same_endpoint e f node id (on_one e f e_there f_there node id)
 
 -- ---- the greatest key is the best
 
@@ -137,7 +142,8 @@ module _ (home : Home) (is_home : IsHome home) where
           let same = key_tells home x.endpoint y.endpoint x.priority y.priority (is_home OneLink) x.fact.has.there y.fact.has.there is in
           let one = one_assigned d x y same in
           let prefixes : prefix_cmp x.assigned.prefix x.assigned.prefix ≡ prefix_cmp x.assigned.prefix y.assigned.prefix = ap (λ (c : Assigned). prefix_cmp x.assigned.prefix c.prefix) one in
-          let tied : prefix_cmp x.assigned.prefix y.assigned.prefix ≡ Equal = sym prefixes ∙ tied_itself prefix_cmp_total x.assigned.prefix in
+          let total : IsTotalOrder prefix_cmp = search (comparing, rules) in
+          let tied : prefix_cmp x.assigned.prefix y.assigned.prefix ≡ Equal = sym prefixes ∙ tied_itself total x.assigned.prefix in
           absurd (cc)
 
   pub top_is_best : (d : PlainPrefix) (x : Published home d) (f : Endpoint) → IsTop x → Contains home.endpoints f → f.link ≡ x.endpoint.link → f ≢ x.endpoint → IsBest (advertised home) f.node.0 (common_link home f) d (advert x)
@@ -253,7 +259,7 @@ module _ (home : Home) (link : ℕ) (d : PlainPrefix) where
 
   pub top_or_none : ((x : Published home d) × (x.endpoint.link ≡ link) × IsTop x) ⊎ HasNoPublisher home link d
   top_or_none =
-      elim (greatest_of (on_total held_key key_cmp_total) (IsOfLink home link d) (cases_of_link home link d) home.assignments) [
+      elim (greatest_of (on_total held_key key_total) (IsOfLink home link d) (cases_of_link home link d) home.assignments) [
         | inl found ↦ inl (from_greatest found.0 found.1)
         | inr none ↦ inr (λ e c p on fact.
             let x : Published home d = record { endpoint = e; assigned = c; priority = p; fact = fact } in

@@ -3,6 +3,8 @@ use Rattle.std.proofs.Common.{◌≡◌, ℕ, zero, suc, ◌≤◌, inl, inr, Bo
 use Rattle.std.specs.Prelude.{◌==◌, nat_le, Contains}
 use Rattle.std.specs.List.{list_all, list_any, filter}
 use Rattle.std.proofs.lemmas.Bool.{eqb-true, eq-eqb, leb-true, and_parts, and_from, or_cases}
+use Rattle.hn_base.proofs.Keys.{same_node, same_id}
+use Rattle.hn_base.proofs.AscendingLists.{nothing_in, Contains-head, Contains-cases}
 use Rattle.hn_prefix.specs.Prefix.{PlainPrefix, IsWithin}
 use Rattle.hn_assign.specs.declared.assigned.Advertised.{Advertised}
 use Rattle.hn_assign.specs.declared.assigned.Assigned.{Assigned}
@@ -11,8 +13,7 @@ use Rattle.hn_sound.specs.AtRest.{EachPair, PairFact, IsAssignmentOf}
 use Rattle.hn_sound.specs.Home.{Home, Endpoint, Held, HasAssignment, advertised, wish_of}
 use Rattle.hn_sound.specs.Premises.{Premise, Meets, IsHome, IsHomeBut}
 use Rattle.hn_sound.specs.Premises.Premise.{OneLink, OnceOnLink, UsedApart, ForUsed, PublishedInside, OneEach, PriorityTwo}
-use Rattle.hn_sound.proofs.Endpoints.{same_node, same_id}
-use Rattle.hn_sound.proofs.Members.{here, in_cons, in_nil, in_filter, from_filter}
+use Rattle.hn_sound.proofs.Members.{in_filter, from_filter}
 use Rattle.hn_sound.proofs.Tests.{implies, then_true, each_passes, one_passes, prefix_is, from_prefix_is, to_prefix_is, is_within, within_from, may_overlap, to_may_overlap}
 
 -- ---- the assignments of a pair
@@ -56,8 +57,8 @@ first_is : (home : Home) (e : Endpoint) (d : PlainPrefix) → Contains home.endp
 first_is home e d e_there = go (assignments_of home e d) (to_assignments_of home e d) (λ h contained. from_assignments_of home e d h e_there contained)
   where
     go : (hs : List Held) → ((c : Assigned) → HasAssignment home e d c → Contains hs (record { node = e.node; assigned = c })) → ((h : Held) → Contains hs h → HasAssignment home e d h.assigned) → IsAssignmentOf home e d (first_of_list hs)
-    go [] complete _ = λ c has. in_nil (record { node = e.node; assigned = c }) (complete c has)
-    go (h ∷ hs) _ has = has h (here h hs)
+    go [] complete _ = λ c has. nothing_in (record { node = e.node; assigned = c }) (complete c has)
+    go (h ∷ hs) _ has = has h (Contains-head h hs)
 
 -- ---- each pair
 
@@ -130,12 +131,12 @@ meets home OneEach = list_all (λ (e : Endpoint). list_all (λ (h : Held). has_a
 meets home PriorityTwo = each_assignment (λ (h : Held). is_two_where_published h.assigned.published) home
 
 one_only : (hs : List Held) (h k : Held) → has_at_most_one hs ≡ true → Contains hs h → Contains hs k → h ≡ k
-one_only [] h k _ h_in k_in = absurd (in_nil h h_in)
+one_only [] h k _ h_in k_in = absurd (nothing_in h h_in)
 one_only (x ∷ []) h k _ h_in k_in =
-    elim (in_cons h x [] h_in) [
-      | inr later ↦ absurd (in_nil h later)
-      | inl is_h ↦ elim (in_cons k x [] k_in) [
-        | inr later ↦ absurd (in_nil k later)
+    elim (Contains-cases x [] h h_in) [
+      | inr later ↦ absurd (nothing_in h later)
+      | inl is_h ↦ elim (Contains-cases x [] k k_in) [
+        | inr later ↦ absurd (nothing_in k later)
         | inl is_k ↦ sym is_h ∙ is_k
       ]
     ]

@@ -8,6 +8,7 @@ use Rattle.std.proofs.lemmas.Bool.{cases_lt, lt-ltb, cond-true}
 use Rattle.hn_base.specs.declared.ids.EpId.{EpId}
 use Rattle.hn_base.specs.declared.key.Key.{Key}
 use Rattle.hn_base.specs.Key.{key_cmp, IsAbove}
+use Rattle.hn_base.proofs.Keys.{key_total}
 use Rattle.hn_prefix.specs.Prefix.{PlainPrefix, IsWithin, Overlaps}
 use Rattle.hn_assign.specs.declared.assigned.Assigned.{Assigned}
 use Rattle.hn_assign.specs.Advertised.{key_of, IsOnLink}
@@ -18,7 +19,6 @@ use Rattle.hn_sound.specs.Home.{Home, Endpoint, HasAssignment, advertised, commo
 use Rattle.hn_sound.specs.Premises.{IsHome}
 use Rattle.hn_sound.specs.Premises.Premise.{OneLink, ForUsed, PublishedInside, OneEach, PriorityTwo}
 use Rattle.hn_sound.specs.Sound.{HasNoPublisher, IsServed, IsWithout, IsSound}
-use Rattle.hn_sound.proofs.Endpoints.{key_cmp_total}
 use Rattle.hn_sound.proofs.Greatest.{Published, advert, is_advertised, key_tells, top_or_none}
 use Rattle.hn_sound.proofs.Publishers.{assignment_rests, one_publisher, not_beside_best, every_follows, none_without_publisher}
 use Rattle.hn_sound.proofs.Views.{from_common_link}
@@ -43,7 +43,7 @@ tied a b not_a not_b = go (key_cmp a b) refl
     go : (r : Ordering) → key_cmp a b ≡ r → key_cmp a b ≡ Equal
     go Less is = absurd (not_b is)
     go Equal is = is
-    go Greater is = absurd (not_a (key_cmp_total.antisymm b a ∙ (let back = is in cc)))
+    go Greater is = absurd (not_a (key_total.antisymm b a ∙ (let back = is in cc)))
 
 both_two : (e f : Endpoint) (p q : ℕ) → 2 ≤ p → 2 ≤ q → ¬ (IsAbove (key_at q f) (key_at 2 e)) → ¬ (IsAbove (key_at p e) (key_at 2 f)) → key_cmp (key_at 2 e) (key_at 2 f) ≡ Equal
 both_two e f p q low_p low_q not_f not_e =

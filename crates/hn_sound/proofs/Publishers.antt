@@ -6,6 +6,7 @@ use Rattle.std.specs.declared.cmp.Ordering.TheVariants.{Less, Equal, Greater}
 use Rattle.std.specs.Ordering.{ordering_then}
 use Rattle.hn_base.specs.declared.key.Key.{Key}
 use Rattle.hn_base.specs.Key.{key_cmp}
+use Rattle.hn_base.proofs.Keys.{key_total}
 use Rattle.hn_prefix.specs.Prefix.{PlainPrefix}
 use Rattle.hn_assign.specs.declared.assigned.Advertised.{Advertised}
 use Rattle.hn_assign.specs.declared.assigned.Assigned.{Assigned}
@@ -16,7 +17,7 @@ use Rattle.hn_sound.specs.Home.{Home, Endpoint, HasAssignment, advertised, commo
 use Rattle.hn_sound.specs.Premises.{IsHome}
 use Rattle.hn_sound.specs.Premises.Premise.{ForUsed, OneEach}
 use Rattle.hn_sound.specs.Sound.{HasNoPublisher}
-use Rattle.hn_sound.proofs.Endpoints.{key_cmp_total, cases_node}
+use Rattle.hn_sound.proofs.Endpoints.{cases_node}
 use Rattle.hn_sound.proofs.Greatest.{Published, advert, IsTop, from_candidate, one_endpoint, to_candidate, one_assigned, top_or_none}
 
 -- what is above one key is above each key that is not greater than that one
@@ -25,8 +26,8 @@ above_lower a b x r not_below above = go (key_cmp a b) refl not_below
   where
     go : (o : Ordering) → key_cmp a b ≡ o → ¬ (ordering_then o r ≡ Less) → key_cmp b x ≡ Less
     go Less is not_less = absurd (not_less refl)
-    go Equal is _ = sym (key_cmp_total.congr a b x is) ∙ above
-    go Greater is _ = key_cmp_total.trans b a x (key_cmp_total.antisymm b a ∙ (let back = is in cc)) above
+    go Equal is _ = sym (key_total.congr a b x is) ∙ above
+    go Greater is _ = key_total.trans b a x (key_total.antisymm b a ∙ (let back = is in cc)) above
 
 -- an endpoint has the prefix
 abbrev HasPrefix : Home → Endpoint → PlainPrefix → PlainPrefix → Type 0

@@ -9,6 +9,7 @@ use Rattle.std.proofs.lemmas.Bool.{eqb-true, eq-eqb, and_parts, and_from, or_cas
 use Rattle.hn_base.specs.declared.ids.NodeId.{NodeId}
 use Rattle.hn_base.specs.declared.ids.EpId.{EpId}
 use Rattle.hn_base.specs.Key.{key_cmp, IsAbove}
+use Rattle.hn_base.proofs.Keys.{same_node, same_id}
 use Rattle.hn_prefix.specs.Prefix.{PlainPrefix}
 use Rattle.hn_assign.specs.declared.assigned.Advertised.{Advertised}
 use Rattle.hn_assign.specs.declared.assigned.Assigned.{Assigned}
@@ -18,7 +19,6 @@ use Rattle.hn_assign.specs.Best.{IsCandidate, IsBest, HasNoBest, IsValid, HasNoF
 use Rattle.hn_assign.specs.Rest.{IsAtRest, IsIdle, IsAlone, IsAheadOfBest, IsFollowing}
 use Rattle.hn_sound.specs.Conditions.{Condition, MeetsRest, IsAtRestBut}
 use Rattle.hn_sound.specs.Conditions.Condition.{NothingToDo, Published, Valid, GreaterKey, Unpublished, BestPrefix}
-use Rattle.hn_sound.proofs.Endpoints.{same_node, same_id}
 use Rattle.hn_sound.proofs.Tests.{implies, then_true, each_passes, one_passes, any_from, prefix_is, from_prefix_is, begins_with, to_begins_with, is_within, within_from, may_overlap, to_may_overlap}
 
 not_less : (r : Ordering) → not (is_lt r) ≡ true → ¬ (r ≡ Less)

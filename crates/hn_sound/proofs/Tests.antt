@@ -1,15 +1,14 @@
 -- Tests that compute whether a written-out home is one, and whether it is at rest.
-use Rattle.std.proofs.Common.{◌≡◌, ℕ, ◌+◌, ◌/◌, ◌-◌, ◌^◌, ◌≤◌, inl, inr, Bool, true, false, not, ◌&&◌, ◌||◌, List, [], ◌∷◌, refl, ap, ◌∙◌, arith}
+use Rattle.std.proofs.Common.{◌≡◌, ℕ, ◌/◌, ◌-◌, ◌^◌, inl, inr, Bool, true, false, not, ◌&&◌, ◌||◌, List, [], ◌∷◌, sym, ap, ◌∙◌, arith}
 use Rattle.std.specs.Prelude.{◌==◌, nat_le, Contains}
 use Rattle.std.specs.List.{list_all, list_any}
-use Rattle.std.proofs.lemmas.Bool.{eqb-true, eq-eqb, leb-true, and_parts, and_from, or_cases, or_left, or_right}
+use Rattle.std.proofs.lemmas.Bool.{cases_lt, eqb-true, eq-eqb, leb-true, and_parts, and_from, or_cases, or_left, or_right}
 use Rattle.std.proofs.lemmas.List.Elements.{All-contains}
 use Rattle.std.proofs.lemmas.List.Sums.{AllPass-from_list_all}
-use Rattle.std.proofs.lemmas.Nat.{shr-shr}
+use Rattle.hn_base.proofs.LeadingBits.{alike_in_shorter}
+use Rattle.hn_base.proofs.AscendingLists.{Contains-head, Contains-tail, Contains-cases, nothing_in}
 use Rattle.hn_prefix.specs.Prefix.{PlainPrefix, IsInside, IsWithin, Overlaps}
-use Rattle.hn_prefix.proofs.Blocks.{overlap_is_nesting_lem}
 use Rattle.hn_sound.proofs.Endpoints.{same_prefix}
-use Rattle.hn_sound.proofs.Members.{here, there, in_cons, in_nil}
 
 -- ---- words
 
@@ -27,14 +26,14 @@ pub one_passes : {X : Type 0} (p : X → Bool) (xs : List X) → list_any p xs �
 one_passes p [] h = absurd (cc)
 one_passes p (x ∷ xs) h =
     elim (or_cases (p x) (list_any p xs) h) [
-      | inl first ↦ (x, here x xs, first)
-      | inr later ↦ let found = one_passes p xs later in (found.0, there found.0 x xs found.1, found.2)
+      | inl first ↦ (x, Contains-head x xs, first)
+      | inr later ↦ let found = one_passes p xs later in (found.0, Contains-tail x xs found.0 found.1, found.2)
     ]
 
 pub any_from : {X : Type 0} (p : X → Bool) (xs : List X) (x : X) → Contains xs x → p x ≡ true → list_any p xs ≡ true
-any_from p [] x there is = absurd (in_nil x there)
+any_from p [] x h is = absurd (nothing_in x h)
 any_from p (y ∷ xs) x h is =
-    elim (in_cons x y xs h) [
+    elim (Contains-cases y xs x h) [
       | inl same ↦ or_left (p y) (list_any p xs) (ap p same ∙ is)
       | inr later ↦ or_right (p y) (list_any p xs) (any_from p xs x later is)
     ]
@@ -65,24 +64,17 @@ from_begins_with address p h = eqb-true (address / 2 ^ (128 - p.len)) (p.bits / 
 abbrev pub is_within : PlainPrefix → PlainPrefix → Bool
 is_within inner outer = nat_le outer.len inner.len && begins_with inner.bits outer
 
--- addresses that begin alike in a longer length do so in a shorter one
-shorter_alike : (a b short long : ℕ) → short ≤ long → a / 2 ^ (128 - long) ≡ b / 2 ^ (128 - long) → a / 2 ^ (128 - short) ≡ b / 2 ^ (128 - short)
-shorter_alike a b short long shorter same =
-    let more : ℕ = (128 - short) - (128 - long) in
-    let sum : 128 - short ≡ (128 - long) + more = omega arith in
-    rw (sum, ← shr-shr a (128 - long) more, ← shr-shr b (128 - long) more) (ap (λ n. n / 2 ^ more) same)
-
 pub within_from : (inner outer : PlainPrefix) → is_within inner outer ≡ true → IsWithin inner outer
 within_from inner outer h address inside =
     let parts = and_parts (nat_le outer.len inner.len) (begins_with inner.bits outer) h in
-    shorter_alike address inner.bits outer.len inner.len (leb-true outer.len inner.len parts.0) inside ∙ from_begins_with inner.bits outer parts.1
+    alike_in_shorter address inner.bits outer.len inner.len (leb-true outer.len inner.len parts.0) inside ∙ from_begins_with inner.bits outer parts.1
 
 abbrev pub may_overlap : PlainPrefix → PlainPrefix → Bool
 may_overlap p q = begins_with p.bits q || begins_with q.bits p
 
 pub to_may_overlap : (p q : PlainPrefix) → Overlaps p q → may_overlap p q ≡ true
-to_may_overlap p q overlap =
-    elim ((overlap_is_nesting_lem p q).0 overlap) [
-      | inl inner ↦ or_left (begins_with p.bits q) (begins_with q.bits p) (to_begins_with p.bits q (inner p.bits refl))
-      | inr outer ↦ or_right (begins_with p.bits q) (begins_with q.bits p) (to_begins_with q.bits p (outer q.bits refl))
+to_may_overlap p q (address, in_p, in_q) =
+    elim (cases_lt p.len q.len) [
+      | inl shorter ↦ or_right (begins_with p.bits q) (begins_with q.bits p) (to_begins_with q.bits p (alike_in_shorter q.bits address p.len q.len (omega arith) (sym in_q) ∙ in_p))
+      | inr longer ↦ or_left (begins_with p.bits q) (begins_with q.bits p) (to_begins_with p.bits q (alike_in_shorter p.bits address q.len p.len longer (sym in_p) ∙ in_q))
     ]

@@ -4,11 +4,12 @@ use Rattle.std.specs.Prelude.{Contains, ◌==◌, option_map, filter}
 use Rattle.std.proofs.lemmas.Bool.{eqb-true, eq-eqb}
 use Rattle.hn_base.specs.declared.ids.NodeId.{NodeId}
 use Rattle.hn_base.specs.declared.ids.EpId.{EpId}
+use Rattle.hn_base.proofs.AscendingLists.{Contains-map, Contains-from_map}
 use Rattle.hn_assign.specs.declared.assigned.Advertised.{Advertised}
 use Rattle.hn_assign.specs.Advertised.{key_of}
 use Rattle.hn_sound.specs.Home.{Home, Endpoint, Held, advertised, advertised_as, common_link}
 use Rattle.hn_sound.specs.Members.{IsAdvertised, IsOnLinkOf}
-use Rattle.hn_sound.proofs.Members.{in_map, from_map, in_filter, from_filter, in_filter_map, from_filter_map}
+use Rattle.hn_sound.proofs.Members.{in_filter, from_filter, in_filter_map, from_filter_map}
 
 -- what a published assignment is advertised as
 as_published : (h : Held) (priority : ℕ) → h.assigned.published ≡ Some priority → advertised_as h ≡ Some (record { key = key_of priority h.node.0 h.assigned.endpoint.0; prefix = h.assigned.prefix })
@@ -41,13 +42,13 @@ pub to_common_link : (home : Home) (e : Endpoint) (node : NodeId) (id : EpId) �
 to_common_link home e node id on =
     let passes : (on.endpoint.link == e.link) ≡ true = eq-eqb on.endpoint.link e.link on.on_link in
     let kept : Contains (filter (λ f. f.link == e.link) home.endpoints) on.endpoint = in_filter (λ f. f.link == e.link) home.endpoints on.endpoint on.there passes in
-    let mapped = in_map (λ (f : Endpoint). (f.node, f.id)) (filter (λ f. f.link == e.link) home.endpoints) on.endpoint kept in
+    let mapped = Contains-map (λ (f : Endpoint). (f.node, f.id)) (filter (λ f. f.link == e.link) home.endpoints) on.endpoint kept in
     let pair : (on.endpoint.node, on.endpoint.id) ≡ (node, id) = λ i. (on.of_node i, on.of_id i) in
     subst (Contains (common_link home e)) pair mapped
 
 pub from_common_link : (home : Home) (e : Endpoint) (node : NodeId) (id : EpId) → Contains (common_link home e) (node, id) → IsOnLinkOf home e node id
 from_common_link home e node id h =
-    let found = from_map (λ (f : Endpoint). (f.node, f.id)) (filter (λ f. f.link == e.link) home.endpoints) (node, id) h in
+    let found = Contains-from_map (λ (f : Endpoint). (f.node, f.id)) (filter (λ f. f.link == e.link) home.endpoints) (node, id) h in
     let kept = from_filter (λ f. f.link == e.link) home.endpoints found.0 found.1 in
     record {
       endpoint = found.0;

@@ -1,13 +1,13 @@
 -- What written-out homes have, and why they are not sound.
 use Rattle.std.proofs.Common.{◌≡◌, ℕ, Option, Some, [], refl, ap, subst, arith}
 use Rattle.std.specs.Prelude.{Contains}
+use Rattle.hn_base.proofs.AscendingLists.{nothing_in}
 use Rattle.hn_prefix.specs.Prefix.{PlainPrefix, Overlaps}
 use Rattle.hn_assign.specs.declared.assigned.Assigned.{Assigned}
 use Rattle.hn_sound.specs.Home.{Home, Endpoint, HasAssignment, HasPublished}
 use Rattle.hn_sound.specs.Homes.{first, second}
 use Rattle.hn_sound.specs.Written.{subnet, has}
 use Rattle.hn_sound.proofs.HomeTests.{assignments_of, to_assignments_of}
-use Rattle.hn_sound.proofs.Members.{in_nil}
 
 module _ (home : Home) (e : Endpoint) (d prefix : PlainPrefix) (there : Contains home.endpoints e) where
   pub has_it : (published : Option ℕ) → Contains home.assignments (has e d prefix published) → HasAssignment home e d (has e d prefix published).assigned
@@ -18,7 +18,7 @@ module _ (home : Home) (e : Endpoint) (d prefix : PlainPrefix) (there : Contains
 
 pub has_none : (home : Home) (e : Endpoint) (d : PlainPrefix) (c : Assigned) → assignments_of home e d ≡ [] → ¬ (HasAssignment home e d c)
 has_none home e d c none h =
-    in_nil (record { node = e.node; assigned = c }) (subst (λ hs. Contains hs (record { node = e.node; assigned = c })) none (to_assignments_of home e d c h))
+    nothing_in (record { node = e.node; assigned = c }) (subst (λ hs. Contains hs (record { node = e.node; assigned = c })) none (to_assignments_of home e d c h))
 
 pub two_routers : ¬ (first ≡ second)
 two_routers same = let nodes : ◌≡◌ {A = ℕ} 1 2 = ap (λ (e : Endpoint). e.node.0) same in absurd (omega arith)

@@ -4,3 +4,5 @@ pub mod Losses
 pub mod Answering
 pub mod Changing
 pub mod Uniqueness
+mod Listed
+mod Tables

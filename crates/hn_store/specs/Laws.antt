@@ -1,17 +1,25 @@
 -- Laws of the table and of what comes of a node state.
-use Rattle.std.specs.Prelude.{◌≡◌, ◌≢◌, ℕ, ◌==◌, if◌then◌else◌, List, Some}
+use Rattle.std.specs.Prelude.{◌≡◌, ◌≢◌, ◌⊎◌, ℕ, ◌==◌, if◌then◌else◌, List, [], Some, Contains}
 use Rattle.hn_store.specs.declared.stored.Stored.{Stored}
 use Rattle.hn_store.specs.declared.stored.HeldNode.{HeldNode}
 use Rattle.hn_store.specs.declared.state.OwnLeaf.{OwnLeaf}
 use Rattle.hn_store.specs.declared.state.Took.{Took}
-use Rattle.hn_store.specs.Nodes.{Nodes, held, put}
+use Rattle.hn_base.specs.declared.ids.NodeId.{NodeId}
+use Rattle.hn_store.specs.Nodes.{Nodes, held, put, IsTable}
 use Rattle.hn_store.specs.Acceptance.{PlainState, Accepts}
+use Rattle.hn_store.specs.Loss.{marked, remembered}
 
 -- To put an entry changes what is held of its node, and of no other.
 abbrev pub PutChangesOneNode : Type 0
 PutChangesOneNode =
     (entries : List HeldNode) (id other : ℕ) (stored : Stored)
     → held (put id stored entries) other ≡ (if other == id then Some stored else held entries other)
+
+-- What is held of a node is what one of the entries holds of it.
+abbrev pub HeldIsOfAnEntry : Type 0
+HeldIsOfAnEntry =
+    (entries : List HeldNode) (id : ℕ) (stored : Stored) → held entries id ≡ Some stored
+    → (node : HeldNode) × Contains entries node × (node.id.0 ≡ id) × (node.stored ≡ stored)
 
 -- What comes of a node state is determined.
 abbrev pub AcceptanceIsUnique : Type 0
@@ -30,3 +38,20 @@ abbrev pub OwnStays : Type 0
 OwnStays =
     (nodes : Nodes) (own : OwnLeaf) (s : PlainState) (now : ℕ) (next : Nodes) (took : Took)
     → Accepts nodes own s now next took → held next.entries own.id.0 ≡ held nodes.entries own.id.0
+
+-- No nodes are a table.
+abbrev pub NoNodesAreTable : Type 0
+NoNodesAreTable = (limit : ℕ) → (limit ≡ 256) ⊎ (limit ≡ 1024) → IsTable (record { limit = limit; entries = [] })
+
+-- Whatever comes of a node state, a table stays one.
+abbrev pub AcceptanceKeepsTable : Type 0
+AcceptanceKeepsTable =
+    (nodes : Nodes) (own : OwnLeaf) (s : PlainState) (now : ℕ) (next : Nodes) (took : Took)
+    → IsTable nodes → Accepts nodes own s now next took → IsTable next
+
+-- A table stays one when its nodes are marked, and when some are forgotten.
+abbrev pub MarksKeepTable : Type 0
+MarksKeepTable = (reach : List NodeId) (now : ℕ) (nodes : Nodes) → IsTable nodes → IsTable (marked reach now nodes)
+
+abbrev pub ForgettingKeepsTable : Type 0
+ForgettingKeepsTable = (now : ℕ) (nodes : Nodes) → IsTable nodes → IsTable (remembered now nodes)

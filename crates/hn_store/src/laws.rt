@@ -2,11 +2,18 @@
 //!
 //! Each is the contract of a function that does nothing: call it to know its law.
 
-ghost use Rattle.hn_store.specs.Laws.{PutChangesOneNode, AcceptanceIsUnique, OthersStay, OwnStays};
+ghost use Rattle.hn_store.specs.Laws.{PutChangesOneNode, AcceptanceIsUnique, OthersStay, OwnStays, HeldIsOfAnEntry, NoNodesAreTable, AcceptanceKeepsTable, MarksKeepTable, ForgettingKeepsTable};
+
+use hn_tlv::{first_fault_is_unique, list_or_first_fault};
 
 /// To put an entry changes what is held of its node, and of no other.
 pub fn put_changes_one_node()
     ensures { PutChangesOneNode }
+{}
+
+/// What is held of a node is what one of the entries holds of it.
+pub fn held_is_of_an_entry()
+    ensures { HeldIsOfAnEntry }
 {}
 
 /// A node state that arrives has at most one answer, and the table after it is determined.
@@ -22,4 +29,19 @@ pub fn others_stay()
 /// No node state changes what is held of the router's own identifier.
 pub fn own_stays()
     ensures { OwnStays }
+{}
+
+/// Whatever comes of a node state, a table stays one.
+pub fn acceptance_keeps_table()
+    ensures { AcceptanceKeepsTable }
+{
+    list_or_first_fault();
+    first_fault_is_unique();
+}
+
+/// No nodes are a table, and a table stays one when its nodes are marked as lost and when some are forgotten.
+pub fn loss_keeps_table()
+    ensures none { NoNodesAreTable }
+    ensures marks { MarksKeepTable }
+    ensures forgetting { ForgettingKeepsTable }
 {}

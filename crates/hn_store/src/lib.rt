@@ -11,7 +11,10 @@ mod stored;
 mod table;
 
 pub use acceptance::BODY_LIMIT;
-pub use laws::{acceptance_is_unique, others_stay, own_stays, put_changes_one_node};
+pub use laws::{
+    acceptance_is_unique, acceptance_keeps_table, held_is_of_an_entry, loss_keeps_table,
+    others_stay, own_stays, put_changes_one_node,
+};
 pub use loss::GRACE;
 pub use state::{OwnLeaf, State, Took};
 pub use stored::{HeldNode, Stored};

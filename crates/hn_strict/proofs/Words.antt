@@ -1,5 +1,5 @@
 -- Names, identifiers and priorities: their bytes are above the space, and each text has one value.
-use Rattle.std.proofs.Common.{◌≡◌, ◌<◌, ◌≤◌, ℕ, true, List, [], ◌∷◌, ◌++◌, ap, sym, ◌∙◌, refl, arith, ltb}
+use Rattle.std.proofs.Common.{◌≡◌, ◌<◌, ◌≤◌, ℕ, true, List, [], ◌∷◌, ◌++◌, sym, ◌∙◌, refl, arith, ltb}
 use Rattle.std.specs.Char.{digit_value}
 use Rattle.std.specs.List.{AllZip, join_with_byte, list_all}
 use Rattle.std.specs.Str.Parse.{AllDigits}

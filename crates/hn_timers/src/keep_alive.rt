@@ -17,21 +17,18 @@ pub const KEEP_ALIVE_MULTIPLIER_DENOMINATOR: u64 = 10;
 /// to be removed: for 2.1 intervals or more nothing was heard (RFC 7787, section 6.1.5). An interval of 0 says that
 /// no keep-alives are sent, and never expires (RFC 7787, section 7.3.2). Never allocates.
 pub fn expired(contact: Moment, interval: u32, now: Moment) -> bool
-    requires contact_is_past { contact ≤ now }
-    requires now_in_range { now ≤ 2 ^ 48 }
+    requires { now ≤ 2 ^ 48 }
     ensures { result ≡ is_expired contact interval now }
 {
     interval > 0
-        && KEEP_ALIVE_MULTIPLIER_DENOMINATOR * (now - contact)
+        && KEEP_ALIVE_MULTIPLIER_DENOMINATOR * now.saturating_sub(contact)
             >= KEEP_ALIVE_MULTIPLIER_NUMERATOR * u64::from(interval)
 }
 
 /// Whether a keep-alive is due, where a network state was last sent at `sent`: that was `KEEP_ALIVE_INTERVAL` ago
 /// or longer (RFC 7787, sections 6.1.2 and 6.1.3). Never allocates.
 pub fn silent(sent: Moment, now: Moment) -> bool
-    requires sent_is_past { sent ≤ now }
-    requires now_in_range { now ≤ 2 ^ 48 }
     ensures { result ≡ is_silent sent now }
 {
-    now - sent >= u64::from(KEEP_ALIVE_INTERVAL)
+    now.saturating_sub(sent) >= u64::from(KEEP_ALIVE_INTERVAL)
 }

@@ -1,8 +1,5 @@
-use Rattle.std.proofs.Common.{rules, Result, ℕ, Ok, Err, List, length, ◌≡◌}
-use Rattle.std.specs.List.Sorted.{IsSearchInRange, IsBinarySearchResult}
+use Rattle.std.proofs.Common.{rules}
 use Rattle.std.proofs.lemmas.List.Sorted.{answers_always}
-use Rattle.hn_assign.specs.Pair.{pair_cmp, IsAscending, IsPlace}
-use Rattle.hn_assign.specs.declared.pair.Pair.{Pair}
 use Rattle.hn_assign.proofs.Joins.{place_from_search}
 use Rattle.hn_assign.proofs.ascending.place_of.Goals as goal
 

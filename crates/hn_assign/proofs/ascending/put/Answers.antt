@@ -1,6 +1,5 @@
-use Rattle.std.proofs.Common.{◌≡◌, ◌∙◌, List, Option, Some, None, IfSome, ap, sym, subst, suc, take, drop, length, ◌<◌}
+use Rattle.std.proofs.Common.{◌∙◌, ap, sym, suc, take, drop, length, ◌<◌}
 use Rattle.std.proofs.lemmas.List.{set_split, take-append-drop}
-use Rattle.hn_assign.specs.Pair.{Updates, IsAscending}
 use Rattle.hn_assign.proofs.Joins.{joined, put_at, put_between}
 use Rattle.hn_assign.proofs.ascending.put.Goals as goal
 

@@ -1,8 +1,7 @@
-use Rattle.std.proofs.Common.{◌≡◌, List, ◌+◌, ◌++◌, ◌∷◌, [], IsTrue, sym, subst, ap, ◌∙◌}
+use Rattle.std.proofs.Common.{sym, subst, ◌∙◌}
 use Rattle.std.proofs.lemmas.Bool.{false≢true}
 use Rattle.hn_assign.specs.Pair.{IsWished}
-use Rattle.hn_assign.specs.declared.pair.Pair.{Pair}
-use Rattle.hn_assign.proofs.Keeping.{IsKeeping, keeping_none, keeping_passed, keeping_kept, keeping_all}
+use Rattle.hn_assign.proofs.Keeping.{keeping_none, keeping_passed, keeping_kept, keeping_all}
 use Rattle.hn_assign.proofs.ascending.wished.Goals as goal
 use Rattle.hn_assign.proofs.ascending.wished.Goals.{then-is_wished+in_ok-push, else-is_wished}
 

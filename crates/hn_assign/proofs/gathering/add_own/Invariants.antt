@@ -1,5 +1,4 @@
 use Rattle.std.proofs.Common.{take}
-use Rattle.hn_assign.specs.declared.assigned.Advertised.{Advertised}
 use Rattle.hn_assign.specs.Gathered.{IsOwn}
 use Rattle.hn_assign.proofs.Grown.{Grown}
 use Rattle.hn_assign.proofs.gathering.add_own.Given as goal

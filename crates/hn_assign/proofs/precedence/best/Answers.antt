@@ -1,4 +1,4 @@
-use Rattle.std.proofs.Common.{◌≡◌, ◌∙◌, List, ◌++◌, ◌∷◌, [], take, ap, sym, subst, refl, Option, Some, ◌+◌, get_or}
+use Rattle.std.proofs.Common.{◌≡◌, List, ◌++◌, ◌∷◌, [], take, sym, subst, ◌+◌}
 use Rattle.std.proofs.lemmas.List.{take_all}
 use Rattle.hn_assign.specs.declared.assigned.Advertised.{Advertised}
 use Rattle.hn_assign.specs.Best.{IsBestIfAny}

@@ -1,6 +1,5 @@
-use Rattle.std.proofs.Common.{◌≡◌, ◌∙◌, List, sym, subst, take, ◌+◌, ◌++◌, ◌∷◌, []}
+use Rattle.std.proofs.Common.{List, sym, subst, take}
 use Rattle.hn_data.specs.View.{plain_view}
-use Rattle.hn_assign.specs.declared.assigned.Advertised.{Advertised}
 use Rattle.hn_assign.specs.declared.assigned.Assigned.{Assigned}
 use Rattle.hn_assign.specs.declared.assigned.Wish.{Wish}
 use Rattle.hn_assign.specs.Gathered.{AreAdvertised}
@@ -26,5 +25,5 @@ loop-wish-preserved g c =
             subst (λ (assigned : List Assigned). AreAdvertised view assigned c.if-branch.known) (sym (c.in_ok-step.ensures.unchanged w.if-branch.false))
             (subst (AreAdvertised view c.loop-wish.ran.held.assigned) (sym w.known-is) c.loop-wish.invariant.known)
       ];
-      drew = took_more view c.wish-item.result _ _ _ c.loop-wish.ran c.step.new.self c.loop-wish.invariant.drew took;
+      drew = took_more c.words_join.ensures view c.wish-item.result _ _ _ c.loop-wish.ran c.step.new.self c.loop-wish.invariant.drew took;
     }

@@ -2,11 +2,10 @@ use Rattle.std.proofs.Common.{◌≡◌, List, ap, ◌∙◌, rules}
 use Rattle.std.specs.List.{filter_map}
 use Rattle.hn_typed.specs.Item.{PlainItem}
 use Rattle.hn_data.specs.Said.{interval_of, keep_alive_of}
-use Rattle.hn_data.proofs.Readings.{items_unique}
 use Rattle.hn_data.proofs.asked.keep_alive.Goals as goal
 
 pub returns-clause-each : goal.returns-clause-each
 returns-clause-each c items are =
-    let is = c.kept.ensures in
+    let is = c.kept.ensures.kept in
     let here : c.unwrap_or.result ≡ keep_alive_of (filter_map interval_of is.items) c.args.e.0 = search rules in
-    here ∙ ap (λ (xs : List PlainItem). keep_alive_of (filter_map interval_of xs) c.args.e.0) (items_unique c.args.a.now is.items items is.are are)
+    here ∙ ap (λ (xs : List PlainItem). keep_alive_of (filter_map interval_of xs) c.args.e.0) (c.kept.ensures.unique is.items items is.are are)

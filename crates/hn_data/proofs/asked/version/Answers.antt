@@ -1,12 +1,11 @@
 use Rattle.std.proofs.Common.{ap, ◌∙◌}
 use Rattle.hn_typed.specs.View.{plain_caps}
 use Rattle.hn_data.specs.Said.{version_of}
-use Rattle.hn_data.proofs.Readings.{items_unique}
 use Rattle.hn_data.proofs.AskedLemmas.{version_found}
 use Rattle.hn_data.proofs.asked.version.Goals as goal
 
 pub returns-clause-each : goal.returns-clause-each
-returns-clause-each c items are = let is = c.kept.ensures in is.says.version_is ∙ ap version_of (items_unique c.args.a.now is.items items is.are are)
+returns-clause-each c items are = let is = c.kept.ensures.kept in is.says.version_is ∙ ap version_of (c.kept.ensures.unique is.items items is.are are)
 
 pub returns-clause-found : goal.returns-clause-found
-returns-clause-found c = let is = c.kept.ensures in version_found plain_caps c.args.a.now is.items c.kept.result.now.version is.are is.says.version_is
+returns-clause-found c = let is = c.kept.ensures.kept in version_found plain_caps c.args.a.now is.items c.kept.result.now.version c.kept.ensures.unique is.are is.says.version_is

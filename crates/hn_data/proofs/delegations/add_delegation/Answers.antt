@@ -1,10 +1,11 @@
 use Rattle.std.proofs.Common.{List, [], ◌∷◌, ◌++◌, option_to_list, sym, ap, ◌∙◌}
 use Rattle.std.proofs.lemmas.Result.{on_ok_weaker}
 use Rattle.std.proofs.lemmas.List.{append-nil}
+use Rattle.hn_base.proofs.Parts.{filter_map-push}
 use Rattle.hn_tlv.specs.View.{plain}
 use Rattle.hn_typed.specs.View.{plain_item}
 use Rattle.hn_data.specs.Delegations.{delegation_of}
-use Rattle.hn_data.proofs.Adding.{reads_one, reads_none, said_more}
+use Rattle.hn_data.proofs.Adding.{reads_one, reads_none}
 use Rattle.hn_data.proofs.delegations.add_delegation.Goals as goal
 
 pub returns-in-Ok : goal.returns-in-Ok
@@ -13,7 +14,7 @@ returns-in-Ok c =
     on_ok_weaker c.push_said.result (λ more. (
       item ∷ [],
       reads_one (plain c.args.tlv.now) item c.in-Ok.ensures.item,
-      more ∙ ap (λ o. c.args.list.now.items ++ option_to_list o) c.delegation_of.ensures ∙ ap (λ (xs : List _). c.args.list.now.items ++ xs) (sym (said_more delegation_of [] item)),
+      more ∙ ap (λ o. c.args.list.now.items ++ option_to_list o) c.delegation_of.ensures ∙ ap (λ (xs : List _). c.args.list.now.items ++ xs) (sym (filter_map-push delegation_of [] item)),
     )) c.push_said.ensures
 
 pub returns-in-Err : goal.returns-in-Err

@@ -25,5 +25,5 @@ more first old new tlv (one, is, last) tlvs (items, read, so_far) = (
 pub loop-tlv-preserved : goal.loop-tlv-preserved
 loop-tlv-preserved c =
     let tlv = plain c.in-Some.tlv in
-    done_more (AddsTo c.args.list.now.items c.loop-tlv.list.items) (AddsTo c.args.list.now.items c.add_delegation.new.list.items) c.args.subs.now c.loop-tlv.place c.in-Some.after tlv c.in-Some.ensures.found
+    done_more c.list_grows.ensures (AddsTo c.args.list.now.items c.loop-tlv.list.items) (AddsTo c.args.list.now.items c.add_delegation.new.list.items) c.args.subs.now c.loop-tlv.place c.in-Some.after tlv c.in-Some.ensures.found
     (more c.args.list.now.items c.loop-tlv.list.items c.add_delegation.new.list.items tlv c.in_ok-add_delegation.ensures) c.loop-tlv.invariant

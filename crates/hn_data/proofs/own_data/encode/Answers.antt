@@ -1,13 +1,12 @@
 use Rattle.std.proofs.Common.{◌∙◌}
 use Rattle.hn_typed.specs.Written.{tlv_of}
 use Rattle.hn_typed.specs.View.{plain_item}
-use Rattle.hn_typed.proofs.Written.{read_can_be_written}
 use Rattle.hn_data.proofs.own_data.encode.Goals as goal
 
 pub returns : goal.returns
 returns c =
     let item = plain_item c.args.item.now in
     record {
-      writable = read_can_be_written (tlv_of item) item c.in_ok-write.ensures.read_back c.requires.short;
+      writable = c.read_is_writable.ensures (tlv_of item) item c.in_ok-write.ensures.read_back c.requires.short;
       spelled = c.from.ensures ∙ (rw c.new-bytes.ensures.items at c.in_ok-write.ensures.ok);
     }

@@ -1,7 +1,8 @@
 use Rattle.std.proofs.Common.{◌≡◌, Some, refl, slice_get, length, IsTrue, false}
 use Rattle.std.proofs.lemmas.Option.{slice_get_read}
 use Rattle.hn_data.specs.View.{ids_of}
-use Rattle.hn_data.proofs.Places.{contains_at, peer_at, id_is, leads_to_peer}
+use Rattle.hn_base.proofs.Parts.{contains_at, part_is}
+use Rattle.hn_data.proofs.Places.{peer_at, leads_to_peer}
 use Rattle.hn_data.proofs.place.peer_place.Goals as goal
 
 pub returns-in_err-place-clause-absent : goal.returns-in_err-place-clause-absent
@@ -20,7 +21,7 @@ returns-then-linked-clause-found c =
     record {
       y = peer;
       at = at;
-      is_peer = id_is nodes place c.args.link.now.peer.0 peer at c.in_ok-place.ensures.found;
+      is_peer = part_is (λ n. n.id.0) nodes place c.args.link.now.peer.0 peer at c.in_ok-place.ensures.found;
       linked = c.linked.ensures.0 c.if-linked.true;
     }
 

@@ -10,7 +10,7 @@ pub loop-at-preserved : goal.loop-at-preserved
 loop-at-preserved c =
     let tlvs = c.args.tlvs.now in
     let count = c.in_ok-datagram.count in
-    let datagrams = c.loop-at.datagrams.items in
+    let datagrams = c.loop-at.datagrams in
     let datagram = c.in_ok-datagram.datagram in
     let left : List (List ℕ) = drop c.loop-at.at tlvs in
     let filled : IsFilled c.args.own c.args.endpoint (take count left) (drop count left) datagram = subst (λ (more : List (List ℕ)). IsFilled c.args.own c.args.endpoint (take count more) (drop count more) datagram) (take_rest tlvs c.loop-at.at) c.in_ok-datagram.ensures.filled in
@@ -19,7 +19,7 @@ loop-at-preserved c =
       packed = λ rest packing.
           let others : IsPacking c.args.own c.args.endpoint (drop count left) rest = subst (λ more. IsPacking c.args.own c.args.endpoint more rest) (sym (drop-drop count c.loop-at.at tlvs)) packing in
           let all : IsPacking c.args.own c.args.endpoint tlvs (datagrams ++ datagram ∷ rest) = c.loop-at.invariant.packed (datagram ∷ rest) (packing_more c.args.own c.args.endpoint left count datagram rest filled others) in
-          subst (IsPacking c.args.own c.args.endpoint tlvs) (sym (ap (λ (items : List (List ℕ)). items ++ rest) c.in_ok-push.ensures.items ∙ append_assoc datagrams (datagram ∷ []) rest)) all;
+          subst (IsPacking c.args.own c.args.endpoint tlvs) (sym (ap (λ (items : List (List ℕ)). items ++ rest) c.in_ok-push.ensures.ok ∙ append_assoc datagrams (datagram ∷ []) rest)) all;
     }
 
 -- at the end nothing is left
@@ -29,8 +29,8 @@ packed own endpoint tlvs datagrams at past all =
 
 pub returns-clause-packed : goal.returns-clause-packed
 returns-clause-packed c =
-    packed c.args.own c.args.endpoint c.args.tlvs.now c.loop-at.datagrams.items c.loop-at.at c.loop-at-test.false c.loop-at.invariant.packed
+    packed c.args.own c.args.endpoint c.args.tlvs.now c.loop-at.datagrams c.loop-at.at c.loop-at-test.false c.loop-at.invariant.packed
 
 pub returns-clause-short : goal.returns-clause-short
 returns-clause-short c =
-    packing_short c.args.own c.args.endpoint c.args.tlvs.now c.loop-at.datagrams.items (returns-clause-packed c)
+    packing_short c.args.own c.args.endpoint c.args.tlvs.now c.loop-at.datagrams (returns-clause-packed c)

@@ -6,7 +6,7 @@ use Rattle.hn_dncp.proofs.packing.pack.Given as goal
 abbrev pub invariant-loop-at : goal.invariant-loop-at
 invariant-loop-at l = record {
   within : l.at ≤ length l.tlvs;
-  packed : (rest : List (List ℕ)) → IsPacking l.own l.endpoint (drop l.at l.tlvs) rest → IsPacking l.own l.endpoint l.tlvs (l.datagrams.items ++ rest);
+  packed : (rest : List (List ℕ)) → IsPacking l.own l.endpoint (drop l.at l.tlvs) rest → IsPacking l.own l.endpoint l.tlvs (l.datagrams ++ rest);
 }
 
 abbrev pub decreases-loop-at : goal.decreases-loop-at

@@ -1,7 +1,7 @@
-use Rattle.std.proofs.Common.{◌≡◌, get_or, slice_get, Some, sym, ap, false, IsTrue, refl}
+use Rattle.std.proofs.Common.{◌≡◌, get_or, IsTrue, refl}
 use Rattle.std.proofs.lemmas.Option.{slice_get-get_or}
 use Rattle.hn_data.specs.View.{plain_view}
-use Rattle.hn_data.proofs.Places.{id_is}
+use Rattle.hn_base.proofs.Parts.{part_is}
 use Rattle.hn_link.proofs.Joined.{joined_more, joined_same, common_from_joined}
 use Rattle.hn_link.proofs.common_link.common.Goals as goal
 use Rattle.hn_link.proofs.common_link.common.Goals.{then-is_joined+in_ok-push, else-is_joined}
@@ -25,7 +25,7 @@ returns c =
     let place = c.in-Some.place in
     let own = get_or view.nodes place c.index-view-place.result in
     let at = slice_get-get_or view.nodes place c.index-view-place.result c.in-Some.ensures.within in
-    let own_is : own.id.0 ≡ view.own = id_is view.nodes place view.own own at c.in-Some.ensures.found in
+    let own_is : own.id.0 ≡ view.own = part_is (λ n. n.id.0) view.nodes place view.own own at c.in-Some.ensures.found in
     rw c.from.ensures (record {
       ascending = c.sort_to_set.ensures.ascending;
       exact = λ at_link.

@@ -1,4 +1,3 @@
-use Rattle.hn_data.specs.View.{plain_view}
 use Rattle.hn_link.proofs.Joined.{AreJoined}
 use Rattle.hn_link.proofs.common_link.common.Given as goal
 

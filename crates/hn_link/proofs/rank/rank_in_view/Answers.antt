@@ -1,10 +1,9 @@
 use Rattle.std.proofs.Common.{◌≡◌, ℕ, ◌<◌, ◌≤◌, sym, ◌∙◌, ap, subst, get_or, arith}
 use Rattle.std.proofs.lemmas.Option.{slice_get-get_or, none-some, same_Some}
-use Rattle.hn_base.specs.declared.ids.NodeId.{NodeId}
 use Rattle.hn_typed.specs.Item.{PlainCaps}
 use Rattle.hn_typed.specs.View.{plain_caps}
 use Rattle.hn_data.specs.View.{plain_view}
-use Rattle.hn_data.proofs.Places.{contains_at, id_is}
+use Rattle.hn_base.proofs.Parts.{contains_at, part_is}
 use Rattle.hn_link.specs.Election.{priority_of, rank_of}
 use Rattle.hn_link.proofs.InView.{version_there}
 use Rattle.hn_link.proofs.rank.rank_in_view.Goals as goal
@@ -25,7 +24,7 @@ returns-then-rank-gt0-clause-found c =
     let place = c.in_ok-place.place in
     let x = get_or view.nodes place c.index-view-place.result in
     let at = slice_get-get_or view.nodes place c.index-view-place.result c.in_ok-place.ensures.within in
-    let same : x.id.0 ≡ c.args.node.0 = id_is view.nodes place c.args.node.0 x at c.in_ok-place.ensures.found in
+    let same : x.id.0 ≡ c.args.node.0 = part_is (λ n. n.id.0) view.nodes place c.args.node.0 x at c.in_ok-place.ensures.found in
     let said = c.in_ok-caps.ensures.some in
     let is = c.rank_with-rank.ensures in
     record {

@@ -2,4 +2,4 @@ use Rattle.hn_prefix.proofs.Blocks.{overlap_is_nesting_lem}
 use Rattle.hn_prefix.proofs.prefix.overlap_is_nesting.Goals as goal
 
 pub returns : goal.returns
-returns c = overlap_is_nesting_lem c.args.p.now c.args.q.now
+returns c = overlap_is_nesting_lem

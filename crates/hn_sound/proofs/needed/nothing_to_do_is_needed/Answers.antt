@@ -1,11 +1,11 @@
 use Rattle.std.proofs.Common.{refl, arith}
+use Rattle.hn_base.proofs.AscendingLists.{nothing_in}
 use Rattle.hn_assign.specs.Best.{IsFreeIn}
 use Rattle.hn_sound.specs.Home.{advertised}
 use Rattle.hn_sound.specs.Homes.{nothing_assigned, first}
 use Rattle.hn_sound.specs.Conditions.Condition.{NothingToDo}
 use Rattle.hn_sound.specs.Written.{delegated, subnet}
 use Rattle.hn_sound.proofs.HomeTests.{home_from, each_pair_from}
-use Rattle.hn_sound.proofs.Members.{in_nil}
 use Rattle.hn_sound.proofs.RestTests.{is_at_rest_but, at_rest_but_from}
 use Rattle.hn_sound.proofs.Tests.{within_from}
 use Rattle.hn_sound.proofs.Unsound.{no_unassigned}
@@ -20,7 +20,7 @@ free = record {
     of_len = refl;
     within = within_from (subnet 0) delegated refl;
   };
-  free = λ a advertised. absurd (in_nil a advertised);
+  free = λ a advertised. absurd (nothing_in a advertised);
 }
 
 pub returns : goal.returns

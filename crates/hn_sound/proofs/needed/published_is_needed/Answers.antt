@@ -1,11 +1,11 @@
 use Rattle.std.proofs.Common.{refl, arith, None}
+use Rattle.hn_base.proofs.AscendingLists.{nothing_in}
 use Rattle.hn_sound.specs.Sound.{HasNoPublisher}
 use Rattle.hn_sound.specs.Homes.{no_publisher, first}
 use Rattle.hn_sound.specs.Conditions.Condition.{Published}
 use Rattle.hn_sound.specs.Written.{delegated, subnet}
 use Rattle.hn_sound.proofs.Greatest.{is_advertised}
 use Rattle.hn_sound.proofs.HomeTests.{home_from, each_pair_from}
-use Rattle.hn_sound.proofs.Members.{in_nil}
 use Rattle.hn_sound.proofs.RestTests.{is_at_rest_but, at_rest_but_from}
 use Rattle.hn_sound.proofs.Unsound.{no_unpublished}
 use Rattle.hn_sound.proofs.WrittenLemmas.{has_it}
@@ -14,7 +14,7 @@ use Rattle.hn_sound.proofs.needed.published_is_needed.Goals as goal
 -- nothing is advertised
 none : HasNoPublisher no_publisher 1 delegated
 none e c p link h =
-    in_nil _ (is_advertised no_publisher delegated (record { endpoint = e; assigned = c; priority = p; fact = h }))
+    nothing_in _ (is_advertised no_publisher delegated (record { endpoint = e; assigned = c; priority = p; fact = h }))
 
 pub returns : goal.returns
 returns c = record {

@@ -1,6 +1,5 @@
-use Rattle.std.proofs.Common.{◌≡◌, List, ◌++◌, take, drop, length, map, sym, subst, arith}
+use Rattle.std.proofs.Common.{◌≡◌, ◌++◌, take, drop, length, map, sym, subst, arith}
 use Rattle.std.proofs.lemmas.Grind.{common_steps}
-use Rattle.hn_assign.specs.declared.assigned.Assigned.{Assigned}
 use Rattle.hn_assign.specs.Marks.{marked}
 use Rattle.hn_assign.specs.Pair.{assigned_pair, IsAscending}
 use Rattle.hn_assign.proofs.Marking.{ascending_marked}

@@ -1,7 +1,7 @@
-use Rattle.std.proofs.Common.{◌≡◌, ◌∙◌, List, Option, Some, None, Ok, Err, Result, ℕ, IsTrue, ap, sym, subst, refl}
+use Rattle.std.proofs.Common.{List, Some, Ok, Err, subst, refl}
 use Rattle.hn_assign.specs.declared.assigned.Wish.{Wish}
 use Rattle.hn_assign.specs.declared.pair.Pair.{Pair}
-use Rattle.hn_assign.specs.Pair.{wish_pair, HasAt, Updates, IsPlace}
+use Rattle.hn_assign.specs.Pair.{wish_pair, IsPlace}
 use Rattle.hn_assign.proofs.Joins.{put_between, none_between, found_where}
 use Rattle.hn_assign.proofs.WishLemmas.{one_wish_more, wishes_more}
 use Rattle.hn_assign.proofs.wishes.Wishes.add.Goals as goal

@@ -1,7 +1,6 @@
 use Rattle.std.proofs.Common.{subst}
 use Rattle.hn_tlv.specs.Grammar.{PlainTlv, IsTlvAt}
 use Rattle.hn_tlv.specs.View.{plain}
-use Rattle.hn_tlv.proofs.Places.{grows, same_place}
 use Rattle.hn_data.specs.Walk.{Decodes}
 use Rattle.hn_data.proofs.Walking.{decodes}
 use Rattle.hn_data.proofs.node_data.NodeData.item.Goals as goal
@@ -10,11 +9,11 @@ pub returns-clause-place : goal.returns-clause-place
 returns-clause-place c =
     let before = c.requires.before in
     let here : IsTlvAt c.args.self.now c.args.at (plain c.in_ok-tlv.tlv) c.in_ok-tlv.after = rw c.bytes.ensures at c.in_ok-tlv.ensures.found in
-    record { within = here.within; before = (_, grows c.args.self.now c.args.at c.in_ok-tlv.after (plain c.in_ok-tlv.tlv) before.0 before.1 here) }
+    record { within = here.within; before = (_, c.list_grows.ensures c.args.self.now c.args.at c.in_ok-tlv.after (plain c.in_ok-tlv.tlv) before.0 before.1 here) }
 
 pub returns-clause-at_tlv : goal.returns-clause-at_tlv
 returns-clause-at_tlv c tlv after there =
     let found = plain c.in_ok-tlv.tlv in
     let here : IsTlvAt c.args.self.now c.args.at found c.in_ok-tlv.after = rw c.bytes.ensures at c.in_ok-tlv.ensures.found in
-    let same = same_place c.args.self.now c.args.at c.in_ok-tlv.after after found tlv here there in
+    let same = c.tlv_is_unique.ensures c.args.self.now c.args.at c.in_ok-tlv.after after found tlv here there in
     (subst (λ (t : PlainTlv). Decodes t c.read.result) same.0 (decodes found c.read.result c.read.ensures.item c.read.ensures.fault c.read.ensures.fault_kind), same.1)

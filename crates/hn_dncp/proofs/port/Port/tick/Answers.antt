@@ -2,7 +2,6 @@ use Rattle.std.proofs.Common.{◌≡◌, ℕ, List, ◌++◌, subst, take, arith
 use Rattle.std.specs.Option.{option_to_list}
 use Rattle.std.proofs.lemmas.Grind.{common_steps}
 use Rattle.hn_io.specs.Words.{Took}
-use Rattle.hn_io.proofs.Takings.{took_both}
 use Rattle.hn_dncp.proofs.port.Port.tick.Goals as goal
 use Rattle.hn_dncp.proofs.port.Port.tick.Goals.{in-None-None, in-Some-Some, in-Some-None, in-Some-None-2}
 
@@ -19,5 +18,5 @@ returns-clause-drew g c =
       | in-Some-None-2 w ↦ grind (arith, common_steps)
     ]
     in
-    let both = took_both (g.D.Draw.words c.args.draw.now) (g.D.Draw.words c.begin_next-next.new.draw) (g.D.Draw.words c.keep_alive-again.new.draw) next again c.begin_next-next.ensures.drew c.keep_alive-again.ensures.drew in
+    let both = c.words_join.ensures (g.D.Draw.words c.args.draw.now) (g.D.Draw.words c.begin_next-next.new.draw) (g.D.Draw.words c.keep_alive-again.new.draw) next again c.begin_next-next.ensures.drew c.keep_alive-again.ensures.drew in
     subst (λ (taken : List ℕ). Took (g.D.Draw.words c.args.draw.now) taken (g.D.Draw.words c.keep_alive-again.new.draw)) in_order both

@@ -1,0 +1,14 @@
+use Rattle.std.proofs.Common.{[], ◌∷◌, refl, arith}
+use Rattle.std.specs.List.Sorted.{IsStrictlySortedBy}
+use Rattle.std.specs.Ordering.{nat_cmp}
+use Rattle.hn_assign.proofs.tests.network.Goals as goal
+
+identifiers_ascend : IsStrictlySortedBy nat_cmp (3 ∷ 4 ∷ 5 ∷ 9 ∷ [])
+unfolding IsStrictlySortedBy
+identifiers_ascend = ((refl, (refl, (refl, tt))), ((refl, (refl, tt)), ((refl, tt), (tt, tt))))
+
+pub returns : goal.returns
+returns c = record {
+  ascending = rw (c.in_ok-node.ensures, c.in_ok-node-2.ensures, c.in_ok-node-3.ensures, c.in_ok-node-4.ensures) identifiers_ascend;
+  own_is_there = (2, omega arith, c.in_ok-node-3.ensures);
+}

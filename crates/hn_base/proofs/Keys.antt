@@ -1,0 +1,26 @@
+-- Identifiers and keys are known by their fields, and keys that are equal in their order are one.
+use Rattle.std.proofs.Common.{◌≡◌, ℕ}
+use Rattle.std.specs.Cmp.{IsTotalOrder}
+use Rattle.std.specs.Ordering.{on, then_cmp, nat_cmp}
+use Rattle.std.proofs.lemmas.Cmp.{on_total, then_total, nat_cmp_total}
+use Rattle.hn_base.specs.declared.ids.NodeId.{NodeId}
+use Rattle.hn_base.specs.declared.ids.EpId.{EpId}
+use Rattle.hn_base.specs.declared.key.Key.{Key}
+use Rattle.hn_base.specs.Key.{key_cmp}
+use Rattle.hn_base.specs.Ascending.{IsExact}
+use Rattle.hn_base.proofs.AscendingLists.{exact_nat, exact_then}
+
+pub same_node : (a b : NodeId) → a.0 ≡ b.0 → a ≡ b
+same_node a b e = λ i. record { 0 = e i }
+
+pub same_id : (a b : EpId) → a.0 ≡ b.0 → a ≡ b
+same_id a b e = λ i. record { 0 = e i }
+
+pub key_total : IsTotalOrder key_cmp
+key_total = then_total (on_total (λ (k : Key). k.priority) nat_cmp_total) (then_total (on_total (λ (k : Key). k.node.0) nat_cmp_total) (on_total (λ (k : Key). k.endpoint.0) nat_cmp_total))
+
+pub exact_key : IsExact key_cmp
+exact_key =
+    exact_then (λ k. k.priority) (λ k. (k.node.0, k.endpoint.0)) nat_cmp (then_cmp (on (λ p. p.0) nat_cmp) (on (λ p. p.1) nat_cmp)) exact_nat
+    (exact_then {K = ℕ × ℕ} (λ p. p.0) (λ p. p.1) nat_cmp nat_cmp exact_nat exact_nat (λ p q first second. λ i. (first i, second i)))
+    (λ k other priority rest. λ i. record { priority = priority i; node = record { 0 = (rest i).0 }; endpoint = record { 0 = (rest i).1 } })

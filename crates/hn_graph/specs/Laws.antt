@@ -1,0 +1,21 @@
+-- Laws of reachability.
+use Rattle.std.specs.Prelude.{◌≡◌, ℕ, List, Contains, ◌↔◌}
+use Rattle.hn_data.specs.declared.view.Entry.{Entry}
+use Rattle.hn_graph.specs.Path.{IsRecent, IsReachable}
+
+-- the other node has the same identifier and node data, and it is recent if this one is
+pub record IsLike (node other : Entry) : Type 0 where
+  pub id : other.id.0 ≡ node.id.0
+  pub body : other.body ≡ node.body
+  pub recent : IsRecent node → IsRecent other
+
+-- each reachable node is still there, as recent as it was, and each node was there and was as recent as it is
+pub record KeepsReach (own : ℕ) (before after : List Entry) : Type 0 where
+  pub kept : (x : Entry) → Contains before x → IsReachable own before x.id.0 → (y : Entry) × Contains after y × IsLike x y
+  pub known : (y : Entry) → Contains after y → (x : Entry) × Contains before x × IsLike y x
+
+-- Where each reachable node is still there and no node is new, the same nodes are reachable.
+abbrev pub ReachabilityStays : Type 0
+ReachabilityStays =
+    (own : ℕ) (before after : List Entry) → KeepsReach own before after
+    → (y : ℕ) → IsReachable own before y ↔ IsReachable own after y

@@ -1,0 +1,5 @@
+use Rattle.hn_prefix.proofs.Blocks.{not_shorter}
+use Rattle.hn_prefix.proofs.prefix.within_is_not_shorter.Goals as goal
+
+pub returns : goal.returns
+returns c = not_shorter

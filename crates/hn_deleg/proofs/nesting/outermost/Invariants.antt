@@ -1,0 +1,6 @@
+use Rattle.std.proofs.Common.{take}
+use Rattle.hn_deleg.proofs.Filtered.{IsFiltered}
+use Rattle.hn_deleg.proofs.nesting.outermost.Given as goal
+
+abbrev pub invariant-loop-p : goal.invariant-loop-p
+invariant-loop-p l = IsFiltered (take l.p-index l.ascending) l.kept.items

@@ -1,0 +1,17 @@
+//! Usable delegated prefixes (RFC 7788, sections 6.2 and 6.3).
+#![tactic(auto)]
+
+mod announcements;
+mod choice;
+mod delegated;
+mod greatest;
+mod laws;
+mod nesting;
+#[cfg(test)]
+mod tests;
+mod usable;
+
+pub use choice::{outside, wanted};
+pub use delegated::Delegated;
+pub use laws::{usable_is_unique, usable_never_overlap};
+pub use usable::used;

@@ -1,0 +1,11 @@
+pub mod Entries
+pub mod Families
+pub mod HexTexts
+pub mod HexWords
+pub mod LineWords
+pub mod Pieces
+pub mod Printed
+pub mod SameFields
+pub mod SameScripts
+pub mod Values
+pub mod WordBytes

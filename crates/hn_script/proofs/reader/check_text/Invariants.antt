@@ -1,0 +1,7 @@
+-- The bytes so far are plain.
+use Rattle.std.proofs.Common.{take}
+use Rattle.hn_script.specs.Fault.{IsPlain}
+use Rattle.hn_script.proofs.reader.check_text.Given as goal
+
+abbrev pub invariant-loop-byte : goal.invariant-loop-byte
+invariant-loop-byte l = IsPlain (take l.byte-index l.text)

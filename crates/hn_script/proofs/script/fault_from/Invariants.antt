@@ -1,0 +1,17 @@
+-- Lines of the rest complete those of all bytes; a first fault of the rest is one of all.
+use Rattle.std.proofs.Common.{ℕ, ◌+◌, ◌≤◌, List, length}
+use Rattle.hn_script.specs.Script.{AreLines, FaultFrom}
+use Rattle.hn_script.specs.Texts.{lines_of}
+use Rattle.hn_script.specs.declared.fault.ScriptFault.{ScriptFault}
+use Rattle.hn_script.specs.declared.line.Line.{Line}
+use Rattle.hn_script.proofs.script.fault_from.Given as goal
+
+abbrev pub invariant-loop-text : goal.invariant-loop-text
+invariant-loop-text l = record {
+  completed : (more : List (ℕ × Line)) → AreLines l.number (lines_of l.rest) more → (lines : List (ℕ × Line)) × AreLines 2 (lines_of l.bytes) lines;
+  faulted : (fault : ScriptFault) → FaultFrom l.number (lines_of l.rest) fault → FaultFrom 2 (lines_of l.bytes) fault;
+  bounded : l.number + length l.rest ≤ 2 + length l.bytes;
+}
+
+abbrev pub decreases-loop-text : goal.decreases-loop-text
+decreases-loop-text l = length l.rest

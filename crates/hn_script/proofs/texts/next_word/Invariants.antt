@@ -1,0 +1,10 @@
+-- The words of the rest are those of the text.
+use Rattle.std.proofs.Common.{◌≡◌, length}
+use Rattle.hn_script.specs.Texts.{words_of}
+use Rattle.hn_script.proofs.texts.next_word.Given as goal
+
+abbrev pub invariant-loop-piece : goal.invariant-loop-piece
+invariant-loop-piece l = words_of l.text ≡ words_of l.rest
+
+abbrev pub decreases-loop-piece : goal.decreases-loop-piece
+decreases-loop-piece l = length l.rest

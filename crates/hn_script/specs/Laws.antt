@@ -1,0 +1,37 @@
+-- What holds of scripts and their faults.
+use Rattle.std.specs.Prelude.{◌≡◌, ℕ, ◌+◌, ◌≤◌, ◌↔◌, List, [], ◌∷◌, length}
+use Rattle.std.specs.List.{AllByRecursion}
+use Rattle.hn_script.specs.Field.{IsInRange}
+use Rattle.hn_script.specs.Line.{spelling, line_text}
+use Rattle.hn_script.specs.Script.{IsScript, IsFirstFault, most_bytes, script_text}
+use Rattle.hn_script.specs.declared.fault.ScriptFault.{ScriptFault}
+use Rattle.hn_script.specs.declared.line.Line.{Line}
+use Rattle.hn_script.specs.declared.script.Script.{Script}
+
+-- bytes are at most one script
+abbrev pub AtMostOneScript : Type 0
+AtMostOneScript = (bytes : List ℕ) (script other : Script) → IsScript script bytes → IsScript other bytes → script ≡ other
+
+-- bytes have at most one first fault
+abbrev pub AtMostOneFault : Type 0
+AtMostOneFault = (bytes : List ℕ) (fault other : ScriptFault) → IsFirstFault fault bytes → IsFirstFault other bytes → fault ≡ other
+
+-- bytes have a first fault if and only if they are no script
+abbrev pub HasFaultOrScript : List ℕ → Type 0
+HasFaultOrScript bytes = ((fault : ScriptFault) × IsFirstFault fault bytes) ↔ ((script : Script) → ¬ IsScript script bytes)
+
+-- a line with its values in their ranges, of at most 16,384 bytes when it is printed
+pub record IsPrintable (line : Line) : Type 0 where
+  pub in_range : AllByRecursion IsInRange (spelling line).fields
+  pub short : length (line_text line) ≤ 16384
+
+-- the same lines, numbered one by one from n on
+abbrev pub renumbered : ℕ → List (ℕ × Line) → List (ℕ × Line)
+renumbered n [] = []
+renumbered n (line ∷ lines) = (n, line.1) ∷ renumbered (n + 1) lines
+
+-- what is printed is the script again, numbered from line 2 on
+abbrev pub PrintedIsRead : Type 0
+PrintedIsRead =
+    (script : Script) → AllByRecursion (λ line. IsPrintable line.1) script.lines → length (script_text script) ≤ most_bytes
+    → IsScript (record { version = script.version; lines = renumbered 2 script.lines }) (script_text script)

@@ -1,0 +1,104 @@
+//! The words of a line after its first.
+
+ghost use Rattle.std.specs.Prelude.{◌≡◌, ◌≢◌, ◌<◌, ℕ, List, length, Ok, MatchBool, IfOk, IfErr};
+ghost use Rattle.std.specs.Char.{is_ascii_hexdigit};
+ghost use Rattle.std.specs.List.{list_all};
+ghost use Rattle.hex.specs.Hex.{decode_of};
+ghost use Rattle.hn_script.specs.Field.{Named, Node, Endpoint, Number, Way, IsHexWord};
+ghost use Rattle.hn_script.specs.Line.{priority as priority_field};
+ghost use Rattle.hn_script.specs.Reading.{ReadsField};
+
+use crate::code::MALFORMED;
+use crate::line::How;
+use hn_base::{EpId, Name, NodeId};
+
+/// The most digits of a number.
+const MOST_DIGITS: usize = 20;
+
+/// The name that this word is.
+pub(crate) fn name(word: &[u8]) -> Result<Name, u8>
+    ensures { ReadsField Named word.now result }
+{
+    Name::new(word).ok_or(MALFORMED)
+}
+
+/// The identifier that this word writes.
+pub(crate) fn node(word: &[u8]) -> Result<NodeId, u8>
+    ensures { ReadsField Node word.now result }
+{
+    NodeId::parse(word).ok_or(MALFORMED)
+}
+
+/// The number that this word writes, in this range.
+pub(crate) fn number(word: &[u8], lowest: u64, highest: u64) -> Result<u64, u8>
+    ensures { ReadsField (Number lowest highest) word.now result }
+{
+    let Some(value) = hn_base::number(word, 10, MOST_DIGITS) else {
+        return Err(MALFORMED);
+    };
+    if value < u128::from(lowest) || value > u128::from(highest) {
+        return Err(MALFORMED);
+    }
+    Ok(value as u64)
+}
+
+/// The endpoint that this word writes.
+pub(crate) fn endpoint(word: &[u8]) -> Result<EpId, u8>
+    ensures { ReadsField Endpoint word.now result }
+{
+    let value = number(word, 1, 0xffff_ffff)?;
+    Ok(EpId(value as u32))
+}
+
+/// The priority that this word writes.
+pub(crate) fn priority(word: &[u8]) -> Result<u8, u8>
+    ensures { ReadsField priority_field word.now result }
+{
+    let value = number(word, 0, 7)?;
+    Ok(value as u8)
+}
+
+/// The way that this word names.
+pub(crate) fn way(word: &[u8]) -> Result<How, u8>
+    ensures { ReadsField Way word.now result }
+{
+    match word {
+        b"uni" => Ok(How::Uni),
+        b"multi" => Ok(How::Multi),
+        b"far" => Ok(How::Far),
+        _ => Err(MALFORMED),
+    }
+}
+
+/// Whether all bytes of this word are hexadecimal digits.
+fn has_hex_digits(word: &[u8]) -> bool
+    ensures { result ≡ list_all is_ascii_hexdigit word.now }
+{
+    word.iter().all(|byte| byte.is_ascii_hexdigit())
+}
+
+/// Whether this word is hexadecimal digits, two for each byte.
+fn is_hex(word: &[u8]) -> bool
+    ensures { MatchBool result ((bytes : List ℕ) × (decode_of word.now ≡ Ok bytes))
+        ((bytes : List ℕ) → decode_of word.now ≢ Ok bytes) }
+{
+    if word.len() % 2 != 0 {
+        return false;
+    }
+    has_hex_digits(word)
+}
+
+/// The word as it is, if it writes bytes in hexadecimal.
+pub(crate) fn digits(word: &[u8]) -> Result<&[u8], u8>
+    requires { 0 < length word.now }
+    ensures found { IfOk result (λ digits. (digits.now ≡ word.now) × (bytes : List ℕ) × IsHexWord bytes word.now) }
+    ensures refused { IfErr result (λ code. (code ≡ MALFORMED) × ((bytes : List ℕ) → ¬ IsHexWord bytes word.now)) }
+{
+    if word == b"-".as_slice() {
+        return Ok(word);
+    }
+    if is_hex(word) {
+        return Ok(word);
+    }
+    Err(MALFORMED)
+}

@@ -1,0 +1,28 @@
+//! Laws: functions without work, whose clauses say what holds of the definitions.
+
+ghost use Rattle.hn_script.specs.Laws.{AtMostOneScript, AtMostOneFault, HasFaultOrScript, PrintedIsRead};
+
+use crate::script::first_fault;
+
+/// Bytes are at most one script, so that `parse` has one answer.
+pub fn script_is_unique()
+    ensures { AtMostOneScript }
+{}
+
+/// Bytes have at most one first fault.
+pub fn fault_is_unique()
+    ensures { AtMostOneFault }
+{}
+
+/// Bytes have a first fault if and only if they are no script.
+pub fn fault_or_script(bytes: &[u8])
+    ensures { HasFaultOrScript bytes.now }
+{
+    let _fault = first_fault(bytes);
+}
+
+/// What `print` writes is the script again, but for the numbers of lines, if its values are in their ranges, each line
+/// is short enough, and all lines together are.
+pub fn printed_is_read()
+    ensures { PrintedIsRead }
+{}

@@ -1,0 +1,28 @@
+//! The script language of the laboratory: which bytes are a script, of which lines; the first fault of bytes that are
+//! none; the reading of a script, and its printing.
+//!
+//! A script is ASCII text in lines ended by LF; the last line may lack it. The first line is `hncp 1`. In each further
+//! line words are separated by one or more spaces, and spaces at both ends are skipped. A line without words is
+//! skipped, and so is one whose first word begins with `#`. docs/FORMATS.md has the table of lines.
+#![tactic(auto)]
+
+mod code;
+mod draft;
+mod fault;
+mod fields;
+mod laws;
+mod line;
+mod reader;
+mod script;
+mod shapes;
+#[cfg(test)]
+mod tests;
+mod texts;
+mod version;
+mod words;
+
+pub use fault::{ParseFault, ScriptFault};
+pub use laws::{fault_is_unique, fault_or_script, printed_is_read, script_is_unique};
+pub use line::{How, Line};
+pub use script::{Script, first_fault, parse, print};
+pub use version::Version;

@@ -1,0 +1,220 @@
+use crate::{ParseFault, ScriptFault, first_fault, parse, print};
+use hn_base::Bytes;
+use std::alloc::{AllocError, Global};
+use std::test::Fail;
+
+/// What is printed for the script that these bytes are.
+fn reprinted(alloc: Global, bytes: &[u8]) -> Result<Bytes, Fail> {
+    let script = parse(alloc, bytes)?;
+    Ok(print(alloc, &script)?)
+}
+
+/// The most bytes of a script.
+const MOST_BYTES: usize = 1 << 24;
+
+/// These bytes, and then so many bytes of this kind that all are `len`.
+fn filled(alloc: Global, begin: &str, len: usize, byte: u8) -> Result<Vec<u8>, AllocError> {
+    let mut bytes = Vec::new(alloc);
+    bytes.extend_from_slice(begin.as_bytes())?;
+    bytes.resize(len, byte)?;
+    Ok(bytes)
+}
+
+#[test]
+fn reads_each_word(rt: HostRuntime) -> Result<(), Fail> {
+    // A line, and the same line as it is printed.
+    let lines = [
+        ("router A 00000000", "router A 00000000"),
+        (
+            "router abcdefghijklmnop FFFFffff",
+            "router abcdefghijklmnop ffffffff",
+        ),
+        ("link l_1-", "link l_1-"),
+        ("attach A 1 L", "attach A 1 L"),
+        ("attach A 4294967295 L", "attach A 4294967295 L"),
+        ("detach A 00000000000000000001", "detach A 1"),
+        ("detach A 4294967295", "detach A 4294967295"),
+        ("caps A 0 7 0 7", "caps A 0 7 0 7"),
+        ("caps A 7 0 07 00", "caps A 7 0 7 0"),
+        ("stop A", "stop A"),
+        ("start A", "start A"),
+        ("seed 0", "seed 0"),
+        ("seed 18446744073709551615", "seed 18446744073709551615"),
+        ("loss 0", "loss 0"),
+        ("loss 100", "loss 100"),
+        ("time 0", "time 0"),
+        ("time 281474976710656", "time 281474976710656"),
+        ("tick A", "tick A"),
+        ("run 0 1", "run 0 1"),
+        (
+            "run 281474976710656 281474976710656",
+            "run 281474976710656 281474976710656",
+        ),
+        ("deliver 0", "deliver 0"),
+        (
+            "deliver 18446744073709551615",
+            "deliver 18446744073709551615",
+        ),
+        ("drop 0", "drop 0"),
+        ("drop 00018446744073709551", "drop 18446744073709551"),
+        ("flow", "flow"),
+        ("inject A 1 uni -", "inject A 1 uni -"),
+        (
+            "inject A 4294967295 multi 00fFAb",
+            "inject A 4294967295 multi 00ffab",
+        ),
+        ("inject A 1 far 00", "inject A 1 far 00"),
+        ("show A", "show A"),
+        ("hash A", "hash A"),
+        ("compare A B", "compare A B"),
+        ("mail", "mail"),
+        ("   show   A   ", "show A"),
+    ];
+    for (line, printed) in lines {
+        let text = format!(in rt.alloc(); "hncp 1\n{line}\n")?;
+        let wanted = format!(in rt.alloc(); "hncp 1\n{printed}\n")?;
+        let found = reprinted(rt.alloc(), text.as_bytes())?;
+        assert!(rt; found.as_slice() == wanted.as_bytes(), "{line}");
+    }
+    Ok(())
+}
+
+#[test]
+fn numbers_lines(rt: HostRuntime) -> Result<(), Fail> {
+    let text = b"hncp 1\n\nflow\n# a comment\n   \nmail\n  # another\nshow A";
+    let script = parse(rt.alloc(), text)?;
+    let numbers = script.lines.as_slice().iter().map(|line| line.0);
+    assert_eq!(rt;
+        numbers.collect::<Vec<u32>>(rt.alloc())?.as_slice(),
+        [3, 6, 8].as_slice()
+    );
+    let printed = print(rt.alloc(), &script)?;
+    assert!(rt; printed.as_slice() == b"hncp 1\nflow\nmail\nshow A\n".as_slice());
+    assert!(rt; reprinted(rt.alloc(), b"hncp 1")?.as_slice() == b"hncp 1\n".as_slice());
+    let fault = first_fault(b"hncp 1\n# a comment\n\nfly").ok_or("a fault")?;
+    let text = fault.to_string(rt.alloc())?;
+    assert_eq!(rt; text.as_str(), "line 4 has a fault of code 2");
+    Ok(())
+}
+
+#[test]
+fn refuses(rt: HostRuntime) {
+    let texts = [
+        // The first line.
+        ("", 1, 1),
+        ("\n", 1, 1),
+        ("hncp 2\n", 1, 1),
+        (" hncp 1\n", 1, 1),
+        ("hncp  1\n", 1, 1),
+        ("hncp 1 \n", 1, 1),
+        ("# a comment\nhncp 1\n", 1, 1),
+        ("\nhncp 1\n", 1, 1),
+        ("hncp 1\r\nmail\r\n", 1, 6),
+        ("hncp\t1\n", 1, 6),
+        // Unknown words, those of later versions among them.
+        ("hncp 1\nfly\n", 2, 2),
+        ("hncp 1\nFlow\n", 2, 2),
+        ("hncp 1\nflow#\n", 2, 2),
+        ("hncp 1\nexternal A 2001:db8::/56 1 1\n", 2, 2),
+        ("hncp 1\naudit A\n", 2, 2),
+        ("hncp 1\nsync A B\n", 2, 2),
+        ("hncp 1\nhncp 1\n", 2, 2),
+        // Too few and too many words.
+        ("hncp 1\ntick\n", 2, 3),
+        ("hncp 1\ntick A B\n", 2, 3),
+        ("hncp 1\nflow A\n", 2, 3),
+        ("hncp 1\nmail 1\n", 2, 3),
+        ("hncp 1\nshow A # a comment\n", 2, 3),
+        ("hncp 1\nrouter A\n", 2, 3),
+        ("hncp 1\nattach A 1\n", 2, 3),
+        ("hncp 1\ncaps A 0 0 0\n", 2, 3),
+        ("hncp 1\ncaps A 0 0 0 0 0\n", 2, 3),
+        ("hncp 1\ninject A 1 uni\n", 2, 3),
+        ("hncp 1\nrun 1\n", 2, 3),
+        ("hncp 1\ncompare A\n", 2, 3),
+        // Malformed words, and numbers out of range.
+        ("hncp 1\nlink 1l\n", 2, 4),
+        ("hncp 1\nlink abcdefghijklmnopq\n", 2, 4),
+        ("hncp 1\nlink a.b\n", 2, 4),
+        ("hncp 1\nrouter A 0000001\n", 2, 4),
+        ("hncp 1\nrouter A 000000001\n", 2, 4),
+        ("hncp 1\nrouter A 0000000g\n", 2, 4),
+        ("hncp 1\nattach A 0 L\n", 2, 4),
+        ("hncp 1\nattach A 4294967296 L\n", 2, 4),
+        ("hncp 1\ndetach A 000000000000000000001\n", 2, 4),
+        ("hncp 1\ncaps A 0 8 0 0\n", 2, 4),
+        ("hncp 1\nseed 18446744073709551616\n", 2, 4),
+        ("hncp 1\nseed 99999999999999999999\n", 2, 4),
+        ("hncp 1\nseed 000000000000000000000\n", 2, 4),
+        ("hncp 1\nseed -1\n", 2, 4),
+        ("hncp 1\nloss 101\n", 2, 4),
+        ("hncp 1\ntime 281474976710657\n", 2, 4),
+        ("hncp 1\nrun 0 0\n", 2, 4),
+        ("hncp 1\nrun 281474976710657 1\n", 2, 4),
+        ("hncp 1\nrun 0 281474976710657\n", 2, 4),
+        ("hncp 1\ndeliver x\n", 2, 4),
+        ("hncp 1\ndrop 18446744073709551616\n", 2, 4),
+        ("hncp 1\ninject A 1 Uni 00\n", 2, 4),
+        ("hncp 1\ninject A 1 uni 000\n", 2, 4),
+        ("hncp 1\ninject A 1 uni 0g\n", 2, 4),
+        ("hncp 1\ninject A 1 uni --\n", 2, 4),
+        // Bytes that no line may have, in comments too.
+        ("hncp 1\nshow A\r\n", 2, 6),
+        ("hncp 1\n# a\tcomment\n", 2, 6),
+        ("hncp 1\n\t\n", 2, 6),
+        ("hncp 1\nshow \u{7f}\n", 2, 6),
+        ("hncp 1\n# \u{e9}\n", 2, 6),
+        // Of two codes in one line the first decides, and of two lines the first.
+        ("hncp 2\t\n", 1, 6),
+        ("hncp 1\nfly\t\n", 2, 6),
+        ("hncp 1\ntick\t\n", 2, 6),
+        ("hncp 1\nloss 101\t\n", 2, 6),
+        ("hncp 1\nfly 1 2 3\n", 2, 2),
+        ("hncp 1\ntick 1 2\n", 2, 3),
+        ("hncp 1\nloss 101\nfly\n", 2, 4),
+        ("hncp 1\nfly\nloss 101\n", 2, 2),
+        ("hncp 1\nmail\n\t\nfly\n", 3, 6),
+    ];
+    for (text, line, code) in texts {
+        let fault = ScriptFault { line, code };
+        assert_eq!(rt; first_fault(text.as_bytes()), Some(fault), "{text:?}");
+        let refused = parse(rt.alloc(), text.as_bytes()).err();
+        assert_eq!(rt; refused, Some(ParseFault::Script(fault)), "{text:?}");
+    }
+}
+
+#[test]
+fn measures_lines(rt: HostRuntime) -> Result<(), Fail> {
+    // The begin of a line, its length, and the code of its fault.
+    let lines = [
+        ("mail", 16_384, None),
+        ("# a comment", 16_384, None),
+        ("mail", 16_385, Some(5)),
+        ("# a comment", 16_385, Some(5)),
+        ("", 16_385, Some(5)),
+        ("fly", 16_384, Some(2)),
+        ("fly", 16_385, Some(5)),
+        ("tick", 16_385, Some(5)),
+        ("loss 101", 16_385, Some(5)),
+        ("\t", 16_385, Some(5)),
+    ];
+    for (begin, len, code) in lines {
+        let text = format!(in rt.alloc(); "hncp 1\n{begin}")?;
+        let bytes = filled(rt.alloc(), text.as_str(), 7 + len, b' ')?;
+        let fault = first_fault(bytes.as_slice());
+        assert_eq!(rt;
+            fault.map(|found| found.code),
+            code,
+            "{begin:?} of {len} bytes"
+        );
+    }
+    Ok(())
+}
+
+#[test]
+fn measures_scripts(rt: HostRuntime) -> Result<(), Fail> {
+    let bytes = filled(rt.alloc(), "hncp 2\t", MOST_BYTES + 1, b'\n')?;
+    let large = ScriptFault { line: 0, code: 15 };
+    assert_eq!(rt; first_fault(bytes.as_slice()), Some(large));
+    Ok(())
+}

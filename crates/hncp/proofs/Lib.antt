@@ -1,4 +1,7 @@
+mod HexDigits
 mod Streams
+mod Cut
+mod Decodes
 mod Reports
 mod Playing
 mod Sources

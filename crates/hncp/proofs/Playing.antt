@@ -34,11 +34,11 @@ lines_at lines place line within is =
 
 pub goes_on : (start home next : Home) (lines : List Line) (front text : List ℕ) (place : ℕ) (line : Line) → place < length lines → line ≡ get_or lines place line → IsSoFar start lines front place home → line_refusal home (line_of line) ≡ None → LineRuns home (line_of line) next text → IsSoFar start lines (front ++ text) (place + 1) next
 goes_on start home next lines front text place line within is so_far passes runs rest end last plays =
-    let behind = map line_of (drop (place + 1) lines) in
-    let P : ℕ → Type 0 = λ n. Plays next n behind rest end last in
+    let after = map line_of (drop (place + 1) lines) in
+    let P : ℕ → Type 0 = λ n. Plays next n after rest end last in
     let renumbered : P ((place + 2) + 1) = let e : (place + 1) + 2 ≡ (place + 2) + 1 = omega arith in subst P e plays in
     let Q : List ScriptLine → Type 0 = λ all. Plays home (place + 2) all (text ++ rest) end last in
-    let from_here : Q (map line_of (drop place lines)) = subst Q (sym (lines_at lines place line within is)) (plays_more home next last (place + 2) (line_of line) behind text rest end passes runs renumbered) in
+    let from_here : Q (map line_of (drop place lines)) = subst Q (sym (lines_at lines place line within is)) (plays_more home next last (place + 2) (line_of line) after text rest end passes runs renumbered) in
     let R : List ℕ → Type 0 = λ whole. Plays start 2 (map line_of lines) whole end last in
     subst R (sym (append_assoc front text rest)) (so_far (text ++ rest) end last from_here)
 

@@ -8,8 +8,9 @@ use Rattle.hncp.specs.declared.words.Form.{Form}
 use Rattle.hncp.specs.declared.words.Form.TheVariants.{Lab, Decode}
 use Rattle.hncp.specs.Form.{IsFormOf}
 use Rattle.hncp.specs.Input.{IsWhole}
-use Rattle.hncp.specs.Decode.{SpellsTlvs, WritesDecode}
+use Rattle.hncp.specs.Decode.{SpellsTlvs, IsDecodeOf, WritesDecode, CutsDecode}
 use Rattle.hncp.specs.Lab.{WritesLab}
+use Rattle.hncp.proofs.Streams.{AppendsFront-none}
 
 length_front : (whole : List ℕ) (after : Option (List ℕ)) (read : List ℕ) → Consumes (Some whole) after read → length read ≤ length whole
 length_front whole None read c = absurd c
@@ -48,16 +49,31 @@ among_all status (suc (suc (suc zero)), within, is) = (5, lit< tt, is)
 among_all status (suc (suc (suc (suc k))), within, is) = absurd (omega arith)
 
 -- a source of hexadecimal text that is too long, of which one byte more was read
-pub decode_longer : (status : ℕ) (before after : Option (List ℕ)) (whole read : List ℕ) → 2 ^ 24 < length read → length read ≤ length whole → WritesDecode read status before after → WritesDecode whole status before after
-decode_longer status before after whole read long front decoded =
-    elim decoded.1 [
+text_longer : (status : ℕ) (text whole read : List ℕ) → 2 ^ 24 < length read → length read ≤ length whole → IsDecodeOf read status text → IsDecodeOf whole status text
+text_longer status text whole read long front decoded =
+    elim decoded [
       | inl refused ↦
           elim refused.1 [
-            | inl too_long ↦ (decoded.0, inl (refused.0, inl (omega arith, too_long.1)), decoded.2)
+            | inl too_long ↦ inl (refused.0, inl (omega arith, too_long.1))
             | inr no_hex ↦ let short = no_hex.0 in absurd (omega arith)
           ]
       | inr contents ↦ let short = contents.short in absurd (omega arith)
     ]
+
+pub decode_longer : (status : ℕ) (before after : Option (List ℕ)) (whole read : List ℕ) → 2 ^ 24 < length read → length read ≤ length whole → WritesDecode read status before after → WritesDecode whole status before after
+decode_longer status before after whole read long front decoded =
+    (decoded.0, text_longer status decoded.0 whole read long front decoded.1, decoded.2)
+
+pub cut_longer : (before after : Option (List ℕ)) (whole read : List ℕ) → 2 ^ 24 < length read → length read ≤ length whole → CutsDecode read before after → CutsDecode whole before after
+cut_longer before after whole read long front cut =
+    (cut.0, cut.1, text_longer cut.0 cut.1 whole read long front cut.2, cut.3)
+
+-- of a source that was not read nothing was written
+pub cut_of_unread : ((bytes : List ℕ) → (status : ℕ) × (text : List ℕ) × IsDecodeOf bytes status text) → (left before : Option (List ℕ)) → IfSome left (λ bytes. CutsDecode bytes before before)
+cut_of_unread decodes None before = tt
+cut_of_unread decodes (Some bytes) before =
+    let told = decodes bytes in
+    (told.0, told.1, told.2, AppendsFront-none before told.1)
 
 pub complete_longer : (status : ℕ) (whole read : List ℕ) → 2 ^ 24 < length read → length read ≤ length whole → (SpellsTlvs read → status ≢ 2) → SpellsTlvs whole → status ≢ 2
 complete_longer status whole read long front complete spells = let short = spells.short in absurd (omega arith)

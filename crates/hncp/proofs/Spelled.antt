@@ -1,15 +1,8 @@
 -- A source that spells a list of TLVs is not refused.
-use Rattle.std.proofs.Common.{◌≡◌, ℕ, List, Result, Ok, Err, inl, inr, sym, subst, arith}
-use Rattle.std.specs.Prelude.{IsErr}
+use Rattle.std.proofs.Common.{◌≡◌, ℕ, List, inl, inr, sym, subst, arith}
+use Rattle.hn_base.proofs.Results.{one_value, no_error}
 use Rattle.hn_tlv.specs.Grammar.{HasTlvs, FirstFault}
 use Rattle.hncp.specs.Decode.{SpellsTlvs, IsDecodeOf}
-
-no_error : {T E : Type 0} (r : Result T E) (x : T) → r ≡ Ok x → IsErr r → ⊥
-no_error (Ok y) x same err = cc
-no_error (Err e) x same err = cc
-
-one_value : {T E : Type 0} (r : Result T E) (x y : T) → r ≡ Ok x → r ≡ Ok y → x ≡ y
-one_value r x y p q = cc
 
 pub not_refused : ((bytes : List ℕ) (place why : ℕ) → FirstFault bytes place why → HasTlvs bytes → ⊥) → (bytes text : List ℕ) → SpellsTlvs bytes → IsDecodeOf bytes 2 text → ⊥
 not_refused law bytes text spells (inl (is, inl too_long)) = let short = spells.short in let long = too_long.0 in omega arith

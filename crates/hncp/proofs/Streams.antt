@@ -1,6 +1,8 @@
 -- One read or write after another.
-use Rattle.std.proofs.Common.{◌∙◌, ℕ, List, [], ◌++◌, Option, None, Some, sym, ap, refl, append-nil, append_assoc}
+use Rattle.std.proofs.Common.{◌≡◌, ◌∙◌, ℕ, List, [], ◌++◌, Option, None, Some, Result, Ok, Err, sym, ap, refl, append-nil, append_assoc}
+use Rattle.std.specs.Prelude.{OnErr}
 use Rattle.std.specs.Io.KnownBytes.{Appends, Consumes, IsAtEnd}
+use Rattle.hncp.specs.Front.{AppendsFront}
 use Rattle.hncp.specs.Input.{IsWhole}
 
 pub Consumes-more : (a b c : Option (List ℕ)) (xs ys : List ℕ) → Consumes a b xs → Consumes b c ys → Consumes a c (xs ++ ys)
@@ -27,3 +29,21 @@ Appends-more (Some s) (Some t) (Some u) xs ys p q = q ∙ ap (λ zs. zs ++ ys) p
 pub Appends-none : (a : Option (List ℕ)) → Appends a a []
 Appends-none None = tt
 Appends-none (Some s) = sym (append-nil s)
+
+-- a front of what comes after a front, of a text that goes on
+pub AppendsFront-more : (a b c : Option (List ℕ)) (front piece back whole : List ℕ) → Appends a b front → AppendsFront b c piece → whole ≡ front ++ (piece ++ back) → AppendsFront a c whole
+AppendsFront-more a b c front piece back whole before cut is = (
+  front ++ cut.0,
+  cut.1 ++ back,
+  is ∙ ap (λ xs. front ++ (xs ++ back)) cut.2 ∙ ap (λ xs. front ++ xs) (append_assoc cut.0 cut.1 back) ∙ sym (append_assoc front cut.0 (cut.1 ++ back)),
+  Appends-more a b c front cut.0 before cut.3,
+)
+
+-- nothing of a text
+pub AppendsFront-none : (a : Option (List ℕ)) (text : List ℕ) → AppendsFront a a text
+AppendsFront-none a text = ([], text, refl, Appends-none a)
+
+-- what holds after each answer holds after an error
+pub on_err : {T E : Type 0} (r : Result T E) (P : Type 0) → P → OnErr r P
+on_err (Ok x) P holds = tt
+on_err (Err e) P holds = holds

@@ -1,8 +1,11 @@
-use Rattle.std.specs.Prelude.{◌≡◌, ℕ, ◌^◌, ◌<◌, ◌≤◌, ◌⊎◌, List, [], ◌∷◌, ◌++◌, Option, length, codes}
+use Rattle.std.specs.Prelude.{◌≡◌, ℕ, ◌^◌, ◌<◌, ◌≤◌, ◌⊎◌, List, [], ◌∷◌, ◌++◌, Option, Result, Ok, Err, length, codes}
 use Rattle.std.specs.Fmt.{decimal}
 use Rattle.std.specs.Io.KnownBytes.{Appends}
+use Rattle.hn_io.specs.declared.fault.IoFault.{IoFault}
+use Rattle.hn_io.specs.declared.fault.IoFault.TheVariants.{Failed, NoMemory}
 use Rattle.hn_tlv.specs.Grammar.{HasTlvs, FirstFault}
 use Rattle.hn_decode.specs.Nested.{IsDecodeText}
+use Rattle.hncp.specs.Front.{AppendsFront}
 use Rattle.hncp.specs.HexText.{IsHexText, IsNoHexText}
 use Rattle.hncp.specs.Report.{refused_line}
 
@@ -17,6 +20,12 @@ pub record IsMalformed (octets : List ℕ) (status : ℕ) (text : List ℕ) : Ty
   pub fault : FirstFault octets place why
   pub status_is : status ≡ 2
   pub text_is : text ≡ malformed_line place why
+
+-- the status of what was written, which the sink or the memory may cut; this one if it was written whole
+abbrev pub written_status : Result (Unit {0}) IoFault → ℕ → ℕ
+written_status (Ok _) whole = whole
+written_status (Err Failed) whole = 4
+written_status (Err NoMemory) whole = 6
 
 -- what is written of octets, and with which status
 abbrev pub IsContentsOf : List ℕ → ℕ → List ℕ → Type 0
@@ -42,6 +51,10 @@ IsDecodeOf bytes status text = IsRefusedSource bytes status text ⊎ IsDecoded b
 -- and a sink grew by that text
 abbrev pub WritesDecode : List ℕ → ℕ → Option (List ℕ) → Option (List ℕ) → Type 0
 WritesDecode bytes status before after = (text : List ℕ) × IsDecodeOf bytes status text × Appends before after text
+
+-- or the writing was cut, and a sink grew by a front of it
+abbrev pub CutsDecode : List ℕ → Option (List ℕ) → Option (List ℕ) → Type 0
+CutsDecode bytes before after = (status : ℕ) × (text : List ℕ) × IsDecodeOf bytes status text × AppendsFront before after text
 
 -- the bytes are hexadecimal text of a list of TLVs, and not too many
 pub record SpellsTlvs (bytes : List ℕ) : Type 0 where

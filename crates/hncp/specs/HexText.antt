@@ -5,10 +5,14 @@ use Rattle.hex.specs.Hex.{decode_of}
 abbrev pub is_blank : ℕ → Bool
 is_blank byte = byte == 32 || byte == 10
 
+-- a text without its blanks
+abbrev pub unblanked : List ℕ → List ℕ
+unblanked text = filter (λ byte. not (is_blank byte)) text
+
 -- hexadecimal digits of either case, between which blanks stand anywhere, that write these octets
 abbrev pub IsHexText : List ℕ → List ℕ → Type 0
-IsHexText text octets = decode_of (filter (λ byte. not (is_blank byte)) text) ≡ Ok octets
+IsHexText text octets = decode_of (unblanked text) ≡ Ok octets
 
 -- another byte, or an odd number of digits
 abbrev pub IsNoHexText : List ℕ → Type 0
-IsNoHexText text = IsErr (decode_of (filter (λ byte. not (is_blank byte)) text))
+IsNoHexText text = IsErr (decode_of (unblanked text))

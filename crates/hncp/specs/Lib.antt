@@ -1,5 +1,6 @@
 pub mod Form
 pub mod Input
+pub mod Front
 pub mod Report
 pub mod Play
 pub mod Lab

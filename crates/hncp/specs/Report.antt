@@ -1,23 +1,13 @@
 use Rattle.std.specs.Prelude.{◌≡◌, ℕ, Bool, ◌==◌, if◌then◌else◌, List, [], ◌∷◌, ◌++◌, codes}
-use Rattle.std.specs.Int.{w32, to_be_bytes}
 use Rattle.std.specs.Fmt.{decimal}
-use Rattle.hex.specs.Hex.{encode_lower}
+use Rattle.hn_base.specs.HexText.{hex_text, id_text}
 use Rattle.hn_hash.specs.declared.agreement.Agreement.{Agreement}
 use Rattle.hn_hash.specs.declared.agreement.Agreement.TheVariants.{Differ, Same, Collide}
 use Rattle.hn_world.specs.Home.{Node, Station}
 use Rattle.hn_world.specs.Leaves.{leaves_of, Agrees}
 
--- an identifier in 8 lower-case hexadecimal digits
-abbrev pub id_text : ℕ → List ℕ
-id_text id = encode_lower (to_be_bytes w32 id)
-
 abbrev pub yes_no : Bool → List ℕ
 yes_no answer = if answer then codes "yes" else codes "no"
-
--- bytes in lower-case hexadecimal, `-` for none
-abbrev pub hex_text : List ℕ → List ℕ
-hex_text [] = codes "-"
-hex_text (byte ∷ bytes) = encode_lower (byte ∷ bytes)
 
 -- the report on a router: its identifier and number; it reaches itself alone and holds no other node
 abbrev pub show_line : List ℕ → Station → List ℕ

@@ -1,17 +1,20 @@
-ghost use Rattle.std.specs.Prelude.{◌≡◌, ◌≢◌, ◌⊎◌, ℕ, List, [], ◌∷◌, Contains};
+ghost use Rattle.std.specs.Prelude.{◌≡◌, ◌≢◌, ◌<◌, ◌⊎◌, ℕ, List, [], ◌∷◌, ◌++◌, length, drop, Err, OnOk, OnErr, IfOk, Contains};
 ghost use Rattle.std.specs.Io.KnownBytes.{Appends};
 ghost use Rattle.hn_io.specs.Faults.{Counts, IsReliable};
-ghost use Rattle.hncp.specs.Decode.{SpellsTlvs, IsContentsOf, WritesDecode};
+ghost use Rattle.hn_tlv.specs.Grammar.{PlainTlv, IsTlvList, HasTlvs};
+ghost use Rattle.hn_decode.specs.Nested.{IsDecodeText, IsTextTo};
+ghost use Rattle.hncp.specs.Front.{AppendsFront};
+ghost use Rattle.hncp.specs.Decode.{SpellsTlvs, IsContentsOf, IsDecodeOf, WritesDecode, CutsDecode, malformed_line};
 
-use crate::hex_text::{HexFault, octets_of};
+use crate::hex_text::octets_of;
 use crate::input::SOURCE_LIMIT;
-use crate::outcome::{DONE, NO_MEMORY, REFUSED, SINK_FAILED, play_status};
-use crate::output::write_lines;
+use crate::outcome::{DONE, NO_MEMORY, REFUSED, SINK_FAILED, play_status, written_status};
+use crate::output::{write_lines, write_piece};
 use crate::play::refuse;
 use crate::report::malformed_line;
-use hn_decode::{DecodeFault, decode};
+use hn_decode::{decode_text_exists, first_line, lines_go_on, lines_make_the_text, push_next};
 use hn_io::{IoFault, Sink};
-use hn_tlv::first_fault_is_unique;
+use hn_tlv::{TlvFault, check, first_fault_is_unique, list_or_first_fault};
 use std::alloc::Global;
 
 /// The code of a source that is too long, in the line of number 0.
@@ -19,41 +22,95 @@ const TOO_LONG: u8 = 15;
 /// The code of a source that is no hexadecimal text, in the line of number 0.
 const NO_HEX_TEXT: u8 = 4;
 
-/// Writes a text, and answers its status.
-fn write_text<K: Sink>(out: &mut K, text: &str, status: u8) -> u8
-    ensures written { (result ≡ DONE) ⊎ (result ≡ REFUSED) → (result ≡ status) × Appends (K.held out.old) (K.held out.new) text.now }
-    ensures statuses { (status ≡ DONE) ⊎ (status ≡ REFUSED) → Contains (DONE ∷ REFUSED ∷ SINK_FAILED ∷ NO_MEMORY ∷ []) result }
-    ensures counts { (status ≡ DONE) ⊎ (status ≡ REFUSED) → Counts (result ≡ SINK_FAILED) (K.faults out.old) (K.faults out.new) }
-    ensures reliable { (status ≡ DONE) ⊎ (status ≡ REFUSED) → IsReliable (result ≡ SINK_FAILED) (K.never_fails out.old) (K.never_fails out.new) }
+/// Writes the line of octets that are no list of TLVs.
+fn write_malformed<K: Sink>(alloc: Global, fault: TlvFault, out: &mut K) -> Result<(), IoFault>
+    ensures written { OnOk result (Appends (K.held out.old) (K.held out.new) (malformed_line fault.place fault.why)) }
+    ensures cut { OnErr result (AppendsFront (K.held out.old) (K.held out.new) (malformed_line fault.place fault.why)) }
+    ensures counts { Counts (result ≡ Err IoFault.Failed) (K.faults out.old) (K.faults out.new) }
+    ensures reliable { IsReliable (result ≡ Err IoFault.Failed) (K.never_fails out.old) (K.never_fails out.new) }
 {
-    match write_lines(out, text.as_bytes()) {
-        Ok(()) => status,
-        Err(IoFault::Failed) => SINK_FAILED,
-        Err(IoFault::NoMemory) => NO_MEMORY,
+    match malformed_line(alloc, fault) {
+        Ok(line) => write_piece(out, line.as_bytes()),
+        Err(_) => Err(IoFault::NoMemory),
     }
+}
+
+/// Writes the lines of the TLV at a place of a datagram, and answers the place after it. The lines are made in the
+/// memory of `text`, which is emptied first.
+fn write_next<K: Sink>(
+    text: &mut String,
+    octets: &[u8],
+    at: usize,
+    out: &mut K,
+) -> Result<usize, IoFault>
+    requires inside { at < length octets.now }
+    requires list { HasTlvs (drop at octets.now) }
+    ensures later { IfOk result (λ after. at < after) }
+    ensures written { IfOk result (λ after. (more : List ℕ)
+        × ((lines : List ℕ) → IsTextTo octets.now at lines → IsTextTo octets.now after (lines ++ more))
+        × Appends (K.held out.old) (K.held out.new) more) }
+    ensures cut { OnErr result ((after : ℕ) × (more : List ℕ)
+        × ((lines : List ℕ) → IsTextTo octets.now at lines → IsTextTo octets.now after (lines ++ more))
+        × AppendsFront (K.held out.old) (K.held out.new) more) }
+    ensures counts { Counts (result ≡ Err IoFault.Failed) (K.faults out.old) (K.faults out.new) }
+    ensures reliable { IsReliable (result ≡ Err IoFault.Failed) (K.never_fails out.old) (K.never_fails out.new) }
+{
+    text.clear();
+    match push_next(text, octets, at) {
+        Ok(after) => {
+            write_lines(out, text.as_bytes())?;
+            Ok(after)
+        }
+        Err(_) => Err(IoFault::NoMemory),
+    }
+}
+
+/// Writes the text of a datagram of so many TLVs: its first line, and then the lines of each TLV as they are made.
+fn write_tlvs<K: Sink>(
+    alloc: Global,
+    count: usize,
+    octets: &[u8],
+    out: &mut K,
+) -> Result<(), IoFault>
+    requires { (tlvs : List PlainTlv) × IsTlvList tlvs octets.now × (length tlvs ≡ count) }
+    ensures written { OnOk result ((text : List ℕ) × IsDecodeText octets.now text × Appends (K.held out.old) (K.held out.new) text) }
+    ensures cut { OnErr result ((text : List ℕ) × IsDecodeText octets.now text × AppendsFront (K.held out.old) (K.held out.new) text) }
+    ensures counts { Counts (result ≡ Err IoFault.Failed) (K.faults out.old) (K.faults out.new) }
+    ensures reliable { IsReliable (result ≡ Err IoFault.Failed) (K.never_fails out.old) (K.never_fails out.new) }
+{
+    lines_make_the_text();
+    lines_go_on();
+    let Ok(mut text) = first_line(alloc, count) else {
+        return Err(IoFault::NoMemory);
+    };
+    write_piece(out, text.as_bytes())?;
+    let mut at = 0;
+    while at < octets.len() {
+        at = write_next(&mut text, octets, at, out)?;
+    }
+    Ok(())
 }
 
 /// Writes the contents of a datagram, or the line of its first fault, and answers the status.
 fn write_contents<K: Sink>(alloc: Global, octets: &[u8], out: &mut K) -> u8
     ensures written { (result ≡ DONE) ⊎ (result ≡ REFUSED)
         → (text : List ℕ) × IsContentsOf octets.now result text × Appends (K.held out.old) (K.held out.new) text }
+    ensures cut { (result ≡ SINK_FAILED) ⊎ (result ≡ NO_MEMORY)
+        → (status : ℕ) × (text : List ℕ) × IsContentsOf octets.now status text × AppendsFront (K.held out.old) (K.held out.new) text }
     ensures statuses { Contains (DONE ∷ REFUSED ∷ SINK_FAILED ∷ NO_MEMORY ∷ []) result }
     ensures counts { Counts (result ≡ SINK_FAILED) (K.faults out.old) (K.faults out.new) }
     ensures reliable { IsReliable (result ≡ SINK_FAILED) (K.never_fails out.old) (K.never_fails out.new) }
 {
-    match decode(alloc, octets) {
-        Ok(text) => write_text(out, text.as_str(), DONE),
-        Err(DecodeFault::Malformed(fault)) => match malformed_line(alloc, fault) {
-            Ok(text) => write_text(out, text.as_str(), REFUSED),
-            Err(_) => NO_MEMORY,
-        },
-        Err(DecodeFault::NoMemory) => NO_MEMORY,
+    match check(octets) {
+        Ok(count) => written_status(&write_tlvs(alloc, count, octets, out), DONE),
+        Err(fault) => written_status(&write_malformed(alloc, fault, out), REFUSED),
     }
 }
 
 /// Writes the contents of the datagram that a source spells, or why it spells none, and answers the status.
-fn write_decoded<K: Sink>(alloc: Global, source: &[u8], out: &mut K) -> u8
-    ensures written { (result ≡ DONE) ⊎ (result ≡ REFUSED) → WritesDecode source.now result (K.held out.old) (K.held out.new) }
+fn write_decoded<K: Sink>(alloc: Global, source: Vec<u8>, out: &mut K) -> u8
+    ensures written { (result ≡ DONE) ⊎ (result ≡ REFUSED) → WritesDecode source.items result (K.held out.old) (K.held out.new) }
+    ensures cut { (result ≡ SINK_FAILED) ⊎ (result ≡ NO_MEMORY) → CutsDecode source.items (K.held out.old) (K.held out.new) }
     ensures statuses { Contains (DONE ∷ REFUSED ∷ SINK_FAILED ∷ NO_MEMORY ∷ []) result }
     ensures counts { Counts (result ≡ SINK_FAILED) (K.faults out.old) (K.faults out.new) }
     ensures reliable { IsReliable (result ≡ SINK_FAILED) (K.never_fails out.old) (K.never_fails out.new) }
@@ -61,22 +118,30 @@ fn write_decoded<K: Sink>(alloc: Global, source: &[u8], out: &mut K) -> u8
     if source.len() > SOURCE_LIMIT {
         return play_status(&refuse(alloc, out, 0, TOO_LONG));
     }
-    match octets_of(alloc, source) {
-        Ok(octets) => write_contents(alloc, &octets, out),
-        Err(HexFault::NoHexText) => play_status(&refuse(alloc, out, 0, NO_HEX_TEXT)),
-        Err(HexFault::NoMemory) => NO_MEMORY,
+    match octets_of(source) {
+        Some(octets) => write_contents(alloc, &octets, out),
+        None => play_status(&refuse(alloc, out, 0, NO_HEX_TEXT)),
     }
 }
 
 /// Writes the contents of the datagram that a source spells, or why it spells none, and answers the status. A source
 /// that spells a list of TLVs is not refused.
-pub fn run_decode<K: Sink>(alloc: Global, source: &[u8], out: &mut K) -> u8
-    ensures written { (result ≡ DONE) ⊎ (result ≡ REFUSED) → WritesDecode source.now result (K.held out.old) (K.held out.new) }
-    ensures complete { SpellsTlvs source.now → result ≢ REFUSED }
+pub fn run_decode<K: Sink>(alloc: Global, source: Vec<u8>, out: &mut K) -> u8
+    ensures written { (result ≡ DONE) ⊎ (result ≡ REFUSED) → WritesDecode source.items result (K.held out.old) (K.held out.new) }
+    ensures cut { (result ≡ SINK_FAILED) ⊎ (result ≡ NO_MEMORY) → CutsDecode source.items (K.held out.old) (K.held out.new) }
+    ensures complete { SpellsTlvs source.items → result ≢ REFUSED }
     ensures statuses { Contains (DONE ∷ REFUSED ∷ SINK_FAILED ∷ NO_MEMORY ∷ []) result }
     ensures counts { Counts (result ≡ SINK_FAILED) (K.faults out.old) (K.faults out.new) }
     ensures reliable { IsReliable (result ≡ SINK_FAILED) (K.never_fails out.old) (K.never_fails out.new) }
 {
     first_fault_is_unique();
     write_decoded(alloc, source, out)
+}
+
+/// Each source has a text that `decode` writes of it.
+pub fn each_source_decodes()
+    ensures { (bytes : List ℕ) → (status : ℕ) × (text : List ℕ) × IsDecodeOf bytes status text }
+{
+    list_or_first_fault();
+    decode_text_exists();
 }

@@ -18,9 +18,10 @@ mod tests;
 mod words;
 
 use hn_io::{ReaderSource, WriterSink};
-use outcome::{NO_FORM, NO_MEMORY};
+use outcome::{BAD_USAGE, NO_MEMORY, SINK_FAILED};
 use run::run;
 use std::alloc::Global;
+use std::io::{BufWriter, Write};
 use std::process::ExitCode;
 use std::rt::Env;
 use std::{env, io};
@@ -34,16 +35,23 @@ fn words_of(rt: &(impl Env + AllocGlobal), alloc: Global) -> io::Result<Vec<Stri
     Ok(words)
 }
 
+/// Standard output is written in blocks, the last one after the run; where that fails, the status is 4.
 fn main(rt: HostRuntime) -> ExitCode {
     let alloc = rt.alloc();
     let Ok(words) = words_of(&rt, alloc) else {
         return ExitCode::from(NO_MEMORY);
     };
+    let Ok(mut writer) = BufWriter::new(alloc, io::writer(&rt)) else {
+        return ExitCode::from(NO_MEMORY);
+    };
     let mut source = ReaderSource::new(rt.reader());
-    let mut sink = WriterSink::new(io::writer(&rt));
+    let mut sink = WriterSink::new(&mut writer);
     let outcome = run(alloc, &words, &mut source, &mut sink);
-    if outcome.status == NO_FORM {
+    if outcome.status == BAD_USAGE {
         let _ = eprintln!(rt; "usage: hncp lab < SCRIPT\n       hncp decode < HEXTEXT");
     }
-    ExitCode::from(outcome.status)
+    match writer.flush() {
+        Ok(()) => ExitCode::from(outcome.status),
+        Err(_) => ExitCode::from(SINK_FAILED),
+    }
 }

@@ -1,8 +1,9 @@
-ghost use Rattle.std.specs.Prelude.{◌≡◌, ℕ, List, Some, Err, map, IfOk};
+ghost use Rattle.std.specs.Prelude.{◌≡◌, ℕ, List, Some, Err, map, IfOk, OnErr};
 ghost use Rattle.std.specs.Io.KnownBytes.{Appends};
 ghost use Rattle.hn_io.specs.Faults.{Counts, IsReliable};
 ghost use Rattle.hn_strict.specs.Line.{line_of};
 ghost use Rattle.hn_world.specs.Home.{replay};
+ghost use Rattle.hncp.specs.Front.{AppendsFront};
 ghost use Rattle.hncp.specs.Play.{Plays};
 ghost use Rattle.hncp.specs.Report.{refused_line};
 
@@ -49,6 +50,7 @@ pub fn play<K: Sink>(
 pub fn refuse<K: Sink>(alloc: Global, out: &mut K, line: u64, code: u8) -> Result<End, IoFault>
     ensures end { IfOk result (λ end. end ≡ End.Refused line code) }
     ensures written { IfOk result (λ _. Appends (K.held out.old) (K.held out.new) (refused_line line code)) }
+    ensures cut { OnErr result (AppendsFront (K.held out.old) (K.held out.new) (refused_line line code)) }
     ensures counts { Counts (result ≡ Err IoFault.Failed) (K.faults out.old) (K.faults out.new) }
     ensures reliable { IsReliable (result ≡ Err IoFault.Failed) (K.never_fails out.old) (K.never_fails out.new) }
 {

@@ -2,9 +2,9 @@ ghost use Rattle.std.specs.Prelude.{◌≡◌, ◌==◌, IfOk, string_bytes};
 ghost use Rattle.hn_base.specs.Name.{name_text};
 ghost use Rattle.hn_world.specs.Member.{node_of};
 ghost use Rattle.hncp.specs.Decode.{malformed_line};
-ghost use Rattle.hncp.specs.Report.{id_text, yes_no, hex_text, show_line, agreement_text, compare_line, refused_line};
+ghost use Rattle.hncp.specs.Report.{yes_no, show_line, agreement_text, compare_line, refused_line};
 
-use hn_base::{Name, NodeId};
+use hn_base::{Hex, Name};
 use hn_hash::Agreement;
 use hn_tlv::TlvFault;
 use hn_world::Router;
@@ -16,12 +16,6 @@ fn yes_no(answer: bool) -> &'static str
     if answer { "yes" } else { "no" }
 }
 
-fn id_text(alloc: Global, id: NodeId) -> Result<String, AllocError>
-    ensures { IfOk result (λ text. string_bytes text ≡ id_text id.0) }
-{
-    hex::encode(alloc, id.0.to_be_bytes())
-}
-
 /// The report on a router.
 pub fn show_line(
     alloc: Global,
@@ -31,21 +25,10 @@ pub fn show_line(
 ) -> Result<String, AllocError>
     ensures { IfOk result (λ text. string_bytes text ≡ show_line (name_text name.now) (record { name = name_text name.now; running = running; node = node_of router.now })) }
 {
-    let id = id_text(alloc, router.id)?;
+    let id = router.id;
     let number = router.number;
     let running = yes_no(running);
     format!(in alloc; "show {name} id={id} number={number} reach=1 held=0 running={running}\n")
-}
-
-/// Bytes in lower-case hexadecimal, `-` for none.
-fn hex_text(alloc: Global, bytes: &[u8]) -> Result<String, AllocError>
-    ensures { IfOk result (λ text. string_bytes text ≡ hex_text bytes.now) }
-{
-    if bytes.is_empty() {
-        String::from_str(alloc, "-")
-    } else {
-        hex::encode(alloc, bytes)
-    }
 }
 
 /// How two routers agree.
@@ -59,8 +42,8 @@ fn agreement_text(alloc: Global, agreement: &Agreement, same_id: bool) -> Result
             format!(in alloc; "net=same ids={ids}")
         }
         Agreement::Collide { left, right } => {
-            let left = hex_text(alloc, left.as_slice())?;
-            let right = hex_text(alloc, right.as_slice())?;
+            let left = Hex(left.as_slice());
+            let right = Hex(right.as_slice());
             format!(in alloc; "net=collide left={left} right={right}")
         }
     }

@@ -1,4 +1,4 @@
-use crate::outcome::{DONE, NO_FORM, REFUSED, SINK_FAILED, SOURCE_FAILED};
+use crate::outcome::{BAD_USAGE, DONE, REFUSED, SINK_FAILED, SOURCE_FAILED};
 use crate::run::run;
 use hn_io::{IoFault, MemSink, MemSource, Sink, Source};
 use std::alloc::{AllocError, Global};
@@ -127,6 +127,11 @@ fn datagrams_and_their_contents(rt: HostRuntime) -> Result<(), Fail> {
             DONE,
             "tlvs 1\n0 33 20 external\n  4 34 16 delegated valid=7200 preferred=3600 prefix=2001:db8::/56\n",
         ),
+        (
+            "007B000178000000\n007c0001 79000000\n",
+            DONE,
+            "tlvs 2\n0 123 1 other value=78\n8 124 1 other value=79\n",
+        ),
         ("007B000178000001", REFUSED, "malformed place=7 why=4\n"),
         ("000100", REFUSED, "malformed place=0 why=1\n"),
         ("0001FFFF00000000", REFUSED, "malformed place=0 why=2\n"),
@@ -157,7 +162,7 @@ fn a_source_that_is_too_long(rt: HostRuntime) -> Result<(), Fail> {
 }
 
 #[test]
-fn words_that_are_no_form(rt: HostRuntime) -> Result<(), Fail> {
+fn words_that_are_bad_usage(rt: HostRuntime) -> Result<(), Fail> {
     let alloc = rt.alloc();
     let lists: [&[&str]; 6] = [
         &[],
@@ -172,7 +177,7 @@ fn words_that_are_no_form(rt: HostRuntime) -> Result<(), Fail> {
         let mut source = MemSource::new(b"hncp 1\n".to_vec(alloc)?, Vec::new(alloc));
         let mut sink = MemSink::new(alloc, Vec::new(alloc));
         let outcome = run(alloc, &words, &mut source, &mut sink);
-        assert_eq!(rt; outcome.status, NO_FORM, "{texts:?}");
+        assert_eq!(rt; outcome.status, BAD_USAGE, "{texts:?}");
         assert!(rt; outcome.world.is_none() && sink.held().is_empty());
         assert_eq!(rt; source.read(&mut [0; 8]), Ok(7), "the source is as before");
     }
@@ -185,6 +190,7 @@ fn each_read_and_write_fails_in_turn(rt: HostRuntime) -> Result<(), Fail> {
     let first_line = "show A id=00000001 number=1 reach=1 held=0 running=yes\n";
     let hex = "007B000178000000";
     let contents = "tlvs 1\n0 123 1 other value=78\n";
+    let nested = "0021000400210000";
     let cases = [
         // The reads are that of the whole input and that of its end, the writes are one a line.
         ("lab", TWO_ROUTERS, 1, 0, SOURCE_FAILED, ""),
@@ -198,6 +204,16 @@ fn each_read_and_write_fails_in_turn(rt: HostRuntime) -> Result<(), Fail> {
         ("decode", hex, 0, 1, SINK_FAILED, ""),
         ("decode", hex, 0, 2, SINK_FAILED, "tlvs 1\n"),
         ("decode", hex, 0, 3, DONE, contents),
+        (
+            "decode",
+            nested,
+            0,
+            3,
+            SINK_FAILED,
+            "tlvs 1\n0 33 4 external\n",
+        ),
+        ("decode", "x", 0, 1, SINK_FAILED, ""),
+        ("decode", "000100", 0, 1, SINK_FAILED, ""),
     ];
     for (form, input, read, write, status, text) in cases {
         let words = words(alloc, &["hncp", form])?;
@@ -222,13 +238,23 @@ fn each_read_and_write_fails_in_turn(rt: HostRuntime) -> Result<(), Fail> {
 #[test]
 fn one_byte_at_a_time(rt: HostRuntime) -> Result<(), Fail> {
     let alloc = rt.alloc();
-    let words = words(alloc, &["hncp", "lab"])?;
-    let bytes = TWO_ROUTERS.as_bytes().to_vec(alloc)?;
-    let mut source = OneByte(MemSource::new(bytes, Vec::new(alloc)));
-    let mut sink = OneByte(MemSink::new(alloc, Vec::new(alloc)));
-    let outcome = run(alloc, &words, &mut source, &mut sink);
-    assert_eq!(rt; outcome.status, DONE);
-    assert_eq!(rt; sink.0.held(), TWO_ROUTERS_TEXT.as_bytes());
-    assert!(rt; outcome.world.is_some_and(|world| world.trace().len() == 2));
+    let hex = "0021000400210000\n";
+    let contents = "tlvs 1\n0 33 4 external\n  4 33 0 external\n";
+    for (form, input, text, events) in [
+        ("lab", TWO_ROUTERS, TWO_ROUTERS_TEXT, 2),
+        ("decode", hex, contents, 0),
+    ] {
+        let words = words(alloc, &["hncp", form])?;
+        let bytes = input.as_bytes().to_vec(alloc)?;
+        let mut source = OneByte(MemSource::new(bytes, Vec::new(alloc)));
+        let mut sink = OneByte(MemSink::new(alloc, Vec::new(alloc)));
+        let outcome = run(alloc, &words, &mut source, &mut sink);
+        assert_eq!(rt; outcome.status, DONE);
+        assert_eq!(rt; sink.0.held(), text.as_bytes());
+        assert_eq!(rt;
+            outcome.world.map_or(0, |world| world.trace().len()),
+            events
+        );
+    }
     Ok(())
 }

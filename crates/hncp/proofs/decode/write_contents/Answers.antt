@@ -1,11 +1,18 @@
-use Rattle.std.proofs.Common.{inr, ap, Err, ◌∙◌}
+use Rattle.std.proofs.Common.{inl, inr, refl, lit<}
+use Rattle.hncp.specs.Decode.{malformed_line}
+use Rattle.hncp.proofs.Cut.{cut_of_written, written_statuses}
 use Rattle.hncp.proofs.decode.write_contents.Goals as goal
 
--- src/decode.rt:37:1
-pub returns-in-Ok-malformed_line-clause-written : goal.returns-in-Ok-malformed_line-clause-written
-returns-in-Ok-malformed_line-clause-written g c good =
-    let w = c.write_text-in-Ok-malformed_line.ensures.written good in
-    let fault = c.in-Err-Malformed.fault in
-    let told = c.as_str-in-Ok-malformed_line.ensures.value ∙ c.in-Ok-malformed_line.ensures in
-    let first = (c.in-Err-Malformed.ensures.malformed fault.place fault.why).0 (ap Err c.in-Err-Malformed.field-0-is) in
-    (c.as_str-in-Ok-malformed_line.result.now, inr record { place = fault.place; why = fault.why; fault = first; status_is = w.0; text_is = told }, w.1)
+pub returns-in-Err-clause-statuses : goal.returns-in-Err-clause-statuses
+returns-in-Err-clause-statuses g c = rw c.written_status-in-Err.ensures (written_statuses c.write_malformed.result)
+
+pub returns-in-Ok-clause-cut : goal.returns-in-Ok-clause-cut
+returns-in-Ok-clause-cut g c cut =
+    let told = cut_of_written c.write_tlvs.result 0 _ (lit< tt) c.write_tlvs.ensures.cut (rw c.written_status.ensures at cut) in
+    (0, told.0, inl (refl, told.1), told.2)
+
+pub returns-in-Err-clause-cut : goal.returns-in-Err-clause-cut
+returns-in-Err-clause-cut g c cut =
+    let fault = c.in-Err.fault in
+    let told = cut_of_written c.write_malformed.result 2 _ (lit< tt) c.write_malformed.ensures.cut (rw c.written_status-in-Err.ensures at cut) in
+    (2, malformed_line fault.place fault.why, inr (record { place = fault.place; why = fault.why; fault = c.in-Err.ensures.fault; status_is = refl; text_is = refl }), told)

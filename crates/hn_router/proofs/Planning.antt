@@ -1,0 +1,15 @@
+-- What was planned is what happens.
+use Rattle.std.proofs.Common.{◌≡◌, ℕ, Option, refl, subst}
+use Rattle.hn_io.specs.Words.{Drew, Took}
+use Rattle.hn_router.specs.declared.state.State.{State}
+use Rattle.hn_router.specs.declared.running.Running.{Running}
+use Rattle.hn_router.specs.Act.{PlainEvent, begun_at, IsEvent, Happened, HasRun}
+use Rattle.hn_router.proofs.Shift.{took_shifted}
+
+pub has_happened : (now : ℕ) (event : PlainEvent) (told told_after : Option (ℕ → ℕ)) (s : State) (begun after : Running) → begun ≡ begun_at now s → HasRun event told told_after begun after → Happened now event s after.state after.done
+unfolding HasRun Happened
+has_happened now event told told_after s begun after is ran = (after, subst (λ (r : Running). IsEvent event r after) is ran.holds, refl, refl)
+
+pub took_words : (now : ℕ) (event : PlainEvent) (told told_after : Option (ℕ → ℕ)) (s : State) (begun after : Running) → begun ≡ begun_at now s → HasRun event told told_after begun after → Took told after.done.words told_after
+unfolding HasRun
+took_words now event told told_after s begun after is ran = took_shifted told told_after after.done.words (subst (λ (r : Running). Drew told r.done.words told_after after.done.words) is ran.drew)

@@ -1,0 +1,12 @@
+use Rattle.std.proofs.lemmas.Result.{on_ok_weaker}
+use Rattle.hn_tlv.specs.View.{plain}
+use Rattle.hn_router.specs.Arrival.{IsTlvRule}
+use Rattle.hn_router.specs.Refresh.{IsRefresh}
+use Rattle.hn_router.proofs.Rans.{ran_both}
+use Rattle.hn_router.proofs.running.Running.tlv_and_refresh.Goals as goal
+
+pub returns : goal.returns
+returns g c =
+    on_ok_weaker c.refresh.result
+    (λ refresh. ran_both (IsTlvRule c.args.from.now (plain c.args.tlv.now)) IsRefresh _ _ _ c.args.self.now c.tlv.new.self c.refresh.new.self c.in_ok-tlv.ensures refresh)
+    c.refresh.ensures

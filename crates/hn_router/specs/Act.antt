@@ -1,0 +1,93 @@
+-- Which rules an event runs, and in which order.
+use Rattle.std.specs.Prelude.{◌≡◌, ℕ, ◌==◌, ◌||◌, IsTrue, false, Bool, not, ◌⊎◌, nat_lt, length, List, [], None, Option}
+use Rattle.hn_base.specs.declared.ids.EpId.{EpId}
+use Rattle.hn_base.specs.declared.caps.Caps.{Caps}
+use Rattle.hn_base.specs.Addr.{IsLinkLocal}
+use Rattle.hn_tlv.specs.Grammar.{PlainTlv, IsTlvList, FirstFault}
+use Rattle.hn_router.specs.declared.event.Event.{Event}
+use Rattle.hn_router.specs.declared.event.Event.TheVariants as event
+use Rattle.hn_router.specs.declared.state.State.{State}
+use Rattle.hn_router.specs.declared.running.Running.{Running}
+use Rattle.hn_router.specs.declared.running.Origin.{Origin}
+use Rattle.hn_router.specs.declared.done.Done.{Done}
+use Rattle.hn_router.specs.declared.done.Note.TheVariants as note
+use Rattle.hn_router.specs.Done.{nothing}
+use Rattle.hn_router.specs.Ports.{is_attached}
+use Rattle.hn_router.specs.Rules.{Rule, Then, Ran, noted}
+use Rattle.hn_router.specs.Refresh.{IsRefresh}
+use Rattle.hn_router.specs.Arrival.{IsArrival}
+use Rattle.hn_router.specs.Tick.{IsTick}
+use Rattle.hn_router.specs.Events.{IsAttaching, detaching, setting_caps, IsRestarting}
+
+-- What may happen to a router, without where a datagram lies in memory.
+pub data PlainEvent : Type 0 where
+  Arrive : (from : Origin) (bytes : List ℕ) → PlainEvent
+  Tick : PlainEvent
+  Attach : (at : EpId) → PlainEvent
+  Detach : (at : EpId) → PlainEvent
+  SetCaps : (caps : Caps) → PlainEvent
+  Restart : PlainEvent
+
+abbrev pub plain_event : Event → PlainEvent
+plain_event (event.Arrive endpoint from multicast bytes) = Arrive (record { endpoint = endpoint; from = from; multicast = multicast }) bytes.now
+plain_event event.Tick = Tick
+plain_event (event.Attach endpoint) = Attach endpoint
+plain_event (event.Detach endpoint) = Detach endpoint
+plain_event (event.Caps caps) = SetCaps caps
+plain_event event.Restart = Restart
+
+-- where an event begins: nothing has come of it yet
+abbrev pub begun_at : ℕ → State → Running
+begun_at now s = record { state = record s { moment = now }; done = nothing; sender = None; answers = [] }
+
+-- a datagram from a source that is not link-local, one of bytes that are no list of TLVs, and a list of TLVs
+pub record IsFar (from : Origin) (before after : Running) : Type 0 where
+  pub far : ¬ (IsLinkLocal from.from.ip)
+  pub gives : after ≡ noted note.Far before
+
+pub record IsMalformed (from : Origin) (bytes : List ℕ) (before after : Running) : Type 0 where
+  pub near : IsLinkLocal from.from.ip
+  pub place : ℕ
+  pub why : ℕ
+  pub fault : FirstFault bytes place why
+  pub gives : after ≡ noted (note.Malformed place why) before
+
+pub record IsRead (from : Origin) (bytes : List ℕ) (before after : Running) : Type 0 where
+  pub near : IsLinkLocal from.from.ip
+  pub tlvs : List PlainTlv
+  pub list : IsTlvList tlvs bytes
+  pub arrives : IsArrival from tlvs before after
+
+-- whether the event is refused: an arrival or a detachment at an endpoint that is not attached; an attachment of
+-- endpoint 0, of an attached one, or of a seventeenth
+abbrev pub is_refused : PlainEvent → State → Bool
+is_refused (Arrive from bytes) s = not (is_attached from.endpoint s.ports)
+is_refused Tick s = false
+is_refused (Attach at) s = at.0 == 0 || (is_attached at s.ports || not (nat_lt (length s.ports) 16))
+is_refused (Detach at) s = not (is_attached at s.ports)
+is_refused (SetCaps caps) s = false
+is_refused Restart s = false
+
+-- which rules an event runs that is not refused
+abbrev pub IsEventRule : PlainEvent → Rule
+IsEventRule (Arrive from bytes) before after = IsFar from before after ⊎ (IsMalformed from bytes before after ⊎ IsRead from bytes before after)
+IsEventRule Tick before after = IsTick before after
+IsEventRule (Attach at) before after = Then (IsAttaching at) IsRefresh before after
+IsEventRule (Detach at) before after = Then (λ b a. a ≡ detaching at b) IsRefresh before after
+IsEventRule (SetCaps caps) before after = Then (λ b a. a ≡ setting_caps caps b) IsRefresh before after
+IsEventRule Restart before after = Then IsRestarting IsRefresh before after
+
+-- an event: a refused one is noted, and nothing but the moment changes
+abbrev pub IsEvent : PlainEvent → Rule
+IsEvent event before after =
+    (IsTrue (is_refused event before.state) × (after ≡ noted note.Refused before))
+    ⊎ ((is_refused event before.state ≡ false) × IsEventRule event before after)
+
+-- an event happens to a router at a moment: its next state, and what came of the event
+unfoldable pub Happened : ℕ → PlainEvent → State → State → Done → Type 0
+Happened now event s next done =
+    (after : Running) × IsEvent event (begun_at now s) after × (next ≡ after.state) × (done ≡ after.done)
+
+-- an event ran, and a draw moved by exactly the words that it took
+unfoldable pub HasRun : PlainEvent → Option (ℕ → ℕ) → Option (ℕ → ℕ) → Running → Running → Type 0
+HasRun event told told_after before after = Ran (IsEvent event) told told_after before after

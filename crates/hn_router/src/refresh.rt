@@ -1,0 +1,146 @@
+//! A refresh: publish where due, reachability, moments of loss, the network state hash, resets of Trickle.
+
+ghost use Rattle.std.specs.Prelude.{◌≡◌, ◌≤◌, ◌↔◌, length, IsTrue, IfOk, OnOk};
+ghost use Rattle.hn_router.specs.Rules.{Ran, AtPort, Each};
+ghost use Rattle.hn_router.specs.Refresh.{own_items, Publishes, IsPublished, IsPublishing, IsReaching, network_state_hash, IsPortReset, IsReset, IsHashing, IsRefresh};
+
+use crate::done::Publication;
+use crate::own::{OwnData, OwnItems};
+use crate::running::Running;
+use crate::state::State;
+use hn_base::{EpId, NoMemory, Shared};
+use hn_hash::network_of;
+use hn_io::Draw;
+use hn_timers::{SHORTEST_INTERVAL, Trickle};
+use std::alloc::Global;
+
+/// The age from which own node data is published again, in milliseconds: 2^16 before it can no longer be sent (RFC
+/// 7787, section 4.3).
+const OLDEST_OWN_DATA: u64 = (1 << 32) - (1 << 16);
+
+impl State {
+    /// The own items as they are now.
+    fn own_items(&self, alloc: Global) -> Result<OwnItems, NoMemory>
+        ensures items { IfOk result (λ items. items ≡ own_items self.now) }
+        ensures few { IfOk result (λ items. length items.links ≤ 1024) }
+    {
+        OwnItems::of(alloc, self.caps, self.ports.get())
+    }
+
+    /// Whether these own items are those last published, and their node data is young.
+    fn is_published(&self, items: &OwnItems) -> bool
+        requires { items.now ≡ own_items self.now }
+        ensures { IsTrue result ↔ IsPublished self.now }
+    {
+        items.is(self.own.get().items()) && self.own_age() < OLDEST_OWN_DATA
+    }
+
+    /// The network state hash of the reachable nodes.
+    fn network_state_hash(&self, alloc: Global) -> Result<[u8; 8], NoMemory>
+        ensures { IfOk result (λ hash. hash ≡ network_state_hash self.now) }
+    {
+        let parts = self.parts(alloc)?;
+        Ok(network_of(parts.as_slice()))
+    }
+}
+
+impl Running {
+    /// Publishes own items with a sequence number.
+    fn publish_items(&mut self, alloc: Global, number: u32, items: OwnItems) -> Result<(), NoMemory>
+        requires items { items ≡ own_items self.old.state }
+        requires few { length items.links ≤ 1024 }
+        ensures { OnOk result (Publishes number self.old self.new) }
+    {
+        let own = OwnData::new(alloc, items)?;
+        self.done.published.push(Publication {
+            id: self.state.id,
+            number,
+            body: own.body().share()?,
+        })?;
+        self.state.number = number;
+        self.state.born = self.state.moment.get();
+        self.state.own = Shared::new(alloc, own)?;
+        Ok(())
+    }
+
+    /// Publishes the present own items with a sequence number.
+    pub(crate) fn publish(&mut self, alloc: Global, number: u32) -> Result<(), NoMemory>
+        ensures { OnOk result (Publishes number self.old self.new) }
+    {
+        let items = self.state.own_items(alloc)?;
+        self.publish_items(alloc, number, items)
+    }
+
+    /// Publishes where due.
+    fn publish_where_due(&mut self, alloc: Global) -> Result<(), NoMemory>
+        ensures { OnOk result (IsPublishing self.old self.new) }
+    {
+        let items = self.state.own_items(alloc)?;
+        if self.state.is_published(&items) {
+            return Ok(());
+        }
+        self.publish_items(alloc, self.state.number.wrapping_add(1), items)
+    }
+
+    /// Reachability, and moments of loss.
+    fn find_reach(&mut self, alloc: Global) -> Result<(), NoMemory>
+        ensures { OnOk result (IsReaching self.old self.new) }
+    {
+        let reach = self.state.reachable(alloc)?;
+        let now = self.state.moment.get();
+        if self.state.table.get().needs_mark(reach.as_slice()) {
+            self.state.table.edit()?.mark(reach.as_slice(), now);
+        }
+        self.state.reach = Shared::new(alloc, reach)?;
+        Ok(())
+    }
+
+    /// Resets Trickle of an endpoint.
+    fn reset_port<D: Draw>(&mut self, at: EpId, draw: &mut D) -> Result<(), NoMemory>
+        ensures { OnOk result (Ran (AtPort at IsPortReset) (D.words draw.old) (D.words draw.new) self.old self.new) }
+    {
+        let now = self.state.moment.get();
+        let Some(port) = self.state.ports.get().find(at) else {
+            return Ok(());
+        };
+        if port.trickle.len == SHORTEST_INTERVAL {
+            return Ok(());
+        }
+        let mut port = port.clone()?;
+        let word = self.take(draw)?;
+        port.trickle = Trickle::start(now, SHORTEST_INTERVAL, word);
+        self.put_port(port)
+    }
+
+    /// Resets Trickle of each endpoint.
+    fn reset_ports<D: Draw>(&mut self, alloc: Global, draw: &mut D) -> Result<(), NoMemory>
+        ensures { OnOk result (Ran IsReset (D.words draw.old) (D.words draw.new) self.old self.new) }
+    {
+        let endpoints = self.state.ports.get().endpoints(alloc)?;
+        for at in &endpoints {
+            self.reset_port(*at, draw)?;
+        }
+        Ok(())
+    }
+
+    /// The network state hash, and resets of Trickle where it changed.
+    fn find_hash<D: Draw>(&mut self, alloc: Global, draw: &mut D) -> Result<(), NoMemory>
+        ensures { OnOk result (Ran IsHashing (D.words draw.old) (D.words draw.new) self.old self.new) }
+    {
+        let hash = self.state.network_state_hash(alloc)?;
+        if hash == self.state.net {
+            return Ok(());
+        }
+        self.state.net = hash;
+        self.reset_ports(alloc, draw)
+    }
+
+    /// A refresh.
+    pub(crate) fn refresh<D: Draw>(&mut self, alloc: Global, draw: &mut D) -> Result<(), NoMemory>
+        ensures { OnOk result (Ran IsRefresh (D.words draw.old) (D.words draw.new) self.old self.new) }
+    {
+        self.publish_where_due(alloc)?;
+        self.find_reach(alloc)?;
+        self.find_hash(alloc, draw)
+    }
+}

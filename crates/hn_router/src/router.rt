@@ -1,0 +1,280 @@
+ghost use Rattle.std.specs.Prelude.{◌≡◌, ◌≤◌, ◌^◌, [], ◌∷◌, nat_lt, length, IfOk, OnErr, IsTrue, ◌↔◌};
+ghost use Rattle.hn_base.specs.Caps.{plain_caps};
+ghost use Rattle.hn_io.specs.Words.{Took};
+ghost use Rattle.hn_router.specs.Ports.{is_attached, endpoints_of};
+ghost use Rattle.hn_router.specs.Nodes.{leaves_of};
+ghost use Rattle.hn_router.specs.Act.{plain_event, Happened};
+ghost use Rattle.hn_router.specs.New.{no_caps, IsNew};
+
+use crate::done::Done;
+use crate::event::Event;
+use crate::law::{new_is_router, router_stays};
+use crate::own::{OwnData, OwnItems};
+use crate::ports::Ports;
+use crate::present::Present;
+use crate::running::Running;
+use crate::state::State;
+use hn_base::{Caps, EpId, Moment, NoMemory, NodeId, NodeIds, Shared};
+use hn_data::NodeData;
+use hn_hash::{Leaf, Part, network_of};
+use hn_io::Draw;
+use hn_store::Table;
+use std::alloc::Global;
+use std::marker::Model;
+
+/// A home router. Contracts see its fields; what holds of a router after each event is a fact of the type.
+#[derive(Debug, Drop)]
+pub struct Router {
+    state: State,
+}
+
+impl Model for Router {
+    ghost use Rattle.hn_router.specs.declared.state.State.{State};
+    ghost use Rattle.hn_router.specs.Router.{IsRouter};
+
+    ghost Value = { State };
+
+    ghost view = { λ r. r.state };
+
+    ghost invariant = { λ r. IsRouter r.state };
+}
+
+/// The next state of a router, which is one, and what came of the event.
+#[derive(Debug, Drop)]
+pub struct Plan {
+    state: State,
+    done: Done,
+}
+
+impl Model for Plan {
+    ghost use Rattle.hn_router.specs.Plan.{PlainPlan};
+    ghost use Rattle.hn_router.specs.Router.{IsRouter};
+
+    ghost Value = { PlainPlan };
+
+    ghost view = { λ p. record { state = p.state; done = p.done } };
+
+    ghost invariant = { λ p. IsRouter p.state };
+}
+
+impl Plan {
+    /// What came of the event. Never allocates.
+    pub fn done(&self) -> &Done
+        ensures { result.now ≡ self.now.done }
+    {
+        &self.done
+    }
+}
+
+// The identifier alone.
+fn only(alloc: Global, id: NodeId) -> Result<NodeIds, NoMemory>
+    ensures { IfOk result (λ ids. ids ≡ id ∷ []) }
+{
+    let mut ids = Vec::new(alloc);
+    ids.push(id)?;
+    Ok(NodeIds::from(ids))
+}
+
+// A new router's state, with its node data.
+fn new_state(
+    alloc: Global,
+    id: NodeId,
+    now: Moment,
+    own: OwnData,
+    ports: Ports,
+) -> Result<State, NoMemory>
+    requires in_range { now ≤ 2 ^ 48 }
+    requires no_ports { ports ≡ [] }
+    requires no_links { own.items.links ≡ [] }
+    requires no_caps { plain_caps own.items.caps ≡ no_caps }
+    ensures { IfOk result (IsNew id now) }
+{
+    let caps = own.items().caps;
+    let part = Part {
+        number: 1,
+        hash: own.hash(),
+    };
+    Ok(State {
+        id,
+        number: 1,
+        moment: Present::new(now),
+        caps,
+        own: Shared::new(alloc, own)?,
+        born: now,
+        claimed: false,
+        ports: Shared::new(alloc, ports)?,
+        table: Shared::new(alloc, Table::new(alloc))?,
+        reach: Shared::new(alloc, only(alloc, id)?)?,
+        net: network_of(&[part]),
+    })
+}
+
+impl Router {
+    /// A router that begins at a moment, without capabilities and endpoints, and with sequence number 1.
+    ///
+    /// # Errors
+    ///
+    /// Out of memory.
+    pub fn new(alloc: Global, id: NodeId, now: Moment) -> Result<Router, NoMemory>
+        requires { now ≤ 2 ^ 48 }
+        ensures { IfOk result (IsNew id now) }
+    {
+        new_is_router();
+        let ports = Ports::new(alloc);
+        let caps = Caps {
+            m: 0,
+            p: 0,
+            h: 0,
+            l: 0,
+        };
+        let items = OwnItems::of(alloc, caps, &ports)?;
+        let own = OwnData::new(alloc, items)?;
+        let state = new_state(alloc, id, now, own, ports)?;
+        Ok(Router { state })
+    }
+
+    /// What an event would do; the router stays as it is.
+    pub fn plan<D: Draw>(
+        &self,
+        alloc: Global,
+        event: &Event<'_>,
+        now: Moment,
+        draw: &mut D,
+    ) -> Result<Plan, NoMemory>
+        requires not_before { self.now.moment ≤ now }
+        requires in_range { now ≤ 2 ^ 48 }
+        ensures happened { IfOk result (λ plan. Happened now (plain_event event.now) self.now plan.state plan.done) }
+        ensures drew { IfOk result (λ plan. Took (D.words draw.old) plan.done.words (D.words draw.new)) }
+    {
+        router_stays();
+        let mut next = Running::begin(alloc, &self.state, now)?;
+        next.run(alloc, event, draw)?;
+        let Running { state, done, .. } = next;
+        Ok(Plan { state, done })
+    }
+
+    /// Does what was planned. Never allocates.
+    pub fn commit(&mut self, plan: Plan) -> Done
+        ensures router { self.new ≡ plan.state }
+        ensures done { result ≡ plan.done }
+    {
+        let Plan { state, done } = plan;
+        self.state = state;
+        done
+    }
+
+    /// An event happens to the router at a moment.
+    ///
+    /// # Errors
+    ///
+    /// Out of memory; the router is as before then.
+    pub fn act<D: Draw>(
+        &mut self,
+        alloc: Global,
+        event: &Event<'_>,
+        now: Moment,
+        draw: &mut D,
+    ) -> Result<Done, NoMemory>
+        requires not_before { self.old.moment ≤ now }
+        requires in_range { now ≤ 2 ^ 48 }
+        ensures happened { IfOk result (λ done. Happened now (plain_event event.now) self.old self.new done) }
+        ensures drew { IfOk result (λ done. Took (D.words draw.old) done.words (D.words draw.new)) }
+        ensures err { OnErr result (self.new ≡ self.old) }
+    {
+        let plan = self.plan(alloc, event, now, draw)?;
+        Ok(self.commit(plan))
+    }
+
+    /// The identifier. Never allocates.
+    pub fn id(&self) -> NodeId
+        ensures { result ≡ self.now.id }
+    {
+        self.state.id
+    }
+
+    /// The sequence number. Never allocates.
+    pub fn number(&self) -> u32
+        ensures { result ≡ self.now.number }
+    {
+        self.state.number
+    }
+
+    /// The own node data. Never allocates.
+    pub fn body(&self) -> &NodeData
+        ensures { result.now ≡ self.now.own.body }
+    {
+        self.state.own.get().body()
+    }
+
+    /// The moment of the last event, in milliseconds. Never allocates.
+    pub fn moment(&self) -> Moment
+        ensures { result ≡ self.now.moment }
+    {
+        self.state.moment.get()
+    }
+
+    /// The nodes that were reachable at the last refresh, in ascending order. Never allocates.
+    pub fn reach(&self) -> &[NodeId]
+        ensures { result.now ≡ self.now.reach }
+    {
+        self.state.reach.get().as_slice()
+    }
+
+    /// The other nodes that the router holds. Never allocates.
+    pub fn table(&self) -> &Table
+        ensures { result.now ≡ self.now.table }
+    {
+        self.state.table.get()
+    }
+
+    /// The network state hash of the last refresh. Never allocates.
+    pub fn net(&self) -> [u8; 8]
+        ensures { result ≡ self.now.net }
+    {
+        self.state.net
+    }
+
+    /// The moment of the last publication, in milliseconds. Never allocates.
+    pub fn born(&self) -> Moment
+        ensures { result ≡ self.now.born }
+    {
+        self.state.born
+    }
+
+    /// Whether an endpoint is attached. Never allocates.
+    pub fn attached(&self, endpoint: EpId) -> bool
+        ensures { result ≡ is_attached endpoint self.now.ports }
+    {
+        self.state.ports.get().has(endpoint)
+    }
+
+    /// Whether there is room for one more endpoint. Never allocates.
+    pub fn has_room(&self) -> bool
+        ensures { result ≡ nat_lt (length self.now.ports) 16 }
+    {
+        self.state.ports.get().has_room()
+    }
+
+    /// The endpoints that are attached, in ascending order.
+    ///
+    /// # Errors
+    ///
+    /// Out of memory.
+    pub fn endpoints(&self, alloc: Global) -> Result<Vec<EpId>, NoMemory>
+        ensures { IfOk result (λ endpoints. endpoints.items ≡ endpoints_of self.now.ports) }
+    {
+        self.state.ports.get().endpoints(alloc)
+    }
+
+    /// The leaves of the nodes that were reachable at the last refresh: their sequence numbers and node data, in ascending
+    /// order of their identifiers (RFC 7787, section 4.1).
+    ///
+    /// # Errors
+    ///
+    /// Out of memory.
+    pub fn leaves(&self, alloc: Global) -> Result<Vec<Leaf>, NoMemory>
+        ensures { IfOk result (λ leaves. leaves.items ≡ leaves_of self.now) }
+    {
+        self.state.leaves(alloc)
+    }
+}

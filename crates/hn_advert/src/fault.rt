@@ -54,7 +54,7 @@ impl Error for RaFault {}
 pub enum ReadFault {
     /// The bytes are no Router Advertisement: the first fault.
     Ra(RaFault),
-    /// There was no memory for the prefixes.
+    /// Out of memory.
     NoMemory,
 }
 

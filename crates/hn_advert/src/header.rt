@@ -22,7 +22,7 @@ fn flags_of(byte: u8) -> (bool, bool)
     (byte & MANAGED != 0, byte & OTHER != 0)
 }
 
-/// The fields before the options, and the bytes after them. It never allocates.
+/// The fields before the options, and the bytes after them. Never allocates.
 pub(crate) fn split_header(bytes: &[u8]) -> Result<(Fixed, &[u8]), RaFault>
     ensures header { IfOk result (λ found. HasHeaderFirst bytes.now found.0 found.1.now) }
     ensures fault { IfErr result (λ fault. IsHeaderFault bytes.now fault.place fault.why) }

@@ -81,7 +81,7 @@ fn split_option(bytes: &[u8]) -> Result<(Option<Info>, &[u8]), RaFault>
 }
 
 /// Whether the bytes after a header are options, or the first fault. The place of a fault is counted from the beginning
-/// of the message. It never allocates.
+/// of the message. Never allocates.
 pub(crate) fn check_options(options: &[u8]) -> Result<(), RaFault>
     ensures ok { OnOk result (HasOptions options.now) }
     ensures fault { IfErr result (λ fault. IsFaultOfOptions options.now fault.place fault.why) }

@@ -18,8 +18,8 @@ use std::alloc::Global;
 /// `Ra` if and only if the bytes are no Router Advertisement, with the first fault, which is found without allocating:
 /// fewer than 16 bytes, `HEADER_CUT`; a type other than 134, `OTHER_TYPE`; a code other than 0, `OTHER_CODE`; and then
 /// the first option that has a length of 0, passes the end or has only one byte left, `OPTION_CUT`, or that is of type 3
-/// and has a length other than 4, `OTHER_SIZE`, or a prefix length above 128, `PREFIX_TOO_LONG`. `NoMemory` if there is
-/// no memory for the prefixes.
+/// and has a length other than 4, `OTHER_SIZE`, or a prefix length above 128, `PREFIX_TOO_LONG`. `NoMemory`: out of
+/// memory.
 pub fn read(alloc: Global, bytes: &[u8]) -> Result<Advert, ReadFault>
     ensures advert { IfOk result (IsAdvert bytes.now) }
     ensures fault { (place why : ℕ)

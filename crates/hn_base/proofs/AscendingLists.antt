@@ -88,10 +88,10 @@ same_head R o x y xs ys p q same =
     (Contains-cases x xs y ((same y).1 (Contains-head y ys))))
     (Contains-cases y ys x ((same x).0 (Contains-head x xs)))
 
--- an element behind the first of one list is behind that of the other
-behind : {K : Type 0} (R : K → K → Ordering) → IsTotalOrder R → (x y : K) (xs ys : List K) → x ≡ y → IsStrictlySortedBy R (x ∷ xs)
+-- an element after the first of one list is after that of the other
+after_first : {K : Type 0} (R : K → K → Ordering) → IsTotalOrder R → (x y : K) (xs ys : List K) → x ≡ y → IsStrictlySortedBy R (x ∷ xs)
     → ((z : K) → Contains (x ∷ xs) z → Contains (y ∷ ys) z) → (z : K) → Contains xs z → Contains ys z
-behind R o x y xs ys heads p same z h =
+after_first R o x y xs ys heads p same z h =
     ⊎_elim (λ (e : y ≡ z). let less : R x z ≡ Less = below_head R x xs p z h in
     let equal : R z z ≡ Equal = tied_itself o z in
     let turned : R x z ≡ R z z = ap (λ v. R v z) (heads ∙ e) in
@@ -107,7 +107,7 @@ ascending_unique R o (x ∷ xs) [] p q same = absurd (nothing_in x ((same x).0 (
 ascending_unique R o (x ∷ xs) (y ∷ ys) p q same =
     let heads : x ≡ y = same_head R o x y xs ys p q same in
     let tails : xs ≡ ys = ascending_unique R o xs ys (sorted_tail R x xs p) (sorted_tail R y ys q)
-    (λ z. (behind R o x y xs ys heads p (λ v. (same v).0) z, behind R o y x ys xs (sym heads) q (λ v. (same v).1) z)) in
+    (λ z. (after_first R o x y xs ys heads p (λ v. (same v).0) z, after_first R o y x ys xs (sym heads) q (λ v. (same v).1) z)) in
     rw (heads, tails) refl
 
 -- an element that is above all others goes to the end

@@ -10,7 +10,7 @@ use std::fmt;
 pub enum DataFault {
     /// They are no list of TLVs (RFC 7787, section 7): the first fault.
     Tlv(TlvFault),
-    /// There was no memory for the data.
+    /// Out of memory.
     NoMemory,
 }
 

@@ -67,7 +67,7 @@ impl NodeData {
     /// # Errors
     ///
     /// `Tlv` if and only if the bytes are no list of TLVs (RFC 7787, section 7), with the first fault, as
-    /// `hn_tlv::check` gives it, which takes no memory.
+    /// `hn_tlv::check` gives it, which never allocates.
     pub fn from_bytes(alloc: Global, bytes: &[u8]) -> Result<NodeData, DataFault>
         ensures data { IfOk result (λ d. d ≡ bytes.now) }
         ensures listed { OnOk result (HasTlvs bytes.now) }

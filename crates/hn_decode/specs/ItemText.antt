@@ -29,7 +29,7 @@ item_text (Assigned endpoint priority prefix subs) =
 item_text (Address endpoint address subs) = codes "address endpoint=" ++ decimal endpoint ++ codes " address=" ++ address_text_of address
 item_text (Other kind value) = codes "other value=" ++ hex_text value
 
--- what stands there for a TLV that decodes to no item: the cause, and the value
+-- what is said of a TLV that decodes to no item: the cause, and the value
 abbrev pub bad_text : ℕ → List ℕ → List ℕ
 bad_text why value = codes "bad why=" ++ decimal why ++ codes " value=" ++ hex_text value
 

@@ -113,7 +113,7 @@ pub(crate) fn push_item(out: &mut String, item: &Item<'_>) -> Result<(), AllocEr
     }
 }
 
-/// Adds what stands there for a TLV that decodes to no item: the cause, as `hn_typed::ItemFault` numbers it, and the
+/// Adds what is said of a TLV that decodes to no item: the cause, as `hn_typed::ItemFault` numbers it, and the
 /// value.
 pub(crate) fn push_bad(out: &mut String, why: u8, value: &[u8]) -> Result<(), AllocError>
     ensures { OnOk result (string_bytes out.new ≡ string_bytes out.old ++ bad_text why value.now) }

@@ -4,6 +4,7 @@ ghost use Rattle.hn_data.specs.View.{IsNetwork};
 use crate::{common, elected};
 use hn_base::{EpId, Letter, NodeId};
 use hn_data::{Entry, NodeData, View};
+use hn_typed::{Item, write};
 use std::alloc::Global;
 use std::test::Fail;
 
@@ -24,10 +25,13 @@ fn node(alloc: Global, id: u8, offers: Offers, all: &[Said]) -> Result<Entry, Fa
     }
     for (from, endpoint, peer, peer_endpoint) in all {
         if *from == id {
-            bytes.extend_from_slice(&[0, 8, 0, 12])?;
-            bytes.extend_from_slice(&[0, 0, 0, *peer])?;
-            bytes.extend_from_slice(&[0, 0, 0, *peer_endpoint])?;
-            bytes.extend_from_slice(&[0, 0, 0, *endpoint])?;
+            let peer = Item::Peer {
+                peer: NodeId(u32::from(*peer)),
+                peer_endpoint: EpId(u32::from(*peer_endpoint)),
+                endpoint: EpId(u32::from(*endpoint)),
+                subs: &[],
+            };
+            write(&peer, &mut bytes)?;
         }
     }
     Ok(Entry {

@@ -101,13 +101,13 @@ fn first(bytes: &[u8]) -> Result<Option<(Tlv<'_>, usize)>, TlvFault>
 /// of that byte (RFC 7787, section 7).
 pub fn next(bytes: &[u8], at: usize) -> Result<Option<(Tlv<'_>, usize)>, TlvFault>
     requires { at ≤ length bytes.now }
-    // What is read is what stands there.
+    // What is read is what is there.
     ensures end { IfOk result (λ found. IfNone found (at ≡ length bytes.now)) }
     ensures found { IfOk result (λ found. IfSome found (λ f. IsTlvAt bytes.now at (plain f.0) f.1)) }
     ensures fault { IfErr result (λ fault.
         (at ≤ fault.place) × IsFault (drop at bytes.now) (fault.place - at) fault.why) }
 
-    // What stands there is read.
+    // What is there is read.
     ensures at_end { at ≡ length bytes.now → result ≡ Ok None }
     ensures at_tlv { (tlv : PlainTlv) (after : ℕ) → IsTlvAt bytes.now at tlv after
         → IsOkAnd result (λ found. IsSomeAnd found (λ f. (plain f.0 ≡ tlv) × (f.1 ≡ after))) }

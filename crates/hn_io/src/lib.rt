@@ -10,6 +10,9 @@ mod listed;
 #[cfg(test)]
 mod listed_tests;
 mod memory;
+mod pcg;
+#[cfg(test)]
+mod pcg_tests;
 mod sink;
 mod source;
 #[cfg(test)]
@@ -21,5 +24,6 @@ pub use fault::IoFault;
 pub use law::words_join;
 pub use listed::Listed;
 pub use memory::{MemSink, MemSource};
+pub use pcg::Pcg;
 pub use sink::Sink;
 pub use source::Source;

@@ -12,7 +12,7 @@ pub trait Sink {
     /// The bytes that it holds, where the sink tells them.
     ghost held: { Self → Option (List ℕ) };
 
-    /// Holds of a sink whose calls never fail, now and later. Want of memory is no failure.
+    /// Holds of a sink whose calls never fail, now and later. Out of memory is no failure.
     ghost never_fails: { Self → Type 0 };
 
     /// Writes the front of `piece`, at least one byte, and answers how many.

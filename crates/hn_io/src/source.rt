@@ -12,7 +12,7 @@ pub trait Source {
     /// The bytes that are left, where the source tells them.
     ghost left: { Self → Option (List ℕ) };
 
-    /// Holds of a source whose calls never fail, now and later. Want of memory is no failure.
+    /// Holds of a source whose calls never fail, now and later. Out of memory is no failure.
     ghost never_fails: { Self → Type 0 };
 
     /// Reads the next bytes into the front of `buf`, and answers how many; 0 is the end of input.

@@ -4,7 +4,9 @@ pub mod Forgetting
 pub mod FreeIds
 pub mod Known
 pub mod Leaves
+pub mod Moments
 pub mod NodeLists
+pub mod OneNew
 pub mod OneResults
 pub mod OwnPieces
 pub mod Parts

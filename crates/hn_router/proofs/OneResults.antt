@@ -56,6 +56,9 @@ use Rattle.hn_router.specs.Events.{IsAttaching, detaching, setting_caps, IsPortR
 use Rattle.hn_router.specs.Act.{PlainEvent, Arrive, Tick, Attach, Detach, SetCaps, Restart, IsFar, IsMalformed, IsRead, is_refused, IsEventRule, IsEvent}
 use Rattle.hn_router.proofs.Sole.{IsSole, sole_drawn, sole_given, sole_plain, sole_both, sole_each, sole_word, sole_from, sole_start, sole_after, sole_at, sole_or, sole_where, sole_some}
 
+abbrev pub OneSet : Type 0
+OneSet = (pieces : List (List ℕ)) (a b : List ℕ) → IsAscendingSet pieces a → IsAscendingSet pieces b → a ≡ b
+
 -- the laws of the crates below on which it rests
 pub record HasLaws : Type 0 where
   pub one_list : (a b : List PlainTlv) (bytes : List ℕ) → IsTlvList a bytes → IsTlvList b bytes → a ≡ b
@@ -64,7 +67,7 @@ pub record HasLaws : Type 0 where
   pub one_item : (tlv : PlainTlv) (i j : PlainItem) → IsItem tlv i → IsItem tlv j → i ≡ j
   pub no_item : (tlv : PlainTlv) (i : PlainItem) (why : ℕ) → IsItem tlv i → ¬ (IsItemFault tlv why)
   pub one_fault : (tlv : PlainTlv) (v w : ℕ) → IsItemFault tlv v → IsItemFault tlv w → v ≡ w
-  pub one_set : (pieces : List (List ℕ)) (a b : List ℕ) → IsAscendingSet pieces a → IsAscendingSet pieces b → a ≡ b
+  pub one_set : OneSet
   pub one_order : (xs ys : List NodeId) → IsStrictlySortedBy node_cmp xs → IsStrictlySortedBy node_cmp ys → ((x : NodeId) → Contains xs x ↔ Contains ys x) → xs ≡ ys
   pub one_acceptance : AcceptanceIsUnique
   pub one_packing : (own : NodeId) (endpoint : EpId) (tlvs a b : List (List ℕ)) → IsPacking own endpoint tlvs a → IsPacking own endpoint tlvs b → a ≡ b
@@ -74,9 +77,9 @@ apart_tests b is not = let clash : true ≡ false = sym is ∙ not in absurd cc
 
 -- ---- a refresh
 
-one_own : HasLaws → (x y : PlainData) → IsOwnData x → IsOwnData y → x.items ≡ y.items → x ≡ y
-one_own laws x y is_x is_y items =
-    let body : x.body ≡ y.body = laws.one_set (pieces_of y.items) x.body y.body (subst (λ (own : OwnItems). IsAscendingSet (pieces_of own) x.body) items is_x.encoded) is_y.encoded in
+pub one_own : OneSet → (x y : PlainData) → IsOwnData x → IsOwnData y → x.items ≡ y.items → x ≡ y
+one_own one_set x y is_x is_y items =
+    let body : x.body ≡ y.body = one_set (pieces_of y.items) x.body y.body (subst (λ (own : OwnItems). IsAscendingSet (pieces_of own) x.body) items is_x.encoded) is_y.encoded in
     let hash : x.hash ≡ y.hash = is_x.hashed ∙ ap hash_of body ∙ sym is_y.hashed in
     λ i. record { items = items i; body = body i; hash = hash i }
 
@@ -88,7 +91,7 @@ published_with number r own = record r {
 
 one_published : HasLaws → (number : ℕ) (r a b : Running) → Publishes number r a → Publishes number r b → a ≡ b
 unfolding published_with
-one_published laws number r a b h k = h.gives ∙ ap (published_with number r) (one_own laws h.own k.own h.data_is k.data_is (h.items_are ∙ sym k.items_are)) ∙ sym k.gives
+one_published laws number r a b h k = h.gives ∙ ap (published_with number r) (one_own laws.one_set h.own k.own h.data_is k.data_is (h.items_are ∙ sym k.items_are)) ∙ sym k.gives
 
 published_words : (number : ℕ) (r a : Running) → Publishes number r a → a.done.words ≡ r.done.words
 published_words number r a h = ap (λ (x : Running). x.done.words) h.gives

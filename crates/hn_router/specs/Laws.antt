@@ -1,5 +1,6 @@
 -- Laws of the router.
-use Rattle.std.specs.Prelude.{◌≡◌, ℕ, ◌≤◌}
+use Rattle.std.specs.Prelude.{◌≡◌, ℕ, ◌≤◌, ◌==◌, nat_lt, not, if◌then◌else◌, List, ◌∷◌, ◌++◌, filter}
+use Rattle.hn_base.specs.declared.ids.EpId.{EpId}
 use Rattle.hn_base.specs.declared.ids.NodeId.{NodeId}
 use Rattle.hn_io.specs.Words.{Begins}
 use Rattle.hn_hash.specs.Network.{network_hash, AreNumbered}
@@ -7,7 +8,8 @@ use Rattle.hn_router.specs.declared.state.State.{State}
 use Rattle.hn_router.specs.declared.done.Done.{Done}
 use Rattle.hn_router.specs.Nodes.{leaves_of}
 use Rattle.hn_router.specs.New.{IsNew}
-use Rattle.hn_router.specs.Act.{PlainEvent, Happened}
+use Rattle.hn_router.specs.Ports.{endpoints_of}
+use Rattle.hn_router.specs.Act.{PlainEvent, Attach, Detach, is_refused, Happened}
 use Rattle.hn_router.specs.Router.{IsRouter}
 
 -- From one state, with one event, moment and stream of words, there is at most one result.
@@ -16,6 +18,10 @@ OneResult =
     (now : ℕ) (event : PlainEvent) (s a b : State) (done_a done_b : Done) (stream : ℕ → ℕ)
     → Happened now event s a done_a → Happened now event s b done_b
     → Begins done_a.words stream → Begins done_b.words stream → (a ≡ b) × (done_a ≡ done_b)
+
+-- There is at most one new router of an identifier at a moment.
+abbrev pub NewIsUnique : Type 0
+NewIsUnique = (id : NodeId) (now : ℕ) (a b : State) → IsNew id now a → IsNew id now b → a ≡ b
 
 -- A new router is one, and what an event leaves of a router is one.
 abbrev pub NewIsRouter : Type 0
@@ -29,3 +35,20 @@ RouterStays =
 -- A router's network state hash is that of the leaves of the nodes that it reaches.
 abbrev pub HashIsOfLeaves : Type 0
 HashIsOfLeaves = (s : State) → IsRouter s → (s.net ≡ network_hash (leaves_of s)) × AreNumbered (leaves_of s)
+
+-- After an event a router's moment is that of the event.
+abbrev pub MomentIsNow : Type 0
+MomentIsNow = (now : ℕ) (event : PlainEvent) (s next : State) (done : Done) → Happened now event s next done → next.moment ≡ now
+
+-- the endpoints after an event that is not refused
+abbrev pub endpoints_by : PlainEvent → List EpId → List EpId
+endpoints_by (Attach at) ends = filter (λ e. nat_lt e.0 at.0) ends ++ at ∷ filter (λ e. nat_lt at.0 e.0) ends
+endpoints_by (Detach at) ends = filter (λ e. not (e.0 == at.0)) ends
+endpoints_by _ ends = ends
+
+-- A router's endpoints change where one is attached or detached, and by no other event.
+abbrev pub EndpointsFollow : Type 0
+EndpointsFollow =
+    (now : ℕ) (event : PlainEvent) (s next : State) (done : Done)
+    → Happened now event s next done
+    → endpoints_of next.ports ≡ (if is_refused event s then endpoints_of s.ports else endpoints_by event (endpoints_of s.ports))

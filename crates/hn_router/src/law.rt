@@ -1,6 +1,6 @@
 //! Laws of the router. Each is the contract of a function that does nothing: call it to know its law.
 
-ghost use Rattle.hn_router.specs.Laws.{OneResult, NewIsRouter, RouterStays, HashIsOfLeaves};
+ghost use Rattle.hn_router.specs.Laws.{OneResult, NewIsUnique, NewIsRouter, RouterStays, HashIsOfLeaves, MomentIsNow, EndpointsFollow};
 
 use hn_base::{NodeId, ascending_is_unique};
 use hn_data::ascending_set_is_unique;
@@ -24,6 +24,13 @@ pub fn one_result()
     ascending_is_unique::<NodeId>();
     acceptance_is_unique();
     packing_is_unique();
+}
+
+/// There is at most one new router of an identifier at a moment.
+pub fn new_is_unique()
+    ensures { NewIsUnique }
+{
+    ascending_set_is_unique();
 }
 
 /// A new router is one.
@@ -53,3 +60,13 @@ pub fn hash_is_of_leaves()
 {
     held_is_of_an_entry();
 }
+
+/// After an event a router's moment is that of the event.
+pub fn moment_is_now()
+    ensures { MomentIsNow }
+{}
+
+/// A router's endpoints change where one is attached or detached, and by no other event.
+pub fn endpoints_follow()
+    ensures { EndpointsFollow }
+{}

@@ -24,7 +24,10 @@ mod tick;
 
 pub use done::{Done, Note, Outgoing, Publication};
 pub use event::Event;
-pub use law::{hash_is_of_leaves, new_is_router, one_result, router_stays};
+pub use law::{
+    endpoints_follow, hash_is_of_leaves, moment_is_now, new_is_router, new_is_unique, one_result,
+    router_stays,
+};
 pub use ports::MOST_ENDPOINTS;
 pub use present::Present;
 pub use router::{Plan, Router};

@@ -2,6 +2,7 @@ pub mod Entries
 pub mod Families
 pub mod HexTexts
 pub mod HexWords
+pub mod Limits
 pub mod LineWords
 pub mod Pieces
 pub mod Printed

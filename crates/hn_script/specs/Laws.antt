@@ -1,11 +1,12 @@
 -- What holds of scripts and their faults.
-use Rattle.std.specs.Prelude.{◌≡◌, ℕ, ◌+◌, ◌≤◌, ◌↔◌, List, [], ◌∷◌, length}
+use Rattle.std.specs.Prelude.{◌≡◌, ℕ, ◌+◌, ◌^◌, ◌<◌, ◌≤◌, ◌↔◌, List, [], ◌∷◌, length}
 use Rattle.std.specs.List.{AllByRecursion}
 use Rattle.hn_script.specs.Field.{IsInRange}
 use Rattle.hn_script.specs.Line.{spelling, line_text}
 use Rattle.hn_script.specs.Script.{IsScript, IsFirstFault, most_bytes, script_text}
 use Rattle.hn_script.specs.declared.fault.ScriptFault.{ScriptFault}
 use Rattle.hn_script.specs.declared.line.Line.{Line}
+use Rattle.hn_script.specs.declared.line.Line.TheVariants.{Attach, Time, Run}
 use Rattle.hn_script.specs.declared.script.Script.{Script}
 
 -- bytes are at most one script
@@ -35,3 +36,14 @@ abbrev pub PrintedIsRead : Type 0
 PrintedIsRead =
     (script : Script) → AllByRecursion (λ line. IsPrintable line.1) script.lines → length (script_text script) ≤ most_bytes
     → IsScript (record { version = script.version; lines = renumbered 2 script.lines }) (script_text script)
+
+-- no endpoint is attached under number 0, and no moment or span of time is above 2^48
+abbrev pub IsLimited : Line → Type 0
+IsLimited (Attach name e link) = 0 < e.0
+IsLimited (Time t) = t ≤ 2 ^ 48
+IsLimited (Run t step) = (t ≤ 2 ^ 48) × (step ≤ 2 ^ 48)
+IsLimited _ = Unit {0}
+
+-- so it is in the lines of a script
+abbrev pub ScriptIsLimited : Type 0
+ScriptIsLimited = (script : Script) (bytes : List ℕ) → IsScript script bytes → AllByRecursion (λ line. IsLimited line.1) script.lines

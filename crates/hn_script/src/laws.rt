@@ -1,6 +1,6 @@
 //! Laws: functions without work, whose clauses say what holds of the definitions.
 
-ghost use Rattle.hn_script.specs.Laws.{AtMostOneScript, AtMostOneFault, HasFaultOrScript, PrintedIsRead};
+ghost use Rattle.hn_script.specs.Laws.{AtMostOneScript, AtMostOneFault, HasFaultOrScript, PrintedIsRead, ScriptIsLimited};
 
 use crate::script::first_fault;
 
@@ -25,4 +25,9 @@ pub fn fault_or_script(bytes: &[u8])
 /// is short enough, and all lines together are.
 pub fn printed_is_read()
     ensures { PrintedIsRead }
+{}
+
+/// In a script no endpoint is attached under number 0, and no moment or span of time is above 2^48.
+pub fn script_is_limited()
+    ensures { ScriptIsLimited }
 {}

@@ -22,7 +22,9 @@ mod version;
 mod words;
 
 pub use fault::{ParseFault, ScriptFault};
-pub use laws::{fault_is_unique, fault_or_script, printed_is_read, script_is_unique};
+pub use laws::{
+    fault_is_unique, fault_or_script, printed_is_read, script_is_limited, script_is_unique,
+};
 pub use line::{How, Line};
 pub use script::{Script, first_fault, parse, print};
 pub use version::Version;

@@ -1,4 +1,11 @@
-mod Named
-mod Members
-mod Replaying
-mod Numbered
+pub mod Accepted
+pub mod Acting
+pub mod Agreeing
+pub mod Attached
+pub mod Comparing
+pub mod Going
+pub mod Mails
+pub mod Onces
+pub mod Places
+pub mod Sounds
+pub mod Targets

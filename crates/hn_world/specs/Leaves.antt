@@ -1,15 +1,24 @@
-use Rattle.std.specs.Prelude.{◌≡◌, ◌≢◌, List, [], ◌∷◌, ◌++◌, Some, Contains, ◌⊎◌}
+-- What two routers with equal network state hashes have in common.
+use Rattle.std.specs.Prelude.{◌≡◌, ◌≢◌, ◌⊎◌, List, Contains, Option}
+use Rattle.std.specs.Option.{option_and_then, option_map}
+use Rattle.std.specs.List.{slice_get}
 use Rattle.hn_hash.specs.declared.leaf.Leaf.{Leaf}
 use Rattle.hn_hash.specs.declared.agreement.Agreement.{Agreement}
 use Rattle.hn_hash.specs.declared.agreement.Agreement.TheVariants.{Differ, Same, Collide}
-use Rattle.hn_hash.specs.Network.{network_hash}
 use Rattle.hn_hash.specs.Agreement.{IsCollision, IsExhibited}
-use Rattle.hn_world.specs.Home.{Node, Station, Trace, Home, replay}
-use Rattle.hn_world.specs.Version.{version_tlv}
+use Rattle.hn_hash.specs.Network.{network_hash}
+use Rattle.hn_router.specs.Nodes.{leaves_of}
+use Rattle.hn_world.specs.declared.member.Member.{Member}
+use Rattle.hn_world.specs.declared.parts.Parts.{Parts}
+use Rattle.hn_world.specs.declared.copies.MailCopy.{MailCopy}
+use Rattle.hn_world.specs.declared.copies.CopyInfo.{CopyInfo}
 
--- the leaves of the hash tree that a node sees: it reaches itself alone (RFC 7787, section 4.1)
-abbrev pub leaves_of : Node → List Leaf
-leaves_of node = record { number = node.number; body = version_tlv node.caps } ∷ []
+-- Two routers with equal network state hashes hold equal sequence numbers and node data in node order, or a collision
+-- of the hash is among what they hash.
+abbrev pub EqualHashesAgree : Parts → Type 0
+EqualHashesAgree w =
+    (a b : Member) → Contains w.members a → Contains w.members b → a.router.net ≡ b.router.net
+    → (leaves_of a.router ≡ leaves_of b.router) ⊎ IsCollision (leaves_of a.router) (leaves_of b.router)
 
 -- how two lists of leaves agree
 abbrev pub Agrees : List Leaf → List Leaf → Agreement → Type 0
@@ -17,14 +26,9 @@ Agrees a b Differ = network_hash a ≢ network_hash b
 Agrees a b Same = a ≡ b
 Agrees a b (Collide left right) = IsExhibited a b left right
 
--- any two routers with equal network state hashes have equal leaves, or a collision of the hash is among what they hash
-abbrev pub EqualHashesAgree : Home → Type 0
-EqualHashesAgree home =
-    (a b : Station) → Contains home.stations a → Contains home.stations b
-    → network_hash (leaves_of a.node) ≡ network_hash (leaves_of b.node)
-    → (leaves_of a.node ≡ leaves_of b.node) ⊎ IsCollision (leaves_of a.node) (leaves_of b.node)
+-- where a copy goes, from where, and whether it waits
+abbrev pub info_of : MailCopy → Member → CopyInfo
+info_of c m = record { to = m.name; endpoint = c.to.endpoint; from = c.from; multicast = c.multicast; waiting = c.waiting }
 
--- at each moment of a world's past: each front of the trace leads to a world, and there equal hashes agree
-abbrev pub EqualHashesAlwaysAgree : Home → Type 0
-EqualHashesAlwaysAgree home =
-    (past future : List Trace) → home.trace ≡ past ++ future → (then : Home) × ((replay past ≡ Some then) × EqualHashesAgree then)
+abbrev pub HasInfo : Parts → Option MailCopy → Option CopyInfo → Type 0
+HasInfo w copy info = info ≡ option_and_then (λ c. option_map (info_of c) (slice_get w.members c.to.place)) copy

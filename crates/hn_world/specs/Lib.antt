@@ -1,6 +1,10 @@
-pub mod Home
-pub mod Happening
-pub mod Version
-pub mod Member
-pub mod WorldView
+pub mod Names
+pub mod Mail
+pub mod Receivers
+pub mod Waiting
+pub mod Injected
+pub mod Refusal
+pub mod Step
+pub mod Prepared
+pub mod Replay
 pub mod Leaves

@@ -1,15 +1,73 @@
-use hn_base::{Caps, Name, NoMemory, NodeId, Words};
-use std::alloc::{AllocError, AllocFailed};
+use hn_base::{Addr, Bytes, Caps, EpId, Moment, Name, NoMemory, NodeId, Words};
 use std::error::Error;
 use std::fmt;
+
+/// The version of the script language that a world follows.
+#[derive(Clone, Copy, Debug, PartialEq, Eq)]
+pub enum Version {
+    One,
+}
 
 /// What may happen in a world.
 #[derive(Debug, Drop)]
 pub enum WEvent {
     /// A new running router.
-    Router { name: Name, id: NodeId },
-    /// A router gets these priorities, each at most 7.
-    Caps { name: Name, caps: Caps },
+    Router {
+        name: Name,
+        id: NodeId,
+    },
+    /// A new link.
+    Link {
+        name: Name,
+    },
+    /// A router's endpoint is attached to a link.
+    Attach {
+        name: Name,
+        endpoint: EpId,
+        link: Name,
+    },
+    /// A router's endpoint is detached from its link.
+    Detach {
+        name: Name,
+        endpoint: EpId,
+    },
+    /// A router gets these capabilities.
+    Caps {
+        name: Name,
+        caps: Caps,
+    },
+    /// A router stops.
+    Stop {
+        name: Name,
+    },
+    /// A router restarts, whether it runs or not.
+    Start {
+        name: Name,
+    },
+    /// The moment becomes this one, at most 2^48.
+    Time {
+        moment: Moment,
+    },
+    /// A router looks at its clock.
+    Tick {
+        name: Name,
+    },
+    /// A copy is delivered, whether it waits or not. Copies are numbered from 1.
+    Deliver {
+        copy: u64,
+    },
+    /// A copy waits no longer.
+    Drop {
+        copy: u64,
+    },
+    /// A datagram arrives from outside of the world.
+    Inject {
+        name: Name,
+        endpoint: EpId,
+        from: Addr,
+        multicast: bool,
+        bytes: Bytes,
+    },
 }
 
 /// An event that was accepted, with the random words that it took, in order.
@@ -22,9 +80,13 @@ pub struct Traced {
 /// Why an event did not happen.
 #[derive(Clone, Copy, Debug, PartialEq, Eq, Hash)]
 pub enum WorldFault {
-    /// It is refused: code 7, a name is unknown; code 8, the name of a new router is taken.
+    /// It is refused with this code: 7, a name is unknown or names the other kind; 8, the name of a new router or link is
+    /// taken; 9, the 65th router, the 65th link, the 17th endpoint of a router, or the 1,000,001st event; 10, the moment
+    /// would fall; 11, the endpoint is in use or not attached; 12, the router is stopped; 13, there is no such copy; 14,
+    /// the router already has an endpoint on that link; 16, there are 1,000,000 copies, or they and the injected
+    /// datagrams have 2^28 bytes together.
     Refused(u8),
-    /// Want of memory, and nothing else.
+    /// Out of memory.
     NoMemory,
 }
 
@@ -46,28 +108,6 @@ impl From<NoMemory> for WorldFault {
     ghost from_gives = { λ _ e. e ≡ fault.NoMemory };
 
     fn from(_error: NoMemory) -> WorldFault {
-        WorldFault::NoMemory
-    }
-}
-
-impl From<AllocError> for WorldFault {
-    ghost use Rattle.std.specs.Prelude.{◌≡◌};
-    ghost use Rattle.hn_world.specs.declared.event.WorldFault.TheVariants as fault;
-
-    ghost from_gives = { λ _ e. e ≡ fault.NoMemory };
-
-    fn from(_error: AllocError) -> WorldFault {
-        WorldFault::NoMemory
-    }
-}
-
-impl<T: Drop> From<AllocFailed<T>> for WorldFault {
-    ghost use Rattle.std.specs.Prelude.{◌≡◌};
-    ghost use Rattle.hn_world.specs.declared.event.WorldFault.TheVariants as fault;
-
-    ghost from_gives = { λ _ e. e ≡ fault.NoMemory };
-
-    fn from(_error: AllocFailed<T>) -> WorldFault {
         WorldFault::NoMemory
     }
 }

@@ -1,15 +1,29 @@
-//! The world that a script runs in: its routers, and the trace of what happened to them.
+//! The world that a script runs in: routers on links, the datagrams between them, and the trace of what happened.
 #![tactic(auto)]
 
+mod act;
+mod compare;
+mod copies;
 mod event;
+mod finish;
 mod law;
+mod links;
+mod mail;
 mod member;
-mod router;
+mod parts;
+mod plain_events;
+mod published;
+mod receivers;
+mod refusal;
 #[cfg(test)]
 mod tests;
+mod trace;
 mod world;
 
-pub use event::{Traced, WEvent, WorldFault};
-pub use law::equal_hashes_always_agree;
-pub use router::Router;
+pub use copies::{CopyInfo, MailCopy};
+pub use event::{Traced, Version, WEvent, WorldFault};
+pub use law::{
+    agreement_is_unique, always_attached, always_sound, at_most_one_world, each_event_is_entered,
+    equal_hashes_always_agree, step_is_unique,
+};
 pub use world::World;

@@ -1,14 +1,21 @@
-ghost use Rattle.std.specs.Prelude.{◌≡◌, ◌<◌, ◌++◌, ◌∷◌, [], ℕ, map, length, slice_get, slice_set, IfSome, IfNone, None, Some, OnOk, OnErr};
+ghost use Rattle.std.specs.Prelude.{◌≡◌, ◌<◌, ◌==◌, [], ◌++◌, ◌∷◌, filter, length, position, not, IfOk, Some, option_copied, find};
+ghost use Rattle.std.specs.List.{slice_get, slice_set, list_any};
 ghost use Rattle.hn_base.specs.Name.{name_text};
-ghost use Rattle.hn_world.specs.Home.{Station, station_named, changed, with_caps, new_station, stations_after};
-ghost use Rattle.hn_base.specs.Caps.{plain_caps};
-ghost use Rattle.hn_world.specs.Member.{station_of};
-ghost use Rattle.hn_world.specs.Happening.{happening};
+ghost use Rattle.hn_world.specs.declared.member.Member.{Member};
+ghost use Rattle.hn_world.specs.Names.{is_named, is_of, link_of, is_on};
+ghost use Rattle.hn_world.specs.Step.{attached_to, detached_from};
 
-use crate::event::WEvent;
-use crate::router::Router;
-use hn_base::{Caps, Name, NoMemory, NodeId};
+use hn_base::{EpId, Name, NoMemory, Sequence};
+use hn_router::{Done, Plan, Router};
 use std::alloc::Global;
+use std::marker::Model;
+
+/// An endpoint of a router, and the link to which it is attached, by its place in order of definition.
+#[derive(Clone, Copy, Debug, PartialEq, Eq)]
+pub struct Attachment {
+    pub endpoint: EpId,
+    pub link: usize,
+}
 
 /// A router of the world, under its name.
 #[derive(Debug, Drop)]
@@ -16,75 +23,160 @@ pub struct Member {
     pub name: Name,
     pub running: bool,
     pub router: Router,
+    pub attachments: Sequence<Attachment>,
 }
 
-/// The place of the router of a name. Never allocates.
-pub fn place_of(members: &[Member], name: &Name) -> Option<usize>
-    ensures bound { IfSome result (λ place. place < length members.now) }
-    ensures found { IfSome result (λ place. station_named (name_text name.now) (map station_of members.now) ≡ slice_get (map station_of members.now) place) }
-    ensures changes { IfSome result (λ place. (change : Station → Station) (s : Station) → slice_get (map station_of members.now) place ≡ Some s
-        → changed (name_text name.now) change (map station_of members.now) ≡ slice_set (map station_of members.now) place (change s)) }
-    ensures none { IfNone result (station_named (name_text name.now) (map station_of members.now) ≡ None) }
-    ensures unchanged { IfNone result ((change : Station → Station) → changed (name_text name.now) change (map station_of members.now) ≡ map station_of members.now) }
+/// The routers of a world, in order of definition.
+#[derive(Debug, Drop)]
+pub struct Members {
+    pub(crate) items: Vec<Member>,
+}
+
+impl Model for Members {
+    ghost use Rattle.std.specs.Prelude.{List};
+    ghost use Rattle.hn_world.specs.declared.member.Member.{Member};
+
+    ghost Value = { List Member };
+
+    ghost view = { λ m. m.items.items };
+}
+
+/// Whether a router has that name.
+fn is_named(member: &Member, name: &Name) -> bool
+    ensures { result ≡ is_named (name_text name.now) member.now }
 {
-    for (place, member) in members.iter().enumerate() {
-        if member.name.as_str() == name.as_str() {
-            return Some(place);
+    member.name.as_str() == name.as_str()
+}
+
+impl Member {
+    /// The link to which an endpoint is attached. Never allocates.
+    pub(crate) fn link_of(&self, endpoint: EpId) -> Option<usize>
+        ensures { result ≡ link_of endpoint self.now }
+    {
+        self.attachments
+            .as_slice()
+            .iter()
+            .find(|a| a.endpoint == endpoint)
+            .map(|a| a.link)
+    }
+
+    /// Whether an endpoint is attached to that link. Never allocates.
+    pub(crate) fn is_on(&self, link: usize, endpoint: EpId) -> bool
+        ensures { result ≡ is_on link self.now endpoint }
+    {
+        match self.link_of(endpoint) {
+            Some(other) => other == link,
+            None => false,
         }
     }
-    None
-}
 
-/// Adds a running router with all priorities 0 and number 1.
-fn add(alloc: Global, members: &mut Vec<Member>, name: Name, id: NodeId) -> Result<(), NoMemory>
-    ensures ok { OnOk result (map station_of members.new.items ≡ map station_of members.old.items ++ new_station (name_text name) id.0 ∷ []) }
-    ensures err { OnErr result (members.new.items ≡ members.old.items) }
-{
-    let none = Caps {
-        m: 0,
-        p: 0,
-        h: 0,
-        l: 0,
-    };
-    let router = Router::publishing(alloc, id, 1, none)?;
-    members.push(Member {
-        name,
-        running: true,
-        router,
-    })?;
-    Ok(())
-}
-
-/// Gives a router its priorities; it publishes with the next number if and only if they change.
-fn set_caps(
-    alloc: Global,
-    members: &mut Vec<Member>,
-    place: usize,
-    caps: Caps,
-) -> Result<(), NoMemory>
-    requires { place < length members.old.items }
-    ensures ok { OnOk result ((s : Station) → slice_get (map station_of members.old.items) place ≡ Some s
-        → map station_of members.new.items ≡ slice_set (map station_of members.old.items) place (with_caps (plain_caps caps) s)) }
-    ensures err { OnErr result (members.new.items ≡ members.old.items) }
-{
-    let router = &mut members[place].router;
-    if router.caps == caps {
-        return Ok(());
+    /// Whether some endpoint is attached to that link. Never allocates.
+    pub(crate) fn has_link(&self, link: usize) -> bool
+        ensures { result ≡ list_any (λ a. a.link == link) self.now.attachments }
+    {
+        self.attachments.as_slice().iter().any(|a| a.link == link)
     }
-    *router = Router::publishing(alloc, router.id, router.number.wrapping_add(1), caps)?;
-    Ok(())
+
+    /// The attachments, and a new one.
+    pub(crate) fn attachments_with(
+        &self,
+        alloc: Global,
+        endpoint: EpId,
+        link: usize,
+    ) -> Result<Sequence<Attachment>, NoMemory>
+        ensures { IfOk result (λ attachments. attachments ≡ (attached_to link endpoint self.now).attachments) }
+    {
+        let mut attachments = self.attachments.copy(alloc)?;
+        attachments.push(Attachment { endpoint, link })?;
+        Ok(attachments)
+    }
+
+    /// The attachments without that of an endpoint.
+    pub(crate) fn attachments_without(
+        &self,
+        alloc: Global,
+        endpoint: EpId,
+    ) -> Result<Sequence<Attachment>, NoMemory>
+        ensures { IfOk result (λ attachments. attachments ≡ (detached_from endpoint self.now).attachments) }
+    {
+        let mut attachments = Sequence::new(alloc);
+        for a in self.attachments.as_slice() {
+            if a.endpoint != endpoint {
+                attachments.push(*a)?;
+            }
+        }
+        Ok(attachments)
+    }
 }
 
-/// Does to the routers what the event does, where it accepts it.
-pub fn happen(alloc: Global, members: &mut Vec<Member>, event: &WEvent) -> Result<(), NoMemory>
-    ensures ok { OnOk result (map station_of members.new.items ≡ stations_after (map station_of members.old.items) (happening event.now)) }
-    ensures err { OnErr result (members.new.items ≡ members.old.items) }
-{
-    match event {
-        WEvent::Router { name, id } => add(alloc, members, *name, *id),
-        WEvent::Caps { name, caps } => match place_of(members, name) {
-            Some(place) => set_caps(alloc, members, place, *caps),
-            None => Ok(()),
-        },
+impl Members {
+    /// No routers. Never allocates.
+    pub(crate) fn new(alloc: Global) -> Members
+        ensures { result ≡ [] }
+    {
+        Members {
+            items: Vec::new(alloc),
+        }
+    }
+
+    /// The routers. Never allocates.
+    pub(crate) fn as_slice(&self) -> &[Member]
+        ensures { result.now ≡ self.now }
+    {
+        self.items.as_slice()
+    }
+
+    /// The place of the router of a name. Never allocates.
+    pub(crate) fn place_of(&self, name: &Name) -> Option<usize>
+        ensures { result ≡ position (is_named (name_text name.now)) self.now }
+    {
+        self.items.iter().position(|member| is_named(member, name))
+    }
+
+    /// The router of a name. Never allocates.
+    pub(crate) fn find(&self, name: &Name) -> Option<&Member>
+        ensures { option_copied result ≡ find (is_named (name_text name.now)) self.now }
+    {
+        self.items.iter().find(|member| is_named(member, name))
+    }
+
+    /// The router at a place. Never allocates.
+    pub(crate) fn get(&self, place: usize) -> Option<&Member>
+        ensures { option_copied result ≡ slice_get self.now place }
+    {
+        self.items.get(place)
+    }
+
+    /// The router at a place. Never allocates.
+    pub(crate) fn at(&self, place: usize) -> &Member
+        requires { place < length self.now }
+        ensures { slice_get self.now place ≡ Some result.now }
+    {
+        &self.items[place]
+    }
+
+    /// Does what the router at a place planned. Never allocates.
+    pub(crate) fn commit(&mut self, place: usize, plan: Plan) -> Done
+        requires { place < length self.old }
+        ensures members { (m : Member) → slice_get self.old place ≡ Some m → self.new ≡ slice_set self.old place (record m { router = plan.state }) }
+        ensures done { result ≡ plan.done }
+    {
+        self.items[place].router.commit(plan)
+    }
+
+    /// A router runs from now on, or not. Never allocates.
+    pub(crate) fn set_running(&mut self, place: usize, running: bool)
+        requires { place < length self.old }
+        ensures { (m : Member) → slice_get self.old place ≡ Some m → self.new ≡ slice_set self.old place (record m { running = running }) }
+    {
+        self.items[place].running = running;
+    }
+
+    /// A router has these attachments from now on. Never allocates.
+    pub(crate) fn set_attachments(&mut self, place: usize, attachments: Sequence<Attachment>)
+        requires { place < length self.old }
+        ensures { (m : Member) → slice_get self.old place ≡ Some m → self.new ≡ slice_set self.old place (record m { attachments = attachments }) }
+    {
+        self.items[place].attachments = attachments;
     }
 }

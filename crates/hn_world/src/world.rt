@@ -1,147 +1,187 @@
-ghost use Rattle.std.specs.Prelude.{◌≡◌, ◌↔◌, ℕ, [], None, Some, Err, map, IsTrue, IsSome, IsSomeAnd, IfOk, OnOk, OnErr, option_copied};
-ghost use Rattle.std.specs.Option.{option_map};
+ghost use Rattle.std.specs.Prelude.{◌≡◌, ◌↔◌, ℕ, None, Some, Err, false, IfOk, OnErr, option_copied};
+ghost use Rattle.std.specs.Option.{option_map, option_map_or};
+ghost use Rattle.std.specs.List.{slice_get};
 ghost use Rattle.hn_base.specs.Name.{name_text};
-ghost use Rattle.hn_io.specs.Words.{Took};
+ghost use Rattle.hn_world.specs.declared.event.Version.TheVariants.{One};
+ghost use Rattle.hn_world.specs.Names.{member_named};
+ghost use Rattle.hn_world.specs.Refusal.{refusal};
+ghost use Rattle.hn_world.specs.Step.{IsStep, IsInRange};
+ghost use Rattle.hn_world.specs.Replay.{empty_world, IsReplayed, IsSound};
 
-use crate::event::{Traced, WEvent, WorldFault};
-use crate::member::{Member, happen, place_of};
-use crate::router::Router;
-use hn_base::{Moment, Name, NoMemory, Words};
-use hn_hash::{Agreement, agree};
+use crate::copies::Copies;
+use crate::event::{Traced, Version, WEvent, WorldFault};
+use crate::law::always_sound;
+use crate::links::Links;
+use crate::member::Members;
+use crate::parts::Parts;
+use crate::published::Publications;
+use crate::trace::Trace;
+use hn_base::{Moment, Name, NoMemory, Sequence};
 use hn_io::Draw;
+use hn_router::{Note, Present, Publication, Router};
 use std::alloc::Global;
 use std::marker::Model;
 
-/// A world: its moment, its routers in order of definition, and the trace of the events that it accepted.
-/// It is the replay of its trace.
+/// A world: it is the replay of its trace.
 #[derive(Debug, Drop)]
 pub struct World {
-    moment: Moment,
-    members: Vec<Member>,
-    trace: Vec<Traced>,
+    pub(crate) parts: Parts,
 }
 
 impl Model for World {
-    ghost use Rattle.hn_world.specs.Home.{Home};
+    ghost use Rattle.hn_world.specs.declared.parts.Parts.{Parts};
+    ghost use Rattle.hn_world.specs.Replay.{IsReplayed};
 
-    ghost Value = { Home };
+    ghost Value = { Parts };
 
-    ghost use Rattle.hn_world.specs.WorldView.{home_of, IsReplayed};
+    ghost view = { λ w. w.parts };
 
-    ghost view = { home_of };
+    ghost invariant = { λ w. IsReplayed w.parts };
+}
 
-    ghost invariant = { IsReplayed };
+impl Parts {
+    /// Does what the event does.
+    fn happen<D: Draw>(
+        &mut self,
+        alloc: Global,
+        event: WEvent,
+        draw: &mut D,
+    ) -> Result<Sequence<Note>, NoMemory>
+        requires accepted { refusal self.old event ≡ None }
+        requires in_range { IsInRange event }
+        requires sound { IsSound self.old }
+        ensures ok { IfOk result (λ notes. IsStep event notes (D.words draw.old) (D.words draw.new) self.old self.new) }
+        ensures err { OnErr result (self.new ≡ self.old) }
+    {
+        match event {
+            WEvent::Router { name, id } => self.define_router(alloc, name, id)?,
+            WEvent::Link { name } => self.define_link(alloc, name)?,
+            WEvent::Stop { name } => self.stop(alloc, name)?,
+            WEvent::Time { moment } => self.pass(alloc, moment)?,
+            WEvent::Drop { copy } => self.drop_copy(alloc, copy)?,
+            WEvent::Attach {
+                name,
+                endpoint,
+                link,
+            } => return self.attach(alloc, name, endpoint, link, draw),
+            WEvent::Detach { name, endpoint } => {
+                return self.detach(alloc, name, endpoint, draw);
+            }
+            WEvent::Caps { name, caps } => return self.set_caps(alloc, name, caps, draw),
+            WEvent::Start { name } => return self.start(alloc, name, draw),
+            WEvent::Tick { name } => return self.tick(alloc, name, draw),
+            WEvent::Deliver { copy } => return self.deliver(alloc, copy, draw),
+            WEvent::Inject {
+                name,
+                endpoint,
+                from,
+                multicast,
+                bytes,
+            } => return self.inject(alloc, name, endpoint, from, multicast, bytes, draw),
+        }
+        Ok(Sequence::new(alloc))
+    }
 }
 
 impl World {
-    ghost use Rattle.hn_world.specs.Home.{Station, empty_home, station_named, refusal, world_step, replay};
-    ghost use Rattle.hn_world.specs.Happening.{happening, trace_of};
-    ghost use Rattle.hn_world.specs.Member.{node_of};
-    ghost use Rattle.hn_world.specs.Leaves.{leaves_of, Agrees};
-
-    /// A world at moment 0 with nothing in it. Never allocates.
+    /// A world of version 1 at moment 0 with nothing in it. Never allocates.
     pub fn new(alloc: Global) -> World
-        ensures empty { result ≡ empty_home }
-        ensures replayed { replay result.trace ≡ Some result }
+        ensures { result ≡ empty_world One }
     {
         World {
-            moment: 0,
-            members: Vec::new(alloc),
-            trace: Vec::new(alloc),
+            parts: Parts {
+                version: Version::One,
+                moment: Present::new(0),
+                links: Links::new(alloc),
+                members: Members::new(alloc),
+                copies: Copies::new(alloc),
+                published: Publications::new(alloc),
+                trace: Trace::new(alloc),
+            },
         }
+    }
+
+    /// The code with which an event is refused; `None` if and only if it is accepted. Never allocates.
+    pub fn refusal(&self, event: &WEvent) -> Option<u8>
+        ensures { result ≡ refusal self.now event.now }
+    {
+        self.parts.refusal(event)
+    }
+
+    /// Lets an event happen, and answers what routers noted.
+    ///
+    /// # Errors
+    ///
+    /// `Refused`, which is found without taking memory, and out of memory. The world is as before then.
+    pub fn apply<D: Draw>(
+        &mut self,
+        alloc: Global,
+        event: WEvent,
+        draw: &mut D,
+    ) -> Result<Sequence<Note>, WorldFault>
+        requires { IsInRange event }
+        ensures ok { IfOk result (λ notes. IsStep event notes (D.words draw.old) (D.words draw.new) self.old self.new) }
+        ensures refused { (code : ℕ) → (result ≡ Err (WorldFault.Refused code)) ↔ (refusal self.old event ≡ Some code) }
+        ensures err { OnErr result (self.new ≡ self.old) }
+        ensures undrawn { (code : ℕ) → result ≡ Err (WorldFault.Refused code) → draw.new ≡ draw.old }
+    {
+        always_sound();
+        if let Some(code) = self.parts.refusal(&event) {
+            return Err(WorldFault::Refused(code));
+        }
+        Ok(self.parts.happen(alloc, event, draw)?)
     }
 
     /// The moment of the world, in milliseconds. Never allocates.
     pub fn moment(&self) -> Moment
         ensures { result ≡ self.now.moment }
     {
-        self.moment
+        self.parts.moment.get()
     }
 
-    /// The events that were accepted, in order. Never allocates.
-    pub fn trace(&self) -> &[Traced]
-        ensures events { map trace_of result.now ≡ self.now.trace }
-        ensures replayed { replay self.now.trace ≡ Some self.now }
-    {
-        self.trace.as_slice()
-    }
-
-    /// The router of a name, or `None` if and only if there is none. Never allocates.
+    /// The router of a name, stopped or not; `None` if and only if there is none. Never allocates.
     pub fn router(&self, name: &Name) -> Option<&Router>
-        ensures { option_map node_of (option_copied result) ≡ option_map (λ s. s.node) (station_named (name_text name.now) self.now.stations) }
+        ensures { option_copied result ≡ option_map (λ m. m.router) (member_named (name_text name.now) self.now) }
     {
-        let place = place_of(&self.members, name)?;
-        Some(&self.members[place].router)
+        self.parts.members.find(name).map(|member| &member.router)
     }
 
     /// Whether there is a router of that name and it runs. Never allocates.
     pub fn running(&self, name: &Name) -> bool
-        ensures { IsTrue result ↔ IsSomeAnd (station_named (name_text name.now) self.now.stations) (λ s. IsTrue s.running) }
+        ensures { result ≡ option_map_or (λ m. m.running) (member_named (name_text name.now) self.now) false }
     {
-        match place_of(&self.members, name) {
-            Some(place) => self.members[place].running,
+        match self.parts.members.find(name) {
+            Some(member) => member.running,
             None => false,
         }
     }
 
-    /// How two running routers agree: whether their network state hashes differ, their lists of leaves are the same,
-    /// or two inputs collide.
-    pub fn compare(&self, alloc: Global, a: &Name, b: &Name) -> Result<Agreement, NoMemory>
-        requires left { IsSome (station_named (name_text a.now) self.now.stations) }
-        requires right { IsSome (station_named (name_text b.now) self.now.stations) }
-        ensures { IfOk result (λ agreement. (s t : Station)
-            → station_named (name_text a.now) self.now.stations ≡ Some s
-            → station_named (name_text b.now) self.now.stations ≡ Some t
-            → Agrees (leaves_of s.node) (leaves_of t.node) agreement) }
+    /// The name of the router at a place, in order of definition from place 0, stopped ones too; `None` if and only if the
+    /// place is past the last. Never allocates.
+    pub fn router_at(&self, place: usize) -> Option<Name>
+        ensures { result ≡ option_map (λ m. m.name) (slice_get self.now.members place) }
     {
-        let (Some(left), Some(right)) = (self.router(a), self.router(b)) else {
-            unreachable!()
-        };
-        let left = [left.leaf(alloc)?];
-        let right = [right.leaf(alloc)?];
-        agree(alloc, &left, &right)
+        self.parts.members.get(place).map(|member| member.name)
     }
 
-    /// The code with which the event is refused; `None` if and only if it is accepted. Never allocates.
-    fn refusal(&self, event: &WEvent) -> Option<u8>
-        ensures { result ≡ refusal self.now (happening event.now) }
+    /// The events that were accepted, in order. Never allocates.
+    pub fn trace(&self) -> &[Traced]
+        ensures { result.now ≡ self.now.trace }
     {
-        match event {
-            WEvent::Router { name, .. } => place_of(&self.members, name).map(|_| 8),
-            WEvent::Caps { name, .. } => match place_of(&self.members, name) {
-                Some(_) => None,
-                None => Some(7),
-            },
-        }
+        self.parts.trace.as_slice()
     }
 
-    /// Lets an event happen, and adds it to the trace with the words that it took. After an `Err` the world is as
-    /// before. A refusal is found without taking memory.
-    pub fn apply<D: Draw>(
-        &mut self,
-        alloc: Global,
-        event: WEvent,
-        draw: &mut D,
-    ) -> Result<(), WorldFault>
-        ensures step { OnOk result (world_step self.old (record { event = happening event; words = [] }) ≡ Some self.new) }
-        ensures refused { (code : ℕ) → (result ≡ Err (WorldFault.Refused code)) ↔ (refusal self.old (happening event) ≡ Some code) }
-        ensures err { OnErr result (self.new ≡ self.old) }
-        ensures replayed { replay self.new.trace ≡ Some self.new }
-
-        // The words that the trace notes were taken from the draw, and no others; a refusal takes none.
-        ensures drew { OnOk result (Took (D.words draw.old) [] (D.words draw.new)) }
-        ensures undrawn { OnErr result (D.words draw.new ≡ D.words draw.old) }
+    /// What the routers published, in order. Never allocates.
+    pub fn publications(&self) -> &[Publication]
+        ensures { result.now ≡ self.now.published }
     {
-        if let Some(code) = self.refusal(&event) {
-            return Err(WorldFault::Refused(code));
-        }
-        self.trace.reserve(1)?;
-        happen(alloc, &mut self.members, &event)?;
-        let traced = Traced {
-            event,
-            words: Words::new(alloc),
-        };
-        self.trace.push(traced).unwrap();
-        Ok(())
+        self.parts.published.as_slice()
+    }
+
+    /// That the world is the replay of its trace. Never allocates.
+    pub fn is_replayed(&self)
+        ensures { IsReplayed self.now }
+    {
+        let _parts = &self.parts;
     }
 }

@@ -1,17 +1,13 @@
 -- What was written of a datagram's text before it was cut.
-use Rattle.std.proofs.Common.{◌≡◌, ◌∙◌, ◌<◌, ◌⊎◌, inl, inr, arith, Result, Ok, Err, ℕ, List, [], ◌∷◌, ◌++◌, Option, length, ap, sym, refl, subst, append_assoc, lit<}
-use Rattle.std.specs.Prelude.{OnErr, Contains}
+use Rattle.std.proofs.Common.{◌≡◌, ◌∙◌, ◌<◌, arith, Result, Ok, Err, ℕ, List, [], ◌∷◌, ◌++◌, Option, length, ap, sym, refl, subst, append_assoc, lit<}
+use Rattle.std.specs.Prelude.{IfErr, Contains}
 use Rattle.std.specs.Io.KnownBytes.{Appends}
 use Rattle.hn_io.specs.declared.fault.IoFault.{IoFault}
 use Rattle.hn_io.specs.declared.fault.IoFault.TheVariants.{Failed, NoMemory}
 use Rattle.hn_tlv.specs.Grammar.{PlainTlv, IsTlvList}
 use Rattle.hn_decode.specs.Nested.{first_line, IsTextTo, IsDecodeText}
-use Rattle.hncp.specs.declared.end.End.{End}
-use Rattle.hncp.specs.declared.end.End.TheVariants.{Done, Refused}
-use Rattle.hncp.specs.Front.{AppendsFront}
-use Rattle.hncp.specs.Decode.{written_status}
-use Rattle.hncp.specs.Lab.{play_status}
-use Rattle.hncp.proofs.Streams.{AppendsFront-more, Appends-none}
+use Rattle.hncp.specs.Decode.{AppendsCut, written_status}
+use Rattle.hncp.proofs.Streams.{AppendsCut-more, Appends-none}
 
 -- the law that lines up to a place go on to a text
 abbrev pub LinesGoOn : Type 0
@@ -21,52 +17,45 @@ LinesGoOn = (bytes lines : List ℕ) (at : ℕ) (tlvs : List PlainTlv) → IsTlv
 abbrev pub AreSoMany : List ℕ → ℕ → Type 0
 AreSoMany bytes count = (tlvs : List PlainTlv) × IsTlvList tlvs bytes × (length tlvs ≡ count)
 
-pub goes_on : LinesGoOn → (bytes lines : List ℕ) (at count : ℕ) → AreSoMany bytes count → IsTextTo bytes at lines → (rest : List ℕ) × IsDecodeText bytes (first_line count ++ (lines ++ rest))
+goes_on : LinesGoOn → (bytes lines : List ℕ) (at count : ℕ) → AreSoMany bytes count → IsTextTo bytes at lines → (rest : List ℕ) × IsDecodeText bytes (first_line count ++ (lines ++ rest))
 goes_on law bytes lines at count many so_far =
     let told = law bytes lines at many.0 many.1 so_far in
     let Told : ℕ → Type 0 = λ n. IsDecodeText bytes (first_line n ++ (lines ++ told.0)) in
     (told.0, subst Told many.2 told.1)
 
--- a front of the lines of the next TLV was written
-pub cut_among_lines : LinesGoOn → (bytes lines : List ℕ) (at count : ℕ) → AreSoMany bytes count → IsTextTo bytes at lines → (a b c : Option (List ℕ)) → Appends a b (first_line count ++ lines)
-    → (after : ℕ) × (more : List ℕ) × ((lines : List ℕ) → IsTextTo bytes at lines → IsTextTo bytes after (lines ++ more)) × AppendsFront b c more
-    → (text : List ℕ) × IsDecodeText bytes text × AppendsFront a c text
-cut_among_lines law bytes lines at count many so_far a b c written cut =
+-- the writing was cut in the lines of the next TLV
+pub cut_among_lines : LinesGoOn → (bytes lines : List ℕ) (at count : ℕ) → AreSoMany bytes count → IsTextTo bytes at lines → (fault : IoFault) (a b c : Option (List ℕ)) → Appends a b (first_line count ++ lines)
+    → (after : ℕ) × (more : List ℕ) × ((lines : List ℕ) → IsTextTo bytes at lines → IsTextTo bytes after (lines ++ more)) × AppendsCut fault b c more
+    → (text : List ℕ) × IsDecodeText bytes text × AppendsCut fault a c text
+cut_among_lines law bytes lines at count many so_far fault a b c written cut =
     let front = first_line count in
     let more = cut.1 in
     let told = goes_on law bytes (lines ++ more) cut.0 count many (cut.2 lines so_far) in
     let rest = told.0 in
     let parts : front ++ ((lines ++ more) ++ rest) ≡ (front ++ lines) ++ (more ++ rest) =
     ap (λ xs. front ++ xs) (append_assoc lines more rest) ∙ sym (append_assoc front lines (more ++ rest)) in
-    (front ++ ((lines ++ more) ++ rest), told.1, AppendsFront-more a b c (front ++ lines) more rest _ written cut.3 parts)
+    (front ++ ((lines ++ more) ++ rest), told.1, AppendsCut-more fault a b c (front ++ lines) more rest _ written cut.3 parts)
 
--- a front of the first line was written
-pub cut_in_first_line : LinesGoOn → (bytes : List ℕ) (count : ℕ) → AreSoMany bytes count → IsTextTo bytes 0 [] → (a b : Option (List ℕ)) → AppendsFront a b (first_line count) → (text : List ℕ) × IsDecodeText bytes text × AppendsFront a b text
-cut_in_first_line law bytes count many begins a b cut =
+-- the writing was cut in the first line
+pub cut_in_first_line : LinesGoOn → (bytes : List ℕ) (count : ℕ) → AreSoMany bytes count → IsTextTo bytes 0 [] → (fault : IoFault) (a b : Option (List ℕ)) → AppendsCut fault a b (first_line count)
+    → (text : List ℕ) × IsDecodeText bytes text × AppendsCut fault a b text
+cut_in_first_line law bytes count many begins fault a b cut =
     let told = goes_on law bytes [] 0 count many begins in
-    (first_line count ++ told.0, told.1, AppendsFront-more a a b [] (first_line count) told.0 _ (Appends-none a) cut refl)
+    (first_line count ++ told.0, told.1, AppendsCut-more fault a a b [] (first_line count) told.0 _ (Appends-none a) cut refl)
 
--- what holds after an error holds with the status of one
-pub cut_of_written : (written : Result (Unit {0}) IoFault) (whole : ℕ) (P : Type 0) → whole < 3 → OnErr written P → (written_status written whole ≡ 4) ⊎ (written_status written whole ≡ 6) → P
-cut_of_written (Ok _) whole P small cut (inl is) = absurd (omega arith)
-cut_of_written (Ok _) whole P small cut (inr is) = absurd (omega arith)
-cut_of_written (Err fault) whole P small cut status = cut
+-- what holds after a fault holds with its status
+pub broken_of_written : (written : Result (Unit {0}) IoFault) (whole : ℕ) (P : IoFault → Type 0) → whole < 3 → IfErr written P → written_status written whole ≡ 4 → P Failed
+broken_of_written (Ok _) whole P small cut status = absurd (omega arith)
+broken_of_written (Err Failed) whole P small cut status = cut
+broken_of_written (Err NoMemory) whole P small cut status = absurd (omega arith)
 
-pub cut_of_played : (played : Result End IoFault) (P : Type 0) → OnErr played P → (play_status played ≡ 4) ⊎ (play_status played ≡ 6) → P
-cut_of_played (Ok Done) P cut (inl is) = absurd (omega arith)
-cut_of_played (Ok Done) P cut (inr is) = absurd (omega arith)
-cut_of_played (Ok (Refused line code)) P cut (inl is) = absurd (omega arith)
-cut_of_played (Ok (Refused line code)) P cut (inr is) = absurd (omega arith)
-cut_of_played (Err fault) P cut status = cut
+pub starved_of_written : (written : Result (Unit {0}) IoFault) (whole : ℕ) (P : IoFault → Type 0) → whole < 3 → IfErr written P → written_status written whole ≡ 6 → P NoMemory
+starved_of_written (Ok _) whole P small cut status = absurd (omega arith)
+starved_of_written (Err Failed) whole P small cut status = absurd (omega arith)
+starved_of_written (Err NoMemory) whole P small cut status = cut
 
--- the statuses of a text that is done or refused, and of a play
+-- the statuses of a text that is refused
 pub written_statuses : (written : Result (Unit {0}) IoFault) → Contains (0 ∷ 2 ∷ 4 ∷ 6 ∷ []) (written_status written 2)
 written_statuses (Ok _) = (1, lit< tt, refl)
 written_statuses (Err Failed) = (2, lit< tt, refl)
 written_statuses (Err NoMemory) = (3, lit< tt, refl)
-
-pub play_statuses : (played : Result End IoFault) → Contains (0 ∷ 2 ∷ 4 ∷ 6 ∷ []) (play_status played)
-play_statuses (Ok Done) = (0, lit< tt, refl)
-play_statuses (Ok (Refused line code)) = (1, lit< tt, refl)
-play_statuses (Err Failed) = (2, lit< tt, refl)
-play_statuses (Err NoMemory) = (3, lit< tt, refl)

@@ -7,8 +7,8 @@ use Rattle.hn_decode.specs.Nested.{IsDecodeText}
 use Rattle.hex.specs.Hex.{decode_of}
 use Rattle.hex.specs.declared.error.FromHexError.{FromHexError}
 use Rattle.hex.proofs.HexLemmas.{decode_of-ok}
+use Rattle.hn_lab.specs.Reports.{refused_line}
 use Rattle.hncp.specs.HexText.{unblanked}
-use Rattle.hncp.specs.Report.{refused_line}
 use Rattle.hncp.specs.Decode.{malformed_line, IsContentsOf, IsDecodeOf}
 
 -- the laws of lists and of texts

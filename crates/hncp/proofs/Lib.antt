@@ -2,7 +2,5 @@ mod HexDigits
 mod Streams
 mod Cut
 mod Decodes
-mod Reports
-mod Playing
 mod Sources
 mod Spelled

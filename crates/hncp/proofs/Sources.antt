@@ -1,15 +1,12 @@
 -- What was read of a source, and the bytes that the source has.
-use Rattle.std.proofs.Common.{◌≡◌, ◌≢◌, ◌<◌, ◌≤◌, ◌^◌, ℕ, zero, suc, List, [], ◌∷◌, Option, None, Some, length, inl, inr, subst, sym, ap, refl, arith, lit<, length-append}
+use Rattle.std.proofs.Common.{◌<◌, ◌≤◌, ◌^◌, ℕ, zero, suc, List, [], ◌∷◌, ◌++◌, Option, None, Some, length, inl, inr, subst, sym, ap, arith, length-append}
 use Rattle.std.specs.Prelude.{IfSome, Contains}
 use Rattle.std.specs.Io.KnownBytes.{Consumes}
 use Rattle.std.proofs.lemmas.Bool.{cases_lt}
-use Rattle.hn_world.specs.Home.{Home}
-use Rattle.hncp.specs.declared.words.Form.{Form}
-use Rattle.hncp.specs.declared.words.Form.TheVariants.{Lab, Decode}
-use Rattle.hncp.specs.Form.{IsFormOf}
-use Rattle.hncp.specs.Input.{IsWhole}
-use Rattle.hncp.specs.Decode.{SpellsTlvs, IsDecodeOf, WritesDecode, CutsDecode}
-use Rattle.hncp.specs.Lab.{WritesLab}
+use Rattle.hn_io.specs.declared.fault.IoFault.{IoFault}
+use Rattle.hn_io.specs.declared.fault.IoFault.TheVariants.{NoMemory}
+use Rattle.hn_lab.specs.Input.{IsWhole}
+use Rattle.hncp.specs.Decode.{IsDecodeOf, WritesDecode, CutsDecode}
 use Rattle.hncp.proofs.Streams.{AppendsFront-none}
 
 length_front : (whole : List ℕ) (after : Option (List ℕ)) (read : List ℕ) → Consumes (Some whole) after read → length read ≤ length whole
@@ -25,28 +22,14 @@ of_source R longer (Some whole) after read c all holds =
       | inr short ↦ subst R (sym (all short)) holds
     ]
 
--- a script of more than 2^24 bytes, of which one more was read
-pub lab_longer : (status : ℕ) (world : Option Home) (before after : Option (List ℕ)) (whole read : List ℕ) → 2 ^ 24 < length read → length read ≤ length whole → WritesLab read status world before after → WritesLab whole status world before after
-lab_longer status world before after whole read long front lab =
-    elim lab.1 [
-      | inl refused ↦ (lab.0, inl (record { no_script = inl (omega arith); status_is = refused.status_is; text_is = refused.text_is; no_world = refused.no_world }), lab.2)
-      | inr played ↦ let short = played.short in absurd (omega arith)
-    ]
-
--- the words of the command line are one form
-pub one_form : (form other : Form) (words : List (List ℕ)) → IsFormOf form words → IsFormOf other words → form ≡ other
-one_form Lab Lab words p q = refl
-one_form Decode Decode words p q = refl
-one_form Lab Decode words p q = let e = p.1 in let f = q.1 in cc
-one_form Decode Lab words p q = let e = p.1 in let f = q.1 in cc
-
--- the statuses of a source that was read are among all
-pub among_all : (status : ℕ) → Contains (0 ∷ 2 ∷ 4 ∷ 6 ∷ []) status → Contains (0 ∷ 1 ∷ 2 ∷ 3 ∷ 4 ∷ 6 ∷ []) status
-among_all status (zero, within, is) = (0, lit< tt, is)
-among_all status (suc zero, within, is) = (2, lit< tt, is)
-among_all status (suc (suc zero), within, is) = (4, lit< tt, is)
-among_all status (suc (suc (suc zero)), within, is) = (5, lit< tt, is)
-among_all status (suc (suc (suc (suc k))), within, is) = absurd (omega arith)
+-- what is among some numbers is among more
+pub Contains-more : (xs ys : List ℕ) (more x : ℕ) → Contains (xs ++ ys) x → Contains (xs ++ more ∷ ys) x
+Contains-more [] ys more x (k, within, is) = (suc k, omega arith, is)
+Contains-more (y ∷ xs) ys more x (zero, within, is) = (zero, omega arith, is)
+Contains-more (y ∷ xs) ys more x (suc k, within, is) =
+    let rest = Contains-more xs ys more x (k, omega arith, is) in
+    let below = rest.1 in
+    (suc rest.0, omega arith, rest.2)
 
 -- a source of hexadecimal text that is too long, of which one byte more was read
 text_longer : (status : ℕ) (text whole read : List ℕ) → 2 ^ 24 < length read → length read ≤ length whole → IsDecodeOf read status text → IsDecodeOf whole status text
@@ -64,16 +47,13 @@ pub decode_longer : (status : ℕ) (before after : Option (List ℕ)) (whole rea
 decode_longer status before after whole read long front decoded =
     (decoded.0, text_longer status decoded.0 whole read long front decoded.1, decoded.2)
 
-pub cut_longer : (before after : Option (List ℕ)) (whole read : List ℕ) → 2 ^ 24 < length read → length read ≤ length whole → CutsDecode read before after → CutsDecode whole before after
-cut_longer before after whole read long front cut =
+pub cut_longer : (fault : IoFault) (before after : Option (List ℕ)) (whole read : List ℕ) → 2 ^ 24 < length read → length read ≤ length whole → CutsDecode read fault before after → CutsDecode whole fault before after
+cut_longer fault before after whole read long front cut =
     (cut.0, cut.1, text_longer cut.0 cut.1 whole read long front cut.2, cut.3)
 
 -- of a source that was not read nothing was written
-pub cut_of_unread : ((bytes : List ℕ) → (status : ℕ) × (text : List ℕ) × IsDecodeOf bytes status text) → (left before : Option (List ℕ)) → IfSome left (λ bytes. CutsDecode bytes before before)
+pub cut_of_unread : ((bytes : List ℕ) → (status : ℕ) × (text : List ℕ) × IsDecodeOf bytes status text) → (left before : Option (List ℕ)) → IfSome left (λ bytes. CutsDecode bytes NoMemory before before)
 cut_of_unread decodes None before = tt
 cut_of_unread decodes (Some bytes) before =
     let told = decodes bytes in
     (told.0, told.1, told.2, AppendsFront-none before told.1)
-
-pub complete_longer : (status : ℕ) (whole read : List ℕ) → 2 ^ 24 < length read → length read ≤ length whole → (SpellsTlvs read → status ≢ 2) → SpellsTlvs whole → status ≢ 2
-complete_longer status whole read long front complete spells = let short = spells.short in absurd (omega arith)

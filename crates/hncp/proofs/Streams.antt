@@ -1,24 +1,11 @@
--- One read or write after another.
-use Rattle.std.proofs.Common.{◌≡◌, ◌∙◌, ℕ, List, [], ◌++◌, Option, None, Some, Result, Ok, Err, sym, ap, refl, append-nil, append_assoc}
-use Rattle.std.specs.Prelude.{OnErr}
-use Rattle.std.specs.Io.KnownBytes.{Appends, Consumes, IsAtEnd}
-use Rattle.hncp.specs.Front.{AppendsFront}
-use Rattle.hncp.specs.Input.{IsWhole}
-
-pub Consumes-more : (a b c : Option (List ℕ)) (xs ys : List ℕ) → Consumes a b xs → Consumes b c ys → Consumes a c (xs ++ ys)
-Consumes-more None b c xs ys p q = tt
-Consumes-more (Some s) None c xs ys p q = absurd p
-Consumes-more (Some s) (Some t) None xs ys p q = absurd q
-Consumes-more (Some s) (Some t) (Some u) xs ys p q = p ∙ ap (λ zs. xs ++ zs) q ∙ sym (append_assoc xs ys u)
-
-pub Consumes-none : (a : Option (List ℕ)) → Consumes a a []
-Consumes-none None = tt
-Consumes-none (Some s) = refl
-
-pub IsWhole-at_end : (a b : Option (List ℕ)) (xs : List ℕ) → Consumes a b xs → IsAtEnd b → IsWhole a xs
-IsWhole-at_end None b xs p end = tt
-IsWhole-at_end (Some s) None xs p end = absurd p
-IsWhole-at_end (Some s) (Some t) xs p end = p ∙ ap (λ zs. xs ++ zs) end ∙ append-nil xs
+-- One write after another.
+use Rattle.std.proofs.Common.{◌≡◌, ◌∙◌, ℕ, List, [], ◌++◌, Option, None, Some, Result, Ok, Err, sym, ap, refl, arith, append-nil, append_assoc, length-append}
+use Rattle.std.specs.Prelude.{OnErr, IfErr}
+use Rattle.std.specs.Io.KnownBytes.{Appends}
+use Rattle.hn_io.specs.declared.fault.IoFault.{IoFault}
+use Rattle.hn_io.specs.declared.fault.IoFault.TheVariants.{Failed, NoMemory}
+use Rattle.hn_lab.specs.Output.{AppendsFront, AppendsPart}
+use Rattle.hncp.specs.Decode.{AppendsCut}
 
 pub Appends-more : (a b c : Option (List ℕ)) (xs ys : List ℕ) → Appends a b xs → Appends b c ys → Appends a c (xs ++ ys)
 Appends-more None b c xs ys p q = tt
@@ -30,18 +17,44 @@ pub Appends-none : (a : Option (List ℕ)) → Appends a a []
 Appends-none None = tt
 Appends-none (Some s) = sym (append-nil s)
 
+-- of what comes after a front, a front was written
+two_fronts : (front part missing back piece whole : List ℕ) → piece ≡ part ++ missing → whole ≡ front ++ (piece ++ back) → whole ≡ (front ++ part) ++ (missing ++ back)
+two_fronts front part missing back piece whole split is =
+    is ∙ ap (λ xs. front ++ (xs ++ back)) split ∙ ap (λ xs. front ++ xs) (append_assoc part missing back) ∙ sym (append_assoc front part (missing ++ back))
+
 -- a front of what comes after a front, of a text that goes on
-pub AppendsFront-more : (a b c : Option (List ℕ)) (front piece back whole : List ℕ) → Appends a b front → AppendsFront b c piece → whole ≡ front ++ (piece ++ back) → AppendsFront a c whole
-AppendsFront-more a b c front piece back whole before cut is = (
-  front ++ cut.0,
-  cut.1 ++ back,
-  is ∙ ap (λ xs. front ++ (xs ++ back)) cut.2 ∙ ap (λ xs. front ++ xs) (append_assoc cut.0 cut.1 back) ∙ sym (append_assoc front cut.0 (cut.1 ++ back)),
-  Appends-more a b c front cut.0 before cut.3,
-)
+AppendsFront-more : (a b c : Option (List ℕ)) (front piece back whole : List ℕ) → Appends a b front → AppendsFront b c piece → whole ≡ front ++ (piece ++ back) → AppendsFront a c whole
+AppendsFront-more a b c front piece back whole before cut is =
+    let rest = cut.1 in
+    (front ++ cut.0, (rest.0 ++ back, two_fronts front cut.0 rest.0 back piece whole rest.1 is), Appends-more a b c front cut.0 before cut.2)
 
 -- nothing of a text
 pub AppendsFront-none : (a : Option (List ℕ)) (text : List ℕ) → AppendsFront a a text
-AppendsFront-none a text = ([], text, refl, Appends-none a)
+AppendsFront-none a text = ([], (text, refl), Appends-none a)
+
+-- a proper front of what comes after a front, of a text that goes on
+pub AppendsPart-more : (a b c : Option (List ℕ)) (front piece back whole : List ℕ) → Appends a b front → AppendsPart b c piece → whole ≡ front ++ (piece ++ back) → AppendsPart a c whole
+AppendsPart-more a b c front piece back whole before cut is =
+    let missing = cut.1.missing in
+    let some = cut.1.some in (
+      front ++ cut.0,
+      record { missing = missing ++ back; some = omega (arith, length-append missing back); whole_is = two_fronts front cut.0 missing back piece whole cut.1.whole_is is },
+      Appends-more a b c front cut.0 before cut.2,
+    )
+
+-- after a fault
+pub AppendsCut-more : (fault : IoFault) (a b c : Option (List ℕ)) (front piece back whole : List ℕ) → Appends a b front → AppendsCut fault b c piece → whole ≡ front ++ (piece ++ back) → AppendsCut fault a c whole
+AppendsCut-more Failed a b c front piece back whole before cut is = AppendsPart-more a b c front piece back whole before cut is
+AppendsCut-more NoMemory a b c front piece back whole before cut is = AppendsFront-more a b c front piece back whole before cut is
+
+-- a proper front is a front
+pub part_is_cut : (fault : IoFault) (a b : Option (List ℕ)) (text : List ℕ) → AppendsPart a b text → AppendsCut fault a b text
+part_is_cut Failed a b text cut = cut
+part_is_cut NoMemory a b text cut = (cut.0, (cut.1.missing, cut.1.whole_is), cut.2)
+
+pub cut_on_err : {T : Type 0} (written : Result T IoFault) (a b : Option (List ℕ)) (text : List ℕ) → OnErr written (AppendsPart a b text) → IfErr written (λ fault. AppendsCut fault a b text)
+cut_on_err (Ok x) a b text cut = tt
+cut_on_err (Err fault) a b text cut = part_is_cut fault a b text cut
 
 -- what holds after each answer holds after an error
 pub on_err : {T E : Type 0} (r : Result T E) (P : Type 0) → P → OnErr r P

@@ -5,9 +5,9 @@ use Rattle.hn_io.specs.declared.fault.IoFault.{IoFault}
 use Rattle.hn_io.specs.declared.fault.IoFault.TheVariants.{Failed, NoMemory}
 use Rattle.hn_tlv.specs.Grammar.{HasTlvs, FirstFault}
 use Rattle.hn_decode.specs.Nested.{IsDecodeText}
-use Rattle.hncp.specs.Front.{AppendsFront}
+use Rattle.hn_lab.specs.Output.{AppendsFront, AppendsPart}
+use Rattle.hn_lab.specs.Reports.{refused_line}
 use Rattle.hncp.specs.HexText.{IsHexText, IsNoHexText}
-use Rattle.hncp.specs.Report.{refused_line}
 
 -- the line of octets that are no list of TLVs: the place and the cause of the first fault
 abbrev pub malformed_line : ℕ → ℕ → List ℕ
@@ -52,9 +52,14 @@ IsDecodeOf bytes status text = IsRefusedSource bytes status text ⊎ IsDecoded b
 abbrev pub WritesDecode : List ℕ → ℕ → Option (List ℕ) → Option (List ℕ) → Type 0
 WritesDecode bytes status before after = (text : List ℕ) × IsDecodeOf bytes status text × Appends before after text
 
--- or the writing was cut, and a sink grew by a front of it
-abbrev pub CutsDecode : List ℕ → Option (List ℕ) → Option (List ℕ) → Type 0
-CutsDecode bytes before after = (status : ℕ) × (text : List ℕ) × IsDecodeOf bytes status text × AppendsFront before after text
+-- how far a sink grew by a text that was cut: after a failure by a proper front of it, and out of memory by a front
+abbrev pub AppendsCut : IoFault → Option (List ℕ) → Option (List ℕ) → List ℕ → Type 0
+AppendsCut Failed before after text = AppendsPart before after text
+AppendsCut NoMemory before after text = AppendsFront before after text
+
+-- or the writing was cut by a fault, and a sink grew by as much of the text
+abbrev pub CutsDecode : List ℕ → IoFault → Option (List ℕ) → Option (List ℕ) → Type 0
+CutsDecode bytes fault before after = (status : ℕ) × (text : List ℕ) × IsDecodeOf bytes status text × AppendsCut fault before after text
 
 -- the bytes are hexadecimal text of a list of TLVs, and not too many
 pub record SpellsTlvs (bytes : List ℕ) : Type 0 where

@@ -1,19 +1,17 @@
-ghost use Rattle.std.specs.Prelude.{◌≡◌, ◌≢◌, ◌<◌, ◌⊎◌, ℕ, List, [], ◌∷◌, ◌++◌, length, drop, Err, OnOk, OnErr, IfOk, Contains};
+ghost use Rattle.std.specs.Prelude.{◌≡◌, ◌≢◌, ◌<◌, ◌⊎◌, ℕ, List, [], ◌∷◌, ◌++◌, length, drop, Err, OnOk, IfOk, IfErr, Contains};
 ghost use Rattle.std.specs.Io.KnownBytes.{Appends};
 ghost use Rattle.hn_io.specs.Faults.{Counts, IsReliable};
 ghost use Rattle.hn_tlv.specs.Grammar.{PlainTlv, IsTlvList, HasTlvs};
 ghost use Rattle.hn_decode.specs.Nested.{IsDecodeText, IsTextTo};
-ghost use Rattle.hncp.specs.Front.{AppendsFront};
-ghost use Rattle.hncp.specs.Decode.{SpellsTlvs, IsContentsOf, IsDecodeOf, WritesDecode, CutsDecode, malformed_line};
+ghost use Rattle.hncp.specs.Decode.{SpellsTlvs, IsContentsOf, IsDecodeOf, WritesDecode, CutsDecode, AppendsCut, malformed_line};
 
 use crate::hex_text::octets_of;
-use crate::input::SOURCE_LIMIT;
-use crate::outcome::{DONE, NO_MEMORY, REFUSED, SINK_FAILED, play_status, written_status};
-use crate::output::{write_lines, write_piece};
-use crate::play::refuse;
+use crate::outcome::{DONE, NO_MEMORY, REFUSED, SINK_FAILED, written_status};
+use crate::output::write_lines;
 use crate::report::malformed_line;
 use hn_decode::{decode_text_exists, first_line, lines_go_on, lines_make_the_text, push_next};
 use hn_io::{IoFault, Sink};
+use hn_lab::{SOURCE_LIMIT, write_piece, write_refusal};
 use hn_tlv::{TlvFault, check, first_fault_is_unique, list_or_first_fault};
 use std::alloc::Global;
 
@@ -25,7 +23,7 @@ const NO_HEX_TEXT: u8 = 4;
 /// Writes the line of octets that are no list of TLVs.
 fn write_malformed<K: Sink>(alloc: Global, fault: TlvFault, out: &mut K) -> Result<(), IoFault>
     ensures written { OnOk result (Appends (K.held out.old) (K.held out.new) (malformed_line fault.place fault.why)) }
-    ensures cut { OnErr result (AppendsFront (K.held out.old) (K.held out.new) (malformed_line fault.place fault.why)) }
+    ensures cut { IfErr result (λ cut. AppendsCut cut (K.held out.old) (K.held out.new) (malformed_line fault.place fault.why)) }
     ensures counts { Counts (result ≡ Err IoFault.Failed) (K.faults out.old) (K.faults out.new) }
     ensures reliable { IsReliable (result ≡ Err IoFault.Failed) (K.never_fails out.old) (K.never_fails out.new) }
 {
@@ -49,9 +47,9 @@ fn write_next<K: Sink>(
     ensures written { IfOk result (λ after. (more : List ℕ)
         × ((lines : List ℕ) → IsTextTo octets.now at lines → IsTextTo octets.now after (lines ++ more))
         × Appends (K.held out.old) (K.held out.new) more) }
-    ensures cut { OnErr result ((after : ℕ) × (more : List ℕ)
+    ensures cut { IfErr result (λ fault. (after : ℕ) × (more : List ℕ)
         × ((lines : List ℕ) → IsTextTo octets.now at lines → IsTextTo octets.now after (lines ++ more))
-        × AppendsFront (K.held out.old) (K.held out.new) more) }
+        × AppendsCut fault (K.held out.old) (K.held out.new) more) }
     ensures counts { Counts (result ≡ Err IoFault.Failed) (K.faults out.old) (K.faults out.new) }
     ensures reliable { IsReliable (result ≡ Err IoFault.Failed) (K.never_fails out.old) (K.never_fails out.new) }
 {
@@ -74,7 +72,7 @@ fn write_tlvs<K: Sink>(
 ) -> Result<(), IoFault>
     requires { (tlvs : List PlainTlv) × IsTlvList tlvs octets.now × (length tlvs ≡ count) }
     ensures written { OnOk result ((text : List ℕ) × IsDecodeText octets.now text × Appends (K.held out.old) (K.held out.new) text) }
-    ensures cut { OnErr result ((text : List ℕ) × IsDecodeText octets.now text × AppendsFront (K.held out.old) (K.held out.new) text) }
+    ensures cut { IfErr result (λ fault. (text : List ℕ) × IsDecodeText octets.now text × AppendsCut fault (K.held out.old) (K.held out.new) text) }
     ensures counts { Counts (result ≡ Err IoFault.Failed) (K.faults out.old) (K.faults out.new) }
     ensures reliable { IsReliable (result ≡ Err IoFault.Failed) (K.never_fails out.old) (K.never_fails out.new) }
 {
@@ -95,8 +93,10 @@ fn write_tlvs<K: Sink>(
 fn write_contents<K: Sink>(alloc: Global, octets: &[u8], out: &mut K) -> u8
     ensures written { (result ≡ DONE) ⊎ (result ≡ REFUSED)
         → (text : List ℕ) × IsContentsOf octets.now result text × Appends (K.held out.old) (K.held out.new) text }
-    ensures cut { (result ≡ SINK_FAILED) ⊎ (result ≡ NO_MEMORY)
-        → (status : ℕ) × (text : List ℕ) × IsContentsOf octets.now status text × AppendsFront (K.held out.old) (K.held out.new) text }
+    ensures broken { result ≡ SINK_FAILED
+        → (status : ℕ) × (text : List ℕ) × IsContentsOf octets.now status text × AppendsCut IoFault.Failed (K.held out.old) (K.held out.new) text }
+    ensures starved { result ≡ NO_MEMORY
+        → (status : ℕ) × (text : List ℕ) × IsContentsOf octets.now status text × AppendsCut IoFault.NoMemory (K.held out.old) (K.held out.new) text }
     ensures statuses { Contains (DONE ∷ REFUSED ∷ SINK_FAILED ∷ NO_MEMORY ∷ []) result }
     ensures counts { Counts (result ≡ SINK_FAILED) (K.faults out.old) (K.faults out.new) }
     ensures reliable { IsReliable (result ≡ SINK_FAILED) (K.never_fails out.old) (K.never_fails out.new) }
@@ -110,17 +110,18 @@ fn write_contents<K: Sink>(alloc: Global, octets: &[u8], out: &mut K) -> u8
 /// Writes the contents of the datagram that a source spells, or why it spells none, and answers the status.
 fn write_decoded<K: Sink>(alloc: Global, source: Vec<u8>, out: &mut K) -> u8
     ensures written { (result ≡ DONE) ⊎ (result ≡ REFUSED) → WritesDecode source.items result (K.held out.old) (K.held out.new) }
-    ensures cut { (result ≡ SINK_FAILED) ⊎ (result ≡ NO_MEMORY) → CutsDecode source.items (K.held out.old) (K.held out.new) }
+    ensures broken { result ≡ SINK_FAILED → CutsDecode source.items IoFault.Failed (K.held out.old) (K.held out.new) }
+    ensures starved { result ≡ NO_MEMORY → CutsDecode source.items IoFault.NoMemory (K.held out.old) (K.held out.new) }
     ensures statuses { Contains (DONE ∷ REFUSED ∷ SINK_FAILED ∷ NO_MEMORY ∷ []) result }
     ensures counts { Counts (result ≡ SINK_FAILED) (K.faults out.old) (K.faults out.new) }
     ensures reliable { IsReliable (result ≡ SINK_FAILED) (K.never_fails out.old) (K.never_fails out.new) }
 {
     if source.len() > SOURCE_LIMIT {
-        return play_status(&refuse(alloc, out, 0, TOO_LONG));
+        return written_status(&write_refusal(alloc, out, 0, TOO_LONG), REFUSED);
     }
     match octets_of(source) {
         Some(octets) => write_contents(alloc, &octets, out),
-        None => play_status(&refuse(alloc, out, 0, NO_HEX_TEXT)),
+        None => written_status(&write_refusal(alloc, out, 0, NO_HEX_TEXT), REFUSED),
     }
 }
 
@@ -128,7 +129,8 @@ fn write_decoded<K: Sink>(alloc: Global, source: Vec<u8>, out: &mut K) -> u8
 /// that spells a list of TLVs is not refused.
 pub fn run_decode<K: Sink>(alloc: Global, source: Vec<u8>, out: &mut K) -> u8
     ensures written { (result ≡ DONE) ⊎ (result ≡ REFUSED) → WritesDecode source.items result (K.held out.old) (K.held out.new) }
-    ensures cut { (result ≡ SINK_FAILED) ⊎ (result ≡ NO_MEMORY) → CutsDecode source.items (K.held out.old) (K.held out.new) }
+    ensures broken { result ≡ SINK_FAILED → CutsDecode source.items IoFault.Failed (K.held out.old) (K.held out.new) }
+    ensures starved { result ≡ NO_MEMORY → CutsDecode source.items IoFault.NoMemory (K.held out.old) (K.held out.new) }
     ensures complete { SpellsTlvs source.items → result ≢ REFUSED }
     ensures statuses { Contains (DONE ∷ REFUSED ∷ SINK_FAILED ∷ NO_MEMORY ∷ []) result }
     ensures counts { Counts (result ≡ SINK_FAILED) (K.faults out.old) (K.faults out.new) }

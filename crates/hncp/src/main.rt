@@ -3,14 +3,9 @@
 #![tactic(auto)]
 
 mod decode;
-mod end;
 mod hex_text;
-mod input;
-mod lab;
-mod line;
 mod outcome;
 mod output;
-mod play;
 mod report;
 mod run;
 #[cfg(test)]
@@ -18,15 +13,15 @@ mod tests;
 mod words;
 
 use hn_io::{ReaderSource, WriterSink};
-use outcome::{BAD_USAGE, NO_MEMORY, SINK_FAILED};
+use outcome::{BAD_USAGE, NO_MEMORY, REFUSED, SINK_FAILED, SOURCE_FAILED};
 use run::run;
 use std::alloc::Global;
-use std::io::{BufWriter, Write};
+use std::io::{BufWriter, ErrorKind, Write};
 use std::process::ExitCode;
 use std::rt::Env;
 use std::{env, io};
 
-/// The words of the command line, or an error of the system.
+/// The words of the command line, or an error of the system. A word that is not Unicode is one.
 fn words_of(rt: &(impl Env + AllocGlobal), alloc: Global) -> io::Result<Vec<String>> {
     let mut words = Vec::new(alloc);
     for word in env::args(rt)? {
@@ -35,23 +30,45 @@ fn words_of(rt: &(impl Env + AllocGlobal), alloc: Global) -> io::Result<Vec<Stri
     Ok(words)
 }
 
-/// Standard output is written in blocks, the last one after the run; where that fails, the status is 4.
-fn main(rt: HostRuntime) -> ExitCode {
+/// Why the program ends with this status, for people; nothing for status 0.
+fn reason(status: u8) -> &'static str {
+    match status {
+        BAD_USAGE => "usage: hncp lab < SCRIPT, or hncp decode < HEXTEXT",
+        REFUSED => "hncp: the input was refused; the last line of the output says why",
+        SOURCE_FAILED => "hncp: standard input failed",
+        SINK_FAILED => "hncp: standard output failed",
+        NO_MEMORY => "hncp: out of memory",
+        _ => "",
+    }
+}
+
+/// Runs the program on the system's streams. Standard output is written in blocks, the last one after the run; where
+/// that fails, the status is 4.
+fn status_of(rt: &HostRuntime) -> u8 {
     let alloc = rt.alloc();
-    let Ok(words) = words_of(&rt, alloc) else {
-        return ExitCode::from(NO_MEMORY);
+    let words = match words_of(rt, alloc) {
+        Ok(words) => words,
+        Err(error) if error.kind() == ErrorKind::OutOfMemory => return NO_MEMORY,
+        Err(_) => return BAD_USAGE,
     };
-    let Ok(mut writer) = BufWriter::new(alloc, io::writer(&rt)) else {
-        return ExitCode::from(NO_MEMORY);
+    let Ok(mut writer) = BufWriter::new(alloc, io::writer(rt)) else {
+        return NO_MEMORY;
     };
     let mut source = ReaderSource::new(rt.reader());
     let mut sink = WriterSink::new(&mut writer);
     let outcome = run(alloc, &words, &mut source, &mut sink);
-    if outcome.status == BAD_USAGE {
-        let _ = eprintln!(rt; "usage: hncp lab < SCRIPT\n       hncp decode < HEXTEXT");
-    }
     match writer.flush() {
-        Ok(()) => ExitCode::from(outcome.status),
-        Err(_) => ExitCode::from(SINK_FAILED),
+        Ok(()) => outcome.status,
+        Err(_) => SINK_FAILED,
     }
+}
+
+/// Ends with the status of the run, and says on standard error why it is none of success.
+fn main(rt: HostRuntime) -> ExitCode {
+    let status = status_of(&rt);
+    let reason = reason(status);
+    if !reason.is_empty() {
+        let _ = eprintln!(rt; "{reason}");
+    }
+    ExitCode::from(status)
 }

@@ -1,65 +1,75 @@
-ghost use Rattle.std.specs.Prelude.{◌≡◌, ◌≢◌, ◌+◌, ◌^◌, ◌≤◌, ◌⊎◌, ℕ, List, [], ◌∷◌, None, Some, map, length, Contains, IsSome, IfSome, string_bytes};
-ghost use Rattle.std.specs.Io.KnownBytes.{Consumes};
+ghost use Rattle.std.specs.Prelude.{◌≡◌, ◌≢◌, ◌+◌, ◌^◌, ◌≤◌, ◌⊎◌, ℕ, List, [], ◌∷◌, None, map, length, Contains, IfSome, string_bytes};
+ghost use Rattle.std.specs.Io.KnownBytes.{Appends, Consumes};
 ghost use Rattle.hn_io.specs.Faults.{Counts, IsReliable};
-ghost use Rattle.hn_world.specs.Home.{replay};
-ghost use Rattle.hn_world.specs.Leaves.{EqualHashesAlwaysAgree};
+ghost use Rattle.hn_script.specs.Script.{IsScript, IsFirstFault};
+ghost use Rattle.hn_script.specs.declared.fault.ScriptFault.{ScriptFault};
+ghost use Rattle.hn_script.specs.declared.script.Script.{Script};
+ghost use Rattle.hn_world.specs.Replay.{IsReplayed, Always};
+ghost use Rattle.hn_world.specs.Leaves.{EqualHashesAgree};
+ghost use Rattle.hn_lab.specs.Lab.{IsLabOf, HasDonePlay, HasRefusal};
 ghost use Rattle.hncp.specs.Decode.{SpellsTlvs, WritesDecode, CutsDecode};
 ghost use Rattle.hncp.specs.Form.{IsFormOf};
-ghost use Rattle.hncp.specs.Lab.{WritesLab};
 ghost use Rattle.hncp.specs.declared.words.Form.{Form};
 
 use crate::decode::{each_source_decodes, run_decode};
-use crate::input::read_all;
-use crate::lab::run_script;
 use crate::outcome::{BAD_USAGE, DONE, NO_MEMORY, Outcome, REFUSED, SINK_FAILED, SOURCE_FAILED};
 use crate::words::Form;
 use hn_io::{IoFault, Sink, Source};
+use hn_lab::{lab, read_all};
 use std::alloc::Global;
 
-/// Runs a form of the program on the bytes of its source.
-fn run_form<K: Sink>(alloc: Global, form: Form, bytes: Vec<u8>, out: &mut K) -> Outcome
-    ensures lab { form ≡ Form.Lab → (result.status ≡ DONE) ⊎ (result.status ≡ REFUSED)
-        → WritesLab bytes.items result.status result.world (K.held out.old) (K.held out.new) }
-    ensures decode { form ≡ Form.Decode → (result.status ≡ DONE) ⊎ (result.status ≡ REFUSED)
-        → WritesDecode bytes.items result.status (K.held out.old) (K.held out.new) }
-    ensures decode_cut { form ≡ Form.Decode → (result.status ≡ SINK_FAILED) ⊎ (result.status ≡ NO_MEMORY)
-        → CutsDecode bytes.items (K.held out.old) (K.held out.new) }
-    ensures done { form ≡ Form.Lab → result.status ≡ DONE → IsSome result.world }
-    ensures decode_complete { form ≡ Form.Decode → SpellsTlvs bytes.items → result.status ≢ REFUSED }
-    ensures no_world { form ≡ Form.Decode → result.world ≡ None }
-    ensures replayed { IfSome result.world (λ home. replay home.trace ≡ Some home) }
-    ensures headline { IfSome result.world EqualHashesAlwaysAgree }
-    ensures statuses { Contains (DONE ∷ REFUSED ∷ SINK_FAILED ∷ NO_MEMORY ∷ []) result.status }
-    ensures counts { Counts (result.status ≡ SINK_FAILED) (K.faults out.old) (K.faults out.new) }
-    ensures reliable { IsReliable (result.status ≡ SINK_FAILED) (K.never_fails out.old) (K.never_fails out.new) }
+/// Reads hexadecimal text, and writes the contents of the datagram that it spells. Answers the status.
+fn decode<S: Source, K: Sink>(alloc: Global, src: &mut S, out: &mut K) -> u8
+    ensures written { (result ≡ DONE) ⊎ (result ≡ REFUSED)
+        → IfSome (S.left src.old) (λ bytes. WritesDecode bytes result (K.held out.old) (K.held out.new)) }
+    ensures broken { result ≡ SINK_FAILED → IfSome (S.left src.old) (λ bytes. CutsDecode bytes IoFault.Failed (K.held out.old) (K.held out.new)) }
+    ensures starved { result ≡ NO_MEMORY → IfSome (S.left src.old) (λ bytes. CutsDecode bytes IoFault.NoMemory (K.held out.old) (K.held out.new)) }
+    ensures complete { IfSome (S.left src.old) (λ bytes. SpellsTlvs bytes → result ≢ REFUSED) }
+    ensures statuses { Contains (DONE ∷ REFUSED ∷ SOURCE_FAILED ∷ SINK_FAILED ∷ NO_MEMORY ∷ []) result }
+    ensures source_counts { Counts (result ≡ SOURCE_FAILED) (S.faults src.old) (S.faults src.new) }
+    ensures sink_counts { Counts (result ≡ SINK_FAILED) (K.faults out.old) (K.faults out.new) }
+    ensures source_reliable { IsReliable (result ≡ SOURCE_FAILED) (S.never_fails src.old) (S.never_fails src.new) }
+    ensures sink_reliable { IsReliable (result ≡ SINK_FAILED) (K.never_fails out.old) (K.never_fails out.new) }
+    ensures unwritten { result ≡ SOURCE_FAILED → out.new ≡ out.old }
+    ensures bounded { (read : List ℕ) × (length read ≤ 2 ^ 24 + 1) × Consumes (S.left src.old) (S.left src.new) read }
 {
-    match form {
-        Form::Lab => run_script(alloc, &bytes, out),
-        Form::Decode => Outcome::without_world(run_decode(alloc, bytes, out)),
+    each_source_decodes();
+    match read_all(alloc, src) {
+        Ok(bytes) => run_decode(alloc, bytes, out),
+        Err(IoFault::Failed) => SOURCE_FAILED,
+        Err(IoFault::NoMemory) => NO_MEMORY,
     }
 }
 
 /// Runs the program: `words` are those of the command line, the program's name first. The forms are `lab`, which reads
-/// a script and writes its transcript, and `decode`, which reads hexadecimal text and writes what the datagram has.
+/// a script, plays it and writes its transcript, and `decode`, which reads hexadecimal text and writes what the datagram
+/// has.
 pub fn run<S: Source, K: Sink>(alloc: Global, words: &[String], src: &mut S, out: &mut K) -> Outcome
     ensures form { result.status ≡ BAD_USAGE → (form : Form) → IsFormOf form (map string_bytes words.now) → ⊥ }
     ensures bad_usage { ((form : Form) → IsFormOf form (map string_bytes words.now) → ⊥) → result.status ≡ BAD_USAGE }
     ensures untouched { result.status ≡ BAD_USAGE → (src.new ≡ src.old) × (out.new ≡ out.old) }
 
-    // `lab`: what is written, and the world that is left, are those of the play of the script that the source is.
-    ensures lab { IsFormOf Form.Lab (map string_bytes words.now) → (result.status ≡ DONE) ⊎ (result.status ≡ REFUSED)
-        → IfSome (S.left src.old) (λ bytes. WritesLab bytes result.status result.world (K.held out.old) (K.held out.new)) }
-    ensures done { IsFormOf Form.Lab (map string_bytes words.now) → result.status ≡ DONE → IsSome result.world }
-    ensures replayed { IfSome result.world (λ home. replay home.trace ≡ Some home) }
+    // `lab`: status, world and what is written are those of the script that the source is, or of its first fault.
+    ensures lab { IsFormOf Form.Lab (map string_bytes words.now) → result.status ≢ SOURCE_FAILED → IfSome (S.left src.old) (λ bytes. (written : List ℕ)
+        × IsLabOf bytes result.status result.world written × Appends (K.held out.old) (K.held out.new) written) }
+    ensures lab_done { IsFormOf Form.Lab (map string_bytes words.now) → IfSome (S.left src.old) (λ bytes. (script : Script)
+        → IsScript script bytes → HasDonePlay script.lines → result.status ≢ REFUSED) }
+    ensures lab_refused { IsFormOf Form.Lab (map string_bytes words.now) → IfSome (S.left src.old) (λ bytes. (script : Script)
+        → IsScript script bytes → HasRefusal script.lines → result.status ≢ DONE) }
+    ensures no_script { IsFormOf Form.Lab (map string_bytes words.now) → IfSome (S.left src.old) (λ bytes. (fault : ScriptFault)
+        → IsFirstFault fault bytes → result.status ≢ DONE) }
+    ensures replayed { IfSome result.world IsReplayed }
 
     // At each moment of the world's past, two routers with equal hashes have equal leaves, or a collision exists.
-    ensures headline { IfSome result.world EqualHashesAlwaysAgree }
+    ensures headline { IfSome result.world (Always EqualHashesAgree) }
 
-    // `decode`: what is written is the text of the datagram that the source spells, or after a failure a front of it.
+    // `decode`: what is written is the text of the datagram that the source spells, or after a fault a front of it.
     ensures decode { IsFormOf Form.Decode (map string_bytes words.now) → (result.status ≡ DONE) ⊎ (result.status ≡ REFUSED)
         → IfSome (S.left src.old) (λ bytes. WritesDecode bytes result.status (K.held out.old) (K.held out.new)) }
-    ensures decode_cut { IsFormOf Form.Decode (map string_bytes words.now) → (result.status ≡ SINK_FAILED) ⊎ (result.status ≡ NO_MEMORY)
-        → IfSome (S.left src.old) (λ bytes. CutsDecode bytes (K.held out.old) (K.held out.new)) }
+    ensures decode_broken { IsFormOf Form.Decode (map string_bytes words.now) → result.status ≡ SINK_FAILED
+        → IfSome (S.left src.old) (λ bytes. CutsDecode bytes IoFault.Failed (K.held out.old) (K.held out.new)) }
+    ensures decode_starved { IsFormOf Form.Decode (map string_bytes words.now) → result.status ≡ NO_MEMORY
+        → IfSome (S.left src.old) (λ bytes. CutsDecode bytes IoFault.NoMemory (K.held out.old) (K.held out.new)) }
     ensures decode_complete { IsFormOf Form.Decode (map string_bytes words.now)
         → IfSome (S.left src.old) (λ bytes. SpellsTlvs bytes → result.status ≢ REFUSED) }
     ensures no_world { IsFormOf Form.Decode (map string_bytes words.now) → result.world ≡ None }
@@ -73,13 +83,15 @@ pub fn run<S: Source, K: Sink>(alloc: Global, words: &[String], src: &mut S, out
     ensures unwritten { result.status ≡ SOURCE_FAILED → out.new ≡ out.old }
     ensures bounded { (read : List ℕ) × (length read ≤ 2 ^ 24 + 1) × Consumes (S.left src.old) (S.left src.new) read }
 {
-    let Some(form) = Form::of(words) else {
-        return Outcome::without_world(BAD_USAGE);
-    };
-    each_source_decodes();
-    match read_all(alloc, src) {
-        Ok(bytes) => run_form(alloc, form, bytes, out),
-        Err(IoFault::Failed) => Outcome::without_world(SOURCE_FAILED),
-        Err(IoFault::NoMemory) => Outcome::without_world(NO_MEMORY),
+    match Form::of(words) {
+        Some(Form::Lab) => {
+            let played = lab(alloc, src, out);
+            Outcome {
+                status: played.status,
+                world: played.world,
+            }
+        }
+        Some(Form::Decode) => Outcome::without_world(decode(alloc, src, out)),
+        None => Outcome::without_world(BAD_USAGE),
     }
 }

@@ -1,7 +1,7 @@
 use Rattle.std.proofs.Common.{◌≡◌, ◌∙◌, ◌++◌, [], ap, sym, append_assoc, append-nil, ◌+◌}
 use Rattle.std.proofs.lemmas.List.{take-append-drop}
 use Rattle.std.proofs.lemmas.Result.{on_err_weaker}
-use Rattle.hncp.proofs.Streams.{Appends-more, AppendsFront-more, on_err}
+use Rattle.hncp.proofs.Streams.{Appends-more, AppendsPart-more, on_err}
 use Rattle.hncp.proofs.output.write_lines.Goals as goal
 
 pub loop-end-preserved : goal.loop-end-preserved
@@ -27,12 +27,12 @@ returns-in_err-write_piece-clause-cut g c =
     let split : c.loop-end.rest.now ≡ line ++ after =
     rw (c.split_at.ensures.front, c.split_at.ensures.back) (sym (take-append-drop (c.in-Some.end + 1) c.loop-end.rest.now))
     in
-    on_err c.from_residual.result _ (AppendsFront-more _ _ _ before.0 line after c.args.text.now before.2 c.in_err-write_piece.ensures.cut (before.1 ∙ ap (λ xs. before.0 ++ xs) split))
+    on_err c.from_residual.result _ (AppendsPart-more _ _ _ before.0 line after c.args.text.now before.2 c.in_err-write_piece.ensures.cut (before.1 ∙ ap (λ xs. before.0 ++ xs) split))
 
 pub returns-clause-cut : goal.returns-clause-cut
 returns-clause-cut g c =
     let before = c.loop-end.invariant.written in
     let rest = c.loop-end.rest.now in
     on_err_weaker c.write_piece-2.result
-    (λ cut. AppendsFront-more _ _ _ before.0 rest [] c.args.text.now before.2 cut (before.1 ∙ ap (λ xs. before.0 ++ xs) (sym (append-nil rest))))
+    (λ cut. AppendsPart-more _ _ _ before.0 rest [] c.args.text.now before.2 cut (before.1 ∙ ap (λ xs. before.0 ++ xs) (sym (append-nil rest))))
     c.write_piece-2.ensures.cut

@@ -1,0 +1,119 @@
+-- A line of a script has at most one end, with one text, and leads to at most one stage.
+use Rattle.std.proofs.Common.{◌≡◌, ◌∙◌, ◌↔◌, ℕ, Bool, true, false, List, [], ◌∷◌, map, Option, None, Some, refl, sym, ap, subst}
+use Rattle.std.specs.Option.{option_map_or}
+use Rattle.std.specs.Prelude.{IsTrue}
+use Rattle.std.proofs.lemmas.Option.{same_Some}
+use Rattle.hn_base.specs.declared.name.Name.{Name}
+use Rattle.hn_hash.specs.declared.agreement.Agreement.{Agreement}
+use Rattle.hn_hash.specs.declared.leaf.Leaf.{Leaf}
+use Rattle.hn_router.specs.Nodes.{leaves_of}
+use Rattle.hn_router.specs.declared.done.Note.{Note}
+use Rattle.hn_script.specs.declared.line.Line.{Line}
+use Rattle.hn_script.specs.declared.line.Line.TheVariants as line
+use Rattle.hn_world.specs.declared.event.WEvent.{WEvent}
+use Rattle.hn_world.specs.declared.event.WEvent.TheVariants as event
+use Rattle.hn_world.specs.declared.member.Member.{Member}
+use Rattle.hn_world.specs.declared.parts.Parts.{Parts}
+use Rattle.hn_world.specs.Leaves.{Agrees}
+use Rattle.hn_world.specs.Refusal.{refusal}
+use Rattle.hn_lab.specs.Stage.{Stage}
+use Rattle.hn_lab.specs.Process.{Process}
+use Rattle.hn_lab.specs.Events.{EventEnds, Flow, Runs}
+use Rattle.hn_lab.specs.Reports.{IsCompareLine, compare_line, show_line, hash_line, note_line}
+use Rattle.hn_lab.specs.Line.{LineProcess, Silent, Noted, Reports, Sets, IsOf, Compares, LineEnds, receiver, injection, unless_known, unless_runs, unless_both_run, mail_report, seeded}
+use Rattle.hn_lab.proofs.LawSole.{StepsAreUnique, IsSole, sole_event, sole_flow, sole_run, happens_once, not_refused, same_code, unlike}
+
+-- a law of worlds: two lists of leaves agree in one way
+abbrev pub AgreementsAreUnique : Type 0
+AgreementsAreUnique = (a b : List Leaf) (x y : Agreement) → Agrees a b x → Agrees a b y → x ≡ y
+
+-- a line that ends in one way
+pub record IsSoleLine (process : LineProcess) : Type 0 where
+  pub one : (c d : Option ℕ) (s t : List (List ℕ)) (p a b : Stage) → process c s p a → process d t p b → (c ≡ d) × (s ≡ t) × (a ≡ b)
+
+-- ---- forms of lines
+
+sole_silent : (process : Process) → IsSole process → IsSoleLine (Silent process)
+sole_silent process sole = record { one = λ c d s t p a b h k. let same = sole.one c d p a b h.0 k.0 in (same.0, h.1 ∙ sym k.1, same.1) }
+
+sole_sets : (change : Stage → Stage) → IsSoleLine (Sets change)
+sole_sets change = record { one = λ c d s t p a b h k. (h.0 ∙ sym k.0, h.1 ∙ sym k.1, h.2 ∙ sym k.2) }
+
+one_event : StepsAreUnique → (event : WEvent) → IsSoleLine (Silent (EventEnds event))
+one_event steps event = sole_silent (EventEnds event) (sole_event steps event)
+
+sole_noted : StepsAreUnique → (event : WEvent) (name : Option Name) → IsSoleLine (Noted event name)
+sole_noted steps event name = record { one = cases }
+  where
+    cases : (c d : Option ℕ) (s t : List (List ℕ)) (p a b : Stage) → Noted event name c s p a → Noted event name d t p b → (c ≡ d) × (s ≡ t) × (a ≡ b)
+    cases None None s t p a b h k =
+        let same = happens_once steps event h.0 k.0 p a b h.1 k.1 in
+        (refl, h.2 ∙ ap (λ (notes : List Note). option_map_or (λ (n : Name). map (note_line n) notes) name []) same.0 ∙ sym k.2, same.1)
+    cases None (Some d) s t p a b h k = absurd (not_refused event h.0 d p a h.1 k.0)
+    cases (Some c) None s t p a b h k = absurd (not_refused event k.0 c p b k.1 h.0)
+    cases (Some c) (Some d) s t p a b h k = (ap Some (same_code c d (refusal p.world event) h.0 k.0), h.2 ∙ sym k.2, h.1 ∙ sym k.1)
+
+-- a report is one line
+pub record IsOneReport (IsReport : List ℕ → Type 0) : Type 0 where
+  pub one : (l m : List ℕ) → IsReport l → IsReport m → l ≡ m
+
+reports_once : (unless : Option ℕ) (IsReport : List ℕ → Type 0) → IsOneReport IsReport → (c d : Option ℕ) (s t : List (List ℕ)) (p a b : Stage) → Reports unless IsReport c s p a → Reports unless IsReport d t p b → (c ≡ d) × (s ≡ t) × (a ≡ b)
+reports_once unless IsReport report None None s t p a b h k = (refl, h.3 ∙ ap (λ (l : List ℕ). l ∷ []) (report.one h.1 k.1 h.2 k.2) ∙ sym k.3, h.4 ∙ sym k.4)
+reports_once unless IsReport report None (Some d) s t p a b h k = absurd (unlike d unless h.0 k.0)
+reports_once unless IsReport report (Some c) None s t p a b h k = absurd (unlike c unless k.0 h.0)
+reports_once unless IsReport report (Some c) (Some d) s t p a b h k = (ap Some (same_code c d unless h.0 k.0), h.1 ∙ sym k.1, h.2 ∙ sym k.2)
+
+one_of : (name : Name) (w : Parts) (report : Member → List ℕ) → IsOneReport (IsOf name w report)
+one_of name w report = record { one = λ l m h k. h.2 ∙ ap report (same_Some h.0 k.0 (sym h.1 ∙ k.1)) ∙ sym k.2 }
+
+-- two answers to one question
+same_answer : (a b : Bool) (P : Type 0) → IsTrue a ↔ P → IsTrue b ↔ P → a ≡ b
+same_answer true true P h k = refl
+same_answer true false P h k = sym (k.1 (h.0 refl))
+same_answer false true P h k = h.1 (k.0 refl)
+same_answer false false P h k = refl
+
+one_comparison : AgreementsAreUnique → (left right : Name) (a b : Member) (l m : List ℕ) → IsCompareLine left right a b l → IsCompareLine left right a b m → l ≡ m
+one_comparison agreements left right a b l m h k =
+    let how : h.agreement ≡ k.agreement = agreements (leaves_of a.router) (leaves_of b.router) h.agreement k.agreement h.agrees k.agrees in
+    let ids : h.same_ids ≡ k.same_ids = same_answer h.same_ids k.same_ids (a.router.reach ≡ b.router.reach) h.ids k.ids in
+    let lines : compare_line left right h.agreement h.same_ids ≡ compare_line left right k.agreement k.same_ids = λ i. compare_line left right (how i) (ids i) in
+    h.line_is ∙ lines ∙ sym k.line_is
+
+one_compare : AgreementsAreUnique → (left right : Name) (w : Parts) → IsOneReport (Compares left right w)
+one_compare agreements left right w = record { one = once }
+  where
+    once : (l m : List ℕ) → Compares left right w l → Compares left right w m → l ≡ m
+    once l m h k =
+        let a : k.a ≡ h.a = same_Some k.a h.a (sym k.is_left ∙ h.is_left) in
+        let b : k.b ≡ h.b = same_Some k.b h.b (sym k.is_right ∙ h.is_right) in
+        let first : IsCompareLine left right h.a k.b m = subst (λ (x : Member). IsCompareLine left right x k.b m) a k.is_line in
+        let both : IsCompareLine left right h.a h.b m = subst (λ (x : Member). IsCompareLine left right h.a x m) b first in
+        one_comparison agreements left right h.a h.b l m h.is_line both
+
+one_mail : (w : Parts) → IsOneReport (λ (l : List ℕ). l ≡ mail_report w)
+one_mail w = record { one = λ l m h k. h ∙ sym k }
+
+-- ---- each line
+
+pub sole_line : StepsAreUnique → AgreementsAreUnique → (l : Line) → IsSoleLine (LineEnds l)
+sole_line steps agreements (line.Router name id) = one_event steps (event.Router name id)
+sole_line steps agreements (line.Link name) = one_event steps (event.Link name)
+sole_line steps agreements (line.Attach name endpoint link) = one_event steps (event.Attach name endpoint link)
+sole_line steps agreements (line.Detach name endpoint) = one_event steps (event.Detach name endpoint)
+sole_line steps agreements (line.Caps name caps) = one_event steps (event.Caps name caps)
+sole_line steps agreements (line.Stop name) = one_event steps (event.Stop name)
+sole_line steps agreements (line.Start name) = one_event steps (event.Start name)
+sole_line steps agreements (line.Seed seed) = sole_sets (seeded seed)
+sole_line steps agreements (line.Loss percent) = sole_sets (λ (x : Stage). record x { loss = percent })
+sole_line steps agreements (line.Time moment) = one_event steps (event.Time moment)
+sole_line steps agreements (line.Tick name) = one_event steps (event.Tick name)
+sole_line steps agreements (line.Run end step) = sole_silent (Runs end step) (sole_run steps end step)
+sole_line steps agreements (line.Deliver copy) = record { one = λ c d s t p a b h k. (sole_noted steps (event.Deliver copy) (receiver p.world copy)).one c d s t p a b h k }
+sole_line steps agreements (line.Drop copy) = one_event steps (event.Drop copy)
+sole_line steps agreements line.Flow = sole_silent Flow (sole_flow steps)
+sole_line steps agreements (line.Inject name endpoint how bytes) = sole_noted steps (injection name endpoint how bytes) (Some name)
+sole_line steps agreements (line.Show name) = record { one = λ c d s t p a b. reports_once (unless_known name p.world) (IsOf name p.world (show_line name)) (one_of name p.world (show_line name)) c d s t p a b }
+sole_line steps agreements (line.Hash name) = record { one = λ c d s t p a b. reports_once (unless_runs name p.world) (IsOf name p.world (hash_line name)) (one_of name p.world (hash_line name)) c d s t p a b }
+sole_line steps agreements (line.Compare left right) = record { one = λ c d s t p a b. reports_once (unless_both_run left right p.world) (Compares left right p.world) (one_compare agreements left right p.world) c d s t p a b }
+sole_line steps agreements line.Mail = record { one = λ c d s t p a b. reports_once None (λ (l : List ℕ). l ≡ mail_report p.world) (one_mail p.world) c d s t p a b }

@@ -1,0 +1,14 @@
+mod RunEvents
+mod RunCopies
+mod RunTimes
+mod RunTicks
+mod TextLines
+mod TextReports
+mod TextStreams
+mod PlayLines
+mod PlayScripts
+mod LawCuts
+mod LawGrows
+mod LawLines
+mod LawPlays
+mod LawSole

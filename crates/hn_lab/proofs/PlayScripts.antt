@@ -1,0 +1,100 @@
+-- What a play of a script comes to, and what holds of the whole source.
+use Rattle.std.proofs.Common.{◌≡◌, ◌≢◌, ◌<◌, ◌≤◌, ◌^◌, ℕ, zero, suc, List, [], ◌∷◌, Option, None, Some, Result, Ok, Err, length, inl, inr, subst, sym, ap, refl, arith, lit<, length-append}
+use Rattle.std.specs.Prelude.{IfSome, IfOk, Contains}
+use Rattle.std.specs.Io.KnownBytes.{Appends, Consumes}
+use Rattle.std.proofs.lemmas.Bool.{cases_lt}
+use Rattle.hn_io.specs.declared.fault.IoFault.{IoFault}
+use Rattle.hn_io.specs.declared.fault.IoFault.TheVariants.{Failed, NoMemory}
+use Rattle.hn_script.specs.Script.{IsScript, IsFirstFault}
+use Rattle.hn_script.specs.declared.fault.ScriptFault.{ScriptFault}
+use Rattle.hn_script.specs.declared.line.Line.{Line}
+use Rattle.hn_script.specs.declared.script.Script.{Script}
+use Rattle.hn_world.specs.declared.parts.Parts.{Parts}
+use Rattle.hn_lab.specs.declared.end.End.{End}
+use Rattle.hn_lab.specs.declared.end.End.TheVariants.{Done, Refused}
+use Rattle.hn_lab.specs.Input.{IsWhole}
+use Rattle.hn_lab.specs.Lab.{play_status, HasDonePlay, HasRefusal, IsLabOf}
+use Rattle.hn_lab.specs.Play.{begun, IsPlay}
+use Rattle.hn_lab.specs.Stage.{Stage}
+use Rattle.hn_lab.specs.Told.{Told, bytes_of}
+
+-- ---- the status of a play
+
+-- the law that lines have at most one play
+abbrev pub PlaysAreUnique : Type 0
+PlaysAreUnique = (lines : List (ℕ × Line)) (r q : End) (before a b : Stage) (s t : List Told) → IsPlay lines r before s a → IsPlay lines q before t b → (r ≡ q) × (s ≡ t) × (a ≡ b)
+
+-- what nothing cuts, from where the play begins
+abbrev pub IsUncut : List (ℕ × Line) → Stage → Stage → Option (List ℕ) → Option (List ℕ) → Result End IoFault → Type 0
+IsUncut lines p a h k r = IfOk r (λ end. (text : List Told) × IsPlay lines end p text a × Appends h k (bytes_of text))
+
+-- lines that can be done are not refused, and lines of which one is refused are not done
+pub not_refused : PlaysAreUnique → (lines : List (ℕ × Line)) (status : ℕ) (r : Result End IoFault) (p a : Stage) (h k : Option (List ℕ)) → status ≡ play_status r → p ≡ begun → IsUncut lines p a h k r → HasDonePlay lines → status ≢ 2
+not_refused law lines status (Ok Done) p a h k is begins uncut done two = absurd (omega arith)
+not_refused law lines status (Ok (Refused number code)) p a h k is begins uncut done two =
+    let play = subst (λ (x : Stage). IsPlay lines (Refused number code) x uncut.0 a) begins uncut.1 in
+    let same = (law lines (Refused number code) Done begun a done.1 uncut.0 done.0 play done.2).0 in cc
+not_refused law lines status (Err Failed) p a h k is begins uncut done two = absurd (omega arith)
+not_refused law lines status (Err NoMemory) p a h k is begins uncut done two = absurd (omega arith)
+
+pub not_done : PlaysAreUnique → (lines : List (ℕ × Line)) (status : ℕ) (r : Result End IoFault) (p a : Stage) (h k : Option (List ℕ)) → status ≡ play_status r → p ≡ begun → IsUncut lines p a h k r → HasRefusal lines → status ≢ 0
+not_done law lines status (Ok Done) p a h k is begins uncut refused none =
+    let play = subst (λ (x : Stage). IsPlay lines Done x uncut.0 a) begins uncut.1 in
+    let same = (law lines Done (Refused refused.0 refused.1) begun a refused.3 uncut.0 refused.2 play refused.4).0 in cc
+not_done law lines status (Ok (Refused number code)) p a h k is begins uncut refused none = absurd (omega arith)
+not_done law lines status (Err Failed) p a h k is begins uncut refused none = absurd (omega arith)
+not_done law lines status (Err NoMemory) p a h k is begins uncut refused none = absurd (omega arith)
+
+-- ---- statuses among others
+
+pub among_more : (status : ℕ) → Contains (2 ∷ 4 ∷ 6 ∷ []) status → Contains (0 ∷ 2 ∷ 4 ∷ 6 ∷ []) status
+among_more status (zero, within, is) = (1, lit< tt, is)
+among_more status (suc zero, within, is) = (2, lit< tt, is)
+among_more status (suc (suc zero), within, is) = (3, lit< tt, is)
+among_more status (suc (suc (suc k)), within, is) = absurd (omega arith)
+
+pub among_all : (status : ℕ) → Contains (0 ∷ 2 ∷ 4 ∷ 6 ∷ []) status → Contains (0 ∷ 2 ∷ 3 ∷ 4 ∷ 6 ∷ []) status
+among_all status (zero, within, is) = (0, lit< tt, is)
+among_all status (suc zero, within, is) = (1, lit< tt, is)
+among_all status (suc (suc zero), within, is) = (3, lit< tt, is)
+among_all status (suc (suc (suc zero)), within, is) = (4, lit< tt, is)
+among_all status (suc (suc (suc (suc k))), within, is) = absurd (omega arith)
+
+-- ---- the whole source
+
+length_front : (whole : List ℕ) (after : Option (List ℕ)) (read : List ℕ) → Consumes (Some whole) after read → length read ≤ length whole
+length_front whole None read c = absurd c
+length_front whole (Some rest) read c = omega (arith, ap length c, length-append read rest)
+
+-- what holds of the bytes that were read holds of the whole source, where it does not depend on those past 2^24
+pub of_source : (R : List ℕ → Type 0) → ((whole read : List ℕ) → 2 ^ 24 < length read → length read ≤ length whole → R read → R whole) → (left after : Option (List ℕ)) (read : List ℕ) → Consumes left after read → (length read ≤ 2 ^ 24 → IsWhole left read) → R read → IfSome left R
+of_source R longer None after read c all holds = tt
+of_source R longer (Some whole) after read c all holds =
+    elim (cases_lt (2 ^ 24) (length read)) [
+      | inl long ↦ longer whole read long (length_front whole after read c) holds
+      | inr short ↦ subst R (sym (all short)) holds
+    ]
+
+-- a longer source is no script, and its first fault is its length
+long_fault : (fault : ScriptFault) (whole read : List ℕ) → 2 ^ 24 < length read → length read ≤ length whole → IsFirstFault fault read → IsFirstFault fault whole
+long_fault fault whole read long front (inl is) = inl (omega arith, is.1, is.2)
+long_fault fault whole read long front (inr is) = let short = is.0 in absurd (omega arith)
+
+pub lab_longer : (status : ℕ) (world : Option Parts) (before after : Option (List ℕ)) (whole read : List ℕ) → 2 ^ 24 < length read → length read ≤ length whole
+    → (written : List ℕ) × IsLabOf read status world written × Appends before after written → (written : List ℕ) × IsLabOf whole status world written × Appends before after written
+lab_longer status world before after whole read long front lab = (
+  lab.0,
+  elim lab.1 [
+    | inl none ↦ inl (record { fault = none.fault; is_fault = long_fault none.fault whole read long front none.is_fault; world_is = none.world_is; written_is = none.written_is })
+    | inr (inl play) ↦ let short = play.is_script.small in absurd (omega arith)
+    | inr (inr unread) ↦ inr (inr unread)
+  ],
+  lab.2,
+)
+
+-- so nothing that is said of a script depends on more bytes
+pub script_longer : (P : Script → Type 0) (whole read : List ℕ) → 2 ^ 24 < length read → length read ≤ length whole → ((script : Script) → IsScript script read → P script) → (script : Script) → IsScript script whole → P script
+script_longer P whole read long front holds script is = let short = is.small in absurd (omega arith)
+
+pub fault_longer : (P : Type 0) (whole read : List ℕ) → 2 ^ 24 < length read → length read ≤ length whole → ((fault : ScriptFault) → IsFirstFault fault read → P) → (fault : ScriptFault) → IsFirstFault fault whole → P
+fault_longer P whole read long front holds fault is = holds (record { line = 0; code = 15 }) (inl (long, refl, refl))

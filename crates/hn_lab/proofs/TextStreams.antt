@@ -1,0 +1,21 @@
+-- One read or write after another.
+use Rattle.std.specs.Prelude.{OnErr}
+use Rattle.std.proofs.Common.{◌∙◌, ℕ, List, ◌++◌, Option, None, Some, Result, Ok, Err, sym, ap, append_assoc}
+use Rattle.std.specs.Io.KnownBytes.{Appends, Consumes}
+
+pub Consumes-more : (a b c : Option (List ℕ)) (xs ys : List ℕ) → Consumes a b xs → Consumes b c ys → Consumes a c (xs ++ ys)
+Consumes-more None b c xs ys p q = tt
+Consumes-more (Some s) None c xs ys p q = absurd p
+Consumes-more (Some s) (Some t) None xs ys p q = absurd q
+Consumes-more (Some s) (Some t) (Some u) xs ys p q = p ∙ ap (λ zs. xs ++ zs) q ∙ sym (append_assoc xs ys u)
+
+pub Appends-more : (a b c : Option (List ℕ)) (xs ys : List ℕ) → Appends a b xs → Appends b c ys → Appends a c (xs ++ ys)
+Appends-more None b c xs ys p q = tt
+Appends-more (Some s) None c xs ys p q = absurd p
+Appends-more (Some s) (Some t) None xs ys p q = absurd q
+Appends-more (Some s) (Some t) (Some u) xs ys p q = q ∙ ap (λ zs. zs ++ ys) p ∙ append_assoc s xs ys
+
+-- what holds after each answer holds after an error
+pub on_err : {T E : Type 0} (r : Result T E) (P : Type 0) → P → OnErr r P
+on_err (Ok x) P holds = tt
+on_err (Err e) P holds = holds

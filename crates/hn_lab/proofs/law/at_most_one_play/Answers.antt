@@ -1,0 +1,5 @@
+use Rattle.hn_lab.proofs.LawPlays.{one_play}
+use Rattle.hn_lab.proofs.law.at_most_one_play.Goals as goal
+
+pub returns : goal.returns
+returns c = one_play c.step_is_unique.ensures c.agreement_is_unique.ensures

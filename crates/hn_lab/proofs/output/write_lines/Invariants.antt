@@ -1,0 +1,16 @@
+use Rattle.std.proofs.Common.{◌≡◌, take}
+use Rattle.std.specs.Prelude.{map, string_bytes}
+use Rattle.std.specs.Io.KnownBytes.{Appends}
+use Rattle.hn_lab.specs.Output.{joined}
+use Rattle.hn_lab.proofs.output.write_lines.Given as goal
+
+-- the lines so far were written
+abbrev pub invariant-loop-line : goal.invariant-loop-line
+invariant-loop-line g l =
+    let sink = g.K.Sink in
+    record {
+      all : map string_bytes l.line-items ≡ l.fn.lines;
+      written : Appends (sink.held l.fn.out) (sink.held l.out) (joined (map string_bytes (take l.line-index l.line-items)));
+      no_fault : sink.faults l.out ≡ sink.faults l.fn.out;
+      reliable : sink.never_fails l.fn.out → sink.never_fails l.out;
+    }

@@ -1,0 +1,13 @@
+use Rattle.std.proofs.Common.{◌∙◌, Some, Err, refl, ap}
+use Rattle.hn_lab.specs.Stage.{stage_of}
+use Rattle.hn_lab.specs.declared.playing.Playing.{Playing}
+use Rattle.hn_lab.proofs.RunEvents.{unmoved, noted_refused}
+use Rattle.hn_lab.proofs.playing.Playing.noted.Goals as goal
+
+pub returns-in-Err-Refused : goal.returns-in-Err-Refused
+returns-in-Err-Refused c =
+    let code = c.in-Err-Refused.code in
+    let after : Playing = record { world = c.apply.new.self; loss = c.args.self.now.loss; words = c.apply.new.draw } in
+    noted_refused c.args.event c.args.name (stage_of c.args.self.now) (stage_of after) code c.refused.result.code c.refused.result.lines (c.refused.ensures.code ∙ ap Some c.in-Err-Refused.code-is) c.refused.ensures.lines
+    ((c.in-Err-Refused.ensures.refused code).0 (ap Err c.in-Err-Refused.field-0-is))
+    (unmoved c.args.self.now after c.in-Err-Refused.ensures.err refl (c.in-Err-Refused.ensures.undrawn code (ap Err c.in-Err-Refused.field-0-is)))

@@ -1,0 +1,25 @@
+use Rattle.std.proofs.Common.{Err, inl, inr, ap, subst}
+use Rattle.hn_script.specs.declared.script.Script.{Script}
+use Rattle.hn_lab.specs.Lab.{HasDonePlay, HasRefusal}
+use Rattle.hn_lab.proofs.PlayScripts.{among_more}
+use Rattle.hn_lab.proofs.scripts.play_bytes.Goals as goal
+
+pub returns-in-Ok-clause-lab : goal.returns-in-Ok-clause-lab
+returns-in-Ok-clause-lab g c =
+    let plays = c.play.ensures.plays in
+    (plays.0, inr (inl (record { script = c.in-Ok.script; is_script = c.in-Ok.ensures.script; plays = plays.1 })), plays.2)
+
+pub returns-in-Ok-clause-done : goal.returns-in-Ok-clause-done
+returns-in-Ok-clause-done g c script is done =
+    c.play.ensures.done (subst (λ (s : Script). HasDonePlay s.lines) (c.script_is_unique.ensures c.args.bytes.now script c.in-Ok.script is c.in-Ok.ensures.script) done)
+
+pub returns-in-Ok-clause-refused : goal.returns-in-Ok-clause-refused
+returns-in-Ok-clause-refused g c script is refused =
+    c.play.ensures.refused (subst (λ (s : Script). HasRefusal s.lines) (c.script_is_unique.ensures c.args.bytes.now script c.in-Ok.script is c.in-Ok.ensures.script) refused)
+
+pub returns-in-Err-Script-clause-done : goal.returns-in-Err-Script-clause-done
+returns-in-Err-Script-clause-done g c script is _ _ =
+    c.fault_or_script.ensures.0 (c.in-Err-Script.fault, c.in-Err-Script.ensures.fault c.in-Err-Script.fault (ap Err c.in-Err-Script.field-0-is)) script is
+
+pub returns-in-Err-Script-clause-statuses : goal.returns-in-Err-Script-clause-statuses
+returns-in-Err-Script-clause-statuses g c = among_more c.refuse.result.status c.refuse.ensures.statuses

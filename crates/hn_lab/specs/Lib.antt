@@ -1,0 +1,10 @@
+pub mod Input
+pub mod Told
+pub mod Reports
+pub mod Stage
+pub mod Process
+pub mod Events
+pub mod Line
+pub mod Play
+pub mod Output
+pub mod Lab

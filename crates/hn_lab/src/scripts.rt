@@ -1,0 +1,161 @@
+ghost use Rattle.std.specs.Prelude.{◌≡◌, ◌≢◌, ◌↔◌, ◌+◌, ◌^◌, ◌≤◌, ◌⊎◌, ℕ, List, [], ◌∷◌, None, Some, Err, length, Contains, IfSome, IfOk};
+ghost use Rattle.std.specs.Io.KnownBytes.{Appends, Consumes};
+ghost use Rattle.std.specs.List.{AllByRecursion};
+ghost use Rattle.hn_io.specs.Faults.{Counts, IsReliable};
+ghost use Rattle.hn_script.specs.Laws.{IsLimited};
+ghost use Rattle.hn_script.specs.Script.{IsScript, IsFirstFault};
+ghost use Rattle.hn_script.specs.declared.fault.ScriptFault.{ScriptFault as AFault};
+ghost use Rattle.hn_script.specs.declared.script.Script.{Script as AScript};
+ghost use Rattle.hn_world.specs.Replay.{IsReplayed, Always};
+ghost use Rattle.hn_world.specs.Leaves.{EqualHashesAgree};
+ghost use Rattle.hn_lab.specs.Lab.{play_status, Plays, IsLineWritten, IsLabOf, HasDonePlay, HasRefusal};
+ghost use Rattle.hn_lab.specs.Reports.{refused_line};
+
+use crate::end::End;
+use crate::input::{SOURCE_LIMIT, read_all};
+use crate::law::at_most_one_play;
+use crate::output::write_refusal;
+use crate::playing::Playing;
+use hn_io::{IoFault, Sink, Source};
+use hn_script::{
+    ParseFault, Script, ScriptFault, fault_or_script, parse, script_is_limited, script_is_unique,
+};
+use hn_world::{World, equal_hashes_always_agree};
+use std::alloc::Global;
+
+/// The input was read to its end and the whole text was written.
+pub const DONE: u8 = 0;
+/// The script or one of its lines was refused; the last line written says it.
+pub const REFUSED: u8 = 2;
+/// The source failed; nothing was written.
+pub const SOURCE_FAILED: u8 = 3;
+/// The sink failed.
+pub const SINK_FAILED: u8 = 4;
+/// Out of memory.
+pub const NO_MEMORY: u8 = 6;
+
+/// What a script came to.
+#[derive(Debug, Drop)]
+pub struct Played {
+    /// `DONE`, `REFUSED`, `SOURCE_FAILED`, `SINK_FAILED` or `NO_MEMORY`.
+    pub status: u8,
+    /// The world that the script led to, also where a line was refused or the sink failed.
+    pub world: Option<World>,
+}
+
+impl Played {
+    /// A status with no world. Never allocates.
+    fn without_world(status: u8) -> Played
+        ensures status { result.status ≡ status }
+        ensures no_world { result.world ≡ None }
+    {
+        Played {
+            status,
+            world: None,
+        }
+    }
+}
+
+/// The status of a play.
+fn play_status(end: &Result<End, IoFault>) -> u8
+    ensures status { result ≡ play_status end.now }
+    ensures failed { result ≡ SINK_FAILED ↔ end.now ≡ Err IoFault.Failed }
+    ensures starved { result ≡ NO_MEMORY → end.now ≡ Err IoFault.NoMemory }
+    ensures all { Contains (DONE ∷ REFUSED ∷ SINK_FAILED ∷ NO_MEMORY ∷ []) result }
+{
+    match end {
+        Ok(End::Done) => DONE,
+        Ok(End::Refused { .. }) => REFUSED,
+        Err(IoFault::Failed) => SINK_FAILED,
+        Err(IoFault::NoMemory) => NO_MEMORY,
+    }
+}
+
+/// Writes the line of the first fault of a source that is no script.
+fn refuse<K: Sink>(alloc: Global, fault: ScriptFault, out: &mut K) -> Played
+    ensures written { (written : List ℕ) × IsLineWritten (refused_line fault.line fault.code) result.status written
+        × Appends (K.held out.old) (K.held out.new) written }
+    ensures no_world { result.world ≡ None }
+    ensures statuses { Contains (REFUSED ∷ SINK_FAILED ∷ NO_MEMORY ∷ []) result.status }
+    ensures counts { Counts (result.status ≡ SINK_FAILED) (K.faults out.old) (K.faults out.new) }
+    ensures reliable { IsReliable (result.status ≡ SINK_FAILED) (K.never_fails out.old) (K.never_fails out.new) }
+{
+    match write_refusal(alloc, out, fault.line, fault.code) {
+        Ok(()) => Played::without_world(REFUSED),
+        Err(IoFault::Failed) => Played::without_world(SINK_FAILED),
+        Err(IoFault::NoMemory) => Played::without_world(NO_MEMORY),
+    }
+}
+
+/// Plays a script, and writes its transcript.
+pub fn play<K: Sink>(alloc: Global, script: Script, out: &mut K) -> Played
+    requires { AllByRecursion (λ line. IsLimited line.1) script.lines }
+    ensures plays { (written : List ℕ) × Plays script.lines result.status result.world written × Appends (K.held out.old) (K.held out.new) written }
+    ensures done { HasDonePlay script.lines → result.status ≢ REFUSED }
+    ensures refused { HasRefusal script.lines → result.status ≢ DONE }
+    ensures replayed { IfSome result.world IsReplayed }
+    ensures headline { IfSome result.world (Always EqualHashesAgree) }
+    ensures statuses { Contains (DONE ∷ REFUSED ∷ SINK_FAILED ∷ NO_MEMORY ∷ []) result.status }
+    ensures counts { Counts (result.status ≡ SINK_FAILED) (K.faults out.old) (K.faults out.new) }
+    ensures reliable { IsReliable (result.status ≡ SINK_FAILED) (K.never_fails out.old) (K.never_fails out.new) }
+{
+    at_most_one_play();
+    equal_hashes_always_agree();
+    let mut playing = Playing::new(alloc);
+    let end = playing.play(alloc, script.lines.into_vec(), out);
+    let status = play_status(&end);
+    if status == NO_MEMORY {
+        return Played::without_world(status);
+    }
+    playing.world.is_replayed();
+    Played {
+        status,
+        world: Some(playing.world),
+    }
+}
+
+/// Plays the script that bytes are, or writes the line of their first fault.
+fn play_bytes<K: Sink>(alloc: Global, bytes: &[u8], out: &mut K) -> Played
+    ensures lab { (written : List ℕ) × IsLabOf bytes.now result.status result.world written × Appends (K.held out.old) (K.held out.new) written }
+    ensures done { (script : AScript) → IsScript script bytes.now → HasDonePlay script.lines → result.status ≢ REFUSED }
+    ensures refused { (script : AScript) → IsScript script bytes.now → HasRefusal script.lines → result.status ≢ DONE }
+    ensures no_script { (fault : AFault) → IsFirstFault fault bytes.now → result.status ≢ DONE }
+    ensures replayed { IfSome result.world IsReplayed }
+    ensures headline { IfSome result.world (Always EqualHashesAgree) }
+    ensures statuses { Contains (DONE ∷ REFUSED ∷ SINK_FAILED ∷ NO_MEMORY ∷ []) result.status }
+    ensures counts { Counts (result.status ≡ SINK_FAILED) (K.faults out.old) (K.faults out.new) }
+    ensures reliable { IsReliable (result.status ≡ SINK_FAILED) (K.never_fails out.old) (K.never_fails out.new) }
+{
+    script_is_limited();
+    script_is_unique();
+    fault_or_script(bytes);
+    match parse(alloc, bytes) {
+        Ok(script) => play(alloc, script, out),
+        Err(ParseFault::Script(fault)) => refuse(alloc, fault, out),
+        Err(ParseFault::NoMemory) => Played::without_world(NO_MEMORY),
+    }
+}
+
+/// Reads a script, plays it, and writes its transcript.
+pub fn lab<S: Source, K: Sink>(alloc: Global, src: &mut S, out: &mut K) -> Played
+    ensures lab { result.status ≢ SOURCE_FAILED → IfSome (S.left src.old) (λ bytes. (written : List ℕ)
+        × IsLabOf bytes result.status result.world written × Appends (K.held out.old) (K.held out.new) written) }
+    ensures done { IfSome (S.left src.old) (λ bytes. (script : AScript) → IsScript script bytes → HasDonePlay script.lines → result.status ≢ REFUSED) }
+    ensures refused { IfSome (S.left src.old) (λ bytes. (script : AScript) → IsScript script bytes → HasRefusal script.lines → result.status ≢ DONE) }
+    ensures no_script { IfSome (S.left src.old) (λ bytes. (fault : AFault) → IsFirstFault fault bytes → result.status ≢ DONE) }
+    ensures replayed { IfSome result.world IsReplayed }
+    ensures headline { IfSome result.world (Always EqualHashesAgree) }
+    ensures statuses { Contains (DONE ∷ REFUSED ∷ SOURCE_FAILED ∷ SINK_FAILED ∷ NO_MEMORY ∷ []) result.status }
+    ensures unwritten { result.status ≡ SOURCE_FAILED → out.new ≡ out.old }
+    ensures source_counts { Counts (result.status ≡ SOURCE_FAILED) (S.faults src.old) (S.faults src.new) }
+    ensures source_reliable { IsReliable (result.status ≡ SOURCE_FAILED) (S.never_fails src.old) (S.never_fails src.new) }
+    ensures sink_counts { Counts (result.status ≡ SINK_FAILED) (K.faults out.old) (K.faults out.new) }
+    ensures sink_reliable { IsReliable (result.status ≡ SINK_FAILED) (K.never_fails out.old) (K.never_fails out.new) }
+    ensures bounded { (read : List ℕ) × (length read ≤ 2 ^ 24 + 1) × Consumes (S.left src.old) (S.left src.new) read }
+{
+    match read_all(alloc, src) {
+        Ok(bytes) => play_bytes(alloc, &bytes, out),
+        Err(IoFault::Failed) => Played::without_world(SOURCE_FAILED),
+        Err(IoFault::NoMemory) => Played::without_world(NO_MEMORY),
+    }
+}

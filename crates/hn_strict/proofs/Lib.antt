@@ -1,4 +1,0 @@
-mod Cuts
-mod Words
-mod LineTexts
-mod Lists

@@ -1,0 +1,99 @@
+-- What an accepted event says.
+use Rattle.std.proofs.Common.{◌≡◌, ◌<◌, ℕ, Bool, true, false, not, List, Option, Some, None, length, nat_lt, nat_le, slice_get, refl}
+use Rattle.std.specs.Option.{option_or}
+use Rattle.std.proofs.lemmas.Bool.{leb-false}
+use Rattle.hn_base.specs.Name.{name_text}
+use Rattle.hn_base.specs.declared.ids.EpId.{EpId}
+use Rattle.hn_world.specs.declared.copies.MailCopy.{MailCopy}
+use Rattle.hn_world.specs.declared.event.WEvent.{WEvent}
+use Rattle.hn_world.specs.declared.event.WEvent.TheVariants as event
+use Rattle.hn_world.specs.declared.member.Member.{Member}
+use Rattle.hn_world.specs.declared.parts.Parts.{Parts}
+use Rattle.hn_world.specs.Names.{is_taken, member_named, link_place}
+use Rattle.hn_world.specs.Refusal.{code_if, of_router, of_link, of_copy, unless_running, unless_attached, unless_free, unless_apart, unless_full_of_endpoints, unless_full_of_events, unless_full_of_mail, unless_acts, unless_detached, unless_ticked, unless_received, unless_joined, unless_new, copy_at, refusal}
+
+-- none of two codes
+pub or_none : (a b : Option ℕ) → option_or a b ≡ None → (a ≡ None) × (b ≡ None)
+or_none None b none = (refl, none)
+or_none (Some code) b none = absurd cc
+
+pub not_so : (code : ℕ) (b : Bool) → code_if code b ≡ None → b ≡ false
+not_so code true none = absurd cc
+not_so code false none = refl
+
+-- what is asked of a router, a link or a copy, which is there
+pub some_router : (asked : Member → Option ℕ) (o : Option Member) → of_router asked o ≡ None → (m : Member) × (o ≡ Some m) × (asked m ≡ None)
+some_router asked None accepted = absurd cc
+some_router asked (Some m) accepted = (m, refl, accepted)
+
+some_link : (asked : ℕ → Option ℕ) (o : Option ℕ) → of_link asked o ≡ None → (link : ℕ) × (o ≡ Some link) × (asked link ≡ None)
+some_link asked None accepted = absurd cc
+some_link asked (Some link) accepted = (link, refl, accepted)
+
+pub some_copy : (asked : MailCopy → Option ℕ) (o : Option MailCopy) → of_copy asked o ≡ None → (c : MailCopy) × (o ≡ Some c) × (asked c ≡ None)
+some_copy asked None accepted = absurd cc
+some_copy asked (Some c) accepted = (c, refl, accepted)
+
+-- ---- there is room for one more event
+
+abbrev HasRoom : Parts → Type 0
+HasRoom w = unless_full_of_events w ≡ None
+
+room_to_define : (w : Parts) (name : List ℕ) (count : ℕ) → unless_new w name count ≡ None → HasRoom w
+room_to_define w name count accepted =
+    let first = or_none (code_if 8 (is_taken name w)) _ accepted in
+    (or_none (code_if 9 (not (nat_lt count 64))) (unless_full_of_events w) first.1).1
+
+room_to_act : (w : Parts) (m : Member) → unless_acts w m ≡ None → HasRoom w
+room_to_act w m accepted = (or_none (unless_running m) (unless_full_of_events w) accepted).1
+
+room_to_detach : (w : Parts) (endpoint : EpId) (m : Member) → unless_detached w endpoint m ≡ None → HasRoom w
+room_to_detach w endpoint m accepted =
+    let first = or_none (unless_running m) _ accepted in
+    (or_none (unless_attached endpoint m) (unless_full_of_events w) first.1).1
+
+room_to_tick : (w : Parts) (m : Member) → unless_ticked w m ≡ None → HasRoom w
+room_to_tick w m accepted = room_to_act w m (or_none (unless_acts w m) (unless_full_of_mail w) accepted).0
+
+room_to_receive : (w : Parts) (endpoint : EpId) (m : Member) → unless_received w endpoint m ≡ None → HasRoom w
+room_to_receive w endpoint m accepted = room_to_detach w endpoint m (or_none (unless_detached w endpoint m) (unless_full_of_mail w) accepted).0
+
+room_to_join : (w : Parts) (endpoint : EpId) (m : Member) (link : ℕ) → unless_joined w endpoint m link ≡ None → HasRoom w
+room_to_join w endpoint m link accepted =
+    let first = or_none (unless_running m) _ accepted in
+    let second = or_none (unless_free endpoint m) _ first.1 in
+    let third = or_none (unless_apart link m) _ second.1 in
+    (or_none (unless_full_of_endpoints m) (unless_full_of_events w) third.1).1
+
+room : (w : Parts) (event : WEvent) → refusal w event ≡ None → HasRoom w
+room w (event.Router name id) accepted = room_to_define w (name_text name) _ accepted
+room w (event.Link name) accepted = room_to_define w (name_text name) _ accepted
+room w (event.Attach name endpoint link) accepted =
+    let router = some_router (λ m. of_link (unless_joined w endpoint m) (link_place (name_text link) w)) (member_named (name_text name) w) accepted in
+    let at = some_link (unless_joined w endpoint router.0) (link_place (name_text link) w) router.2 in
+    room_to_join w endpoint router.0 at.0 at.2
+room w (event.Detach name endpoint) accepted =
+    let router = some_router (unless_detached w endpoint) (member_named (name_text name) w) accepted in
+    room_to_detach w endpoint router.0 router.2
+room w (event.Caps name caps) accepted =
+    let router = some_router (unless_acts w) (member_named (name_text name) w) accepted in
+    room_to_act w router.0 router.2
+room w (event.Stop name) accepted =
+    let router = some_router (unless_acts w) (member_named (name_text name) w) accepted in
+    room_to_act w router.0 router.2
+room w (event.Start name) accepted = (some_router (λ m. unless_full_of_events w) (member_named (name_text name) w) accepted).2
+room w (event.Time moment) accepted = (or_none (code_if 10 (nat_lt moment w.moment)) (unless_full_of_events w) accepted).1
+room w (event.Tick name) accepted =
+    let router = some_router (unless_ticked w) (member_named (name_text name) w) accepted in
+    room_to_tick w router.0 router.2
+room w (event.Deliver copy) accepted =
+    let mail = some_copy (λ c. of_router (unless_received w c.to.endpoint) (slice_get w.members c.to.place)) (copy_at w copy) accepted in
+    let router = some_router (unless_received w mail.0.to.endpoint) (slice_get w.members mail.0.to.place) mail.2 in
+    room_to_receive w mail.0.to.endpoint router.0 router.2
+room w (event.Drop copy) accepted = (some_copy (λ c. unless_full_of_events w) (copy_at w copy) accepted).2
+room w (event.Inject name endpoint from multicast bytes) accepted =
+    let router = some_router (unless_received w endpoint) (member_named (name_text name) w) accepted in
+    room_to_receive w endpoint router.0 router.2
+
+pub fewer_events : (w : Parts) (event : WEvent) → refusal w event ≡ None → length w.trace < 1000000
+fewer_events w event accepted = leb-false 1000000 (length w.trace) (not_so 9 (nat_le 1000000 (length w.trace)) (room w event accepted))

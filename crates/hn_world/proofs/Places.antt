@@ -1,0 +1,30 @@
+-- Elements at their places.
+use Rattle.std.proofs.Common.{◌≡◌, ◌∙◌, ◌<◌, ℕ, zero, suc, Bool, List, [], ◌∷◌, ◌++◌, cond, length, Some, None, position, slice_get, slice_set, nat_lt, refl, sym, ap}
+use Rattle.std.proofs.lemmas.List.{length-set}
+use Rattle.std.proofs.lemmas.List.Folds.{position_or_len-set}
+use Rattle.std.proofs.lemmas.List.Quantifiers.{position-Some}
+use Rattle.std.proofs.lemmas.Option.{get_or_from_slice_get}
+
+-- an element that was put
+pub got_set : {A : Type 0} (xs : List A) (i : ℕ) (x y : A) → slice_get xs i ≡ Some x → slice_get (slice_set xs i y) i ≡ Some y
+got_set [] i x y at = absurd cc
+got_set (z ∷ zs) zero x y at = refl
+got_set (z ∷ zs) (suc i) x y at = got_set zs i x y at
+
+-- one with further elements after it
+pub got_front : {A : Type 0} (xs ys : List A) (i : ℕ) (x : A) → slice_get xs i ≡ Some x → slice_get (xs ++ ys) i ≡ Some x
+got_front [] ys i x at = absurd cc
+got_front (z ∷ zs) ys zero x at = at
+got_front (z ∷ zs) ys (suc i) x at = got_front zs ys i x at
+
+-- the place of the first that passes
+pub within : {A : Type 0} (p : A → Bool) (xs : List A) (i : ℕ) → position p xs ≡ Some i → i < length xs
+within p [] i found = absurd cc
+within p (x ∷ xs) i found = (position-Some p (x ∷ xs) i x found).0
+
+-- it stays where an element is put that passes as the one before it did
+pub place_kept : {A : Type 0} (p : A → Bool) (xs : List A) (i : ℕ) (x y : A) → slice_get xs i ≡ Some x → p y ≡ p x → position p (slice_set xs i y) ≡ position p xs
+place_kept p xs i x y at same =
+    let first = position_or_len-set p xs i y x (same ∙ ap p (sym (get_or_from_slice_get xs i x x at))) in
+    let len = length-set xs i y in
+    λ k. cond (nat_lt (first k) (len k)) (Some (first k)) None

@@ -1,0 +1,103 @@
+-- Which events a world refuses, with which code.
+use Rattle.std.specs.Prelude.{ℕ, ◌+◌, ◌-◌, ◌^◌, Bool, ◌||◌, ◌==◌, not, nat_lt, nat_le, if◌then◌else◌, List, length, Option, None, Some}
+use Rattle.std.specs.List.{list_any, slice_get}
+use Rattle.std.specs.Option.{option_or}
+use Rattle.hn_base.specs.Name.{name_text}
+use Rattle.hn_base.specs.declared.ids.EpId.{EpId}
+use Rattle.hn_router.specs.Ports.{is_attached}
+use Rattle.hn_world.specs.declared.copies.MailCopy.{MailCopy}
+use Rattle.hn_world.specs.declared.event.WEvent.{WEvent}
+use Rattle.hn_world.specs.declared.event.WEvent.TheVariants as event
+use Rattle.hn_world.specs.declared.member.Member.{Member}
+use Rattle.hn_world.specs.declared.parts.Parts.{Parts}
+use Rattle.hn_world.specs.Names.{is_taken, member_named, link_place}
+use Rattle.hn_world.specs.Waiting.{bytes_of}
+use Rattle.hn_world.specs.Injected.{injected_of}
+
+-- a code where it is so
+abbrev pub code_if : ℕ → Bool → Option ℕ
+code_if code so = if so then Some code else None
+
+-- 7: a name is unknown or names the other kind. What is asked then of the router of a name, or of the place of a link.
+abbrev pub of_router : (Member → Option ℕ) → Option Member → Option ℕ
+of_router asked None = Some 7
+of_router asked (Some m) = asked m
+
+abbrev pub of_link : (ℕ → Option ℕ) → Option ℕ → Option ℕ
+of_link asked None = Some 7
+of_link asked (Some link) = asked link
+
+-- 12: the router is stopped
+abbrev pub unless_running : Member → Option ℕ
+unless_running m = code_if 12 (not m.running)
+
+-- 11: the endpoint is not attached; it is in use
+abbrev pub unless_attached : EpId → Member → Option ℕ
+unless_attached endpoint m = code_if 11 (not (is_attached endpoint m.router.ports))
+
+abbrev pub unless_free : EpId → Member → Option ℕ
+unless_free endpoint m = code_if 11 (is_attached endpoint m.router.ports)
+
+-- 14: the router already has an endpoint on that link
+abbrev pub unless_apart : ℕ → Member → Option ℕ
+unless_apart link m = code_if 14 (list_any (λ a. a.link == link) m.attachments)
+
+-- 9: the 17th endpoint of a router; the 1,000,001st event
+abbrev pub unless_full_of_endpoints : Member → Option ℕ
+unless_full_of_endpoints m = code_if 9 (not (nat_lt (length m.router.ports) 16))
+
+abbrev pub unless_full_of_events : Parts → Option ℕ
+unless_full_of_events w = code_if 9 (nat_le 1000000 (length w.trace))
+
+-- 16: 1,000,000 copies or more were made, or the copies and the injected datagrams together have 2^28 bytes or more
+abbrev pub unless_full_of_mail : Parts → Option ℕ
+unless_full_of_mail w =
+    code_if 16 (nat_le 1000000 (length w.copies) || nat_le (2 ^ 28) (bytes_of w.copies + injected_of w.trace))
+
+-- what is asked of a router that is to act: it runs, and there is room for one more event
+abbrev pub unless_acts : Parts → Member → Option ℕ
+unless_acts w m = option_or (unless_running m) (unless_full_of_events w)
+
+abbrev pub unless_detached : Parts → EpId → Member → Option ℕ
+unless_detached w endpoint m = option_or (unless_running m) (option_or (unless_attached endpoint m) (unless_full_of_events w))
+
+-- of a router that is to send, beside this: there is room for mail
+abbrev pub unless_ticked : Parts → Member → Option ℕ
+unless_ticked w m = option_or (unless_acts w m) (unless_full_of_mail w)
+
+abbrev pub unless_received : Parts → EpId → Member → Option ℕ
+unless_received w endpoint m = option_or (unless_detached w endpoint m) (unless_full_of_mail w)
+
+-- of an endpoint that is to be attached to a link
+abbrev pub unless_joined : Parts → EpId → Member → ℕ → Option ℕ
+unless_joined w endpoint m link =
+    option_or (unless_running m) (option_or (unless_free endpoint m) (option_or (unless_apart link m)
+    (option_or (unless_full_of_endpoints m) (unless_full_of_events w))))
+
+-- 13: there is no copy of that number; what is asked then of a copy. Numbers of copies begin with 1.
+abbrev pub of_copy : (MailCopy → Option ℕ) → Option MailCopy → Option ℕ
+of_copy asked None = Some 13
+of_copy asked (Some copy) = asked copy
+
+abbrev pub copy_at : Parts → ℕ → Option MailCopy
+copy_at w copy = if copy == 0 then None else slice_get w.copies (copy - 1)
+
+-- 8: the name of a new router or link is taken; then 9, the 65th router or link, and the events
+abbrev pub unless_new : Parts → List ℕ → ℕ → Option ℕ
+unless_new w name count = option_or (code_if 8 (is_taken name w)) (option_or (code_if 9 (not (nat_lt count 64))) (unless_full_of_events w))
+
+-- the code with which an event is refused; an event that is accepted has none
+abbrev pub refusal : Parts → WEvent → Option ℕ
+refusal w (event.Router name id) = unless_new w (name_text name) (length w.members)
+refusal w (event.Link name) = unless_new w (name_text name) (length w.links)
+refusal w (event.Attach name endpoint link) =
+    of_router (λ m. of_link (unless_joined w endpoint m) (link_place (name_text link) w)) (member_named (name_text name) w)
+refusal w (event.Detach name endpoint) = of_router (unless_detached w endpoint) (member_named (name_text name) w)
+refusal w (event.Caps name caps) = of_router (unless_acts w) (member_named (name_text name) w)
+refusal w (event.Stop name) = of_router (unless_acts w) (member_named (name_text name) w)
+refusal w (event.Start name) = of_router (λ m. unless_full_of_events w) (member_named (name_text name) w)
+refusal w (event.Time moment) = option_or (code_if 10 (nat_lt moment w.moment)) (unless_full_of_events w)
+refusal w (event.Tick name) = of_router (unless_ticked w) (member_named (name_text name) w)
+refusal w (event.Deliver copy) = of_copy (λ c. of_router (unless_received w c.to.endpoint) (slice_get w.members c.to.place)) (copy_at w copy)
+refusal w (event.Drop copy) = of_copy (λ c. unless_full_of_events w) (copy_at w copy)
+refusal w (event.Inject name endpoint from multicast bytes) = of_router (unless_received w endpoint) (member_named (name_text name) w)

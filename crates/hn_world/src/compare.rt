@@ -1,0 +1,84 @@
+ghost use Rattle.std.specs.Prelude.{◌≡◌, ◌+◌, ◌<◌, ℕ, suc, IsSome, IfOk, Some, length, count_by, option_copied};
+ghost use Rattle.std.specs.Option.{option_map};
+ghost use Rattle.hn_base.specs.Name.{name_text};
+ghost use Rattle.hn_router.specs.Nodes.{leaves_of};
+ghost use Rattle.hn_world.specs.declared.member.Member.{Member};
+ghost use Rattle.hn_world.specs.Names.{member_named};
+ghost use Rattle.hn_world.specs.Waiting.{first_waiting};
+ghost use Rattle.hn_world.specs.Refusal.{copy_at};
+ghost use Rattle.hn_world.specs.Leaves.{Agrees, HasInfo};
+
+use crate::copies::CopyInfo;
+use crate::world::World;
+use hn_base::{Name, NoMemory};
+use hn_hash::{Agreement, agree};
+use std::alloc::Global;
+
+impl World {
+    /// How two routers agree: whether their network state hashes differ, their lists of leaves are the same, or two inputs
+    /// collide.
+    ///
+    /// # Errors
+    ///
+    /// Out of memory.
+    pub fn compare(&self, alloc: Global, a: &Name, b: &Name) -> Result<Agreement, NoMemory>
+        requires left { IsSome (member_named (name_text a.now) self.now) }
+        requires right { IsSome (member_named (name_text b.now) self.now) }
+        ensures { IfOk result (λ agreement. (m n : Member)
+            → member_named (name_text a.now) self.now ≡ Some m
+            → member_named (name_text b.now) self.now ≡ Some n
+            → Agrees (leaves_of m.router) (leaves_of n.router) agreement) }
+    {
+        let (Some(left), Some(right)) = (self.router(a), self.router(b)) else {
+            unreachable!()
+        };
+        let left = left.leaves(alloc)?;
+        let right = right.leaves(alloc)?;
+        agree(alloc, left.as_slice(), right.as_slice())
+    }
+
+    /// How many copies were made. Never allocates.
+    pub fn copies(&self) -> u64
+        ensures { result ≡ length self.now.copies }
+    {
+        self.parts.copies.len() as u64
+    }
+
+    /// How many copies wait. Never allocates.
+    pub fn waiting(&self) -> u64
+        ensures { result ≡ count_by (λ c. c.waiting) self.now.copies }
+    {
+        self.parts.copies.waiting() as u64
+    }
+
+    /// The least number of a copy that waits; `None` if and only if none waits. Never allocates.
+    pub fn next_waiting(&self) -> Option<u64>
+        ensures { result ≡ option_map suc (first_waiting self.now.copies) }
+    {
+        let place = self.parts.copies.first_waiting()?;
+        Some(place as u64 + 1)
+    }
+
+    /// The bytes of a copy; `None` if and only if there is no copy of that number. Never allocates.
+    pub fn copy_bytes(&self, copy: u64) -> Option<&[u8]>
+        ensures { option_map (λ b. b.now) result ≡ option_map (λ c. c.bytes) (copy_at self.now copy) }
+    {
+        let mail = self.parts.copy_at(copy)?;
+        Some(mail.bytes.as_slice())
+    }
+
+    /// Where a copy goes, from where, and whether it waits; `None` if there is no copy of that number. Never allocates.
+    pub fn copy_info(&self, copy: u64) -> Option<CopyInfo>
+        ensures { HasInfo self.now (copy_at self.now copy) result }
+    {
+        let mail = self.parts.copy_at(copy)?;
+        let member = self.parts.members.get(mail.to.place)?;
+        Some(CopyInfo {
+            to: member.name,
+            endpoint: mail.to.endpoint,
+            from: mail.from,
+            multicast: mail.multicast,
+            waiting: mail.waiting,
+        })
+    }
+}

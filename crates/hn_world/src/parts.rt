@@ -1,0 +1,19 @@
+use crate::copies::Copies;
+use crate::event::Version;
+use crate::links::Links;
+use crate::member::Members;
+use crate::published::Publications;
+use crate::trace::Trace;
+use hn_router::Present;
+
+/// The fields of a world.
+#[derive(Debug, Drop)]
+pub struct Parts {
+    pub version: Version,
+    pub moment: Present,
+    pub links: Links,
+    pub members: Members,
+    pub copies: Copies,
+    pub published: Publications,
+    pub trace: Trace,
+}

@@ -1,0 +1,261 @@
+//! Which events a world refuses, with which code. Nothing here allocates.
+
+ghost use Rattle.std.specs.Prelude.{◌≡◌, option_copied};
+ghost use Rattle.std.specs.List.{slice_get};
+ghost use Rattle.hn_world.specs.declared.event.WEvent.TheVariants as event;
+ghost use Rattle.hn_base.specs.Name.{name_text};
+ghost use Rattle.hn_world.specs.Names.{is_taken, member_named};
+ghost use Rattle.hn_world.specs.Refusal.{code_if, of_router, unless_running, unless_attached, unless_free, unless_apart, unless_full_of_endpoints, unless_full_of_events, unless_full_of_mail, unless_acts, unless_detached, unless_ticked, unless_received, unless_joined, copy_at, unless_new, refusal};
+
+use crate::copies::{MOST_BYTES, MailCopy};
+use crate::event::WEvent;
+use crate::member::Member;
+use crate::parts::Parts;
+use hn_base::{EpId, Name};
+
+/// The code of a name that is unknown or names the other kind.
+const UNKNOWN: u8 = 7;
+
+/// The most routers, and the most links.
+const MOST_DEFINED: usize = 64;
+
+/// The most events.
+const MOST_EVENTS: usize = 1_000_000;
+
+/// The most copies, where further ones may be made.
+const MOST_COPIES: usize = 1_000_000;
+
+/// The code, where it is so.
+fn code_if(code: u8, so: bool) -> Option<u8>
+    ensures { result ≡ code_if code so }
+{
+    if so { Some(code) } else { None }
+}
+
+impl Member {
+    fn unless_running(&self) -> Option<u8>
+        ensures { result ≡ unless_running self.now }
+    {
+        code_if(12, !self.running)
+    }
+
+    fn unless_attached(&self, endpoint: EpId) -> Option<u8>
+        ensures { result ≡ unless_attached endpoint self.now }
+    {
+        code_if(11, !self.router.attached(endpoint))
+    }
+
+    fn unless_free(&self, endpoint: EpId) -> Option<u8>
+        ensures { result ≡ unless_free endpoint self.now }
+    {
+        code_if(11, self.router.attached(endpoint))
+    }
+
+    fn unless_apart(&self, link: usize) -> Option<u8>
+        ensures { result ≡ unless_apart link self.now }
+    {
+        code_if(14, self.has_link(link))
+    }
+
+    fn unless_full_of_endpoints(&self) -> Option<u8>
+        ensures { result ≡ unless_full_of_endpoints self.now }
+    {
+        code_if(9, !self.router.has_room())
+    }
+}
+
+impl Parts {
+    fn unless_full_of_events(&self) -> Option<u8>
+        ensures { result ≡ unless_full_of_events self.now }
+    {
+        code_if(9, self.trace.as_slice().len() >= MOST_EVENTS)
+    }
+
+    fn unless_full_of_mail(&self) -> Option<u8>
+        ensures { result ≡ unless_full_of_mail self.now }
+    {
+        let many = self.copies.len() >= MOST_COPIES;
+        code_if(
+            16,
+            many || self.copies.bytes() + self.trace.injected() >= MOST_BYTES,
+        )
+    }
+
+    fn unless_acts(&self, member: &Member) -> Option<u8>
+        ensures { result ≡ unless_acts self.now member.now }
+    {
+        member.unless_running().or(self.unless_full_of_events())
+    }
+
+    fn unless_detached(&self, endpoint: EpId, member: &Member) -> Option<u8>
+        ensures { result ≡ unless_detached self.now endpoint member.now }
+    {
+        member.unless_running().or(
+            member
+                .unless_attached(endpoint)
+                .or(self.unless_full_of_events()),
+        )
+    }
+
+    fn unless_ticked(&self, member: &Member) -> Option<u8>
+        ensures { result ≡ unless_ticked self.now member.now }
+    {
+        self.unless_acts(member).or(self.unless_full_of_mail())
+    }
+
+    fn unless_received(&self, endpoint: EpId, member: &Member) -> Option<u8>
+        ensures { result ≡ unless_received self.now endpoint member.now }
+    {
+        self.unless_detached(endpoint, member)
+            .or(self.unless_full_of_mail())
+    }
+
+    fn unless_joined(&self, endpoint: EpId, member: &Member, link: usize) -> Option<u8>
+        ensures { result ≡ unless_joined self.now endpoint member.now link }
+    {
+        let full = member
+            .unless_full_of_endpoints()
+            .or(self.unless_full_of_events());
+        member.unless_running().or(
+            member
+                .unless_free(endpoint)
+                .or(member.unless_apart(link).or(full)),
+        )
+    }
+
+    /// Whether a name is taken, by a router or a link.
+    fn is_taken(&self, name: &Name) -> bool
+        ensures { result ≡ is_taken (name_text name.now) self.now }
+    {
+        self.members.place_of(name).is_some() || self.links.place_of(name).is_some()
+    }
+
+    fn unless_new(&self, name: &Name, count: usize) -> Option<u8>
+        ensures { result ≡ unless_new self.now (name_text name.now) count }
+    {
+        code_if(8, self.is_taken(name)).or(code_if(9, count >= MOST_DEFINED).or(
+            self.unless_full_of_events(),
+        ))
+    }
+
+    /// The copy of a number.
+    pub(crate) fn copy_at(&self, copy: u64) -> Option<&MailCopy>
+        ensures { option_copied result ≡ copy_at self.now copy }
+    {
+        match copy.checked_sub(1) {
+            Some(place) => self
+                .copies
+                .get(usize::try_from(place).unwrap_or(usize::MAX)),
+            None => None,
+        }
+    }
+
+    fn refuses_attach(&self, name: &Name, endpoint: EpId, link: &Name) -> Option<u8>
+        ensures { result ≡ refusal self.now (event.Attach name.now endpoint link.now) }
+    {
+        let Some(member) = self.members.find(name) else {
+            return Some(UNKNOWN);
+        };
+        match self.links.place_of(link) {
+            Some(link) => self.unless_joined(endpoint, member, link),
+            None => Some(UNKNOWN),
+        }
+    }
+
+    fn refuses_copy(&self, copy: &MailCopy) -> Option<u8>
+        ensures { result ≡ of_router (unless_received self.now copy.now.to.endpoint) (slice_get self.now.members copy.now.to.place) }
+    {
+        match self.members.get(copy.to.place) {
+            Some(member) => self.unless_received(copy.to.endpoint, member),
+            None => Some(UNKNOWN),
+        }
+    }
+
+    fn refuses_deliver(&self, copy: u64) -> Option<u8>
+        ensures { result ≡ refusal self.now (event.Deliver copy) }
+    {
+        match self.copy_at(copy) {
+            Some(copy) => self.refuses_copy(copy),
+            None => Some(13),
+        }
+    }
+
+    fn refuses_drop(&self, copy: u64) -> Option<u8>
+        ensures { result ≡ refusal self.now (event.Drop copy) }
+    {
+        match self.copy_at(copy) {
+            Some(_) => self.unless_full_of_events(),
+            None => Some(13),
+        }
+    }
+
+    fn refuses_detach(&self, name: &Name, endpoint: EpId) -> Option<u8>
+        ensures { result ≡ refusal self.now (event.Detach name.now endpoint) }
+    {
+        match self.members.find(name) {
+            Some(member) => self.unless_detached(endpoint, member),
+            None => Some(UNKNOWN),
+        }
+    }
+
+    fn refuses_arrival(&self, name: &Name, endpoint: EpId) -> Option<u8>
+        ensures { result ≡ of_router (unless_received self.now endpoint) (member_named (name_text name.now) self.now) }
+    {
+        match self.members.find(name) {
+            Some(member) => self.unless_received(endpoint, member),
+            None => Some(UNKNOWN),
+        }
+    }
+
+    fn refuses_act(&self, name: &Name) -> Option<u8>
+        ensures { result ≡ of_router (unless_acts self.now) (member_named (name_text name.now) self.now) }
+    {
+        match self.members.find(name) {
+            Some(member) => self.unless_acts(member),
+            None => Some(UNKNOWN),
+        }
+    }
+
+    fn refuses_tick(&self, name: &Name) -> Option<u8>
+        ensures { result ≡ of_router (unless_ticked self.now) (member_named (name_text name.now) self.now) }
+    {
+        match self.members.find(name) {
+            Some(member) => self.unless_ticked(member),
+            None => Some(UNKNOWN),
+        }
+    }
+
+    fn refuses_start(&self, name: &Name) -> Option<u8>
+        ensures { result ≡ refusal self.now (event.Start name.now) }
+    {
+        match self.members.find(name) {
+            Some(_) => self.unless_full_of_events(),
+            None => Some(UNKNOWN),
+        }
+    }
+
+    /// The code with which an event is refused; `None` if and only if it is accepted. Never allocates.
+    pub(crate) fn refusal(&self, event: &WEvent) -> Option<u8>
+        ensures { result ≡ refusal self.now event.now }
+    {
+        match event {
+            WEvent::Router { name, .. } => self.unless_new(name, self.members.as_slice().len()),
+            WEvent::Link { name } => self.unless_new(name, self.links.len()),
+            WEvent::Attach {
+                name,
+                endpoint,
+                link,
+            } => self.refuses_attach(name, *endpoint, link),
+            WEvent::Detach { name, endpoint } => self.refuses_detach(name, *endpoint),
+            WEvent::Caps { name, .. } | WEvent::Stop { name } => self.refuses_act(name),
+            WEvent::Start { name } => self.refuses_start(name),
+            WEvent::Time { moment } => {
+                code_if(10, *moment < self.moment.get()).or(self.unless_full_of_events())
+            }
+            WEvent::Tick { name } => self.refuses_tick(name),
+            WEvent::Deliver { copy } => self.refuses_deliver(*copy),
+            WEvent::Drop { copy } => self.refuses_drop(*copy),
+            WEvent::Inject { name, endpoint, .. } => self.refuses_arrival(name, *endpoint),
+        }
+    }
+}

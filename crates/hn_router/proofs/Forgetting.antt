@@ -37,13 +37,13 @@ module _ {A : Type 0} (p : A → Bool) where
       (λ is. All-cons (P (x ∷ filter p xs)) x xs (λ _. Contains-head x (filter p xs)) (All-weaker (P (filter p xs)) (P (x ∷ filter p xs)) (λ y there passes. Contains-tail x (filter p xs) y (there passes)) xs more))
       (λ is. All-cons (P (filter p xs)) x xs (λ passes. absurd (let clash = sym passes ∙ is in cc)) more)
 
-  contains_filter : (xs : List A) (x : A) → Contains xs x → p x ≡ true → Contains (filter p xs) x
+  pub contains_filter : (xs : List A) (x : A) → Contains xs x → p x ≡ true → Contains (filter p xs) x
   contains_filter xs x there passes = All-contains (λ y. p y ≡ true → Contains (filter p xs) y) xs x (in_filter xs) there passes
 
-  contains_from_filter : (xs : List A) (x : A) → Contains (filter p xs) x → Contains xs x
+  pub contains_from_filter : (xs : List A) (x : A) → Contains (filter p xs) x → Contains xs x
   contains_from_filter xs x there = All-contains (Contains xs) (filter p xs) x (All-filter p (Contains xs) xs (All-contains_itself xs)) there
 
-  passes_from_filter : (xs : List A) (x : A) → Contains (filter p xs) x → p x ≡ true
+  pub passes_from_filter : (xs : List A) (x : A) → Contains (filter p xs) x → p x ≡ true
   passes_from_filter xs x there = All-contains (λ y. p y ≡ true) (filter p xs) x (filter_passes p xs) there
 
 module _ {A B : Type 0} where
@@ -56,7 +56,7 @@ module _ {A B : Type 0} where
 -- ---- an element between those below it and those above it
 
 module _ {A : Type 0} (lower greater : A → Bool) (m : A) where
-  abbrev between : List A → List A
+  abbrev pub between : List A → List A
   between xs = filter lower xs ++ m ∷ filter greater xs
 
   -- what is there stays there, if it stays among the others
@@ -74,7 +74,7 @@ module _ {A : Type 0} (lower greater : A → Bool) (m : A) where
 
 -- ---- who is forgotten
 
-among_reach : (reach : List NodeId) (id : NodeId) (n : ℕ) → Contains reach id → id.0 ≡ n → is_among reach n ≡ true
+pub among_reach : (reach : List NodeId) (id : NodeId) (n : ℕ) → Contains reach id → id.0 ≡ n → is_among reach n ≡ true
 among_reach reach id n (k, within, is) same =
     list_any_at (λ (i : NodeId). i.0 == n) reach k id within (eq-eqb (get_or reach k id).0 n (ap (λ (i : NodeId). i.0) is ∙ same))
 
@@ -85,7 +85,7 @@ not_lost now (Some moment) is = absurd cc
 abbrev stays : ℕ → HeldNode → Bool
 stays now node = not (is_forgotten now node)
 
-abbrev IsMarked : List NodeId → HeldNode → Type 0
+abbrev pub IsMarked : List NodeId → HeldNode → Type 0
 IsMarked reach node = is_among reach node.id.0 ≡ is_none node.stored.lost
 
 -- a reachable node stays

@@ -15,6 +15,7 @@ pub mod Planning
 pub mod PortFacts
 pub mod PortLists
 pub mod Rans
+pub mod Recent
 pub mod Refreshes
 pub mod Refreshing
 pub mod Restarting
@@ -22,5 +23,6 @@ pub mod Shift
 pub mod Sole
 pub mod Stays
 pub mod Ticking
+pub mod Touched
 pub mod Wells
 pub mod Without

@@ -29,7 +29,7 @@ use Rattle.hn_router.specs.declared.done.Note.TheVariants as note
 use Rattle.hn_router.specs.declared.answers.Subject.{Subject}
 use Rattle.hn_router.specs.declared.answers.Subject.TheVariants as subject
 use Rattle.hn_router.specs.Answers.{with_answer}
-use Rattle.hn_router.specs.Ports.{is_port, put_port, endpoints_of, attached, detached}
+use Rattle.hn_router.specs.Ports.{is_port, put_port, endpoints_of, attached}
 use Rattle.hn_router.specs.Rules.{Rule, Then, Each, AtPort, noted, with_port}
 use Rattle.hn_router.specs.Refresh.{Publishes, next_number, IsPublishing, IsReaching, network_state_hash, IsPortReset, IsHashing, IsRefresh}
 use Rattle.hn_router.specs.NodeEndpoint.{asking, met, greeting_port, named, node_endpoint}

@@ -88,22 +88,23 @@ put_numbers port (p ∷ ports) =
     let more = put_numbers port ports in
     cc
 
+-- one in place of another
+pub are-put : (port : Port) (ports : List Port) → ArePorts ports → ArePorts (put_port port ports)
+are-put port ports are = record {
+  ascending = rw put_numbers are.ascending;
+  few = rw length-map are.few;
+  numbered = All-map (λ (p : Port). 0 < p.id.0) (λ (p : Port). cond (is_port port.id p) port p) ports
+      (λ k d within. cond_both (is_port port.id (get_or ports k d)) port (get_or ports k d) (λ (p : Port). 0 < p.id.0)
+      (λ is. let same = eqb-true _ _ is in let some = are.numbered k d within in omega arith) (λ _. are.numbered k d within));
+}
+
 module _ (now : ℕ) where
-  -- one in place of another
   pub ports-put : (port : Port) (ports : List Port) → IsPortWell now port → ArePortsWell now ports → ArePortsWell now (put_port port ports)
-  ports-put port ports one well =
-      let each = λ (p : Port). cond (is_port port.id p) port p in
-      record {
-        are = record {
-          ascending = rw put_numbers well.are.ascending;
-          few = rw length-map well.are.few;
-          numbered = All-map (λ (p : Port). 0 < p.id.0) each ports
-              (λ k d within. cond_both (is_port port.id (get_or ports k d)) port (get_or ports k d) (λ (p : Port). 0 < p.id.0)
-              (λ is. let same = eqb-true _ _ is in let some = well.are.numbered k d within in omega arith) (λ _. well.are.numbered k d within));
-        };
-        each = All-map (IsPortWell now) each ports
-            (λ k d within. cond_both (is_port port.id (get_or ports k d)) port (get_or ports k d) (IsPortWell now) (λ _. one) (λ _. well.each k d within));
-      }
+  ports-put port ports one well = record {
+    are = are-put port ports well.are;
+    each = All-map (IsPortWell now) (λ (p : Port). cond (is_port port.id p) port p) ports
+        (λ k d within. cond_both (is_port port.id (get_or ports k d)) port (get_or ports k d) (IsPortWell now) (λ _. one) (λ _. well.each k d within));
+  }
 
   -- one more
   pub ports-attached : (port : Port) (ports : List Port) → IsPortWell now port → 0 < port.id.0 → length ports < 16 → ArePortsWell now ports → ArePortsWell now (attached port ports)

@@ -20,19 +20,17 @@ use Rattle.hn_store.specs.Loss.{is_among, lost_after, marked_node}
 use Rattle.hn_router.specs.declared.state.State.{State}
 use Rattle.hn_router.specs.declared.running.Running.{Running}
 use Rattle.hn_router.specs.Own.{links_at, links_of}
-use Rattle.hn_router.specs.Ports.{is_port, port_at, put_port, endpoints_of}
+use Rattle.hn_router.specs.Ports.{ArePorts, is_port, port_at, put_port, endpoints_of}
 use Rattle.hn_router.specs.Nodes.{held_entry, own_entry}
 use Rattle.hn_router.specs.Rules.{Rule, AtPort, with_port}
 use Rattle.hn_router.specs.Refresh.{own_items, IsPublishing, IsReaching, network_state_hash, IsPortReset, IsHashing, IsRefresh}
 use Rattle.hn_router.specs.Tick.{IsPortSending, IsPortTick, IsPortsTick}
 use Rattle.hn_router.specs.Router.{WasReach, IsRefreshed}
-use Rattle.hn_router.proofs.Finding.{find_all}
-use Rattle.hn_router.proofs.PortFacts.{IsPortWell}
 use Rattle.hn_router.proofs.Known.{KnownLaws}
-use Rattle.hn_router.proofs.Parts.{IsMade}
-use Rattle.hn_router.proofs.Wells.{Keeps, Made, keeps_option, keeps_each, keeps_publishing, keeps_reaching, keeps_reset, keeps_port_tick}
+use Rattle.hn_router.proofs.Parts.{IsMade, are-put}
+use Rattle.hn_router.proofs.Wells.{Keeps, Made, keeps_option, keeps_each, keeps_refresh, keeps_ports_tick}
 
--- ---- endpoints that keep their number and their peers
+-- ---- endpoints that keep their number and what the router says of their peers
 
 abbrev number : Port → ℕ
 number port = port.id.0
@@ -47,7 +45,7 @@ found_number at (p ∷ ports) port found = by_test (is_port at p) refl found (fo
     by_test false is found more = more found
 
 -- no other endpoint has its number
-only_one : (at : EpId) (ports : List Port) (port : Port) → IsStrictlySortedBy nat_cmp (map number ports) → port_at at ports ≡ Some port → All (λ p. p.id.0 ≡ port.id.0 → p ≡ port) ports
+pub only_one : (at : EpId) (ports : List Port) (port : Port) → IsStrictlySortedBy nat_cmp (map number ports) → port_at at ports ≡ Some port → All (λ p. p.id.0 ≡ port.id.0 → p ≡ port) ports
 unfolding IsStrictlySortedBy
 only_one at [] port up found = All-nil (λ p. p.id.0 ≡ port.id.0 → p ≡ port)
 only_one at (p ∷ ports) port up found = by_test (is_port at p) refl found (only_one at ports port up.1)
@@ -73,17 +71,14 @@ links_put (p ∷ ports) next same =
     let more = links_put ports next (All-tail P p ports same) in
     cc
 
--- an endpoint is changed that keeps its number and its peers
-kept_links : (at : EpId) (ports : List Port) (port next : Port) → IsStrictlySortedBy nat_cmp (map number ports) → port_at at ports ≡ Some port → next.id ≡ port.id → next.peers ≡ port.peers
+-- an endpoint is changed that keeps its number and what the router says of its peers
+kept_links : (at : EpId) (ports : List Port) (port next : Port) → IsStrictlySortedBy nat_cmp (map number ports) → port_at at ports ≡ Some port → next.id ≡ port.id → links_at next ≡ links_at port
     → links_of (put_port next ports) ≡ links_of ports
-kept_links at ports port next up found same_id same_peers =
+kept_links at ports port next up found same_id same_links =
     links_put ports next (All-weaker (λ p. p.id.0 ≡ port.id.0 → p ≡ port) (λ p. p.id.0 ≡ next.id.0 → links_at next ≡ links_at p) each ports (only_one at ports port up found))
   where
-    links_same : links_at next ≡ links_at port
-    links_same = rw (same_id, same_peers) refl
-
     each : (p : Port) → (p.id.0 ≡ port.id.0 → p ≡ port) → p.id.0 ≡ next.id.0 → links_at next ≡ links_at p
-    each p one is = links_same ∙ ap links_at (sym (one (is ∙ ap (λ (id : EpId). id.0) same_id)))
+    each p one is = same_links ∙ ap links_at (sym (one (is ∙ ap (λ (id : EpId). id.0) same_id)))
 
 refreshed_ports : (s : State) (ports : List Port) → links_of ports ≡ links_of s.ports → IsRefreshed s → IsRefreshed (record s { ports = ports })
 refreshed_ports s ports same is = record {
@@ -97,26 +92,29 @@ refreshed_ports s ports same is = record {
   hashed = is.hashed;
 }
 
--- ---- a router with all its facts
+-- ---- endpoints, and what a refresh makes
 
-pub record IsDone (r : Running) : Type 0 where
-  pub made : IsMade r.state
-  pub refreshed : IsRefreshed r.state
+pub record IsFresh (s : State) : Type 0 where
+  pub ports : ArePorts s.ports
+  pub refreshed : IsRefreshed s
 
--- a rule of an endpoint that keeps its number and its peers
-record KeepsPeers (rule : Port → Rule) : Type 1 where
-  made : (port : Port) (r a : Running) → IsPortWell r.state.moment port → rule port r a → Made r → Made a
-  refreshed : (port : Port) (r a : Running) → rule port r a → ((next : Port) → next.id ≡ port.id → next.peers ≡ port.peers → IsRefreshed (with_port next r).state) → IsRefreshed r.state → IsRefreshed a.state
+abbrev pub Fresh : Running → Type 0
+Fresh r = IsFresh r.state
 
-keeps_done_at : (at : EpId) (rule : Port → Rule) → KeepsPeers rule → Keeps IsDone (AtPort at rule)
-keeps_done_at at rule keeps = keeps_option IsDone at rule one
-  where
-    one : (port : Port) (r a : Running) → port_at at r.state.ports ≡ Some port → rule port r a → IsDone r → IsDone a
-    one port r a found holds done = record {
-      made = keeps.made port r a (find_all (IsPortWell r.state.moment) (is_port at) r.state.ports port done.made.ports.each found) holds done.made;
-      refreshed = keeps.refreshed port r a holds
-          (λ next same_id same_peers. refreshed_ports r.state (put_port next r.state.ports) (kept_links at r.state.ports port next done.made.ports.are.ascending found same_id same_peers) done.refreshed) done.refreshed;
-    }
+pub fresh_port : (at : EpId) (port next : Port) (r : Running) → port_at at r.state.ports ≡ Some port → next.id ≡ port.id → links_at next ≡ links_at port → Fresh r → Fresh (with_port next r)
+fresh_port at port next r found same_id same_links fresh = record {
+  ports = are-put next r.state.ports fresh.ports;
+  refreshed = refreshed_ports r.state (put_port next r.state.ports) (kept_links at r.state.ports port next fresh.ports.ascending found same_id same_links) fresh.refreshed;
+}
+
+-- a rule of an endpoint that keeps its number and what the router says of its peers
+abbrev KeepsLinks : (Port → Rule) → Type 0
+KeepsLinks rule =
+    (port : Port) (r a : Running) → rule port r a → ((next : Port) → next.id ≡ port.id → links_at next ≡ links_at port → Fresh (with_port next r)) → Fresh r → Fresh a
+
+pub keeps_fresh_at : (at : EpId) (rule : Port → Rule) → KeepsLinks rule → Keeps Fresh (AtPort at rule)
+keeps_fresh_at at rule keeps =
+    keeps_option Fresh at rule (λ port r a found holds fresh. keeps port r a holds (λ next same_id same_links. fresh_port at port next r found same_id same_links fresh) fresh)
 
 -- ---- a refresh
 
@@ -164,47 +162,55 @@ with_hash s net is same = record {
   hashed = same;
 }
 
-reset_keeps : KeepsPeers IsPortReset
-reset_keeps = record { made = keeps_reset; refreshed = refreshed }
-  where
-    refreshed : (port : Port) (r a : Running) → IsPortReset port r a → ((next : Port) → next.id ≡ port.id → next.peers ≡ port.peers → IsRefreshed (with_port next r).state) → IsRefreshed r.state → IsRefreshed a.state
-    refreshed port r a (inl (shortest, is)) changed before = subst (λ (x : Running). IsRefreshed x.state) (sym is) before
-    refreshed port r a (inr (longer, (word, is))) changed before =
-        subst (λ (x : Running). IsRefreshed x.state) (sym is) (changed (record port { trickle = started r.state.moment 200 word }) refl refl)
+reset_keeps : KeepsLinks IsPortReset
+reset_keeps port r a (inl (shortest, is)) changed fresh = subst Fresh (sym is) fresh
+reset_keeps port r a (inr (longer, (word, is))) changed fresh = subst Fresh (sym is) (changed (record port { trickle = started r.state.moment 200 word }) refl refl)
 
-done_hashing : (r a : Running) → IsHashing r a → IsMade r.state → IsReached r.state → IsDone a
-done_hashing r a (inl (same, is)) made reached =
-    subst IsDone (sym is) (record { made = made; refreshed = with_hash r.state r.state.net reached (sym same) })
-done_hashing r a (inr (other, resets)) made reached =
+fresh_hashing : (r a : Running) → IsHashing r a → ArePorts r.state.ports → IsReached r.state → Fresh a
+fresh_hashing r a (inl (same, is)) are reached = subst Fresh (sym is) (record { ports = are; refreshed = with_hash r.state r.state.net reached (sym same) })
+fresh_hashing r a (inr (other, resets)) are reached =
     let hashed : Running = record r { state = record r.state { net = network_state_hash r.state } } in
-    let start : IsDone hashed = record {
-      made = record { ports = made.ports; table = made.table; own = made.own };
-      refreshed = with_hash r.state (network_state_hash r.state) reached refl;
-    } in
-    keeps_each IsDone (λ at. AtPort at IsPortReset) (λ at. keeps_done_at at IsPortReset reset_keeps) (endpoints_of r.state.ports) hashed a resets start
+    let start : Fresh hashed = record { ports = are; refreshed = with_hash r.state (network_state_hash r.state) reached refl } in
+    keeps_each Fresh (λ at. AtPort at IsPortReset) (λ at. keeps_fresh_at at IsPortReset reset_keeps) (endpoints_of r.state.ports) hashed a resets start
+
+ports_after : (r a : Running) → IsPublishing r a → a.state.ports ≡ r.state.ports
+ports_after r a (inl (published, is)) = ap (λ (x : Running). x.state.ports) is
+ports_after r a (inr (other, is)) = ap (λ (x : Running). x.state.ports) is.gives
+
+-- after a refresh
+pub fresh_refresh : (r a : Running) → IsRefresh r a → ArePorts r.state.ports → Fresh a
+fresh_refresh r a (published, publishes, (reached, reaches, hashes)) are =
+    let same : reached.state.ports ≡ r.state.ports = ap (λ (x : Running). x.state.ports) reaches.gives ∙ ports_after r published publishes in
+    fresh_hashing reached a hashes (subst ArePorts (sym same) are) (reached_after published reached reaches (published_after r published publishes))
+
+tick_keeps : KeepsLinks IsPortTick
+tick_keeps port r a (between, moves, sends) changed fresh =
+    sent sends (subst Fresh (sym moves.gives) (changed (ticked r.state.moment moves.words port) refl refl))
+  where
+    sent : IsPortSending port between a → Fresh between → Fresh a
+    sent (inl (due, is)) fresh = subst Fresh (sym is.gives) fresh
+    sent (inr (none, is)) fresh = subst Fresh (sym is) fresh
+
+-- ---- a router with all its facts
+
+pub record IsDone (r : Running) : Type 0 where
+  pub made : IsMade r.state
+  pub refreshed : IsRefreshed r.state
 
 -- a refresh makes all facts of a router
 pub done_refresh : KnownLaws → (r a : Running) → IsRefresh r a → Made r → IsDone a
-done_refresh known r a (published, publishes, (reached, reaches, hashes)) made =
-    done_hashing reached a hashes
-    (keeps_reaching known published reached reaches (keeps_publishing r published publishes made))
-    (reached_after published reached reaches (published_after r published publishes))
-
--- ---- what comes after it
-
-tick_keeps : KeepsPeers IsPortTick
-tick_keeps = record { made = keeps_port_tick; refreshed = refreshed }
-  where
-    sent : (port : Port) (r a : Running) → IsPortSending port r a → IsRefreshed r.state → IsRefreshed a.state
-    sent port r a (inl (due, is)) before = subst (λ (x : Running). IsRefreshed x.state) (sym is.gives) before
-    sent port r a (inr (none, is)) before = subst (λ (x : Running). IsRefreshed x.state) (sym is) before
-
-    refreshed : (port : Port) (r a : Running) → IsPortTick port r a → ((next : Port) → next.id ≡ port.id → next.peers ≡ port.peers → IsRefreshed (with_port next r).state) → IsRefreshed r.state → IsRefreshed a.state
-    refreshed port r a (between, moves, sends) changed before =
-        sent port between a sends (subst (λ (x : Running). IsRefreshed x.state) (sym moves.gives) (changed (ticked r.state.moment moves.words port) refl refl))
+done_refresh known r a refreshes made = record {
+  made = keeps_refresh known r a refreshes made;
+  refreshed = (fresh_refresh r a refreshes made.ports.are).refreshed;
+}
 
 pub keeps_done_ticks : Keeps IsDone IsPortsTick
-keeps_done_ticks r a ticks done = keeps_each IsDone (λ at. AtPort at IsPortTick) (λ at. keeps_done_at at IsPortTick tick_keeps) (endpoints_of r.state.ports) r a ticks done
+keeps_done_ticks r a ticks done =
+    let start : Fresh r = record { ports = done.made.ports.are; refreshed = done.refreshed } in
+    record {
+      made = keeps_ports_tick r a ticks done.made;
+      refreshed = (keeps_each Fresh (λ at. AtPort at IsPortTick) (λ at. keeps_fresh_at at IsPortTick tick_keeps) (endpoints_of r.state.ports) r a ticks start).refreshed;
+    }
 
 pub refreshed-later : (now : ℕ) (s : State) → s.moment ≤ now → IsRefreshed s → IsRefreshed (record s { moment = now })
 refreshed-later now s rises is = record {

@@ -91,11 +91,11 @@ keeps_publishes number fits r a is made = subst Made (sym is.gives) (record {
 
 -- ---- a refresh
 
-pub keeps_publishing : Keeps Made IsPublishing
+keeps_publishing : Keeps Made IsPublishing
 keeps_publishing r a (inl (same, is)) made = subst Made (sym is) made
 keeps_publishing r a (inr (other, is)) made = keeps_publishes (next_number r.state.number) (omega arith) r a is made
 
-pub keeps_reset : (port : Port) (r a : Running) → IsPortWell r.state.moment port → IsPortReset port r a → Made r → Made a
+keeps_reset : (port : Port) (r a : Running) → IsPortWell r.state.moment port → IsPortReset port r a → Made r → Made a
 keeps_reset port r a one (inl (shortest, is)) made = subst Made (sym is) made
 keeps_reset port r a one (inr (longer, (word, is))) made =
     subst Made (sym is) (made_port r (record port { trickle = started r.state.moment 200 word }) (well-started r.state.moment 200 word port one) made)
@@ -108,7 +108,7 @@ keeps_hashing r a (inr (other, is)) made =
     keeps_each Made (λ at. AtPort at IsPortReset) (λ at. keeps_at at IsPortReset keeps_reset) (endpoints_of r.state.ports) hashed a is start
 
 module _ (known : KnownLaws) where
-  pub keeps_reaching : Keeps Made IsReaching
+  keeps_reaching : Keeps Made IsReaching
   keeps_reaching r a is made = subst Made (sym is.gives) (record {
     ports = made.ports;
     table = table-marked known r.state.id r.state.moment is.reach r.state.table made.table;
@@ -248,7 +248,7 @@ keeps_expiry r a h made = keeps_each Made (λ at. AtPort at IsPortExpiry) (λ at
 pub made_forgetting : KnownLaws → (r : Running) → Made r → Made (forgetting r)
 made_forgetting known r made = record { ports = made.ports; table = table-remembered known r.state.id r.state.moment r.state.table made.table; own = made.own }
 
-pub keeps_port_tick : (port : Port) (r a : Running) → IsPortWell r.state.moment port → IsPortTick port r a → Made r → Made a
+keeps_port_tick : (port : Port) (r a : Running) → IsPortWell r.state.moment port → IsPortTick port r a → Made r → Made a
 keeps_port_tick port r a one (between, moves, sends) made =
     let moved : Made between = subst Made (sym moves.gives) (made_port r (ticked r.state.moment moves.words port) (well-ticked r.state.moment moves.words port one) made) in
     by_sending sends moved

@@ -2,6 +2,7 @@
 
 ghost use Rattle.std.specs.Prelude.{◌≡◌, false, OnOk};
 ghost use Rattle.hn_router.specs.Rules.{Ran};
+ghost use Rattle.hn_router.specs.Router.{IsRefreshed};
 ghost use Rattle.hn_router.specs.Act.{plain_event, is_refused, IsEventRule, Arrive, Attach, HasRun};
 
 use crate::done::Note;
@@ -45,6 +46,7 @@ impl Running {
         bytes: &[u8],
         draw: &mut D,
     ) -> Result<(), NoMemory>
+        requires { IsRefreshed self.old.state }
         ensures { OnOk result (Ran (IsEventRule (Arrive from.now bytes.now)) (D.words draw.old) (D.words draw.new) self.old self.new) }
     {
         if !link_local(&from.from) {
@@ -66,7 +68,8 @@ impl Running {
         event: &Event<'_>,
         draw: &mut D,
     ) -> Result<(), NoMemory>
-        requires { is_refused (plain_event event.now) self.old.state ≡ false }
+        requires accepted { is_refused (plain_event event.now) self.old.state ≡ false }
+        requires refreshed { IsRefreshed self.old.state }
         ensures { OnOk result (Ran (IsEventRule (plain_event event.now)) (D.words draw.old) (D.words draw.new) self.old self.new) }
     {
         match *event {
@@ -98,6 +101,7 @@ impl Running {
         event: &Event<'_>,
         draw: &mut D,
     ) -> Result<(), NoMemory>
+        requires { IsRefreshed self.old.state }
         ensures { OnOk result (HasRun (plain_event event.now) (D.words draw.old) (D.words draw.new) self.old self.new) }
     {
         if self.state.refuses(event) {

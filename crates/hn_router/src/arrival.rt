@@ -1,11 +1,12 @@
 //! The TLVs of a datagram: a rule for each kind, and a refresh after each TLV.
 
-ghost use Rattle.std.specs.Prelude.{◌≡◌, ℕ, List, IfOk, OnOk, map};
+ghost use Rattle.std.specs.Prelude.{◌≡◌, ℕ, List, IfOk, OnOk, map, false};
 ghost use Rattle.hn_tlv.specs.Grammar.{PlainTlv, IsTlvList, HasTlvs};
 ghost use Rattle.hn_tlv.specs.View.{plain};
 ghost use Rattle.hn_typed.specs.View.{plain_item};
 ghost use Rattle.hn_router.specs.Rules.{Then, Ran};
 ghost use Rattle.hn_router.specs.Refresh.{IsRefresh};
+ghost use Rattle.hn_router.specs.Router.{IsRefreshed};
 ghost use Rattle.hn_router.specs.Arrival.{IsItemRule, IsTlvRule, IsTlvs, IsAnswering, IsArrival};
 
 use crate::done::Note;
@@ -25,23 +26,34 @@ mod node_state;
 mod requests;
 
 impl Running {
-    /// The rule of an item.
+    /// The rule of an item: whether it touched what a refresh makes.
     fn item<D: Draw>(
         &mut self,
         alloc: Global,
         from: &Origin,
         item: &Item<'_>,
         draw: &mut D,
-    ) -> Result<(), NoMemory>
-        ensures { OnOk result (Ran (IsItemRule from.now (plain_item item.now)) (D.words draw.old) (D.words draw.new) self.old self.new) }
+    ) -> Result<bool, NoMemory>
+        ensures ran { OnOk result (Ran (IsItemRule from.now (plain_item item.now)) (D.words draw.old) (D.words draw.new) self.old self.new) }
+        ensures untouched { IfOk result (λ touched. touched ≡ false → IsRefreshed self.old.state → IsRefreshed self.new.state) }
     {
+        let _kept = self.state.ports.get().as_slice();
         match *item {
             Item::NodeEndpoint { node, endpoint, .. } => {
                 self.node_endpoint(alloc, from, node, endpoint)
             }
-            Item::RequestNetwork { .. } => self.request_network(alloc),
-            Item::RequestNode { node, .. } => self.request_node(alloc, node),
-            Item::NetworkState { hash, .. } => self.network_state(alloc, from, hash),
+            Item::RequestNetwork { .. } => {
+                self.request_network(alloc)?;
+                Ok(false)
+            }
+            Item::RequestNode { node, .. } => {
+                self.request_node(alloc, node)?;
+                Ok(false)
+            }
+            Item::NetworkState { hash, .. } => {
+                self.network_state(alloc, from, hash)?;
+                Ok(false)
+            }
             Item::NodeState {
                 node,
                 number,
@@ -58,26 +70,30 @@ impl Running {
                 };
                 self.node_state(alloc, &carried, draw)
             }
-            _ => Ok(()),
+            _ => Ok(false),
         }
     }
 
-    /// A TLV: the rule of its item; one that the item table refuses is noted.
+    /// A TLV: the rule of its item; one that the item table refuses is noted. Whether it touched what a refresh makes.
     fn tlv<D: Draw>(
         &mut self,
         alloc: Global,
         from: &Origin,
         tlv: &Tlv<'_>,
         draw: &mut D,
-    ) -> Result<(), NoMemory>
-        ensures { OnOk result (Ran (IsTlvRule from.now (plain tlv.now)) (D.words draw.old) (D.words draw.new) self.old self.new) }
+    ) -> Result<bool, NoMemory>
+        ensures ran { OnOk result (Ran (IsTlvRule from.now (plain tlv.now)) (D.words draw.old) (D.words draw.new) self.old self.new) }
+        ensures untouched { IfOk result (λ touched. touched ≡ false → IsRefreshed self.old.state → IsRefreshed self.new.state) }
     {
         match read(tlv) {
             Ok(item) => self.item(alloc, from, &item, draw),
-            Err(fault) => self.note(Note::Ignored {
-                kind: fault.kind,
-                why: fault.why,
-            }),
+            Err(fault) => {
+                self.note(Note::Ignored {
+                    kind: fault.kind,
+                    why: fault.why,
+                })?;
+                Ok(false)
+            }
         }
     }
 
@@ -89,10 +105,12 @@ impl Running {
         tlv: &Tlv<'_>,
         draw: &mut D,
     ) -> Result<(), NoMemory>
-        ensures { OnOk result (Ran (Then (IsTlvRule from.now (plain tlv.now)) IsRefresh) (D.words draw.old) (D.words draw.new) self.old self.new) }
+        requires { IsRefreshed self.old.state }
+        ensures ran { OnOk result (Ran (Then (IsTlvRule from.now (plain tlv.now)) IsRefresh) (D.words draw.old) (D.words draw.new) self.old self.new) }
+        ensures refreshed { OnOk result (IsRefreshed self.new.state) }
     {
-        self.tlv(alloc, from, tlv, draw)?;
-        self.refresh(alloc, draw)
+        let touched = self.tlv(alloc, from, tlv, draw)?;
+        self.refresh(alloc, touched, draw)
     }
 
     /// The TLVs of a datagram, in order.
@@ -103,7 +121,8 @@ impl Running {
         bytes: &[u8],
         draw: &mut D,
     ) -> Result<(), NoMemory>
-        requires { HasTlvs bytes.now }
+        requires list { HasTlvs bytes.now }
+        requires refreshed { IsRefreshed self.old.state }
         ensures { OnOk result ((tlvs : List PlainTlv) → IsTlvList tlvs bytes.now → Ran (IsTlvs from.now tlvs) (D.words draw.old) (D.words draw.new) self.old self.new) }
     {
         list_grows();
@@ -146,7 +165,8 @@ impl Running {
         bytes: &[u8],
         draw: &mut D,
     ) -> Result<(), NoMemory>
-        requires { HasTlvs bytes.now }
+        requires list { HasTlvs bytes.now }
+        requires refreshed { IsRefreshed self.old.state }
         ensures { OnOk result ((tlvs : List PlainTlv) → IsTlvList tlvs bytes.now → Ran (IsArrival from.now tlvs) (D.words draw.old) (D.words draw.new) self.old self.new) }
     {
         self.tlvs(alloc, from, bytes, draw)?;

@@ -39,7 +39,7 @@ impl Running {
         ensures { OnOk result (Ran (Then (IsAttaching at) IsRefresh) (D.words draw.old) (D.words draw.new) self.old self.new) }
     {
         self.add_port(alloc, at, draw)?;
-        self.refresh(alloc, draw)
+        self.refresh(alloc, true, draw)
     }
 
     /// An endpoint is detached, with its peers, and a refresh.
@@ -52,7 +52,7 @@ impl Running {
         ensures { OnOk result (Ran (Then (λ b a. a ≡ detaching at b) IsRefresh) (D.words draw.old) (D.words draw.new) self.old self.new) }
     {
         self.state.ports.edit()?.remove(at);
-        self.refresh(alloc, draw)
+        self.refresh(alloc, true, draw)
     }
 
     /// The router gets these capabilities, and a refresh.
@@ -65,7 +65,7 @@ impl Running {
         ensures { OnOk result (Ran (Then (λ b a. a ≡ setting_caps caps b) IsRefresh) (D.words draw.old) (D.words draw.new) self.old self.new) }
     {
         self.state.caps = caps;
-        self.refresh(alloc, draw)
+        self.refresh(alloc, true, draw)
     }
 
     /// An endpoint begins anew.
@@ -115,6 +115,6 @@ impl Running {
         self.empty(alloc)?;
         self.restart_ports(alloc, draw)?;
         self.publish(alloc, 1)?;
-        self.refresh(alloc, draw)
+        self.refresh(alloc, true, draw)
     }
 }

@@ -1,14 +1,18 @@
 //! A refresh: publish where due, reachability, moments of loss, the network state hash, resets of Trickle.
 
-ghost use Rattle.std.specs.Prelude.{◌≡◌, ◌≤◌, ◌↔◌, length, IsTrue, IfOk, OnOk};
+ghost use Rattle.std.specs.Prelude.{◌≡◌, ◌≤◌, ◌<◌, ◌-◌, ◌^◌, ◌↔◌, false, None, All, length, IsTrue, IfOk, OnOk};
 ghost use Rattle.hn_router.specs.Rules.{Ran, AtPort, Each};
+ghost use Rattle.hn_router.specs.Nodes.{age_at};
+ghost use Rattle.hn_router.specs.Router.{IsRefreshed};
 ghost use Rattle.hn_router.specs.Refresh.{own_items, Publishes, IsPublished, IsPublishing, IsReaching, network_state_hash, IsPortReset, IsReset, IsHashing, IsRefresh};
 
 use crate::done::Publication;
+use crate::nodes::age_at;
 use crate::own::{OwnData, OwnItems};
 use crate::running::Running;
 use crate::state::State;
 use hn_base::{EpId, NoMemory, Shared};
+use hn_graph::reachability_stays;
 use hn_hash::network_of;
 use hn_io::Draw;
 use hn_timers::{SHORTEST_INTERVAL, Trickle};
@@ -17,6 +21,9 @@ use std::alloc::Global;
 /// The age from which own node data is published again, in milliseconds: 2^16 before it can no longer be sent (RFC
 /// 7787, section 4.3).
 const OLDEST_OWN_DATA: u64 = (1 << 32) - (1 << 16);
+
+/// The age from which no path leads on from a node, in milliseconds (RFC 7787, section 4.6).
+const OLDEST_DATA: u64 = (1 << 32) - (1 << 15);
 
 impl State {
     /// The own items as they are now.
@@ -33,6 +40,28 @@ impl State {
         ensures { IsTrue result ↔ IsPublished self.now }
     {
         items.is(self.own.get().items()) && self.own_age() < OLDEST_OWN_DATA
+    }
+
+    /// Whether each held node without a moment of loss is one from which paths lead on. Never allocates.
+    fn leads_on(&self) -> bool
+        ensures { IsTrue result → All (λ node. node.stored.lost ≡ None → age_at self.now.moment node.stored < 2 ^ 32 - 2 ^ 15) self.now.table.entries }
+    {
+        let now = self.moment.get();
+        for node in self.table.get().entries() {
+            if node.stored.lost.is_none() && age_at(now, &node.stored) >= OLDEST_DATA {
+                return false;
+            }
+        }
+        true
+    }
+
+    /// Whether time alone makes no refresh due: the own node data is young, and paths lead on from each reachable node.
+    /// Never allocates.
+    fn is_recent(&self) -> bool
+        ensures young { IsTrue result → self.now.moment - self.now.born < 2 ^ 32 - 2 ^ 16 }
+        ensures leads { IsTrue result → All (λ node. node.stored.lost ≡ None → age_at self.now.moment node.stored < 2 ^ 32 - 2 ^ 15) self.now.table.entries }
+    {
+        self.own_age() < OLDEST_OWN_DATA && self.leads_on()
     }
 
     /// The network state hash of the reachable nodes.
@@ -135,10 +164,22 @@ impl Running {
         self.reset_ports(alloc, draw)
     }
 
-    /// A refresh.
-    pub(crate) fn refresh<D: Draw>(&mut self, alloc: Global, draw: &mut D) -> Result<(), NoMemory>
-        ensures { OnOk result (Ran IsRefresh (D.words draw.old) (D.words draw.new) self.old self.new) }
+    /// A refresh. Where nothing was touched that it makes and no age is due, it changes nothing and computes nothing.
+    pub(crate) fn refresh<D: Draw>(
+        &mut self,
+        alloc: Global,
+        touched: bool,
+        draw: &mut D,
+    ) -> Result<(), NoMemory>
+        requires { touched ≡ false → IsRefreshed self.old.state }
+        ensures ran { OnOk result (Ran IsRefresh (D.words draw.old) (D.words draw.new) self.old self.new) }
+        ensures refreshed { OnOk result (IsRefreshed self.new.state) }
     {
+        reachability_stays();
+        let _kept = self.state.ports.get().as_slice();
+        if !touched && self.state.is_recent() {
+            return Ok(());
+        }
         self.publish_where_due(alloc)?;
         self.find_reach(alloc)?;
         self.find_hash(alloc, draw)

@@ -1,9 +1,12 @@
 //! A tick: silent peers and lost nodes go, and then each endpoint sends what is due.
 
-ghost use Rattle.std.specs.Prelude.{◌≡◌, IsTrue, ◌↔◌, IfOk, OnOk};
+ghost use Rattle.std.specs.Prelude.{◌≡◌, IsTrue, ◌↔◌, All, IfOk, OnOk, false, Some};
 ghost use Rattle.hn_dncp.specs.Tick.{tick_sends};
 ghost use Rattle.hn_store.specs.Nodes.{held};
+ghost use Rattle.hn_dncp.specs.declared.port.Port.{Port};
+ghost use Rattle.hn_router.specs.Ports.{port_at};
 ghost use Rattle.hn_router.specs.Rules.{AtPort, Ran};
+ghost use Rattle.hn_router.specs.Router.{IsRefreshed};
 ghost use Rattle.hn_router.specs.Tick.{HasInterval, IsExpired, Without, IsPortExpiry, IsExpiry, forgetting, IsStateSending, IsPortMoving, IsPortTick, IsPortsTick, IsTick};
 
 use crate::running::Running;
@@ -36,6 +39,28 @@ impl State {
         expired(peer.contact, interval, self.moment.get())
     }
 
+    /// Whether the keep-alives of one of these peers have stopped. Never allocates.
+    fn is_some_expired(&self, peers: &[Neighbour]) -> bool
+        ensures { result ≡ false → All (λ peer. ¬ (IsExpired self.now peer)) peers.now }
+    {
+        for peer in peers {
+            if self.is_expired(peer) {
+                return true;
+            }
+        }
+        false
+    }
+
+    /// Whether the keep-alives of a peer of an endpoint have stopped. Never allocates.
+    fn has_expired(&self, at: EpId) -> bool
+        ensures { result ≡ false → (port : Port) → port_at at self.now.ports ≡ Some port → All (λ peer. ¬ (IsExpired self.now peer)) port.peers }
+    {
+        match self.ports.get().find(at) {
+            Some(port) => self.is_some_expired(port.peers.as_slice()),
+            None => false,
+        }
+    }
+
     /// Takes out the peers whose keep-alives have stopped.
     fn expire(&self, peers: &mut Peers)
         ensures { Without (IsExpired self.now) peers.old peers.new }
@@ -52,27 +77,35 @@ impl State {
 }
 
 impl Running {
-    /// The expired peers of an endpoint go.
-    fn expire_port(&mut self, at: EpId) -> Result<(), NoMemory>
-        ensures { OnOk result (AtPort at IsPortExpiry self.old self.new) }
+    /// The expired peers of an endpoint go: whether there are some.
+    fn expire_port(&mut self, at: EpId) -> Result<bool, NoMemory>
+        ensures rule { OnOk result (AtPort at IsPortExpiry self.old self.new) }
+        ensures untouched { IfOk result (λ touched. touched ≡ false → self.new ≡ self.old) }
     {
+        let _kept = self.state.ports.get().as_slice();
+        if !self.state.has_expired(at) {
+            return Ok(false);
+        }
         let Some(port) = self.state.ports.get().find(at) else {
-            return Ok(());
+            return Ok(false);
         };
         let mut port = port.clone()?;
         self.state.expire(&mut port.peers);
-        self.put_port(port)
+        self.put_port(port)?;
+        Ok(true)
     }
 
-    /// The expired peers of each endpoint go.
-    fn expire_ports(&mut self, alloc: Global) -> Result<(), NoMemory>
-        ensures { OnOk result (IsExpiry self.old self.new) }
+    /// The expired peers of each endpoint go: whether there are some.
+    fn expire_ports(&mut self, alloc: Global) -> Result<bool, NoMemory>
+        ensures rule { OnOk result (IsExpiry self.old self.new) }
+        ensures untouched { IfOk result (λ touched. touched ≡ false → self.new ≡ self.old) }
     {
         let endpoints = self.state.ports.get().endpoints(alloc)?;
+        let mut touched = false;
         for at in &endpoints {
-            self.expire_port(*at)?;
+            touched |= self.expire_port(*at)?;
         }
-        Ok(())
+        Ok(touched)
     }
 
     /// Lost nodes are forgotten.
@@ -140,10 +173,11 @@ impl Running {
 
     /// A tick.
     pub(crate) fn tick<D: Draw>(&mut self, alloc: Global, draw: &mut D) -> Result<(), NoMemory>
+        requires { IsRefreshed self.old.state }
         ensures { OnOk result (Ran IsTick (D.words draw.old) (D.words draw.new) self.old self.new) }
     {
-        self.expire_ports(alloc)?;
-        self.refresh(alloc, draw)?;
+        let touched = self.expire_ports(alloc)?;
+        self.refresh(alloc, touched, draw)?;
         self.forget()?;
         self.tick_ports(alloc, draw)
     }

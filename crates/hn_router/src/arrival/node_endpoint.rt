@@ -1,9 +1,12 @@
-ghost use Rattle.std.specs.Prelude.{◌≡◌, [], OnOk};
+ghost use Rattle.std.specs.Prelude.{◌≡◌, ◌≢◌, [], IfOk, OnOk, false};
 ghost use Rattle.hn_typed.specs.Item.{RequestNetwork};
+ghost use Rattle.hn_dncp.specs.declared.greet.Greet.TheVariants.{Added};
+ghost use Rattle.hn_dncp.specs.Greet.{greeting};
 ghost use Rattle.hn_router.specs.declared.done.Note.TheVariants.{Ignored};
 ghost use Rattle.hn_router.specs.declared.answers.Subject.TheVariants.{NetworkRequest};
 ghost use Rattle.hn_router.specs.Rules.{AtPort, noted};
 ghost use Rattle.hn_router.specs.Answers.{with_answer};
+ghost use Rattle.hn_router.specs.Router.{IsRefreshed};
 ghost use Rattle.hn_router.specs.NodeEndpoint.{asking, met, named, node_endpoint};
 
 use crate::answers::Subject;
@@ -25,14 +28,16 @@ const OWN_IDENTIFIER: u8 = 6;
 const SENDER_NAMED: u8 = 5;
 
 impl Running {
-    /// Takes note of a Node Endpoint that is refused.
-    fn refuse_endpoint(&mut self, why: u8) -> Result<(), NoMemory>
-        ensures { OnOk result (self.new ≡ noted (Ignored 3 why) self.old) }
+    /// Takes note of a Node Endpoint that is refused. It touches nothing.
+    fn refuse_endpoint(&mut self, why: u8) -> Result<bool, NoMemory>
+        ensures rule { OnOk result (self.new ≡ noted (Ignored 3 why) self.old) }
+        ensures untouched { IfOk result (λ touched. touched ≡ false → IsRefreshed self.old.state → IsRefreshed self.new.state) }
     {
         self.note(Note::Ignored {
             kind: NODE_ENDPOINT,
             why,
-        })
+        })?;
+        Ok(false)
     }
 
     /// A Request Network State comes up.
@@ -65,7 +70,7 @@ impl Running {
         }
     }
 
-    /// The sender is named, and the endpoint greets it.
+    /// The sender is named, and the endpoint greets it: whether it is a further peer.
     fn name_sender(
         &mut self,
         alloc: Global,
@@ -73,28 +78,33 @@ impl Running {
         node: NodeId,
         endpoint: EpId,
         mut port: Port,
-    ) -> Result<(), NoMemory>
-        ensures { OnOk result (self.new ≡ named from.now node endpoint port self.old) }
+    ) -> Result<bool, NoMemory>
+        ensures rule { OnOk result (self.new ≡ named from.now node endpoint port self.old) }
+        ensures untouched { IfOk result (λ touched. touched ≡ false → greeting node endpoint from.now.multicast port.peers ≢ Added) }
     {
         let now = self.state.moment.get();
         let greet = port.greet(node, endpoint, from.from, from.multicast, now)?;
         self.sender = Some((node, endpoint));
         self.put_port(port.clone()?)?;
-        self.meet(alloc, greet, port)
+        self.meet(alloc, greet, port)?;
+        Ok(greet == Greet::Added)
     }
 
-    /// A Node Endpoint (RFC 7787, section 7.2.1).
+    /// A Node Endpoint (RFC 7787, section 7.2.1): whether it touched what a refresh makes.
     pub(crate) fn node_endpoint(
         &mut self,
         alloc: Global,
         from: &Origin,
         node: NodeId,
         endpoint: EpId,
-    ) -> Result<(), NoMemory>
-        ensures { OnOk result (AtPort from.now.endpoint (λ port b a. a ≡ node_endpoint from.now node endpoint port b) self.old self.new) }
+    ) -> Result<bool, NoMemory>
+        ensures rule { OnOk result (AtPort from.now.endpoint (λ port b a. a ≡ node_endpoint from.now node endpoint port b) self.old self.new) }
+        ensures untouched { IfOk result (λ touched. touched ≡ false → IsRefreshed self.old.state → IsRefreshed self.new.state) }
     {
-        let Some(port) = self.state.ports.get().find(from.endpoint) else {
-            return Ok(());
+        let ports = self.state.ports.get();
+        let _kept = ports.as_slice();
+        let Some(port) = ports.find(from.endpoint) else {
+            return Ok(false);
         };
         if endpoint == EpId(0) {
             return self.refuse_endpoint(NO_ENDPOINT);
@@ -106,6 +116,7 @@ impl Running {
             return self.refuse_endpoint(SENDER_NAMED);
         }
         let port = port.clone()?;
-        self.name_sender(alloc, from, node, endpoint, port)
+        let touched = self.name_sender(alloc, from, node, endpoint, port)?;
+        Ok(touched)
     }
 }

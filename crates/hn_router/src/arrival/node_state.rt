@@ -1,9 +1,10 @@
-ghost use Rattle.std.specs.Prelude.{◌≡◌, [], OnOk};
+ghost use Rattle.std.specs.Prelude.{◌≡◌, [], IfOk, OnOk, false};
 ghost use Rattle.hn_typed.specs.Item.{RequestNode};
 ghost use Rattle.hn_store.specs.Acceptance.{plain_state};
 ghost use Rattle.hn_router.specs.declared.answers.Subject.TheVariants.{NodeRequest};
 ghost use Rattle.hn_router.specs.Answers.{with_answer};
 ghost use Rattle.hn_router.specs.Rules.{Ran};
+ghost use Rattle.hn_router.specs.Router.{IsRefreshed};
 ghost use Rattle.hn_router.specs.NodeState.{own_leaf, IsTaken, IsNodeState};
 
 use crate::answers::Subject;
@@ -65,18 +66,20 @@ impl Running {
         Ok(())
     }
 
-    /// A Node State (RFC 7787, section 7.2.3).
+    /// A Node State (RFC 7787, section 7.2.3): that it touched what a refresh makes.
     pub(crate) fn node_state<D: Draw>(
         &mut self,
         alloc: Global,
         carried: &CarriedState<'_>,
         draw: &mut D,
-    ) -> Result<(), NoMemory>
-        ensures { OnOk result (Ran (IsNodeState (plain_state carried.now)) (D.words draw.old) (D.words draw.new) self.old self.new) }
+    ) -> Result<bool, NoMemory>
+        ensures ran { OnOk result (Ran (IsNodeState (plain_state carried.now)) (D.words draw.old) (D.words draw.new) self.old self.new) }
+        ensures untouched { IfOk result (λ touched. touched ≡ false → IsRefreshed self.old.state → IsRefreshed self.new.state) }
     {
         let own = self.state.own_leaf();
         let now = self.state.moment.get();
         let how = self.state.table.edit()?.take(alloc, &own, carried, now)?;
-        self.took(alloc, carried, how, draw)
+        self.took(alloc, carried, how, draw)?;
+        Ok(true)
     }
 }

@@ -1,8 +1,16 @@
-use Rattle.std.proofs.Common.{◌∙◌, ap, subst}
+use Rattle.std.proofs.Common.{◌∙◌, ap, subst, sym}
+use Rattle.hn_router.specs.declared.running.Running.{Running}
 use Rattle.hn_router.specs.Act.{plain_event, begun_at}
-use Rattle.hn_router.specs.Router.{IsRouter}
+use Rattle.hn_router.specs.Router.{IsRefreshed, IsRouter}
 use Rattle.hn_router.proofs.Planning.{has_happened, took_words}
+use Rattle.hn_router.proofs.Refreshes.{refreshed-later}
 use Rattle.hn_router.proofs.router.Router.plan.Goals as goal
+
+pub run-requires : goal.run-requires
+run-requires g c =
+    let router = subst IsRouter c.self.view_is c.self.invariant in
+    let begins = c.in_ok-next.ensures ∙ ap (begun_at c.args.now) c.self.view_is in
+    subst (λ (r : Running). IsRefreshed r.state) (sym begins) (refreshed-later c.args.now c.args.self.now c.requires.not_before router.refreshed)
 
 pub returns-clause-happened : goal.returns-clause-happened
 returns-clause-happened g c =

@@ -13,4 +13,4 @@ returns g c =
     let before = c.args.self.now in
     let with_ports : List Port → Running = λ ports. record before { state = record before.state { ports = ports } } in
     let left = c.edit.follows.holds c.remove.new.self (ap is_ok c.in_ok-edit.was) ∙ c.remove.ensures ∙ ap (detached c.args.at) c.in_ok-edit.ensures.value in
-    on_ok_weaker c.refresh.result (λ ran. ran_after (detaching c.args.at) IsRefresh _ _ before _ c.refresh.new.self (ap with_ports left) refl ran) c.refresh.ensures
+    on_ok_weaker c.refresh.result (λ ran. ran_after (detaching c.args.at) IsRefresh _ _ before _ c.refresh.new.self (ap with_ports left) refl ran) c.refresh.ensures.ran

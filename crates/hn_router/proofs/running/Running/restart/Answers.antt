@@ -7,4 +7,4 @@ returns g c =
     on_ok_weaker c.refresh.result
     (λ refresh. ran_restart _ _ _ c.args.self.now c.empty.new.self c.restart_ports.new.self c.publish.new.self c.refresh.new.self
     c.in_ok-empty.ensures c.in_ok-restart_ports.ensures c.in_ok-publish.ensures refresh)
-    c.refresh.ensures
+    c.refresh.ensures.ran

@@ -7,4 +7,4 @@ use Rattle.hn_router.proofs.running.Running.set_caps.Goals as goal
 
 pub returns : goal.returns
 returns g c =
-    on_ok_weaker c.refresh.result (λ ran. ran_after (setting_caps c.args.caps) IsRefresh _ _ c.args.self.now (setting_caps c.args.caps c.args.self.now) c.refresh.new.self refl refl ran) c.refresh.ensures
+    on_ok_weaker c.refresh.result (λ ran. ran_after (setting_caps c.args.caps) IsRefresh _ _ c.args.self.now (setting_caps c.args.caps c.args.self.now) c.refresh.new.self refl refl ran) c.refresh.ensures.ran

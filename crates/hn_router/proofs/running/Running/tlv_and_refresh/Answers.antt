@@ -5,8 +5,11 @@ use Rattle.hn_router.specs.Refresh.{IsRefresh}
 use Rattle.hn_router.proofs.Rans.{ran_both}
 use Rattle.hn_router.proofs.running.Running.tlv_and_refresh.Goals as goal
 
-pub returns : goal.returns
-returns g c =
+pub refresh-requires : goal.refresh-requires
+refresh-requires g c none = c.in_ok-touched.ensures.untouched none c.requires
+
+pub returns-clause-ran : goal.returns-clause-ran
+returns-clause-ran g c =
     on_ok_weaker c.refresh.result
-    (λ refresh. ran_both (IsTlvRule c.args.from.now (plain c.args.tlv.now)) IsRefresh _ _ _ c.args.self.now c.tlv.new.self c.refresh.new.self c.in_ok-tlv.ensures refresh)
-    c.refresh.ensures
+    (λ refresh. ran_both (IsTlvRule c.args.from.now (plain c.args.tlv.now)) IsRefresh _ _ _ c.args.self.now c.tlv.new.self c.refresh.new.self c.in_ok-touched.ensures.ran refresh)
+    c.refresh.ensures.ran

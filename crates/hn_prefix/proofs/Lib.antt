@@ -2,6 +2,7 @@ mod Blocks
 mod GapLemmas
 mod Jumps
 mod Masks
+mod OneRead
 mod Places
 mod ReadLemmas
 mod Rounds

@@ -17,7 +17,7 @@ HasNoGap-tail : (c : ℕ) (text : List ℕ) → HasNoGap (c ∷ text) → HasNoG
 HasNoGap-tail c [] h = tt
 HasNoGap-tail c (d ∷ text) h = h.1
 
-HasNoGap-front : (xs ys : List ℕ) → HasNoGap (xs ++ ys) → HasNoGap xs
+pub HasNoGap-front : (xs ys : List ℕ) → HasNoGap (xs ++ ys) → HasNoGap xs
 HasNoGap-front [] ys h = tt
 HasNoGap-front (x ∷ []) ys h = tt
 HasNoGap-front (x ∷ y ∷ xs) ys h = (h.0, HasNoGap-front (y ∷ xs) ys h.1)
@@ -53,7 +53,7 @@ same_gap (x ∷ f) b (y ∷ g) d h k e =
     (cc, rest.1)
 
 -- `front ++ "::" ++ back`, with both colons before back
-regroup : (front back : List ℕ) → front ++ codes "::" ++ back ≡ front ++ 58 ∷ 58 ∷ back
+pub regroup : (front back : List ℕ) → front ++ codes "::" ++ back ≡ front ++ 58 ∷ 58 ∷ back
 regroup front back = append_assoc front (58 ∷ 58 ∷ []) back
 
 -- ---- groups

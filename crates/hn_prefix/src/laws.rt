@@ -25,3 +25,9 @@ pub fn written_form_is_read()
     ensures address { (ip : ℕ) → ip < 2 ^ 128 → IsAddressText (address_text_of ip) ip }
     ensures prefix { (p : PlainPrefix) → IsPrefix p → IsPrefixText (prefix_text_of p) p }
 {}
+
+/// A text is a read form of one address, and of one prefix, at most.
+pub fn read_form_is_of_one()
+    ensures address { (text : List ℕ) (one other : ℕ) → IsAddressText text one → IsAddressText text other → one ≡ other }
+    ensures prefix { (text : List ℕ) (one other : PlainPrefix) → IsPrefixText text one → IsPrefixText text other → one ≡ other }
+{}

@@ -15,7 +15,9 @@ mod text;
 mod text_tests;
 
 pub use free::first_free;
-pub use laws::{groups_are_the_address, written_form_is_one, written_form_is_read};
+pub use laws::{
+    groups_are_the_address, read_form_is_of_one, written_form_is_one, written_form_is_read,
+};
 pub use parse::{BadText, parse_address};
 pub use prefix::{
     BadPrefix, Prefix, inside_is_range, order_is_total, overlap_is_nesting, prefixes_are_ranges,

@@ -1,4 +1,4 @@
--- Advertised prefixes and their order (RFC 7695, sections 3 and 4.1).
+-- Advertised prefixes and their order (RFC 7695, sections 2 and 4.1).
 use Rattle.std.specs.Prelude.{ℕ, List, Contains}
 use Rattle.std.specs.declared.cmp.Ordering.{Ordering}
 use Rattle.std.specs.Ordering.{on, then_cmp}

@@ -1,4 +1,4 @@
--- The prefixes that a router knows to be advertised (RFC 7695, section 3; RFC 7788, section 10.3).
+-- The prefixes that a router knows to be advertised (RFC 7695, section 2; RFC 7788, section 10.3).
 use Rattle.std.specs.Prelude.{◌≡◌, ◌≢◌, ℕ, ◌⊎◌, ◌↔◌, List, Some, Contains}
 use Rattle.hn_data.specs.Said.{HasAssigned, HasVersion}
 use Rattle.hn_data.specs.View.{PlainView}

@@ -1,7 +1,7 @@
 use hn_base::{Endpoints, EpId, Key, Moment};
 use hn_prefix::Prefix;
 
-/// A prefix that a node advertises as assigned to the link of one of its endpoints (RFC 7695, section 3).
+/// A prefix that a node advertises as assigned to the link of one of its endpoints (RFC 7695, section 2).
 #[derive(Clone, Copy, Debug, PartialEq, Eq, PartialOrd, Ord, Hash)]
 pub struct Advertised {
     pub key: Key,
@@ -9,7 +9,7 @@ pub struct Advertised {
 }
 
 /// A prefix that a router has assigned to the link of one of its endpoints, inside a delegated prefix (RFC 7695,
-/// section 3).
+/// section 2).
 #[derive(Clone, Copy, Debug, PartialEq, Eq, Hash)]
 pub struct Assigned {
     pub delegated: Prefix,

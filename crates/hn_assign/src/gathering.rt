@@ -13,7 +13,7 @@ use std::alloc::Global;
 pub type AdvertisedPrefixes = Sequence<Advertised>;
 
 /// The advertised prefixes as a router sees them: the Assigned-Prefix TLVs of the other reachable nodes that have an
-/// HNCP-Version, and the router's own published assignments (RFC 7695, section 3; RFC 7788, section 10.3).
+/// HNCP-Version, and the router's own published assignments (RFC 7695, section 2; RFC 7788, section 10.3).
 pub fn gather(alloc: Global, view: &View<'_>, held: &Held) -> Result<AdvertisedPrefixes, NoMemory>
     requires { IsNetwork view.now.own.0 view.now.nodes.now }
     ensures { IfOk result (AreAdvertised (plain_view view.entry.now) held.now.assigned) }

@@ -26,7 +26,7 @@ pub fn expired(contact: Moment, interval: u32, now: Moment) -> bool
 }
 
 /// Whether a keep-alive is due, where a network state was last sent at `sent`: that was `KEEP_ALIVE_INTERVAL` ago
-/// or longer (RFC 7787, sections 6.1.2 and 6.1.3). Never allocates.
+/// or longer (RFC 7787, section 6.1.2). Never allocates.
 pub fn silent(sent: Moment, now: Moment) -> bool
     ensures { result ≡ is_silent sent now }
 {

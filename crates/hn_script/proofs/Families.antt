@@ -1,12 +1,13 @@
 -- Lines that begin with one word: what is wrong with the words after it, and that they spell one line.
-use Rattle.std.proofs.Common.{◌≡◌, ℕ, ◌==◌, ◌&&◌, Bool, true, false, List, [], ◌∷◌, length, Err, inl, inr, refl, sym, ap, ◌∙◌, subst, eq-eqb, arith, replicate, lit≤}
+use Rattle.std.proofs.Common.{◌≡◌, ℕ, ◌==◌, ◌&&◌, Bool, true, false, List, [], ◌∷◌, length, map, Err, inl, inr, refl, sym, ap, ◌∙◌, subst, eq-eqb, arith, replicate, lit≤}
 use Rattle.std.specs.List.{AllZip}
 use Rattle.hn_base.specs.declared.caps.Caps.{Caps as PriorityCaps}
 use Rattle.hn_base.specs.declared.ids.EpId.{EpId}
 use Rattle.hn_base.specs.declared.ids.NodeId.{NodeId}
 use Rattle.hn_base.specs.declared.name.Name.{Name}
+use Rattle.hn_prefix.specs.Prefix.{PlainPrefix}
 use Rattle.hn_script.specs.Fault.{FirstWordFault}
-use Rattle.hn_script.specs.Field.{Field, Named, Node, Endpoint, Number, Way, Hex, IsField}
+use Rattle.hn_script.specs.Field.{Field, Named, Node, Endpoint, Number, Prefixed, Capability, Way, Hex, IsField}
 use Rattle.hn_script.specs.Line.{spelling}
 use Rattle.hn_script.specs.Reading.{ReadsFields}
 use Rattle.hn_script.specs.declared.line.Line.{Line}
@@ -47,8 +48,20 @@ an_endpoint = record { 0 = 1 }
 pub some_caps : PriorityCaps
 some_caps = record { m = 0; p = 0; h = 0; l = 0; m_in_range = omega arith; p_in_range = omega arith; h_in_range = omega arith; l_in_range = omega arith }
 
+pub a_prefix : PlainPrefix
+a_prefix = record { bits = 0; len = 0 }
+
+-- the value, without the range of a number
+abbrev pub without_range : Field → Field
+without_range (Number lowest highest n) = Number 0 0 n
+without_range field = field
+
+-- the values of a line
+abbrev pub values_of : Line → List Field
+values_of line = map without_range (spelling line).fields
+
 -- capabilities that four priorities of a line give
-pub same_caps_lines : (a b : Name × PriorityCaps) → (spelling (CapsLine a.0 a.1)).fields ≡ (spelling (CapsLine b.0 b.1)).fields → CapsLine a.0 a.1 ≡ CapsLine b.0 b.1
+pub same_caps_lines : (a b : Name × PriorityCaps) → values_of (CapsLine a.0 a.1) ≡ values_of (CapsLine b.0 b.1) → CapsLine a.0 a.1 ≡ CapsLine b.0 b.1
 same_caps_lines a b e =
     let name : a.0 ≡ b.0 = cc in
     let m : a.1.m ≡ b.1.m = cc in
@@ -59,12 +72,14 @@ same_caps_lines a b e =
 
 -- ---- lines of one word
 
--- two values of one kind, and of one range
+-- two values of one kind
 abbrev pub SameKind : Field → Field → Type 0
 SameKind (Named a) (Named b) = Unit {0}
 SameKind (Node a) (Node b) = Unit {0}
 SameKind (Endpoint a) (Endpoint b) = Unit {0}
-SameKind (Number lowest highest n) (Number low high m) = (lowest ≡ low) × (highest ≡ high)
+SameKind (Number lowest highest n) (Number low high m) = Unit {0}
+SameKind (Prefixed a) (Prefixed b) = Unit {0}
+SameKind (Capability a) (Capability b) = Unit {0}
 SameKind (Way a) (Way b) = Unit {0}
 SameKind (Hex a) (Hex b) = Unit {0}
 SameKind _ _ = ⊥
@@ -76,7 +91,7 @@ pub record Family {A : Type 0} (word : List ℕ) (count : ℕ) (line_of : A → 
   pub counted : (a : A) → length (spelling (line_of a)).fields ≡ count
   pub only : (line : Line) → (spelling line).first ≡ word → (a : A) × (line ≡ line_of a)
   pub kinds : (a b : A) → AllZip SameKind (spelling (line_of a)).fields (spelling (line_of b)).fields
-  pub injective : (a b : A) → (spelling (line_of a)).fields ≡ (spelling (line_of b)).fields → line_of a ≡ line_of b
+  pub injective : (a b : A) → values_of (line_of a) ≡ values_of (line_of b) → line_of a ≡ line_of b
 
 -- what is wrong with the words after the first
 pub family_fault : {A : Type 0} (word : List ℕ) (count : ℕ) (line_of : A → Line) → Family word count line_of

@@ -5,6 +5,7 @@ pub mod HexWords
 pub mod Limits
 pub mod LineWords
 pub mod Pieces
+pub mod PrefixWords
 pub mod Printed
 pub mod SameFields
 pub mod SameScripts

@@ -4,14 +4,17 @@ use Rattle.std.proofs.lemmas.Bool.{false≢true}
 use Rattle.hn_base.specs.declared.caps.Caps.{Caps as PriorityCaps}
 use Rattle.hn_base.specs.declared.ids.EpId.{EpId}
 use Rattle.hn_base.specs.declared.ids.NodeId.{NodeId}
+use Rattle.hn_base.specs.declared.letter.Letter.{Letter}
+use Rattle.hn_base.specs.declared.letter.Letter.TheVariants.{M}
 use Rattle.hn_base.specs.declared.name.Name.{Name}
+use Rattle.hn_prefix.specs.Prefix.{PlainPrefix}
 use Rattle.hn_script.specs.Fault.{IsUnknown}
 use Rattle.hn_script.specs.Line.{spelling}
 use Rattle.hn_script.specs.declared.line.How.{How}
 use Rattle.hn_script.specs.declared.line.How.TheVariants.{Uni}
 use Rattle.hn_script.specs.declared.line.Line.{Line}
-use Rattle.hn_script.specs.declared.line.Line.TheVariants.{Router, Link, Attach, Detach, Caps, Stop, Start, Seed, Loss, Time, Tick, Run, Deliver, Drop, Flow, Inject, Show, Hash, Compare, Mail}
-use Rattle.hn_script.proofs.Families.{Family, same_text, same_first, a_name, a_node, an_endpoint, some_caps, same_caps_lines}
+use Rattle.hn_script.specs.declared.line.Line.TheVariants.{Router, Link, Attach, Detach, External, Withdraw, Caps, Stop, Start, Seed, Loss, Time, Tick, Run, Deliver, Drop, Flow, Inject, Show, Hash, Used, Prefixes, Elect, Compare, Mail}
+use Rattle.hn_script.proofs.Families.{Family, same_text, same_first, a_name, a_node, an_endpoint, a_prefix, some_caps, same_caps_lines}
 use Rattle.hn_script.proofs.WordBytes.{is_letters}
 
 only_router : (line : Line) → same_text (spelling line).first (codes "router") ≡ true → (a : Name × NodeId) × (line ≡ Router a.0 a.1)
@@ -70,6 +73,34 @@ detach_lines = record {
   injective = λ a b e. cc;
 }
 
+only_external : (line : Line) → same_text (spelling line).first (codes "external") ≡ true → (a : Name × PlainPrefix × ℕ × ℕ) × (line ≡ External a.0 a.1 a.2 a.3)
+only_external (External a b c d) h = ((a, b, c, d), refl)
+only_external _ h = absurd (false≢true h)
+
+pub external_lines : Family (codes "external") 4 (λ (a : Name × PlainPrefix × ℕ × ℕ). External a.0 a.1 a.2 a.3)
+external_lines = record {
+  some = (a_name, a_prefix, 0, 0);
+  first = λ _. refl;
+  counted = λ _. refl;
+  only = λ line e. only_external line (same_first line (codes "external") e);
+  kinds = λ a b. (tt, (tt, (tt, (tt, tt))));
+  injective = λ a b e. cc;
+}
+
+only_withdraw : (line : Line) → same_text (spelling line).first (codes "withdraw") ≡ true → (a : Name × PlainPrefix) × (line ≡ Withdraw a.0 a.1)
+only_withdraw (Withdraw a b) h = ((a, b), refl)
+only_withdraw _ h = absurd (false≢true h)
+
+pub withdraw_lines : Family (codes "withdraw") 2 (λ (a : Name × PlainPrefix). Withdraw a.0 a.1)
+withdraw_lines = record {
+  some = (a_name, a_prefix);
+  first = λ _. refl;
+  counted = λ _. refl;
+  only = λ line e. only_withdraw line (same_first line (codes "withdraw") e);
+  kinds = λ a b. (tt, (tt, tt));
+  injective = λ a b e. cc;
+}
+
 only_caps : (line : Line) → same_text (spelling line).first (codes "caps") ≡ true → (a : Name × PriorityCaps) × (line ≡ Caps a.0 a.1)
 only_caps (Caps a b) h = ((a, b), refl)
 only_caps _ h = absurd (false≢true h)
@@ -80,7 +111,7 @@ caps_lines = record {
   first = λ _. refl;
   counted = λ _. refl;
   only = λ line e. only_caps line (same_first line (codes "caps") e);
-  kinds = λ a b. (tt, ((refl, refl), ((refl, refl), ((refl, refl), ((refl, refl), tt)))));
+  kinds = λ a b. (tt, (tt, (tt, (tt, (tt, tt)))));
   injective = λ a b e. same_caps_lines a b e;
 }
 
@@ -122,7 +153,7 @@ seed_lines = record {
   first = λ _. refl;
   counted = λ _. refl;
   only = λ line e. only_seed line (same_first line (codes "seed") e);
-  kinds = λ a b. ((refl, refl), tt);
+  kinds = λ a b. (tt, tt);
   injective = λ a b e. cc;
 }
 
@@ -136,7 +167,7 @@ loss_lines = record {
   first = λ _. refl;
   counted = λ _. refl;
   only = λ line e. only_loss line (same_first line (codes "loss") e);
-  kinds = λ a b. ((refl, refl), tt);
+  kinds = λ a b. (tt, tt);
   injective = λ a b e. cc;
 }
 
@@ -150,7 +181,7 @@ time_lines = record {
   first = λ _. refl;
   counted = λ _. refl;
   only = λ line e. only_time line (same_first line (codes "time") e);
-  kinds = λ a b. ((refl, refl), tt);
+  kinds = λ a b. (tt, tt);
   injective = λ a b e. cc;
 }
 
@@ -178,7 +209,7 @@ run_lines = record {
   first = λ _. refl;
   counted = λ _. refl;
   only = λ line e. only_run line (same_first line (codes "run") e);
-  kinds = λ a b. ((refl, refl), ((refl, refl), tt));
+  kinds = λ a b. (tt, (tt, tt));
   injective = λ a b e. cc;
 }
 
@@ -192,7 +223,7 @@ deliver_lines = record {
   first = λ _. refl;
   counted = λ _. refl;
   only = λ line e. only_deliver line (same_first line (codes "deliver") e);
-  kinds = λ a b. ((refl, refl), tt);
+  kinds = λ a b. (tt, tt);
   injective = λ a b e. cc;
 }
 
@@ -206,7 +237,7 @@ drop_lines = record {
   first = λ _. refl;
   counted = λ _. refl;
   only = λ line e. only_drop line (same_first line (codes "drop") e);
-  kinds = λ a b. ((refl, refl), tt);
+  kinds = λ a b. (tt, tt);
   injective = λ a b e. cc;
 }
 
@@ -266,6 +297,48 @@ hash_lines = record {
   injective = λ a b e. cc;
 }
 
+only_used : (line : Line) → same_text (spelling line).first (codes "used") ≡ true → (a : Name) × (line ≡ Used a)
+only_used (Used a) h = (a, refl)
+only_used _ h = absurd (false≢true h)
+
+pub used_lines : Family (codes "used") 1 (λ (a : Name). Used a)
+used_lines = record {
+  some = a_name;
+  first = λ _. refl;
+  counted = λ _. refl;
+  only = λ line e. only_used line (same_first line (codes "used") e);
+  kinds = λ a b. (tt, tt);
+  injective = λ a b e. cc;
+}
+
+only_prefixes : (line : Line) → same_text (spelling line).first (codes "prefixes") ≡ true → (a : Name) × (line ≡ Prefixes a)
+only_prefixes (Prefixes a) h = (a, refl)
+only_prefixes _ h = absurd (false≢true h)
+
+pub prefixes_lines : Family (codes "prefixes") 1 (λ (a : Name). Prefixes a)
+prefixes_lines = record {
+  some = a_name;
+  first = λ _. refl;
+  counted = λ _. refl;
+  only = λ line e. only_prefixes line (same_first line (codes "prefixes") e);
+  kinds = λ a b. (tt, tt);
+  injective = λ a b e. cc;
+}
+
+only_elect : (line : Line) → same_text (spelling line).first (codes "elect") ≡ true → (a : Name × EpId × Letter) × (line ≡ Elect a.0 a.1 a.2)
+only_elect (Elect a b c) h = ((a, b, c), refl)
+only_elect _ h = absurd (false≢true h)
+
+pub elect_lines : Family (codes "elect") 3 (λ (a : Name × EpId × Letter). Elect a.0 a.1 a.2)
+elect_lines = record {
+  some = (a_name, an_endpoint, M);
+  first = λ _. refl;
+  counted = λ _. refl;
+  only = λ line e. only_elect line (same_first line (codes "elect") e);
+  kinds = λ a b. (tt, (tt, (tt, tt)));
+  injective = λ a b e. cc;
+}
+
 only_compare : (line : Line) → same_text (spelling line).first (codes "compare") ≡ true → (a : Name × Name) × (line ≡ Compare a.0 a.1)
 only_compare (Compare a b) h = ((a, b), refl)
 only_compare _ h = absurd (false≢true h)
@@ -294,12 +367,14 @@ mail_lines = record {
   injective = λ a b e. refl;
 }
 
--- a word that begins none of these begins absent line
+-- a word that begins none of these begins no line
 pub unknown_word : (word : List ℕ)
     → word ≢ codes "router"
     → word ≢ codes "link"
     → word ≢ codes "attach"
     → word ≢ codes "detach"
+    → word ≢ codes "external"
+    → word ≢ codes "withdraw"
     → word ≢ codes "caps"
     → word ≢ codes "stop"
     → word ≢ codes "start"
@@ -314,29 +389,37 @@ pub unknown_word : (word : List ℕ)
     → word ≢ codes "inject"
     → word ≢ codes "show"
     → word ≢ codes "hash"
+    → word ≢ codes "used"
+    → word ≢ codes "prefixes"
+    → word ≢ codes "elect"
     → word ≢ codes "compare"
     → word ≢ codes "mail"
     → IsUnknown word
-unknown_word word absent _ _ _ _ _ _ _ _ _ _ _ _ _ _ _ _ _ _ _ (Router a b) e = absent (sym e)
-unknown_word word _ absent _ _ _ _ _ _ _ _ _ _ _ _ _ _ _ _ _ _ (Link a) e = absent (sym e)
-unknown_word word _ _ absent _ _ _ _ _ _ _ _ _ _ _ _ _ _ _ _ _ (Attach a b c) e = absent (sym e)
-unknown_word word _ _ _ absent _ _ _ _ _ _ _ _ _ _ _ _ _ _ _ _ (Detach a b) e = absent (sym e)
-unknown_word word _ _ _ _ absent _ _ _ _ _ _ _ _ _ _ _ _ _ _ _ (Caps a b) e = absent (sym e)
-unknown_word word _ _ _ _ _ absent _ _ _ _ _ _ _ _ _ _ _ _ _ _ (Stop a) e = absent (sym e)
-unknown_word word _ _ _ _ _ _ absent _ _ _ _ _ _ _ _ _ _ _ _ _ (Start a) e = absent (sym e)
-unknown_word word _ _ _ _ _ _ _ absent _ _ _ _ _ _ _ _ _ _ _ _ (Seed a) e = absent (sym e)
-unknown_word word _ _ _ _ _ _ _ _ absent _ _ _ _ _ _ _ _ _ _ _ (Loss a) e = absent (sym e)
-unknown_word word _ _ _ _ _ _ _ _ _ absent _ _ _ _ _ _ _ _ _ _ (Time a) e = absent (sym e)
-unknown_word word _ _ _ _ _ _ _ _ _ _ absent _ _ _ _ _ _ _ _ _ (Tick a) e = absent (sym e)
-unknown_word word _ _ _ _ _ _ _ _ _ _ _ absent _ _ _ _ _ _ _ _ (Run a b) e = absent (sym e)
-unknown_word word _ _ _ _ _ _ _ _ _ _ _ _ absent _ _ _ _ _ _ _ (Deliver a) e = absent (sym e)
-unknown_word word _ _ _ _ _ _ _ _ _ _ _ _ _ absent _ _ _ _ _ _ (Drop a) e = absent (sym e)
-unknown_word word _ _ _ _ _ _ _ _ _ _ _ _ _ _ absent _ _ _ _ _ Flow e = absent (sym e)
-unknown_word word _ _ _ _ _ _ _ _ _ _ _ _ _ _ _ absent _ _ _ _ (Inject a b c d) e = absent (sym e)
-unknown_word word _ _ _ _ _ _ _ _ _ _ _ _ _ _ _ _ absent _ _ _ (Show a) e = absent (sym e)
-unknown_word word _ _ _ _ _ _ _ _ _ _ _ _ _ _ _ _ _ absent _ _ (Hash a) e = absent (sym e)
-unknown_word word _ _ _ _ _ _ _ _ _ _ _ _ _ _ _ _ _ _ absent _ (Compare a b) e = absent (sym e)
-unknown_word word _ _ _ _ _ _ _ _ _ _ _ _ _ _ _ _ _ _ _ absent Mail e = absent (sym e)
+unknown_word word absent _ _ _ _ _ _ _ _ _ _ _ _ _ _ _ _ _ _ _ _ _ _ _ _ (Router a b) e = absent (sym e)
+unknown_word word _ absent _ _ _ _ _ _ _ _ _ _ _ _ _ _ _ _ _ _ _ _ _ _ _ (Link a) e = absent (sym e)
+unknown_word word _ _ absent _ _ _ _ _ _ _ _ _ _ _ _ _ _ _ _ _ _ _ _ _ _ (Attach a b c) e = absent (sym e)
+unknown_word word _ _ _ absent _ _ _ _ _ _ _ _ _ _ _ _ _ _ _ _ _ _ _ _ _ (Detach a b) e = absent (sym e)
+unknown_word word _ _ _ _ absent _ _ _ _ _ _ _ _ _ _ _ _ _ _ _ _ _ _ _ _ (External a b c d) e = absent (sym e)
+unknown_word word _ _ _ _ _ absent _ _ _ _ _ _ _ _ _ _ _ _ _ _ _ _ _ _ _ (Withdraw a b) e = absent (sym e)
+unknown_word word _ _ _ _ _ _ absent _ _ _ _ _ _ _ _ _ _ _ _ _ _ _ _ _ _ (Caps a b) e = absent (sym e)
+unknown_word word _ _ _ _ _ _ _ absent _ _ _ _ _ _ _ _ _ _ _ _ _ _ _ _ _ (Stop a) e = absent (sym e)
+unknown_word word _ _ _ _ _ _ _ _ absent _ _ _ _ _ _ _ _ _ _ _ _ _ _ _ _ (Start a) e = absent (sym e)
+unknown_word word _ _ _ _ _ _ _ _ _ absent _ _ _ _ _ _ _ _ _ _ _ _ _ _ _ (Seed a) e = absent (sym e)
+unknown_word word _ _ _ _ _ _ _ _ _ _ absent _ _ _ _ _ _ _ _ _ _ _ _ _ _ (Loss a) e = absent (sym e)
+unknown_word word _ _ _ _ _ _ _ _ _ _ _ absent _ _ _ _ _ _ _ _ _ _ _ _ _ (Time a) e = absent (sym e)
+unknown_word word _ _ _ _ _ _ _ _ _ _ _ _ absent _ _ _ _ _ _ _ _ _ _ _ _ (Tick a) e = absent (sym e)
+unknown_word word _ _ _ _ _ _ _ _ _ _ _ _ _ absent _ _ _ _ _ _ _ _ _ _ _ (Run a b) e = absent (sym e)
+unknown_word word _ _ _ _ _ _ _ _ _ _ _ _ _ _ absent _ _ _ _ _ _ _ _ _ _ (Deliver a) e = absent (sym e)
+unknown_word word _ _ _ _ _ _ _ _ _ _ _ _ _ _ _ absent _ _ _ _ _ _ _ _ _ (Drop a) e = absent (sym e)
+unknown_word word _ _ _ _ _ _ _ _ _ _ _ _ _ _ _ _ absent _ _ _ _ _ _ _ _ Flow e = absent (sym e)
+unknown_word word _ _ _ _ _ _ _ _ _ _ _ _ _ _ _ _ _ absent _ _ _ _ _ _ _ (Inject a b c d) e = absent (sym e)
+unknown_word word _ _ _ _ _ _ _ _ _ _ _ _ _ _ _ _ _ _ absent _ _ _ _ _ _ (Show a) e = absent (sym e)
+unknown_word word _ _ _ _ _ _ _ _ _ _ _ _ _ _ _ _ _ _ _ absent _ _ _ _ _ (Hash a) e = absent (sym e)
+unknown_word word _ _ _ _ _ _ _ _ _ _ _ _ _ _ _ _ _ _ _ _ absent _ _ _ _ (Used a) e = absent (sym e)
+unknown_word word _ _ _ _ _ _ _ _ _ _ _ _ _ _ _ _ _ _ _ _ _ absent _ _ _ (Prefixes a) e = absent (sym e)
+unknown_word word _ _ _ _ _ _ _ _ _ _ _ _ _ _ _ _ _ _ _ _ _ _ absent _ _ (Elect a b c) e = absent (sym e)
+unknown_word word _ _ _ _ _ _ _ _ _ _ _ _ _ _ _ _ _ _ _ _ _ _ _ absent _ (Compare a b) e = absent (sym e)
+unknown_word word _ _ _ _ _ _ _ _ _ _ _ _ _ _ _ _ _ _ _ _ _ _ _ _ absent Mail e = absent (sym e)
 
 -- the first word of a line is of letters
 pub first_letters : (line : Line) → is_letters (spelling line).first ≡ true
@@ -344,6 +427,8 @@ first_letters (Router a b) = refl
 first_letters (Link a) = refl
 first_letters (Attach a b c) = refl
 first_letters (Detach a b) = refl
+first_letters (External a b c d) = refl
+first_letters (Withdraw a b) = refl
 first_letters (Caps a b) = refl
 first_letters (Stop a) = refl
 first_letters (Start a) = refl
@@ -358,5 +443,8 @@ first_letters Flow = refl
 first_letters (Inject a b c d) = refl
 first_letters (Show a) = refl
 first_letters (Hash a) = refl
+first_letters (Used a) = refl
+first_letters (Prefixes a) = refl
+first_letters (Elect a b c) = refl
 first_letters (Compare a b) = refl
 first_letters Mail = refl

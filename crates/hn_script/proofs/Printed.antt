@@ -8,6 +8,8 @@ use Rattle.std.specs.List.{AllZip, AllByRecursion, join_with_byte, list_all}
 use Rattle.hex.specs.Hex.{lower_digits}
 use Rattle.hex.proofs.HexLemmas.{decode_of-encode_lower, length-encode_with}
 use Rattle.hn_base.specs.HexText.{id_text}
+use Rattle.hn_base.specs.declared.letter.Letter.{Letter}
+use Rattle.hn_base.specs.declared.letter.Letter.TheVariants.{M, P, H, L}
 use Rattle.hn_base.specs.Name.{name_text}
 use Rattle.hn_base.specs.NameText.{is_name_byte}
 use Rattle.hn_base.specs.Numeral.{IsShortNumeral}
@@ -15,8 +17,9 @@ use Rattle.hn_base.specs.Splits.{Lacks}
 use Rattle.hn_base.proofs.NumeralLemmas.{decimal_is_short}
 use Rattle.hn_base.proofs.Recursions.{AllByRecursion-append}
 use Rattle.hn_base.proofs.SplitLemmas.{Lacks-from_fact}
+use Rattle.hn_prefix.specs.PrefixText.{prefix_text_of}
 use Rattle.hn_script.specs.Fault.{IsPlain}
-use Rattle.hn_script.specs.Field.{Field, Named, Node, Endpoint, Number, Way, Hex, IsField, IsInRange, IsNumberText, field_text, way_text}
+use Rattle.hn_script.specs.Field.{Field, Named, Node, Endpoint, Number, Prefixed, Capability, Way, Hex, IsField, IsInRange, IsNumberText, field_text, letter_text, way_text}
 use Rattle.hn_script.specs.Laws.{IsPrintable, renumbered, PrintedIsRead}
 use Rattle.hn_script.specs.Line.{spelling, line_text}
 use Rattle.hn_script.specs.Script.{IsEntry, ended, first_line, numbered}
@@ -29,6 +32,7 @@ use Rattle.hn_script.specs.declared.version.Version.TheVariants.{One}
 use Rattle.hn_script.proofs.HexTexts.{printed_id, IsWord-digits, IsWord-hex}
 use Rattle.hn_script.proofs.LineWords.{first_letters}
 use Rattle.hn_script.proofs.Pieces.{words_last, words_cut, lines_none, lines_cut}
+use Rattle.hn_script.proofs.PrefixWords.{PrintsPrefixes, prefix_word, prefix_some}
 use Rattle.hn_script.proofs.WordBytes.{IsWordByte, IsWord, IsWord-from_letters, IsPlain-word, Lacks-word, letters_some, letters_no_hash}
 
 -- ---- the word of each value
@@ -60,27 +64,37 @@ way_word Uni = record { writes = refl; bytes = IsWord-from_letters (codes "uni")
 way_word Multi = record { writes = refl; bytes = IsWord-from_letters (codes "multi") refl; some = omega arith }
 way_word Far = record { writes = refl; bytes = IsWord-from_letters (codes "far") refl; some = omega arith }
 
-printed_word : (field : Field) → IsInRange field → IsWordOf field (field_text field)
-printed_word (Named name) h = record {
+letter_word : (letter : Letter) → IsWordOf (Capability letter) (letter_text letter)
+letter_word M = record { writes = refl; bytes = IsWord-from_letters (codes "M") refl; some = omega arith }
+letter_word P = record { writes = refl; bytes = IsWord-from_letters (codes "P") refl; some = omega arith }
+letter_word H = record { writes = refl; bytes = IsWord-from_letters (codes "H") refl; some = omega arith }
+letter_word L = record { writes = refl; bytes = IsWord-from_letters (codes "L") refl; some = omega arith }
+
+printed_word : PrintsPrefixes → (field : Field) → IsInRange field → IsWordOf field (field_text field)
+printed_word print (Named name) h = record {
   writes = record { text = refl; room = h };
   bytes = name_bytes (name_text name) name.is_name.name_bytes;
   some = name.is_name.not_empty;
 }
-printed_word (Node id) h =
+printed_word print (Node id) h =
     let read = printed_id id.0 h in record {
       writes = read;
       bytes = IsWord-digits 16 (id_text id.0) (omega arith) read.numeral.digits.1;
       some = read.numeral.digits.0;
     }
-printed_word (Endpoint e) h =
+printed_word print (Endpoint e) h =
     let read = number_text 1 _ e.0 h.0 h.1 (omega (arith, h.1)) in
     record { writes = read; bytes = digits_word e.0 read.numeral; some = read.numeral.digits.0 }
-printed_word (Number lowest highest n) h =
+printed_word print (Number lowest highest n) h =
     let read = number_text lowest highest n h.0 h.1 h.2 in
     record { writes = read; bytes = digits_word n read.numeral; some = read.numeral.digits.0 }
-printed_word (Way how) h = way_word how
-printed_word (Hex []) h = record { writes = refl; bytes = IsWord-from_letters (codes "-") refl; some = omega arith }
-printed_word (Hex (byte ∷ bytes)) h =
+printed_word print (Prefixed prefix) h =
+    let read = print prefix h in let text = prefix_text_of prefix in
+    record { writes = read; bytes = prefix_word text prefix read; some = prefix_some text prefix read }
+printed_word print (Capability letter) h = letter_word letter
+printed_word print (Way how) h = way_word how
+printed_word print (Hex []) h = record { writes = refl; bytes = IsWord-from_letters (codes "-") refl; some = omega arith }
+printed_word print (Hex (byte ∷ bytes)) h =
     let long = length-encode_with lower_digits (byte ∷ bytes) in record {
       writes = decode_of-encode_lower (byte ∷ bytes) h;
       bytes = IsWord-hex (byte ∷ bytes) h;
@@ -92,14 +106,14 @@ printed_word (Hex (byte ∷ bytes)) h =
 AreWords : List (List ℕ) → Type 0
 AreWords words = AllByRecursion (λ word. IsWord word × (0 < length word)) words
 
-printed_words : (fields : List Field) → AllByRecursion IsInRange fields → AreWords (map field_text fields)
+printed_words : PrintsPrefixes → (fields : List Field) → AllByRecursion IsInRange fields → AreWords (map field_text fields)
 unfolding AreWords
-printed_words [] h = tt
-printed_words (field ∷ fields) h = let word = printed_word field h.0 in ((word.bytes, word.some), printed_words fields h.1)
+printed_words print [] h = tt
+printed_words print (field ∷ fields) h = let word = printed_word print field h.0 in ((word.bytes, word.some), printed_words print fields h.1)
 
-printed_fields : (fields : List Field) → AllByRecursion IsInRange fields → AllZip IsField fields (map field_text fields)
-printed_fields [] h = tt
-printed_fields (field ∷ fields) h = ((printed_word field h.0).writes, printed_fields fields h.1)
+printed_fields : PrintsPrefixes → (fields : List Field) → AllByRecursion IsInRange fields → AllZip IsField fields (map field_text fields)
+printed_fields print [] h = tt
+printed_fields print (field ∷ fields) h = ((printed_word print field h.0).writes, printed_fields print fields h.1)
 
 joined_words : (word : List ℕ) (words : List (List ℕ)) → AreWords (word ∷ words) → words_of (join_with_byte 32 (word ∷ words)) ≡ word ∷ words
 unfolding AreWords
@@ -117,18 +131,18 @@ joined_plain word (next ∷ words) h =
 
 -- ---- lines
 
-line_words : (line : Line) → IsPrintable line → AreWords ((spelling line).first ∷ map field_text (spelling line).fields)
+line_words : PrintsPrefixes → (line : Line) → IsPrintable line → AreWords ((spelling line).first ∷ map field_text (spelling line).fields)
 unfolding AreWords
-line_words line h =
+line_words print line h =
     let letters = first_letters line in
-    ((IsWord-from_letters (spelling line).first letters, letters_some (spelling line).first letters), printed_words (spelling line).fields h.in_range)
+    ((IsWord-from_letters (spelling line).first letters, letters_some (spelling line).first letters), printed_words print (spelling line).fields h.in_range)
 
-printed_entry : (line : Line) → IsPrintable line → IsEntry (Some line) (line_text line)
-printed_entry line h = record {
+printed_entry : PrintsPrefixes → (line : Line) → IsPrintable line → IsEntry (Some line) (line_text line)
+printed_entry print line h = record {
   short = h.short;
-  plain = joined_plain (spelling line).first (map field_text (spelling line).fields) (line_words line h);
-  gives = rw (joined_words (spelling line).first (map field_text (spelling line).fields) (line_words line h))
-      ((refl, printed_fields (spelling line).fields h.in_range), letters_no_hash (spelling line).first (first_letters line));
+  plain = joined_plain (spelling line).first (map field_text (spelling line).fields) (line_words print line h);
+  gives = rw (joined_words (spelling line).first (map field_text (spelling line).fields) (line_words print line h))
+      ((refl, printed_fields print (spelling line).fields h.in_range), letters_no_hash (spelling line).first (first_letters line));
 }
 
 plain_lacks : (text : List ℕ) → IsPlain text → Lacks 10 text
@@ -141,17 +155,17 @@ texts_of lines = map (λ (line : ℕ × Line). line_text line.1) lines
 abbrev given : List (ℕ × Line) → List (Option Line)
 given lines = map (λ (line : ℕ × Line). Some line.1) lines
 
-given_entries : (lines : List (ℕ × Line)) → AllByRecursion (λ line. IsPrintable line.1) lines → AllZip IsEntry (given lines) (texts_of lines)
-given_entries [] h = tt
-given_entries (line ∷ lines) h = (printed_entry line.1 h.0, given_entries lines h.1)
+given_entries : PrintsPrefixes → (lines : List (ℕ × Line)) → AllByRecursion (λ line. IsPrintable line.1) lines → AllZip IsEntry (given lines) (texts_of lines)
+given_entries print [] h = tt
+given_entries print (line ∷ lines) h = (printed_entry print line.1 h.0, given_entries print lines h.1)
 
 given_numbers : (n : ℕ) (lines : List (ℕ × Line)) → renumbered n lines ≡ numbered n (given lines)
 given_numbers n [] = refl
 given_numbers n (line ∷ lines) = ap (λ (found : List (ℕ × Line)). (n, line.1) ∷ found) (given_numbers (n + 1) lines)
 
-texts_lack : (lines : List (ℕ × Line)) → AllByRecursion (λ line. IsPrintable line.1) lines → AllByRecursion (Lacks 10) (texts_of lines)
-texts_lack [] h = tt
-texts_lack (line ∷ lines) h = (plain_lacks (line_text line.1) (printed_entry line.1 h.0).plain, texts_lack lines h.1)
+texts_lack : PrintsPrefixes → (lines : List (ℕ × Line)) → AllByRecursion (λ line. IsPrintable line.1) lines → AllByRecursion (Lacks 10) (texts_of lines)
+texts_lack print [] h = tt
+texts_lack print (line ∷ lines) h = (plain_lacks (line_text line.1) (printed_entry print line.1 h.0).plain, texts_lack print lines h.1)
 
 ended_lines : (texts : List (List ℕ)) → AllByRecursion (Lacks 10) texts → lines_of (ended texts) ≡ texts
 ended_lines [] h = lines_none [] refl
@@ -162,12 +176,12 @@ ended_lines (text ∷ texts) h =
 first_lacks : (version : Version) → Lacks 10 (first_line version)
 first_lacks One = plain_lacks (first_line One) ((omega arith, omega arith), ((omega arith, omega arith), ((omega arith, omega arith), ((omega arith, omega arith), ((omega arith, omega arith), ((omega arith, omega arith), tt))))))
 
-pub printed_script : PrintedIsRead
-printed_script script h small = record {
+pub printed_script : PrintsPrefixes → PrintedIsRead
+printed_script print script h small = record {
   small = small;
   texts = texts_of script.lines;
-  parts = ended_lines (first_line script.version ∷ texts_of script.lines) (first_lacks script.version, texts_lack script.lines h);
-  lines = (given script.lines, given_entries script.lines h, given_numbers 2 script.lines);
+  parts = ended_lines (first_line script.version ∷ texts_of script.lines) (first_lacks script.version, texts_lack print script.lines h);
+  lines = (given script.lines, given_entries print script.lines h, given_numbers 2 script.lines);
 }
 
 -- ---- the printing itself

@@ -12,27 +12,28 @@ use Rattle.hn_script.specs.declared.script.Script.{Script}
 use Rattle.hn_script.specs.declared.version.Version.{Version}
 use Rattle.hn_script.specs.declared.version.Version.TheVariants.{One}
 use Rattle.hn_script.proofs.Entries.{no_line_fault, no_first_fault}
+use Rattle.hn_script.proofs.PrefixWords.{WritesOnePrefix}
 use Rattle.hn_script.proofs.SameFields.{same_line}
 
 -- ---- one script
 
-same_given : (a b : Option Line) (words : List (List ℕ)) → Gives a words → Gives b words → a ≡ b
-same_given None None words h k = refl
-same_given None (Some line) words h k = absurd (k.1 h)
-same_given (Some line) None words h k = absurd (h.1 k)
-same_given (Some line) (Some other) [] h k = absurd h.0
-same_given (Some line) (Some other) (word ∷ words) h k = ap Some (same_line line other word words h.0 k.0)
+same_given : WritesOnePrefix → (a b : Option Line) (words : List (List ℕ)) → Gives a words → Gives b words → a ≡ b
+same_given one None None words h k = refl
+same_given one None (Some line) words h k = absurd (k.1 h)
+same_given one (Some line) None words h k = absurd (h.1 k)
+same_given one (Some line) (Some other) [] h k = absurd h.0
+same_given one (Some line) (Some other) (word ∷ words) h k = ap Some (same_line one line other word words h.0 k.0)
 
-same_entries : (left right : List (Option Line)) (texts : List (List ℕ)) → AllZip IsEntry left texts → AllZip IsEntry right texts → left ≡ right
-same_entries [] [] texts h k = refl
-same_entries [] (b ∷ right) [] h k = absurd k
-same_entries [] (b ∷ right) (text ∷ texts) h k = absurd h
-same_entries (a ∷ left) [] [] h k = absurd h
-same_entries (a ∷ left) [] (text ∷ texts) h k = absurd k
-same_entries (a ∷ left) (b ∷ right) [] h k = absurd h
-same_entries (a ∷ left) (b ∷ right) (text ∷ texts) h k =
-    let head = same_given a b (words_of text) h.0.gives k.0.gives in
-    let tail = same_entries left right texts h.1 k.1 in
+same_entries : WritesOnePrefix → (left right : List (Option Line)) (texts : List (List ℕ)) → AllZip IsEntry left texts → AllZip IsEntry right texts → left ≡ right
+same_entries one [] [] texts h k = refl
+same_entries one [] (b ∷ right) [] h k = absurd k
+same_entries one [] (b ∷ right) (text ∷ texts) h k = absurd h
+same_entries one (a ∷ left) [] [] h k = absurd h
+same_entries one (a ∷ left) [] (text ∷ texts) h k = absurd k
+same_entries one (a ∷ left) (b ∷ right) [] h k = absurd h
+same_entries one (a ∷ left) (b ∷ right) (text ∷ texts) h k =
+    let head = same_given one a b (words_of text) h.0.gives k.0.gives in
+    let tail = same_entries one left right texts h.1 k.1 in
     cc
 
 same_version : (a b : Version) → a ≡ b
@@ -41,11 +42,11 @@ same_version One One = refl
 same_texts : (f g : List ℕ) (left right : List (List ℕ)) → f ∷ left ≡ g ∷ right → left ≡ right
 same_texts f g left right e = cc
 
-pub one_script : AtMostOneScript
-one_script bytes script other h k =
+pub one_script : WritesOnePrefix → AtMostOneScript
+one_script one bytes script other h k =
     let texts : h.texts ≡ k.texts = same_texts _ _ h.texts k.texts (sym h.parts ∙ k.parts) in
     let given = subst (λ found. AllZip IsEntry k.lines.0 found) (sym texts) k.lines.1 in
-    let entries = same_entries h.lines.0 k.lines.0 h.texts h.lines.1 given in
+    let entries = same_entries one h.lines.0 k.lines.0 h.texts h.lines.1 given in
     let lines : script.lines ≡ other.lines = h.lines.2 ∙ ap (numbered 2) entries ∙ sym k.lines.2 in
     rw (same_version script.version other.version, lines) refl
 

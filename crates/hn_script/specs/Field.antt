@@ -7,7 +7,11 @@ use Rattle.hn_base.specs.Name.{name_text}
 use Rattle.hn_base.specs.Numeral.{IsShortNumeral}
 use Rattle.hn_base.specs.declared.ids.EpId.{EpId}
 use Rattle.hn_base.specs.declared.ids.NodeId.{NodeId}
+use Rattle.hn_base.specs.declared.letter.Letter.{Letter}
+use Rattle.hn_base.specs.declared.letter.Letter.TheVariants.{M, P, H, L}
 use Rattle.hn_base.specs.declared.name.Name.{Name}
+use Rattle.hn_prefix.specs.Prefix.{PlainPrefix, IsPrefix}
+use Rattle.hn_prefix.specs.PrefixText.{IsPrefixText, prefix_text_of}
 use Rattle.hn_script.specs.declared.line.How.{How}
 use Rattle.hn_script.specs.declared.line.How.TheVariants.{Uni, Multi, Far}
 
@@ -17,8 +21,17 @@ pub data Field : Type 0 where
   Node : (id : NodeId) → Field
   Endpoint : (e : EpId) → Field
   Number : (lowest highest n : ℕ) → Field
+  Prefixed : (prefix : PlainPrefix) → Field
+  Capability : (letter : Letter) → Field
   Way : (how : How) → Field
   Hex : (bytes : List ℕ) → Field
+
+-- the letter of each capability (RFC 7788, section 10.1)
+abbrev pub letter_text : Letter → List ℕ
+letter_text M = codes "M"
+letter_text P = codes "P"
+letter_text H = codes "H"
+letter_text L = codes "L"
 
 -- the word of each way
 abbrev pub way_text : How → List ℕ
@@ -52,6 +65,8 @@ IsField (Named name) word = IsNameWord name word
 IsField (Node id) word = IsIdText word id.0
 IsField (Endpoint e) word = IsNumberText 1 last_endpoint word e.0
 IsField (Number lowest highest n) word = IsNumberText lowest highest word n
+IsField (Prefixed prefix) word = IsPrefixText word prefix
+IsField (Capability letter) word = word ≡ letter_text letter
 IsField (Way how) word = word ≡ way_text how
 IsField (Hex bytes) word = IsHexWord bytes word
 
@@ -61,6 +76,8 @@ field_text (Named name) = name_text name
 field_text (Node id) = id_text id.0
 field_text (Endpoint e) = decimal e.0
 field_text (Number lowest highest n) = decimal n
+field_text (Prefixed prefix) = prefix_text_of prefix
+field_text (Capability letter) = letter_text letter
 field_text (Way how) = way_text how
 field_text (Hex bytes) = hex_text bytes
 
@@ -70,5 +87,7 @@ IsInRange (Named name) = length name.bytes ≡ 16
 IsInRange (Node id) = id.0 < 2 ^ 32
 IsInRange (Endpoint e) = (1 ≤ e.0) × (e.0 ≤ last_endpoint)
 IsInRange (Number lowest highest n) = (lowest ≤ n) × (n ≤ highest) × (n < 2 ^ 64)
+IsInRange (Prefixed prefix) = IsPrefix prefix
+IsInRange (Capability letter) = Unit {0}
 IsInRange (Way how) = Unit {0}
 IsInRange (Hex bytes) = IsBytes bytes

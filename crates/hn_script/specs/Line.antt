@@ -1,10 +1,10 @@
 -- The lines of a script: how each is spelled.
 use Rattle.std.specs.Prelude.{◌≡◌, ℕ, ◌^◌, ◌-◌, List, [], ◌∷◌, map, codes, Option, Some, None, slice_index}
 use Rattle.std.specs.List.{AllZip, join_with_byte}
-use Rattle.hn_script.specs.Field.{Field, Named, Node, Endpoint, Number, Way, Hex, IsField, field_text}
+use Rattle.hn_script.specs.Field.{Field, Named, Node, Endpoint, Number, Prefixed, Capability, Way, Hex, IsField, field_text}
 use Rattle.hn_script.specs.Texts.{space}
 use Rattle.hn_script.specs.declared.line.Line.{Line}
-use Rattle.hn_script.specs.declared.line.Line.TheVariants.{Router, Link, Attach, Detach, Caps, Stop, Start, Seed, Loss, Time, Tick, Run, Deliver, Drop, Flow, Inject, Show, Hash, Compare, Mail}
+use Rattle.hn_script.specs.declared.line.Line.TheVariants.{Router, Link, Attach, Detach, External, Withdraw, Caps, Stop, Start, Seed, Loss, Time, Tick, Run, Deliver, Drop, Flow, Inject, Show, Hash, Used, Prefixes, Elect, Compare, Mail}
 
 -- a first word, and the values of the words after it
 pub record Spelling : Type 0 where
@@ -26,12 +26,18 @@ time_from lowest t = Number lowest (2 ^ 48) t
 abbrev pub priority : ℕ → Field
 priority p = Number 0 7 p
 
--- how each line is spelled
+-- a lifetime in seconds
+abbrev pub lifetime : ℕ → Field
+lifetime seconds = Number 0 (2 ^ 32 - 1) seconds
+
+-- how each line is spelled; the preferred lifetime of a delegated prefix is not above its valid lifetime
 abbrev pub spelling : Line → Spelling
 spelling (Router name id) = spelled (codes "router") (Named name ∷ Node id ∷ [])
 spelling (Link name) = spelled (codes "link") (Named name ∷ [])
 spelling (Attach name e link) = spelled (codes "attach") (Named name ∷ Endpoint e ∷ Named link ∷ [])
 spelling (Detach name e) = spelled (codes "detach") (Named name ∷ Endpoint e ∷ [])
+spelling (External name prefix valid preferred) = spelled (codes "external") (Named name ∷ Prefixed prefix ∷ lifetime valid ∷ Number 0 valid preferred ∷ [])
+spelling (Withdraw name prefix) = spelled (codes "withdraw") (Named name ∷ Prefixed prefix ∷ [])
 spelling (Caps name c) = spelled (codes "caps") (Named name ∷ priority c.m ∷ priority c.p ∷ priority c.h ∷ priority c.l ∷ [])
 spelling (Stop name) = spelled (codes "stop") (Named name ∷ [])
 spelling (Start name) = spelled (codes "start") (Named name ∷ [])
@@ -46,6 +52,9 @@ spelling Flow = spelled (codes "flow") []
 spelling (Inject name e how bytes) = spelled (codes "inject") (Named name ∷ Endpoint e ∷ Way how ∷ Hex bytes ∷ [])
 spelling (Show name) = spelled (codes "show") (Named name ∷ [])
 spelling (Hash name) = spelled (codes "hash") (Named name ∷ [])
+spelling (Used name) = spelled (codes "used") (Named name ∷ [])
+spelling (Prefixes name) = spelled (codes "prefixes") (Named name ∷ [])
+spelling (Elect name e letter) = spelled (codes "elect") (Named name ∷ Endpoint e ∷ Capability letter ∷ [])
 spelling (Compare left right) = spelled (codes "compare") (Named left ∷ Named right ∷ [])
 spelling Mail = spelled (codes "mail") []
 

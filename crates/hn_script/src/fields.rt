@@ -4,13 +4,14 @@ ghost use Rattle.std.specs.Prelude.{◌≡◌, ◌≢◌, ◌<◌, ℕ, List, le
 ghost use Rattle.std.specs.Char.{is_ascii_hexdigit};
 ghost use Rattle.std.specs.List.{list_all};
 ghost use Rattle.hex.specs.Hex.{decode_of};
-ghost use Rattle.hn_script.specs.Field.{Named, Node, Endpoint, Number, Way, IsHexWord};
+ghost use Rattle.hn_script.specs.Field.{Named, Node, Endpoint, Number, Prefixed, Capability, Way, IsHexWord};
 ghost use Rattle.hn_script.specs.Line.{priority as priority_field};
 ghost use Rattle.hn_script.specs.Reading.{ReadsField};
 
 use crate::code::MALFORMED;
 use crate::line::How;
-use hn_base::{EpId, Name, NodeId};
+use hn_base::{EpId, Letter, Name, NodeId};
+use hn_prefix::Prefix;
 
 /// The most digits of a number.
 const MOST_DIGITS: usize = 20;
@@ -56,6 +57,34 @@ pub(crate) fn priority(word: &[u8]) -> Result<u8, u8>
 {
     let value = number(word, 0, 7)?;
     Ok(value as u8)
+}
+
+/// The lifetime in seconds that this word writes, at most this one.
+pub(crate) fn lifetime(word: &[u8], highest: u32) -> Result<u32, u8>
+    ensures { ReadsField (Number 0 highest) word.now result }
+{
+    let value = number(word, 0, u64::from(highest))?;
+    Ok(value as u32)
+}
+
+/// The prefix that this word writes.
+pub(crate) fn prefix(word: &[u8]) -> Result<Prefix, u8>
+    ensures { ReadsField Prefixed word.now result }
+{
+    Prefix::parse(word).map_err(|_| MALFORMED)
+}
+
+/// The capability that this word names.
+pub(crate) fn letter(word: &[u8]) -> Result<Letter, u8>
+    ensures { ReadsField Capability word.now result }
+{
+    match word {
+        b"M" => Ok(Letter::M),
+        b"P" => Ok(Letter::P),
+        b"H" => Ok(Letter::H),
+        b"L" => Ok(Letter::L),
+        _ => Err(MALFORMED),
+    }
 }
 
 /// The way that this word names.

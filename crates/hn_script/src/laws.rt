@@ -3,11 +3,14 @@
 ghost use Rattle.hn_script.specs.Laws.{AtMostOneScript, AtMostOneFault, HasFaultOrScript, PrintedIsRead, ScriptIsLimited};
 
 use crate::script::first_fault;
+use hn_prefix::{read_form_is_of_one, written_form_is_read};
 
 /// Bytes are at most one script, so that `parse` has one answer.
 pub fn script_is_unique()
     ensures { AtMostOneScript }
-{}
+{
+    read_form_is_of_one();
+}
 
 /// Bytes have at most one first fault.
 pub fn fault_is_unique()
@@ -25,7 +28,9 @@ pub fn fault_or_script(bytes: &[u8])
 /// is short enough, and all lines together are.
 pub fn printed_is_read()
     ensures { PrintedIsRead }
-{}
+{
+    written_form_is_read();
+}
 
 /// In a script no endpoint is attached under number 0, and no moment or span of time is above 2^48.
 pub fn script_is_limited()

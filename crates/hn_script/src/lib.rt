@@ -25,6 +25,6 @@ pub use fault::{ParseFault, ScriptFault};
 pub use laws::{
     fault_is_unique, fault_or_script, printed_is_read, script_is_limited, script_is_unique,
 };
-pub use line::{How, Line};
+pub use line::{How, Line, letter_text};
 pub use script::{Script, first_fault, parse, print};
 pub use version::Version;

@@ -1,4 +1,8 @@
-use hn_base::{Bytes, Caps, EpId, Hex, Moment, Name, NodeId};
+ghost use Rattle.std.specs.Prelude.{◌≡◌};
+ghost use Rattle.hn_script.specs.Field.{letter_text};
+
+use hn_base::{Bytes, Caps, EpId, Hex, Letter, Moment, Name, NodeId};
+use hn_prefix::Prefix;
 use std::fmt;
 
 /// How an injected datagram comes.
@@ -28,6 +32,18 @@ impl fmt::Display for How {
     }
 }
 
+/// The letter that a line writes for a capability (RFC 7788, section 10.1).
+pub fn letter_text(letter: Letter) -> &'static str
+    ensures { result.now ≡ letter_text letter }
+{
+    match letter {
+        Letter::M => "M",
+        Letter::P => "P",
+        Letter::H => "H",
+        Letter::L => "L",
+    }
+}
+
 /// A line of a script. Moments and spans of time are in milliseconds, and at most 2^48.
 #[derive(Debug, Drop)]
 pub enum Line {
@@ -39,6 +55,11 @@ pub enum Line {
     Attach(Name, EpId, Name),
     /// The router's endpoint, from 1 on, is detached.
     Detach(Name, EpId),
+    /// The router has this delegated prefix, with its valid and its preferred lifetime in seconds, of which the second is
+    /// not above the first; 4294967295 is one that never ends (RFC 7788, section 10.2.1).
+    External(Name, Prefix, u32, u32),
+    /// The router no longer has this delegated prefix.
+    Withdraw(Name, Prefix),
     /// The router's capabilities become these, each from 0 to 7 (RFC 7788, section 10.1).
     Caps(Name, Caps),
     /// The router stops.
@@ -68,6 +89,12 @@ pub enum Line {
     Show(Name),
     /// The router's network state hash is shown.
     Hash(Name),
+    /// The delegated prefixes that the router uses are shown.
+    Used(Name),
+    /// The prefixes that the router has assigned to its endpoints are shown.
+    Prefixes(Name),
+    /// Who is elected for the capability on the link of the router's endpoint, from 1 on, is shown.
+    Elect(Name, EpId, Letter),
     /// What the two routers have arrived at is compared.
     Compare(Name, Name),
     /// How many copies were made and wait is shown.
@@ -87,6 +114,14 @@ impl fmt::Display for Line {
             Line::Link(name) => write!(f, "link {name}"),
             Line::Attach(name, EpId(e), link) => write!(f, "attach {name} {e} {link}"),
             Line::Detach(name, EpId(e)) => write!(f, "detach {name} {e}"),
+            Line::External(name, prefix, valid, preferred) => {
+                let prefix = prefix.text();
+                write!(f, "external {name} {prefix} {valid} {preferred}")
+            }
+            Line::Withdraw(name, prefix) => {
+                let prefix = prefix.text();
+                write!(f, "withdraw {name} {prefix}")
+            }
             Line::Caps(name, Caps { m, p, h, l }) => write!(f, "caps {name} {m} {p} {h} {l}"),
             Line::Stop(name) => write!(f, "stop {name}"),
             Line::Start(name) => write!(f, "start {name}"),
@@ -104,6 +139,12 @@ impl fmt::Display for Line {
             }
             Line::Show(name) => write!(f, "show {name}"),
             Line::Hash(name) => write!(f, "hash {name}"),
+            Line::Used(name) => write!(f, "used {name}"),
+            Line::Prefixes(name) => write!(f, "prefixes {name}"),
+            Line::Elect(name, EpId(e), letter) => {
+                let letter = letter_text(*letter);
+                write!(f, "elect {name} {e} {letter}")
+            }
             Line::Compare(left, right) => write!(f, "compare {left} {right}"),
             Line::Mail => write!(f, "mail"),
         }

@@ -12,8 +12,8 @@ use crate::draft::Draft;
 use crate::fields::{digits, endpoint, name, way};
 use crate::line::Line;
 use crate::shapes::{
-    any_number, attachment, moment, moment_and_span, name_and_caps, name_and_endpoint,
-    name_and_node, nothing, one_name, one_number, two_names,
+    any_number, attachment, candidacy, delegation, moment, moment_and_span, name_and_caps,
+    name_and_endpoint, name_and_node, name_and_prefix, nothing, one_name, one_number, two_names,
 };
 use crate::texts::next_word;
 use crate::words::four_words;
@@ -40,6 +40,14 @@ fn read_line(word: &str, rest: &[u8]) -> Result<Line, u8>
             let (name, endpoint) = name_and_endpoint(rest)?;
             Ok(Line::Detach(name, endpoint))
         }
+        "external" => {
+            let (name, prefix, valid, preferred) = delegation(rest)?;
+            Ok(Line::External(name, prefix, valid, preferred))
+        }
+        "withdraw" => {
+            let (name, prefix) = name_and_prefix(rest)?;
+            Ok(Line::Withdraw(name, prefix))
+        }
         "caps" => {
             let (name, caps) = name_and_caps(rest)?;
             Ok(Line::Caps(name, caps))
@@ -62,6 +70,12 @@ fn read_line(word: &str, rest: &[u8]) -> Result<Line, u8>
         }
         "show" => Ok(Line::Show(one_name(rest)?)),
         "hash" => Ok(Line::Hash(one_name(rest)?)),
+        "used" => Ok(Line::Used(one_name(rest)?)),
+        "prefixes" => Ok(Line::Prefixes(one_name(rest)?)),
+        "elect" => {
+            let (name, endpoint, letter) = candidacy(rest)?;
+            Ok(Line::Elect(name, endpoint, letter))
+        }
         "compare" => {
             let (left, right) = two_names(rest)?;
             Ok(Line::Compare(left, right))

@@ -1,17 +1,17 @@
 //! What follows the first word of a line, for each shape of lines.
 
 ghost use Rattle.std.specs.Prelude.{◌≡◌, ◌-◌, ◌^◌, [], ◌∷◌};
-ghost use Rattle.hn_script.specs.Field.{Named, Node, Endpoint, Number};
-ghost use Rattle.hn_script.specs.Line.{priority as priority_field, time_from};
+ghost use Rattle.hn_script.specs.Field.{Named, Node, Endpoint, Number, Prefixed, Capability};
+ghost use Rattle.hn_script.specs.Line.{priority as priority_field, time_from, lifetime as lifetime_field};
 ghost use Rattle.hn_script.specs.Reading.{ReadsFields};
 ghost use Rattle.hn_script.specs.Texts.{words_of};
 
 use crate::code::COUNT;
-use crate::fields::{digits, endpoint, name, node, number, priority, way};
-use crate::line::How;
+use crate::fields::{endpoint, letter, lifetime, name, node, number, prefix, priority};
 use crate::texts::next_word;
 use crate::words::{five_words, four_words, one_word, three_words, two_words};
-use hn_base::{Caps, EpId, Name, NodeId};
+use hn_base::{Caps, EpId, Letter, Name, NodeId};
+use hn_prefix::Prefix;
 
 /// The latest moment, and the longest span, in milliseconds.
 const LAST_MOMENT: u64 = 1 << 48;
@@ -75,6 +75,42 @@ pub(crate) fn attachment(rest: &[u8]) -> Result<(Name, EpId, Name), u8>
         return Err(COUNT);
     };
     Ok((name(first)?, endpoint(number)?, name(link)?))
+}
+
+/// A name and a prefix.
+pub(crate) fn name_and_prefix(rest: &[u8]) -> Result<(Name, Prefix), u8>
+    ensures { ReadsFields 2 (λ found. Named found.0 ∷ Prefixed found.1 ∷ []) (words_of rest.now) result }
+{
+    let Some((first, second)) = two_words(rest) else {
+        return Err(COUNT);
+    };
+    Ok((name(first)?, prefix(second)?))
+}
+
+/// A name, a prefix and two lifetimes, of which the second is not above the first.
+pub(crate) fn delegation(rest: &[u8]) -> Result<(Name, Prefix, u32, u32), u8>
+    ensures { ReadsFields 4
+        (λ found. Named found.0 ∷ Prefixed found.1 ∷ lifetime_field found.2 ∷ Number 0 found.2 found.3 ∷ [])
+        (words_of rest.now) result }
+{
+    let Some((first, second, valid, preferred)) = four_words(rest) else {
+        return Err(COUNT);
+    };
+    let name = name(first)?;
+    let prefix = prefix(second)?;
+    let valid = lifetime(valid, u32::MAX)?;
+    Ok((name, prefix, valid, lifetime(preferred, valid)?))
+}
+
+/// A name, an endpoint and a capability.
+pub(crate) fn candidacy(rest: &[u8]) -> Result<(Name, EpId, Letter), u8>
+    ensures { ReadsFields 3 (λ found. Named found.0 ∷ Endpoint found.1 ∷ Capability found.2 ∷ [])
+        (words_of rest.now) result }
+{
+    let Some((first, number, word)) = three_words(rest) else {
+        return Err(COUNT);
+    };
+    Ok((name(first)?, endpoint(number)?, letter(word)?))
 }
 
 /// A name and four priorities.

@@ -2,7 +2,7 @@
 use Rattle.std.proofs.Common.{codes, inl, refl}
 use Rattle.std.proofs.lemmas.Result.{err_from_is_err_and}
 use Rattle.hn_script.proofs.Families.{family_fault}
-use Rattle.hn_script.proofs.LineWords.{unknown_word, router_lines, link_lines, attach_lines, detach_lines, caps_lines, stop_lines, start_lines, seed_lines, loss_lines, time_lines, tick_lines, run_lines, deliver_lines, drop_lines, flow_lines, show_lines, hash_lines, compare_lines, mail_lines}
+use Rattle.hn_script.proofs.LineWords.{unknown_word, router_lines, link_lines, attach_lines, detach_lines, external_lines, withdraw_lines, caps_lines, stop_lines, start_lines, seed_lines, loss_lines, time_lines, tick_lines, run_lines, deliver_lines, drop_lines, flow_lines, show_lines, hash_lines, used_lines, prefixes_lines, elect_lines, compare_lines, mail_lines}
 use Rattle.hn_script.proofs.reader.read_line.Goals as goal
 
 pub returns-in_err-name-in-router : goal.returns-in_err-name-in-router
@@ -24,6 +24,16 @@ pub returns-in_err-name-in-detach : goal.returns-in_err-name-in-detach
 returns-in_err-name-in-detach c =
     let exit = err_from_is_err_and c.from_residual-in_err-name-in-detach.result c.from_residual-in_err-name-in-detach.ensures.1 in
     rw (exit.1, exit.2, c.in-detach.is) (family_fault (codes "detach") _ _ detach_lines _ _ c.in_err-name-in-detach.ensures)
+
+pub returns-in_err-name-in-external : goal.returns-in_err-name-in-external
+returns-in_err-name-in-external c =
+    let exit = err_from_is_err_and c.from_residual-in_err-name-in-external.result c.from_residual-in_err-name-in-external.ensures.1 in
+    rw (exit.1, exit.2, c.in-external.is) (family_fault (codes "external") _ _ external_lines _ _ c.in_err-name-in-external.ensures)
+
+pub returns-in_err-name-in-withdraw : goal.returns-in_err-name-in-withdraw
+returns-in_err-name-in-withdraw c =
+    let exit = err_from_is_err_and c.from_residual-in_err-name-in-withdraw.result c.from_residual-in_err-name-in-withdraw.ensures.1 in
+    rw (exit.1, exit.2, c.in-withdraw.is) (family_fault (codes "withdraw") _ _ withdraw_lines _ _ c.in_err-name-in-withdraw.ensures)
 
 pub returns-in_err-name-in-caps : goal.returns-in_err-name-in-caps
 returns-in_err-name-in-caps c =
@@ -90,6 +100,21 @@ returns-in_err-one_name-in-hash c =
     let exit = err_from_is_err_and c.from_residual-in_err-one_name-in-hash.result c.from_residual-in_err-one_name-in-hash.ensures.1 in
     rw (exit.1, exit.2, c.in-hash.is) (family_fault (codes "hash") _ _ hash_lines _ _ c.in_err-one_name-in-hash.ensures)
 
+pub returns-in_err-one_name-in-used : goal.returns-in_err-one_name-in-used
+returns-in_err-one_name-in-used c =
+    let exit = err_from_is_err_and c.from_residual-in_err-one_name-in-used.result c.from_residual-in_err-one_name-in-used.ensures.1 in
+    rw (exit.1, exit.2, c.in-used.is) (family_fault (codes "used") _ _ used_lines _ _ c.in_err-one_name-in-used.ensures)
+
+pub returns-in_err-one_name-in-prefixes : goal.returns-in_err-one_name-in-prefixes
+returns-in_err-one_name-in-prefixes c =
+    let exit = err_from_is_err_and c.from_residual-in_err-one_name-in-prefixes.result c.from_residual-in_err-one_name-in-prefixes.ensures.1 in
+    rw (exit.1, exit.2, c.in-prefixes.is) (family_fault (codes "prefixes") _ _ prefixes_lines _ _ c.in_err-one_name-in-prefixes.ensures)
+
+pub returns-in_err-name-in-elect : goal.returns-in_err-name-in-elect
+returns-in_err-name-in-elect c =
+    let exit = err_from_is_err_and c.from_residual-in_err-name-in-elect.result c.from_residual-in_err-name-in-elect.ensures.1 in
+    rw (exit.1, exit.2, c.in-elect.is) (family_fault (codes "elect") _ _ elect_lines _ _ c.in_err-name-in-elect.ensures)
+
 pub returns-in_err-left-in-compare : goal.returns-in_err-left-in-compare
 returns-in_err-left-in-compare c =
     let exit = err_from_is_err_and c.from_residual-in_err-left-in-compare.result c.from_residual-in_err-left-in-compare.ensures.1 in
@@ -102,4 +127,4 @@ returns-in_err-nothing-in-mail c =
 
 pub returns-in_default : goal.returns-in_default
 returns-in_default c =
-    inl (unknown_word c.args.word.now c.in_default.not-router c.in_default.not-link c.in_default.not-attach c.in_default.not-detach c.in_default.not-caps c.in_default.not-stop c.in_default.not-start c.in_default.not-seed c.in_default.not-loss c.in_default.not-time c.in_default.not-tick c.in_default.not-run c.in_default.not-deliver c.in_default.not-drop c.in_default.not-flow c.requires c.in_default.not-show c.in_default.not-hash c.in_default.not-compare c.in_default.not-mail, refl)
+    inl (unknown_word c.args.word.now c.in_default.not-router c.in_default.not-link c.in_default.not-attach c.in_default.not-detach c.in_default.not-external c.in_default.not-withdraw c.in_default.not-caps c.in_default.not-stop c.in_default.not-start c.in_default.not-seed c.in_default.not-loss c.in_default.not-time c.in_default.not-tick c.in_default.not-run c.in_default.not-deliver c.in_default.not-drop c.in_default.not-flow c.requires c.in_default.not-show c.in_default.not-hash c.in_default.not-used c.in_default.not-prefixes c.in_default.not-elect c.in_default.not-compare c.in_default.not-mail, refl)

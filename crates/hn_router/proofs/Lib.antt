@@ -1,28 +1,9 @@
-pub mod Arriving
-pub mod Finding
-pub mod Forgetting
-pub mod FreeIds
-pub mod Known
-pub mod Leaves
-pub mod Moments
-pub mod NodeLists
-pub mod OneNew
-pub mod OneResults
-pub mod OwnPieces
-pub mod Parts
-pub mod Pigeonhole
-pub mod Planning
-pub mod PortFacts
-pub mod PortLists
-pub mod Rans
-pub mod Recent
-pub mod Refreshes
-pub mod Refreshing
-pub mod Restarting
-pub mod Shift
-pub mod Sole
-pub mod Stays
-pub mod Ticking
-pub mod Touched
-pub mod Wells
-pub mod Without
+mod Elections
+mod Moments
+mod NewRouter
+mod OneEvents
+mod OneNew
+mod Planning
+mod Shift
+mod Stays
+mod Ticking

@@ -4,10 +4,10 @@ use Rattle.std.specs.Coded.{le_prop}
 use mathlib.Core.HLevel.{is_prop→PathP}
 use Rattle.hn_base.specs.Caps.{PlainCaps, plain_caps}
 use Rattle.hn_base.specs.declared.caps.Caps.{Caps}
-use Rattle.hn_router.specs.Own.{links_of}
-use Rattle.hn_router.specs.Refresh.{own_items, network_state_hash}
+use Rattle.hn_own.specs.HeldPairs.{published_in}
+use Rattle.hn_own.specs.Own.{PlainData, IsOwnData, links_of}
+use Rattle.hn_rules.specs.Refresh.{own_items, network_state_hash}
 use Rattle.hn_router.specs.Laws.{NewIsUnique}
-use Rattle.hn_router.proofs.OneResults.{OneSet, one_own}
 
 one_caps : (a b : Caps) → plain_caps a ≡ plain_caps b → a ≡ b
 one_caps a b same =
@@ -26,19 +26,26 @@ one_caps a b same =
       l_in_range = is_prop→PathP (λ j. l j ≤ 15) (λ j. le_prop) a.l_in_range b.l_in_range i;
     }
 
-pub one_new : OneSet → NewIsUnique
-one_new one_set id now a b h k =
+-- what a law says of own node data
+abbrev pub OneOwn : Type 0
+OneOwn = (a b : PlainData) → IsOwnData a → IsOwnData b → a.items ≡ b.items → a.born ≡ b.born → a ≡ b
+
+pub one_new : OneOwn → NewIsUnique
+one_new one_own id now a b h k =
     let caps : a.caps ≡ b.caps = one_caps a.caps b.caps (h.caps_are ∙ sym k.caps_are) in
     let ports : a.ports ≡ b.ports = h.ports_are ∙ sym k.ports_are in
-    let items : own_items a ≡ own_items b = λ i. record { caps = caps i; links = links_of (ports i) } in
-    let own : a.own ≡ b.own = one_own one_set a.own b.own h.own_is k.own_is (h.items_are ∙ items ∙ sym k.items_are) in
+    let delegated : a.delegated ≡ b.delegated = h.no_prefixes ∙ sym k.no_prefixes in
+    let pairs : a.held ≡ b.held = h.nothing_held ∙ sym k.nothing_held in
+    let items : own_items a ≡ own_items b = λ i. record { caps = caps i; links = links_of (ports i); delegated = delegated i; assigned = published_in (pairs i).assigned } in
+    let own : a.own ≡ b.own = one_own a.own b.own h.own_is k.own_is (h.items_are ∙ items ∙ sym k.items_are) (h.born_is ∙ sym k.born_is) in
     let but_net : a ≡ record b { net = a.net } = λ i. record {
       id = (h.id_is ∙ sym k.id_is) i;
       number = (h.number_is ∙ sym k.number_is) i;
       moment = (h.moment_is ∙ sym k.moment_is) i;
       caps = caps i;
       own = own i;
-      born = (h.born_is ∙ sym k.born_is) i;
+      delegated = delegated i;
+      held = pairs i;
       claimed = (h.unclaimed ∙ sym k.unclaimed) i;
       ports = ports i;
       table = (h.table_is ∙ sym k.table_is) i;

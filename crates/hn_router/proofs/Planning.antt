@@ -1,9 +1,10 @@
 -- What was planned is what happens.
 use Rattle.std.proofs.Common.{◌≡◌, ℕ, Option, refl, subst}
 use Rattle.hn_io.specs.Words.{Drew, Took}
-use Rattle.hn_router.specs.declared.state.State.{State}
-use Rattle.hn_router.specs.declared.running.Running.{Running}
-use Rattle.hn_router.specs.Act.{PlainEvent, begun_at, IsEvent, Happened, HasRun}
+use Rattle.hn_rules.specs.declared.state.State.{State}
+use Rattle.hn_rules.specs.declared.running.Running.{Running}
+use Rattle.hn_router.specs.Act.{PlainEvent, IsEvent, Happened, HasRun}
+use Rattle.hn_rules.specs.Rules.{begun_at}
 use Rattle.hn_router.proofs.Shift.{took_shifted}
 
 pub has_happened : (now : ℕ) (event : PlainEvent) (told told_after : Option (ℕ → ℕ)) (s : State) (begun after : Running) → begun ≡ begun_at now s → HasRun event told told_after begun after → Happened now event s after.state after.done

@@ -1,64 +1,29 @@
--- A tick of an endpoint, and the words that it takes.
-use Rattle.std.proofs.Common.{◌≡◌, ◌∙◌, ℕ, false, List, ◌++◌, ◌⊎◌, Option, Some, length, IsTrue, ap, sym, subst, inl, inr}
+-- The parts of a tick, and the words that they take.
+use Rattle.std.proofs.Common.{◌≡◌, ℕ, Option, ap, refl}
 use Rattle.hn_base.specs.declared.ids.EpId.{EpId}
-use Rattle.hn_io.specs.Words.{Drew, Took}
-use Rattle.hn_dncp.specs.declared.port.Port.{Port}
-use Rattle.hn_dncp.specs.Tick.{ticked, tick_words, tick_sends}
-use Rattle.hn_router.specs.declared.running.Running.{Running}
-use Rattle.hn_router.specs.Ports.{port_at, endpoints_of}
-use Rattle.hn_router.specs.Rules.{Then, AtPort, Ran, with_words, with_port}
-use Rattle.hn_router.specs.Refresh.{IsRefresh}
-use Rattle.hn_router.specs.Tick.{IsPortExpiry, IsExpiry, forgetting, IsPortMoving, IsPortSending, IsPortTick, IsPortsTick, IsStateSending, IsTick}
-use Rattle.hn_router.proofs.Rans.{ran_plain, ran_both, each_words, at_port, at_port_words, found_id}
+use Rattle.hn_own.specs.Ports.{endpoints_of}
+use Rattle.hn_rules.specs.declared.running.Running.{Running}
+use Rattle.hn_rules.specs.Assigning.{IsAssigning}
+use Rattle.hn_rules.specs.Delegating.{ending}
+use Rattle.hn_rules.specs.Refresh.{IsRefresh}
+use Rattle.hn_rules.specs.Rules.{Then, AtPort, Ran}
+use Rattle.hn_rules.specs.Tick.{IsPortExpiry, IsExpiry, forgetting, IsPortsTick}
+use Rattle.hn_router.specs.Ticks.{IsLosing, IsSettling, IsTick}
+use Rattle.hn_rules.proofs.Rans.{ran_plain, ran_both, ran_after, each_words, at_port_words}
 
--- Trickle of an endpoint moves on
-pub port_moves : (now : ℕ) (port moved : Port) (words taken : List ℕ) (told told_after : Option (ℕ → ℕ)) (before between after : Running)
-    → now ≡ before.state.moment → moved ≡ ticked now words port → length words ≡ tick_words now port → Took told words told_after → taken ≡ words
-    → between ≡ with_words taken before → after ≡ with_port moved between
-    → Ran (IsPortMoving port) told told_after before after
-port_moves now port moved words taken told told_after before between after present is count took same began gives =
-    let all : after.done.words ≡ before.done.words ++ words = ap (λ (r : Running). r.done.words) gives ∙ ap (λ (r : Running). r.done.words) began ∙ ap (λ (ws : List ℕ). before.done.words ++ ws) same in
-    record {
-      holds = record {
-        words = words;
-        as_many = subst (λ (n : ℕ). length words ≡ tick_words n port) present count;
-        gives = gives ∙ ap (with_port moved) began ∙ ap (λ (ws : List ℕ). with_port moved (with_words ws before)) same
-            ∙ ap (λ (p : Port). with_port p (with_words words before)) is ∙ ap (λ (n : ℕ). with_port (ticked n words port) (with_words words before)) present;
-      };
-      drew = subst (λ (ws : List ℕ). Drew told before.done.words told_after ws) (sym all) (took before.done.words);
-    }
-
--- what is due at an endpoint, after its Trickle has moved on
-pub port_ticks : (at : EpId) (port copy : Port) (ports : List Port) (told told_after : Option (ℕ → ℕ)) (before moved after : Running)
-    → Some port ≡ port_at at ports → ports ≡ before.state.ports → copy ≡ port
-    → Ran (IsPortMoving copy) told told_after before moved
-    → (IsStateSending at moved after × IsTrue (tick_sends moved.state.moment copy)) ⊎ ((after ≡ moved) × (tick_sends moved.state.moment copy ≡ false))
-    → Ran (AtPort at IsPortTick) told told_after before after
-port_ticks at port copy ports told told_after before moved after here same_ports same ran sends =
-    let moving : Ran (IsPortMoving port) told told_after before moved = subst (λ (p : Port). Ran (IsPortMoving p) told told_after before moved) same ran in
-    record {
-      holds = at_port at port ports IsPortTick before after here same_ports (moved, moving.holds, sending sends);
-      drew = subst (λ (ws : List ℕ). Drew told before.done.words told_after ws) (sym (words sends)) moving.drew;
-    }
-  where
-    sending : (IsStateSending at moved after × IsTrue (tick_sends moved.state.moment copy)) ⊎ ((after ≡ moved) × (tick_sends moved.state.moment copy ≡ false)) → IsPortSending port moved after
-    sending (inl (sent, due)) = inl (subst (λ (p : Port). IsTrue (tick_sends moved.state.moment p)) same due, subst (λ (e : EpId). IsStateSending e moved after) (sym (found_id at port ports here)) sent)
-    sending (inr (gives, not_due)) = inr (subst (λ (p : Port). tick_sends moved.state.moment p ≡ false) same not_due, gives)
-
-    words : (IsStateSending at moved after × IsTrue (tick_sends moved.state.moment copy)) ⊎ ((after ≡ moved) × (tick_sends moved.state.moment copy ≡ false)) → after.done.words ≡ moved.done.words
-    words (inl (sent, _)) = ap (λ (r : Running). r.done.words) sent.gives
-    words (inr (gives, _)) = ap (λ (r : Running). r.done.words) gives
-
--- a tick in four steps
-pub ran_tick : (told told_between told_after : Option (ℕ → ℕ)) (before expired refreshed forgot after : Running)
-    → IsExpiry before expired → Ran IsRefresh told told_between expired refreshed → forgot ≡ forgetting refreshed → Ran IsPortsTick told_between told_after forgot after
-    → Ran IsTick told told_after before after
-ran_tick told told_between told_after before expired refreshed forgot after expiry refresh forgets ticks =
+pub ran_losing : (told told_after : Option (ℕ → ℕ)) (before expired ended after : Running)
+    → IsExpiry before expired → ended ≡ ending expired → Ran IsRefresh told told_after ended after → Ran IsLosing told told_after before after
+ran_losing told told_after before expired ended after expiry ends refresh =
     let first = ran_plain IsExpiry told before expired expiry (each_words (λ at. AtPort at IsPortExpiry) (endpoints_of before.state.ports) before expired none expiry) in
-    let third = ran_plain (λ b a. a ≡ forgetting b) told_between refreshed forgot forgets (ap (λ (r : Running). r.done.words) forgets) in
-    let last = ran_both (λ b a. a ≡ forgetting b) IsPortsTick told_between told_between told_after refreshed forgot after third ticks in
-    let rest = ran_both IsRefresh (Then (λ b a. a ≡ forgetting b) IsPortsTick) told told_between told_after expired refreshed after refresh last in
-    ran_both IsExpiry (Then IsRefresh (Then (λ b a. a ≡ forgetting b) IsPortsTick)) told told told_after before expired after first rest
+    ran_both IsExpiry (Then (λ b a. a ≡ ending b) IsRefresh) told told told_after before expired after first (ran_after ending IsRefresh told told_after expired ended after ends refl refresh)
   where
     none : (at : EpId) (b a : Running) → AtPort at IsPortExpiry b a → a.done.words ≡ b.done.words
     none at b a = at_port_words IsPortExpiry at b a (λ port b a expiry. ap (λ (r : Running). r.done.words) expiry.gives)
+
+pub ran_tick : (told told_lost told_settled told_after : Option (ℕ → ℕ)) (before lost forgot settled after : Running)
+    → Ran IsLosing told told_lost before lost → forgot ≡ forgetting lost → Ran IsSettling told_lost told_settled forgot settled
+    → Ran IsPortsTick told_settled told_after settled after → Ran IsTick told told_after before after
+ran_tick told told_lost told_settled told_after before lost forgot settled after losing forgets settling ticks =
+    let last = ran_both IsSettling IsPortsTick told_lost told_settled told_after forgot settled after settling ticks in
+    let rest = ran_after forgetting (Then IsSettling IsPortsTick) told_lost told_after lost forgot after forgets refl last in
+    ran_both IsLosing (Then (λ b a. a ≡ forgetting b) (Then IsSettling IsPortsTick)) told told_lost told_after before lost after losing rest

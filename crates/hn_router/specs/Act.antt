@@ -3,21 +3,23 @@ use Rattle.std.specs.Prelude.{◌≡◌, ℕ, ◌==◌, ◌||◌, IsTrue, false,
 use Rattle.hn_base.specs.declared.ids.EpId.{EpId}
 use Rattle.hn_base.specs.declared.caps.Caps.{Caps}
 use Rattle.hn_base.specs.Addr.{IsLinkLocal}
+use Rattle.hn_prefix.specs.Prefix.{PlainPrefix}
 use Rattle.hn_tlv.specs.Grammar.{PlainTlv, IsTlvList, FirstFault}
 use Rattle.hn_router.specs.declared.event.Event.{Event}
 use Rattle.hn_router.specs.declared.event.Event.TheVariants as event
-use Rattle.hn_router.specs.declared.state.State.{State}
-use Rattle.hn_router.specs.declared.running.Running.{Running}
-use Rattle.hn_router.specs.declared.running.Origin.{Origin}
-use Rattle.hn_router.specs.declared.done.Done.{Done}
-use Rattle.hn_router.specs.declared.done.Note.TheVariants as note
-use Rattle.hn_router.specs.Done.{nothing}
-use Rattle.hn_router.specs.Ports.{is_attached}
-use Rattle.hn_router.specs.Rules.{Rule, Then, Ran, noted}
-use Rattle.hn_router.specs.Refresh.{IsRefresh}
-use Rattle.hn_router.specs.Arrival.{IsArrival}
-use Rattle.hn_router.specs.Tick.{IsTick}
-use Rattle.hn_router.specs.Events.{IsAttaching, detaching, setting_caps, IsRestarting}
+use Rattle.hn_rules.specs.declared.state.State.{State}
+use Rattle.hn_rules.specs.declared.running.Running.{Running}
+use Rattle.hn_rules.specs.declared.running.Origin.{Origin}
+use Rattle.hn_rules.specs.declared.done.Done.{Done}
+use Rattle.hn_rules.specs.declared.done.Note.TheVariants as note
+use Rattle.hn_own.specs.Ports.{is_attached}
+use Rattle.hn_own.specs.OwnPrefixes.{may_delegate}
+use Rattle.hn_rules.specs.Rules.{Rule, Then, Ran, begun_at, noted}
+use Rattle.hn_rules.specs.Refresh.{IsRefresh}
+use Rattle.hn_rules.specs.Arrival.{IsArrival}
+use Rattle.hn_router.specs.Ticks.{IsTick}
+use Rattle.hn_rules.specs.Delegating.{delegating, withdrawing}
+use Rattle.hn_rules.specs.Events.{IsAttaching, detaching, setting_caps, IsRestarting}
 
 -- What may happen to a router, without where a datagram lies in memory.
 pub data PlainEvent : Type 0 where
@@ -25,6 +27,8 @@ pub data PlainEvent : Type 0 where
   Tick : PlainEvent
   Attach : (at : EpId) → PlainEvent
   Detach : (at : EpId) → PlainEvent
+  External : (prefix : PlainPrefix) (valid preferred : ℕ) → PlainEvent
+  Withdraw : (prefix : PlainPrefix) → PlainEvent
   SetCaps : (caps : Caps) → PlainEvent
   Restart : PlainEvent
 
@@ -33,12 +37,10 @@ plain_event (event.Arrive endpoint from multicast bytes) = Arrive (record { endp
 plain_event event.Tick = Tick
 plain_event (event.Attach endpoint) = Attach endpoint
 plain_event (event.Detach endpoint) = Detach endpoint
+plain_event (event.External prefix valid preferred) = External prefix valid preferred
+plain_event (event.Withdraw prefix) = Withdraw prefix
 plain_event (event.Caps caps) = SetCaps caps
 plain_event event.Restart = Restart
-
--- where an event begins: nothing has come of it yet
-abbrev pub begun_at : ℕ → State → Running
-begun_at now s = record { state = record s { moment = now }; done = nothing; sender = None; answers = [] }
 
 -- a datagram from a source that is not link-local, one of bytes that are no list of TLVs, and a list of TLVs
 pub record IsFar (from : Origin) (before after : Running) : Type 0 where
@@ -59,12 +61,14 @@ pub record IsRead (from : Origin) (bytes : List ℕ) (before after : Running) : 
   pub arrives : IsArrival from tlvs before after
 
 -- whether the event is refused: an arrival or a detachment at an endpoint that is not attached; an attachment of
--- endpoint 0, of an attached one, or of a seventeenth
+-- endpoint 0, of an attached one, or of a seventeenth; a ninth delegated prefix
 abbrev pub is_refused : PlainEvent → State → Bool
 is_refused (Arrive from bytes) s = not (is_attached from.endpoint s.ports)
 is_refused Tick s = false
 is_refused (Attach at) s = at.0 == 0 || (is_attached at s.ports || not (nat_lt (length s.ports) 16))
 is_refused (Detach at) s = not (is_attached at s.ports)
+is_refused (External prefix valid preferred) s = not (may_delegate prefix s.delegated)
+is_refused (Withdraw prefix) s = false
 is_refused (SetCaps caps) s = false
 is_refused Restart s = false
 
@@ -74,6 +78,8 @@ IsEventRule (Arrive from bytes) before after = IsFar from before after ⊎ (IsMa
 IsEventRule Tick before after = IsTick before after
 IsEventRule (Attach at) before after = Then (IsAttaching at) IsRefresh before after
 IsEventRule (Detach at) before after = Then (λ b a. a ≡ detaching at b) IsRefresh before after
+IsEventRule (External prefix valid preferred) before after = Then (λ b a. a ≡ delegating prefix valid preferred b) IsRefresh before after
+IsEventRule (Withdraw prefix) before after = Then (λ b a. a ≡ withdrawing prefix b) IsRefresh before after
 IsEventRule (SetCaps caps) before after = Then (λ b a. a ≡ setting_caps caps b) IsRefresh before after
 IsEventRule Restart before after = Then IsRestarting IsRefresh before after
 

@@ -3,14 +3,12 @@ use Rattle.std.specs.Prelude.{◌≡◌, ℕ, ◌≤◌, ◌==◌, nat_lt, not, 
 use Rattle.hn_base.specs.declared.ids.EpId.{EpId}
 use Rattle.hn_base.specs.declared.ids.NodeId.{NodeId}
 use Rattle.hn_io.specs.Words.{Begins}
-use Rattle.hn_hash.specs.Network.{network_hash, AreNumbered}
-use Rattle.hn_router.specs.declared.state.State.{State}
-use Rattle.hn_router.specs.declared.done.Done.{Done}
-use Rattle.hn_router.specs.Nodes.{leaves_of}
+use Rattle.hn_rules.specs.declared.state.State.{State}
+use Rattle.hn_rules.specs.declared.done.Done.{Done}
 use Rattle.hn_router.specs.New.{IsNew}
-use Rattle.hn_router.specs.Ports.{endpoints_of}
+use Rattle.hn_own.specs.Ports.{endpoints_of}
 use Rattle.hn_router.specs.Act.{PlainEvent, Attach, Detach, is_refused, Happened}
-use Rattle.hn_router.specs.Router.{IsRouter}
+use Rattle.hn_rules.specs.Router.{IsRouter}
 
 -- From one state, with one event, moment and stream of words, there is at most one result.
 abbrev pub OneResult : Type 0
@@ -31,10 +29,6 @@ abbrev pub RouterStays : Type 0
 RouterStays =
     (now : ℕ) (event : PlainEvent) (s next : State) (done : Done)
     → IsRouter s → s.moment ≤ now → Happened now event s next done → IsRouter next
-
--- A router's network state hash is that of the leaves of the nodes that it reaches.
-abbrev pub HashIsOfLeaves : Type 0
-HashIsOfLeaves = (s : State) → IsRouter s → (s.net ≡ network_hash (leaves_of s)) × AreNumbered (leaves_of s)
 
 -- After an event a router's moment is that of the event.
 abbrev pub MomentIsNow : Type 0

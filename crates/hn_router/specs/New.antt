@@ -2,23 +2,26 @@
 use Rattle.std.specs.Prelude.{◌≡◌, ℕ, false, [], ◌∷◌}
 use Rattle.hn_base.specs.declared.ids.NodeId.{NodeId}
 use Rattle.hn_base.specs.Caps.{PlainCaps, plain_caps}
-use Rattle.hn_router.specs.declared.state.State.{State}
-use Rattle.hn_router.specs.Own.{IsOwnData}
-use Rattle.hn_router.specs.Refresh.{own_items, network_state_hash}
+use Rattle.hn_rules.specs.declared.state.State.{State}
+use Rattle.hn_own.specs.Own.{IsOwnData}
+use Rattle.hn_own.specs.HeldPairs.{no_pairs}
+use Rattle.hn_rules.specs.Refresh.{own_items, network_state_hash}
 
 -- none of the capabilities
 abbrev pub no_caps : PlainCaps
 no_caps = record { m = 0; p = 0; h = 0; l = 0 }
 
--- A router begins: without capabilities and endpoints, with sequence number 1, and it reaches itself alone.
+-- A router begins: without capabilities, endpoints, delegated and assigned prefixes, with sequence number 1, and it reaches itself alone.
 pub record IsNew (id : NodeId) (now : ℕ) (s : State) : Type 0 where
   pub id_is : s.id ≡ id
   pub number_is : s.number ≡ 1
   pub moment_is : s.moment ≡ now
-  pub born_is : s.born ≡ now
   pub caps_are : plain_caps s.caps ≡ no_caps
   pub own_is : IsOwnData s.own
+  pub born_is : s.own.born ≡ now
   pub items_are : s.own.items ≡ own_items s
+  pub no_prefixes : s.delegated ≡ []
+  pub nothing_held : s.held ≡ no_pairs
   pub unclaimed : s.claimed ≡ false
   pub ports_are : s.ports ≡ []
   pub table_is : s.table ≡ record { limit = 256; entries = [] }

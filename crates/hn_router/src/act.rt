@@ -1,112 +1,115 @@
 //! Which rules an event runs, and in which order.
 
 ghost use Rattle.std.specs.Prelude.{◌≡◌, false, OnOk};
-ghost use Rattle.hn_router.specs.Rules.{Ran};
-ghost use Rattle.hn_router.specs.Router.{IsRefreshed};
 ghost use Rattle.hn_router.specs.Act.{plain_event, is_refused, IsEventRule, Arrive, Attach, HasRun};
+ghost use Rattle.hn_rules.specs.Router.{IsRefreshed, IsRouter};
+ghost use Rattle.hn_rules.specs.Rules.{Ran};
 
-use crate::done::Note;
 use crate::event::Event;
-use crate::running::{Origin, Running};
-use crate::state::State;
+use crate::events::{attach, delegate, detach, restart, set_caps, withdraw};
+use crate::tick::tick;
 use hn_base::{EpId, NoMemory, link_local};
 use hn_io::Draw;
+use hn_rules::{Note, Origin, Running, State};
 use hn_tlv::check;
 use std::alloc::Global;
 
-impl State {
-    /// Whether an endpoint cannot be attached.
-    fn refuses_attach(&self, at: EpId) -> bool
-        ensures { result ≡ is_refused (Attach at) self.now }
-    {
-        let ports = self.ports.get();
-        at == EpId(0) || ports.has(at) || !ports.has_room()
-    }
+/// Whether an endpoint cannot be attached.
+fn refuses_attach(state: &State, at: EpId) -> bool
+    ensures { result ≡ is_refused (Attach at) state.now }
+{
+    let ports = state.ports.get();
+    at == EpId(0) || ports.has(at) || !ports.has_room()
+}
 
-    /// Whether the event is refused.
-    fn refuses(&self, event: &Event<'_>) -> bool
-        ensures { result ≡ is_refused (plain_event event.now) self.now }
-    {
-        match *event {
-            Event::Arrive { endpoint, .. } | Event::Detach { endpoint } => {
-                !self.ports.get().has(endpoint)
-            }
-            Event::Attach { endpoint } => self.refuses_attach(endpoint),
-            Event::Tick | Event::Caps { .. } | Event::Restart => false,
+/// Whether the event is refused.
+fn refuses(state: &State, event: &Event<'_>) -> bool
+    ensures { result ≡ is_refused (plain_event event.now) state.now }
+{
+    match *event {
+        Event::Arrive { endpoint, .. } | Event::Detach { endpoint } => {
+            !state.ports.get().has(endpoint)
         }
+        Event::Attach { endpoint } => refuses_attach(state, endpoint),
+        Event::External { prefix, .. } => !state.delegated.get().may_have(&prefix),
+        Event::Tick | Event::Withdraw { .. } | Event::Caps { .. } | Event::Restart => false,
     }
 }
 
-impl Running {
-    /// A datagram arrives at an endpoint that is attached.
-    fn arrive<D: Draw>(
-        &mut self,
-        alloc: Global,
-        from: &Origin,
-        bytes: &[u8],
-        draw: &mut D,
-    ) -> Result<(), NoMemory>
-        requires { IsRefreshed self.old.state }
-        ensures { OnOk result (Ran (IsEventRule (Arrive from.now bytes.now)) (D.words draw.old) (D.words draw.new) self.old self.new) }
-    {
-        if !link_local(&from.from) {
-            return self.note(Note::Far);
-        }
-        match check(bytes) {
-            Ok(_) => self.arrival(alloc, from, bytes, draw),
-            Err(fault) => self.note(Note::Malformed {
-                place: fault.place,
-                why: fault.why,
-            }),
-        }
+/// A datagram arrives at an endpoint that is attached.
+fn arrive<D: Draw>(
+    alloc: Global,
+    running: &mut Running,
+    from: &Origin,
+    bytes: &[u8],
+    draw: &mut D,
+) -> Result<(), NoMemory>
+    requires { IsRefreshed running.old.state }
+    ensures { OnOk result (Ran (IsEventRule (Arrive from.now bytes.now)) (D.words draw.old) (D.words draw.new) running.old running.new) }
+{
+    if !link_local(&from.from) {
+        return running.note(Note::Far);
     }
+    match check(bytes) {
+        Ok(_) => running.arrival(alloc, from, bytes, draw),
+        Err(fault) => running.note(Note::Malformed {
+            place: fault.place,
+            why: fault.why,
+        }),
+    }
+}
 
-    /// The rules of an event that is not refused.
-    fn run_rules<D: Draw>(
-        &mut self,
-        alloc: Global,
-        event: &Event<'_>,
-        draw: &mut D,
-    ) -> Result<(), NoMemory>
-        requires accepted { is_refused (plain_event event.now) self.old.state ≡ false }
-        requires refreshed { IsRefreshed self.old.state }
-        ensures { OnOk result (Ran (IsEventRule (plain_event event.now)) (D.words draw.old) (D.words draw.new) self.old self.new) }
-    {
-        match *event {
-            Event::Arrive {
+/// The rules of an event that is not refused.
+fn run_rules<D: Draw>(
+    alloc: Global,
+    running: &mut Running,
+    event: &Event<'_>,
+    draw: &mut D,
+) -> Result<(), NoMemory>
+    requires accepted { is_refused (plain_event event.now) running.old.state ≡ false }
+    requires router { IsRouter running.old.state }
+    ensures { OnOk result (Ran (IsEventRule (plain_event event.now)) (D.words draw.old) (D.words draw.new) running.old running.new) }
+{
+    match *event {
+        Event::Arrive {
+            endpoint,
+            from,
+            multicast,
+            bytes,
+        } => {
+            let origin = Origin {
                 endpoint,
                 from,
                 multicast,
-                bytes,
-            } => {
-                let origin = Origin {
-                    endpoint,
-                    from,
-                    multicast,
-                };
-                self.arrive(alloc, &origin, bytes, draw)
-            }
-            Event::Tick => self.tick(alloc, draw),
-            Event::Attach { endpoint } => self.attach(alloc, endpoint, draw),
-            Event::Detach { endpoint } => self.detach(alloc, endpoint, draw),
-            Event::Caps { caps } => self.set_caps(alloc, caps, draw),
-            Event::Restart => self.restart(alloc, draw),
+            };
+            arrive(alloc, running, &origin, bytes, draw)
         }
+        Event::Tick => tick(alloc, running, draw),
+        Event::Attach { endpoint } => attach(alloc, running, endpoint, draw),
+        Event::Detach { endpoint } => detach(alloc, running, endpoint, draw),
+        Event::External {
+            prefix,
+            valid,
+            preferred,
+        } => delegate(alloc, running, prefix, valid, preferred, draw),
+        Event::Withdraw { prefix } => withdraw(alloc, running, &prefix, draw),
+        Event::Caps { caps } => set_caps(alloc, running, caps, draw),
+        Event::Restart => restart(alloc, running, draw),
     }
+}
 
-    /// An event: a refused one is noted.
-    pub(crate) fn run<D: Draw>(
-        &mut self,
-        alloc: Global,
-        event: &Event<'_>,
-        draw: &mut D,
-    ) -> Result<(), NoMemory>
-        requires { IsRefreshed self.old.state }
-        ensures { OnOk result (HasRun (plain_event event.now) (D.words draw.old) (D.words draw.new) self.old self.new) }
-    {
-        if self.state.refuses(event) {
-            return self.note(Note::Refused);
-        }
-        self.run_rules(alloc, event, draw)
+/// An event: a refused one is noted.
+pub(crate) fn run<D: Draw>(
+    alloc: Global,
+    running: &mut Running,
+    event: &Event<'_>,
+    draw: &mut D,
+) -> Result<(), NoMemory>
+    requires { IsRouter running.old.state }
+    ensures { OnOk result (HasRun (plain_event event.now) (D.words draw.old) (D.words draw.new) running.old running.new) }
+{
+    if refuses(&running.state, event) {
+        return running.note(Note::Refused);
     }
+    run_rules(alloc, running, event, draw)
 }

@@ -1,4 +1,5 @@
 use hn_base::{Addr, Caps, EpId};
+use hn_prefix::Prefix;
 
 /// What may happen to a router.
 #[derive(Clone, Copy, Debug)]
@@ -21,6 +22,17 @@ pub enum Event<'a> {
     /// An endpoint is detached from its link, with its peers.
     Detach {
         endpoint: EpId,
+    },
+    /// A delegated prefix is added, or replaces the same one, with its valid and its preferred lifetime in seconds;
+    /// 4294967295 is one that never ends (RFC 7788, section 10.2.1).
+    External {
+        prefix: Prefix,
+        valid: u32,
+        preferred: u32,
+    },
+    /// A delegated prefix is withdrawn.
+    Withdraw {
+        prefix: Prefix,
     },
     /// The router gets these capabilities (RFC 7788, section 10.1).
     Caps {

@@ -1,23 +1,28 @@
 ghost use Rattle.std.specs.Prelude.{◌≡◌, ◌≤◌, ◌^◌, [], ◌∷◌, nat_lt, length, IfOk, OnErr, IsTrue, ◌↔◌};
 ghost use Rattle.hn_base.specs.Caps.{plain_caps};
 ghost use Rattle.hn_io.specs.Words.{Took};
-ghost use Rattle.hn_router.specs.Ports.{is_attached, endpoints_of};
-ghost use Rattle.hn_router.specs.Nodes.{leaves_of};
+ghost use Rattle.hn_own.specs.Ports.{is_attached, endpoints_of};
+ghost use Rattle.hn_rules.specs.Nodes.{leaves_of};
+ghost use Rattle.hn_own.specs.OwnPrefixes.{may_delegate};
+ghost use Rattle.hn_rules.specs.Seen.{seen_by, IsElectedAt};
+ghost use Rattle.hn_deleg.specs.Used.{AreUsable};
+ghost use Rattle.hn_link.specs.CommonLink.{IsCommonLink};
 ghost use Rattle.hn_router.specs.Act.{plain_event, Happened};
 ghost use Rattle.hn_router.specs.New.{no_caps, IsNew};
 
-use crate::done::Done;
+use crate::act::run;
 use crate::event::Event;
-use crate::law::{new_is_router, router_stays};
-use crate::own::{OwnData, OwnItems};
-use crate::ports::Ports;
-use crate::present::Present;
-use crate::running::Running;
-use crate::state::State;
-use hn_base::{Caps, EpId, Moment, NoMemory, NodeId, NodeIds, Shared};
+use crate::laws::{new_is_router, router_stays};
+use hn_assign::Held;
+use hn_base::{Caps, Endpoints, EpId, Letter, Moment, NoMemory, NodeId, NodeIds, Sequence, Shared};
 use hn_data::NodeData;
+use hn_deleg::{Delegated, used};
 use hn_hash::{Leaf, Part, network_of};
 use hn_io::Draw;
+use hn_link::{common, elected};
+use hn_own::{HeldPairs, OwnData, OwnItems, OwnPrefixes, Ports};
+use hn_prefix::Prefix;
+use hn_rules::{Done, Present, Running, State, router_stays_later, view_is_a_network};
 use hn_store::Table;
 use std::alloc::Global;
 use std::marker::Model;
@@ -29,8 +34,8 @@ pub struct Router {
 }
 
 impl Model for Router {
-    ghost use Rattle.hn_router.specs.declared.state.State.{State};
-    ghost use Rattle.hn_router.specs.Router.{IsRouter};
+    ghost use Rattle.hn_rules.specs.declared.state.State.{State};
+    ghost use Rattle.hn_rules.specs.Router.{IsRouter};
 
     ghost Value = { State };
 
@@ -48,7 +53,7 @@ pub struct Plan {
 
 impl Model for Plan {
     ghost use Rattle.hn_router.specs.Plan.{PlainPlan};
-    ghost use Rattle.hn_router.specs.Router.{IsRouter};
+    ghost use Rattle.hn_rules.specs.Router.{IsRouter};
 
     ghost Value = { PlainPlan };
 
@@ -86,6 +91,9 @@ fn new_state(
     requires in_range { now ≤ 2 ^ 48 }
     requires no_ports { ports ≡ [] }
     requires no_links { own.items.links ≡ [] }
+    requires no_prefixes { own.items.delegated ≡ [] }
+    requires nothing_assigned { own.items.assigned ≡ [] }
+    requires born { own.born ≡ now }
     requires no_caps { plain_caps own.items.caps ≡ no_caps }
     ensures { IfOk result (IsNew id now) }
 {
@@ -100,7 +108,8 @@ fn new_state(
         moment: Present::new(now),
         caps,
         own: Shared::new(alloc, own)?,
-        born: now,
+        delegated: Shared::new(alloc, OwnPrefixes::new(alloc))?,
+        held: Shared::new(alloc, HeldPairs::new(alloc))?,
         claimed: false,
         ports: Shared::new(alloc, ports)?,
         table: Shared::new(alloc, Table::new(alloc))?,
@@ -110,7 +119,8 @@ fn new_state(
 }
 
 impl Router {
-    /// A router that begins at a moment, without capabilities and endpoints, and with sequence number 1.
+    /// A router that begins at a moment, without capabilities, endpoints, delegated and assigned prefixes, and with
+    /// sequence number 1.
     ///
     /// # Errors
     ///
@@ -127,8 +137,14 @@ impl Router {
             h: 0,
             l: 0,
         };
-        let items = OwnItems::of(alloc, caps, &ports)?;
-        let own = OwnData::new(alloc, items)?;
+        let items = OwnItems::of(
+            alloc,
+            caps,
+            &ports,
+            &OwnPrefixes::new(alloc),
+            &HeldPairs::new(alloc),
+        )?;
+        let own = OwnData::new(alloc, items, now)?;
         let state = new_state(alloc, id, now, own, ports)?;
         Ok(Router { state })
     }
@@ -147,8 +163,9 @@ impl Router {
         ensures drew { IfOk result (λ plan. Took (D.words draw.old) plan.done.words (D.words draw.new)) }
     {
         router_stays();
+        router_stays_later();
         let mut next = Running::begin(alloc, &self.state, now)?;
-        next.run(alloc, event, draw)?;
+        run(alloc, &mut next, event, draw)?;
         let Running { state, done, .. } = next;
         Ok(Plan { state, done })
     }
@@ -236,9 +253,9 @@ impl Router {
 
     /// The moment of the last publication, in milliseconds. Never allocates.
     pub fn born(&self) -> Moment
-        ensures { result ≡ self.now.born }
+        ensures { result ≡ self.now.own.born }
     {
-        self.state.born
+        self.state.own.get().born()
     }
 
     /// Whether an endpoint is attached. Never allocates.
@@ -255,6 +272,66 @@ impl Router {
         self.state.ports.get().has_room()
     }
 
+    /// Whether a delegated prefix may be added: the router has it already, or fewer than eight. Never allocates.
+    pub fn may_have(&self, prefix: &Prefix) -> bool
+        ensures { result ≡ may_delegate prefix.now self.now.delegated }
+    {
+        self.state.delegated.get().may_have(prefix)
+    }
+
+    /// Its assignments and backoffs. Never allocates.
+    pub fn held(&self) -> &Held
+        ensures { result.now ≡ self.now.held }
+    {
+        self.state.held.get().get()
+    }
+
+    /// The delegated prefixes that the router uses, in ascending order, at its moment (RFC 7788, sections 6.2 and 6.3).
+    ///
+    /// # Errors
+    ///
+    /// Out of memory.
+    pub fn used(&self, alloc: Global) -> Result<Sequence<Delegated>, NoMemory>
+        ensures { IfOk result (AreUsable (seen_by self.now)) }
+    {
+        let nodes = self.state.seen(alloc)?;
+        used(alloc, &self.state.view(nodes.as_slice()))
+    }
+
+    /// The Common Link of an endpoint, in ascending order (RFC 7788, section 6.1).
+    ///
+    /// # Errors
+    ///
+    /// Out of memory.
+    pub fn common(&self, alloc: Global, e: EpId) -> Result<Endpoints, NoMemory>
+        ensures { IfOk result (IsCommonLink (seen_by self.now) e.0) }
+    {
+        view_is_a_network();
+        let nodes = self.state.seen(alloc)?;
+        common(alloc, &self.state.view(nodes.as_slice()), e)
+    }
+
+    /// Who is elected for a capability on the Common Link of an endpoint; `None` if and only if nobody is (RFC 7788,
+    /// sections 4 and 6.1).
+    ///
+    /// # Errors
+    ///
+    /// Out of memory.
+    pub fn elected(
+        &self,
+        alloc: Global,
+        e: EpId,
+        letter: Letter,
+    ) -> Result<Option<NodeId>, NoMemory>
+        ensures { IfOk result (IsElectedAt self.now e letter) }
+    {
+        view_is_a_network();
+        let nodes = self.state.seen(alloc)?;
+        let view = self.state.view(nodes.as_slice());
+        let common = common(alloc, &view, e)?;
+        Ok(elected(&view, common.as_slice(), letter))
+    }
+
     /// The endpoints that are attached, in ascending order.
     ///
     /// # Errors
@@ -266,8 +343,8 @@ impl Router {
         self.state.ports.get().endpoints(alloc)
     }
 
-    /// The leaves of the nodes that were reachable at the last refresh: their sequence numbers and node data, in ascending
-    /// order of their identifiers (RFC 7787, section 4.1).
+    /// The leaves of the nodes that were reachable at the last refresh, in ascending order of their identifiers (RFC 7787,
+    /// section 4.1).
     ///
     /// # Errors
     ///

@@ -1,6 +1,8 @@
-use crate::{Done, Event, Note, Router};
+use crate::{Event, Router};
 use hn_base::{Addr, Caps, EpId, NodeId};
 use hn_io::Zeros;
+use hn_prefix::Prefix;
+use hn_rules::{Done, Note};
 use hn_tlv::check;
 use std::alloc::Global;
 use std::test::Fail;
@@ -77,6 +79,60 @@ fn happen(alloc: Global, router: &mut Router, now: u64, event: &Event<'_>) -> Re
     Ok(router.act(alloc, event, now, &mut Zeros)?)
 }
 
+/// What happens to a router. A prefix is written by its place among the /64 of 2001:db8::/32, and its length.
+#[derive(Clone, Copy, Debug)]
+pub(crate) enum What {
+    /// A delegated prefix comes, with its valid and its preferred lifetime.
+    External(u16, u8, u32, u32),
+    Withdraw(u16, u8),
+    Attach,
+    Detach,
+    Tick,
+    Restart,
+    /// The router gets priority 4 for P and H.
+    Caps,
+}
+
+/// The prefix of this length at a place.
+fn prefix(place: u16, len: u8) -> Result<Prefix, Fail> {
+    Ok(Prefix::new((0x2001_0db8 << 96) + (u128::from(place) << 64), len)?)
+}
+
+impl What {
+    /// It happens.
+    pub(crate) fn to(self, alloc: Global, router: &mut Router, now: u64) -> Result<Done, Fail> {
+        let endpoint = EpId(1);
+        match self {
+            What::External(place, len, valid, preferred) => {
+                let prefix = prefix(place, len)?;
+                let event = Event::External {
+                    prefix,
+                    valid,
+                    preferred,
+                };
+                happen(alloc, router, now, &event)
+            }
+            What::Withdraw(place, len) => {
+                let prefix = prefix(place, len)?;
+                happen(alloc, router, now, &Event::Withdraw { prefix })
+            }
+            What::Attach => happen(alloc, router, now, &Event::Attach { endpoint }),
+            What::Detach => happen(alloc, router, now, &Event::Detach { endpoint }),
+            What::Tick => happen(alloc, router, now, &Event::Tick),
+            What::Restart => happen(alloc, router, now, &Event::Restart),
+            What::Caps => {
+                let caps = Caps {
+                    m: 0,
+                    p: 4,
+                    h: 4,
+                    l: 0,
+                };
+                happen(alloc, router, now, &Event::Caps { caps })
+            }
+        }
+    }
+}
+
 /// A datagram arrives at endpoint 1.
 fn arrive(
     alloc: Global,
@@ -95,7 +151,7 @@ fn arrive(
 }
 
 /// Router 1, with endpoint 1 attached.
-fn router(alloc: Global) -> Result<Router, Fail> {
+pub(crate) fn router(alloc: Global) -> Result<Router, Fail> {
     let mut router = Router::new(alloc, NodeId(1), 0)?;
     let attach = Event::Attach { endpoint: EpId(1) };
     happen(alloc, &mut router, 0, &attach)?;
@@ -171,23 +227,15 @@ fn data_grows_old(rt: HostRuntime) -> Result<(), Fail> {
 fn own_data_is_published_again(rt: HostRuntime) -> Result<(), Fail> {
     let alloc = rt.alloc();
     let mut router = router(alloc)?;
-    let caps = Event::Caps {
-        caps: Caps {
-            m: 0,
-            p: 4,
-            h: 4,
-            l: 0,
-        },
-    };
     let table = [
-        (OLD - 1, Event::Tick, 1, 0),
-        (OLD, Event::Tick, 2, OLD),
-        (OLD, caps, 3, OLD),
-        (OLD + 1, caps, 3, OLD),
-        (OLD + 2, Event::Restart, 1, OLD + 2),
+        (OLD - 1, What::Tick, 1, 0),
+        (OLD, What::Tick, 2, OLD),
+        (OLD, What::Caps, 3, OLD),
+        (OLD + 1, What::Caps, 3, OLD),
+        (OLD + 2, What::Restart, 1, OLD + 2),
     ];
-    for (now, event, number, born) in table {
-        happen(alloc, &mut router, now, &event)?;
+    for (now, what, number, born) in table {
+        what.to(alloc, &mut router, now)?;
         assert_eq!(rt; (router.number(), router.born()), (number, born));
     }
     Ok(())

@@ -1,184 +1,50 @@
-//! A tick: silent peers and lost nodes go, and then each endpoint sends what is due.
+//! A tick: silent peers, ended delegated prefixes and lost nodes go, prefixes are assigned, and then each endpoint sends
+//! what is due.
 
-ghost use Rattle.std.specs.Prelude.{◌≡◌, IsTrue, ◌↔◌, All, IfOk, OnOk, false, Some};
-ghost use Rattle.hn_dncp.specs.Tick.{tick_sends};
-ghost use Rattle.hn_store.specs.Nodes.{held};
-ghost use Rattle.hn_dncp.specs.declared.port.Port.{Port};
-ghost use Rattle.hn_router.specs.Ports.{port_at};
-ghost use Rattle.hn_router.specs.Rules.{AtPort, Ran};
-ghost use Rattle.hn_router.specs.Router.{IsRefreshed};
-ghost use Rattle.hn_router.specs.Tick.{HasInterval, IsExpired, Without, IsPortExpiry, IsExpiry, forgetting, IsStateSending, IsPortMoving, IsPortTick, IsPortsTick, IsTick};
+ghost use Rattle.std.specs.Prelude.{◌≡◌, OnOk};
+ghost use Rattle.hn_router.specs.Ticks.{IsLosing, IsSettling, IsTick};
+ghost use Rattle.hn_rules.specs.Router.{IsRouter};
+ghost use Rattle.hn_rules.specs.Rules.{Ran};
 
-use crate::running::Running;
-use crate::state::State;
-use hn_base::{EpId, NoMemory};
-use hn_data::{encode, items_are_unique, keep_alive};
-use hn_dncp::{Neighbour, Peers, Port, pack};
+use hn_base::NoMemory;
 use hn_io::Draw;
-use hn_timers::{KEEP_ALIVE_INTERVAL, expired};
-use hn_typed::Item;
+use hn_rules::{Running, refresh_makes_a_router, rules_keep_a_router, rules_keep_the_rest};
 use std::alloc::Global;
 
-impl State {
-    /// The keep-alive interval of a peer, in milliseconds.
-    fn interval(&self, peer: &Neighbour) -> u32
-        ensures { HasInterval (held self.now.table.entries peer.now.node.0) peer.now.endpoint result }
-    {
-        match self.table.get().get(peer.node) {
-            Some(stored) => keep_alive(&stored.body, peer.endpoint),
-            None => KEEP_ALIVE_INTERVAL,
-        }
-    }
-
-    /// Whether a peer's keep-alives have stopped.
-    fn is_expired(&self, peer: &Neighbour) -> bool
-        ensures { IsTrue result ↔ IsExpired self.now peer.now }
-    {
-        items_are_unique();
-        let interval = self.interval(peer);
-        expired(peer.contact, interval, self.moment.get())
-    }
-
-    /// Whether the keep-alives of one of these peers have stopped. Never allocates.
-    fn is_some_expired(&self, peers: &[Neighbour]) -> bool
-        ensures { result ≡ false → All (λ peer. ¬ (IsExpired self.now peer)) peers.now }
-    {
-        for peer in peers {
-            if self.is_expired(peer) {
-                return true;
-            }
-        }
-        false
-    }
-
-    /// Whether the keep-alives of a peer of an endpoint have stopped. Never allocates.
-    fn has_expired(&self, at: EpId) -> bool
-        ensures { result ≡ false → (port : Port) → port_at at self.now.ports ≡ Some port → All (λ peer. ¬ (IsExpired self.now peer)) port.peers }
-    {
-        match self.ports.get().find(at) {
-            Some(port) => self.is_some_expired(port.peers.as_slice()),
-            None => false,
-        }
-    }
-
-    /// Takes out the peers whose keep-alives have stopped.
-    fn expire(&self, peers: &mut Peers)
-        ensures { Without (IsExpired self.now) peers.old peers.new }
-    {
-        let mut place = 0;
-        while place < peers.len() {
-            if self.is_expired(&peers.as_slice()[place]) {
-                peers.remove_at(place);
-            } else {
-                place += 1;
-            }
-        }
-    }
+/// Silent peers and ended delegated prefixes go, and a refresh.
+fn lose<D: Draw>(alloc: Global, running: &mut Running, draw: &mut D) -> Result<(), NoMemory>
+    requires { IsRouter running.old.state }
+    ensures ran { OnOk result (Ran IsLosing (D.words draw.old) (D.words draw.new) running.old running.new) }
+    ensures router { OnOk result (IsRouter running.new.state) }
+{
+    refresh_makes_a_router();
+    rules_keep_the_rest();
+    let expired = running.expire_ports(alloc)?;
+    let ended = running.end_prefixes()?;
+    running.refresh(alloc, expired | ended, draw)
 }
 
-impl Running {
-    /// The expired peers of an endpoint go: whether there are some.
-    fn expire_port(&mut self, at: EpId) -> Result<bool, NoMemory>
-        ensures rule { OnOk result (AtPort at IsPortExpiry self.old self.new) }
-        ensures untouched { IfOk result (λ touched. touched ≡ false → self.new ≡ self.old) }
-    {
-        let _kept = self.state.ports.get().as_slice();
-        if !self.state.has_expired(at) {
-            return Ok(false);
-        }
-        let Some(port) = self.state.ports.get().find(at) else {
-            return Ok(false);
-        };
-        let mut port = port.clone()?;
-        self.state.expire(&mut port.peers);
-        self.put_port(port)?;
-        Ok(true)
-    }
+/// Prefixes are assigned, and a refresh.
+fn settle<D: Draw>(alloc: Global, running: &mut Running, draw: &mut D) -> Result<(), NoMemory>
+    requires { IsRouter running.old.state }
+    ensures { OnOk result (Ran IsSettling (D.words draw.old) (D.words draw.new) running.old running.new) }
+{
+    let touched = running.assign(alloc, draw)?;
+    running.refresh(alloc, touched, draw)
+}
 
-    /// The expired peers of each endpoint go: whether there are some.
-    fn expire_ports(&mut self, alloc: Global) -> Result<bool, NoMemory>
-        ensures rule { OnOk result (IsExpiry self.old self.new) }
-        ensures untouched { IfOk result (λ touched. touched ≡ false → self.new ≡ self.old) }
-    {
-        let endpoints = self.state.ports.get().endpoints(alloc)?;
-        let mut touched = false;
-        for at in &endpoints {
-            touched |= self.expire_port(*at)?;
-        }
-        Ok(touched)
-    }
-
-    /// Lost nodes are forgotten.
-    fn forget(&mut self) -> Result<(), NoMemory>
-        ensures { OnOk result (self.new ≡ forgetting self.old) }
-    {
-        let now = self.state.moment.get();
-        if self.state.table.get().needs_forget(now) {
-            self.state.table.edit()?.forget(now);
-        }
-        Ok(())
-    }
-
-    /// The network state hash is sent by multicast.
-    fn send_state(&mut self, alloc: Global, at: EpId) -> Result<(), NoMemory>
-        ensures { OnOk result (IsStateSending at self.old self.new) }
-    {
-        let tlv = encode(
-            alloc,
-            &Item::NetworkState {
-                hash: self.state.net,
-                subs: &[],
-            },
-        )?;
-        let datagrams = pack(alloc, self.state.id, at, &[tlv])?;
-        self.send(at, None, datagrams)
-    }
-
-    /// Trickle of an endpoint moves on: whether a Network State is to be sent.
-    fn move_port<D: Draw>(&mut self, mut port: Port, draw: &mut D) -> Result<bool, NoMemory>
-        ensures ran { OnOk result (Ran (IsPortMoving port) (D.words draw.old) (D.words draw.new) self.old self.new) }
-        ensures sends { IfOk result (λ sends. sends ≡ tick_sends self.old.state.moment port) }
-        ensures moment { OnOk result (self.new.state.moment ≡ self.old.state.moment) }
-    {
-        let renewed = port.tick(self.state.moment.get(), draw);
-        self.took_words(renewed.taken())?;
-        self.put_port(port)?;
-        Ok(renewed.sends)
-    }
-
-    /// What is due at an endpoint.
-    fn tick_port<D: Draw>(&mut self, alloc: Global, at: EpId, draw: &mut D) -> Result<(), NoMemory>
-        ensures { OnOk result (Ran (AtPort at IsPortTick) (D.words draw.old) (D.words draw.new) self.old self.new) }
-    {
-        let Some(port) = self.state.ports.get().find(at) else {
-            return Ok(());
-        };
-        let port = port.clone()?;
-        if self.move_port(port, draw)? {
-            self.send_state(alloc, at)?;
-        }
-        Ok(())
-    }
-
-    /// What is due at each endpoint.
-    fn tick_ports<D: Draw>(&mut self, alloc: Global, draw: &mut D) -> Result<(), NoMemory>
-        ensures { OnOk result (Ran IsPortsTick (D.words draw.old) (D.words draw.new) self.old self.new) }
-    {
-        let endpoints = self.state.ports.get().endpoints(alloc)?;
-        for at in &endpoints {
-            self.tick_port(alloc, *at, draw)?;
-        }
-        Ok(())
-    }
-
-    /// A tick.
-    pub(crate) fn tick<D: Draw>(&mut self, alloc: Global, draw: &mut D) -> Result<(), NoMemory>
-        requires { IsRefreshed self.old.state }
-        ensures { OnOk result (Ran IsTick (D.words draw.old) (D.words draw.new) self.old self.new) }
-    {
-        let touched = self.expire_ports(alloc)?;
-        self.refresh(alloc, touched, draw)?;
-        self.forget()?;
-        self.tick_ports(alloc, draw)
-    }
+/// A tick.
+pub(crate) fn tick<D: Draw>(
+    alloc: Global,
+    running: &mut Running,
+    draw: &mut D,
+) -> Result<(), NoMemory>
+    requires { IsRouter running.old.state }
+    ensures { OnOk result (Ran IsTick (D.words draw.old) (D.words draw.new) running.old running.new) }
+{
+    rules_keep_a_router();
+    lose(alloc, running, draw)?;
+    running.forget()?;
+    settle(alloc, running, draw)?;
+    running.tick_ports(alloc, draw)
 }

@@ -1,6 +1,6 @@
 use Rattle.std.proofs.Common.{sym, subst}
 use Rattle.hn_io.specs.Words.{Took}
-use Rattle.hn_router.specs.declared.done.Done.{Done}
+use Rattle.hn_rules.specs.declared.done.Done.{Done}
 use Rattle.hn_router.proofs.router.Router.act.Goals as goal
 
 pub returns-clause-drew : goal.returns-clause-drew

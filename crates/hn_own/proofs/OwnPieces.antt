@@ -1,0 +1,106 @@
+-- The encodings of own items, one after the other.
+use Rattle.std.proofs.Common.{◌≡◌, ◌<◌, ◌+◌, ◌^◌, ◌∙◌, ℕ, zero, suc, List, [], ◌∷◌, ◌++◌, length, map, take, get_or, refl, ap, subst, sym, append_assoc, arith}
+use Rattle.std.specs.Prelude.{All, ◌==◌, false}
+use Rattle.std.specs.Int.{w128, byte_at, bytes_high_first, to_be_bytes}
+use Rattle.std.specs.List.{flat_map}
+use Rattle.std.proofs.lemmas.Bool.{false≢true}
+use Rattle.std.proofs.lemmas.List.{map_more, map_push, take_more, append-nil}
+use Rattle.std.proofs.lemmas.List.Concat.{flat_map-append}
+use Rattle.std.proofs.lemmas.List.Elements.{All-append, All-cons, All-nil, All-push, All-take, All-head, All-tail, All-map}
+use Rattle.hn_prefix.specs.Prefix.{IsPrefix}
+use Rattle.hn_tlv.specs.Grammar.{IsTlv, IsTlvList, HasTlvs, spelling}
+use Rattle.hn_typed.specs.Fields.{word, bytes_for, prefix_field}
+use Rattle.hn_typed.specs.Item.{PlainItem, External}
+use Rattle.hn_typed.specs.Written.{tlv_of, value_of, IsWritable}
+use Rattle.hn_data.specs.OwnData.{AreBytes, IsEncoding, IsEncoded}
+use Rattle.hn_own.specs.declared.own_prefixes.OwnPrefix.{OwnPrefix}
+use Rattle.hn_own.specs.Lifetimes.{seconds_left}
+use Rattle.hn_own.specs.Own.{delegated_item, external_items, encodings}
+
+-- ---- one more
+
+pub encodings_more : {X : Type 0} (item_of : X → PlainItem) (xs : List X) (i : ℕ) (d : X) (old pieces : List (List ℕ)) (piece : List ℕ) → i < length xs
+    → pieces ≡ old ++ encodings (map item_of (take i xs)) → IsEncoding piece (item_of (get_or xs i d)) → pieces ++ piece ∷ [] ≡ old ++ encodings (map item_of (take (i + 1) xs))
+encodings_more item_of xs i d old pieces piece within are is =
+    let more : encodings (map item_of (take (i + 1) xs)) ≡ encodings (map item_of (take i xs)) ++ piece ∷ [] =
+    ap encodings (map_more item_of xs i d within) ∙ map_push (λ (item : PlainItem). spelling (tlv_of item)) (map item_of (take i xs)) (item_of (get_or xs i d))
+    ∙ ap (λ (p : List ℕ). encodings (map item_of (take i xs)) ++ p ∷ []) (sym is.spelled)
+    in
+    ap (λ (ps : List (List ℕ)). ps ++ piece ∷ []) are ∙ append_assoc old (encodings (map item_of (take i xs))) (piece ∷ []) ∙ ap (λ (ps : List (List ℕ)). old ++ ps) (sym more)
+
+pub writable_more : {X : Type 0} (item_of : X → PlainItem) (xs : List X) (i : ℕ) (d : X) (piece : List ℕ) → i < length xs
+    → All IsWritable (map item_of (take i xs)) → IsEncoding piece (item_of (get_or xs i d)) → All IsWritable (map item_of (take (i + 1) xs))
+writable_more item_of xs i d piece within are is =
+    subst (All IsWritable) (sym (map_more item_of xs i d within)) (All-push IsWritable (map item_of (take i xs)) (item_of (get_or xs i d)) are is.writable)
+
+-- what is written for an item is encoded
+pub encodings_encoded : (items : List PlainItem) → All IsWritable items → All IsEncoded (encodings items)
+encodings_encoded items are =
+    All-map IsEncoded (λ (item : PlainItem). spelling (tlv_of item)) items (λ k d within. (get_or items k d, record { writable = are k d within; spelled = refl }))
+
+-- ---- the Delegated-Prefixes
+
+pub bytes_more : {X : Type 0} (item_of : X → PlainItem) (xs : List X) (i : ℕ) (d : X) (bytes piece : List ℕ) → i < length xs → bytes ≡ flat_map (λ x. spelling (tlv_of (item_of x))) (take i xs)
+    → IsEncoding piece (item_of (get_or xs i d)) → bytes ++ piece ≡ flat_map (λ x. spelling (tlv_of (item_of x))) (take (i + 1) xs)
+bytes_more {X} item_of xs i d bytes piece within are is =
+    let bytes_of : X → List ℕ = λ x. spelling (tlv_of (item_of x)) in
+    ap (λ (front : List ℕ). front ++ piece) are ∙ ap (λ (last : List ℕ). flat_map bytes_of (take i xs) ++ last) (is.spelled ∙ sym (append-nil (bytes_of (get_or xs i d))))
+    ∙ sym (ap (flat_map bytes_of) (take_more xs i d within) ∙ flat_map-append bytes_of (take i xs) (get_or xs i d ∷ []))
+
+byte_small : (i n : ℕ) → byte_at i n < 2 ^ 8
+byte_small zero n = omega arith
+byte_small (suc i) n = omega arith
+
+number_bytes : (k n : ℕ) → AreBytes (bytes_high_first k n)
+number_bytes zero n = All-nil (λ (byte : ℕ). byte < 2 ^ 8)
+number_bytes (suc k) n = All-cons (λ (byte : ℕ). byte < 2 ^ 8) (byte_at k n) (bytes_high_first k n) (byte_small k n) (number_bytes k n)
+
+delegated_bytes : (now : ℕ) (own : OwnPrefix) → IsPrefix own.prefix → AreBytes (value_of (delegated_item now own))
+delegated_bytes now own is =
+    let Small : ℕ → Type 0 = λ byte. byte < 2 ^ 8 in
+    let valid = word (seconds_left now own.valid_until) in
+    let preferred = word (seconds_left now own.preferred_until) in
+    let bits = take (bytes_for own.prefix.len) (to_be_bytes w128 own.prefix.bits) in
+    let len = is.len_in_range in
+    let field : All Small (prefix_field own.prefix) = All-cons Small own.prefix.len bits (omega arith) (All-take Small (bytes_for own.prefix.len) (to_be_bytes w128 own.prefix.bits) (number_bytes 16 own.prefix.bits)) in
+    let fixed : All Small ((valid ++ preferred) ++ prefix_field own.prefix) =
+    All-append Small (valid ++ preferred) (prefix_field own.prefix) (All-append Small valid preferred (number_bytes 4 (seconds_left now own.valid_until)) (number_bytes 4 (seconds_left now own.preferred_until))) field
+    in
+    let none = All-nil Small in
+    All-append Small (((valid ++ preferred) ++ prefix_field own.prefix) ++ []) [] (All-append Small ((valid ++ preferred) ++ prefix_field own.prefix) [] fixed none) none
+
+delegated_tlv : (now : ℕ) (own : OwnPrefix) → IsWritable (delegated_item now own) → IsTlv (tlv_of (delegated_item now own))
+delegated_tlv now own is = record {
+  kind_fits = omega arith;
+  length_fits = let short = is.short in omega arith;
+  bytes = delegated_bytes now own is.in_range.2;
+}
+
+-- Delegated-Prefixes are a list of TLVs
+pub delegated_tlvs : (now : ℕ) (list : List OwnPrefix) → All IsWritable (map (delegated_item now) list) → HasTlvs (flat_map (λ own. spelling (tlv_of (delegated_item now own))) list)
+delegated_tlvs now list are = (map (λ own. tlv_of (delegated_item now own)) list, listed list are)
+  where
+    listed : (list : List OwnPrefix) → All IsWritable (map (delegated_item now) list)
+        → IsTlvList (map (λ own. tlv_of (delegated_item now own)) list) (flat_map (λ own. spelling (tlv_of (delegated_item now own))) list)
+    listed [] are = refl
+    listed (own ∷ rest) are = (
+      flat_map (λ own. spelling (tlv_of (delegated_item now own))) rest,
+      delegated_tlv now own (All-head IsWritable (delegated_item now own) (map (delegated_item now) rest) are),
+      refl,
+      listed rest (All-tail IsWritable (delegated_item now own) (map (delegated_item now) rest) are),
+    )
+
+-- ---- the External-Connection
+
+pub external_is : (now : ℕ) (list : List OwnPrefix) (subs : List ℕ) → (length list == 0) ≡ false → subs ≡ flat_map (λ own. spelling (tlv_of (delegated_item now own))) list → external_items now list ≡ External subs ∷ []
+external_is now [] subs some is = absurd (false≢true (sym some))
+external_is now (own ∷ list) subs some is = ap (λ (bytes : List ℕ). External bytes ∷ []) (sym is)
+
+pub external_added : (now : ℕ) (list : List OwnPrefix) (subs piece : List ℕ) (old : List (List ℕ)) → external_items now list ≡ External subs ∷ [] → piece ≡ spelling (tlv_of (External subs)) → old ++ piece ∷ [] ≡ old ++ encodings (external_items now list)
+external_added now list subs piece old one is = ap (λ (p : List ℕ). old ++ p ∷ []) is ∙ sym (ap (λ (items : List PlainItem). old ++ encodings items) one)
+
+-- ---- all of them
+
+pub writable_together : (version links external assigned : List PlainItem) → All IsWritable version → All IsWritable links → All IsWritable external → All IsWritable assigned → All IsWritable (version ++ ((links ++ external) ++ assigned))
+writable_together version links external assigned first are_links are_external are_assigned =
+    All-append IsWritable version ((links ++ external) ++ assigned) first (All-append IsWritable (links ++ external) assigned (All-append IsWritable links external are_links are_external) are_assigned)

@@ -1,0 +1,146 @@
+-- When two routers' own items are the same.
+use Rattle.std.proofs.Common.{◌≡◌, ◌≤◌, ◌∙◌, ℕ, Bool, true, false, List, Option, None, Some, Decides, refl, sym, ap, subst}
+use Rattle.std.proofs.Props.{props}
+use Rattle.std.specs.Prelude.{◌==◌, ◌&&◌, nat_eq}
+use Rattle.std.specs.Cmp.Lexicographic.{pointwise}
+use Rattle.std.specs.Option.{option_eq}
+use Rattle.std.proofs.lemmas.Bool.{false≢true}
+use Rattle.std.proofs.lemmas.Bool.Decides.{Decides-and, Decides-like, Decides-eqb}
+use Rattle.std.proofs.lemmas.Slice.Eq.{slice_eq-Decides}
+use Rattle.hn_base.specs.declared.caps.Caps.{Caps}
+use Rattle.hn_prefix.specs.Prefix.{PlainPrefix}
+use Rattle.hn_data.specs.declared.said.PeerLink.{PeerLink}
+use Rattle.hn_data.specs.declared.said.AssignedPrefix.{AssignedPrefix}
+use Rattle.hn_own.specs.declared.own.OwnItems.{OwnItems}
+use Rattle.hn_own.specs.declared.own_prefixes.OwnPrefix.{OwnPrefix}
+
+-- ---- capabilities
+
+abbrev InRange : ℕ → ℕ → ℕ → ℕ → Type 0
+InRange m p h l = (m ≤ 15) × (p ≤ 15) × (h ≤ 15) × (l ≤ 15)
+
+abbrev caps_with : (m p h l : ℕ) → InRange m p h l → Caps
+caps_with m p h l range = record { m = m; p = p; h = h; l = l; m_in_range = range.0; p_in_range = range.1; h_in_range = range.2; l_in_range = range.3 }
+
+in_range_once : (m p h l : ℕ) → IsProp (InRange m p h l)
+in_range_once m p h l = hlevel props
+
+abbrev ranges : (caps : Caps) → InRange caps.m caps.p caps.h caps.l
+ranges caps = (caps.m_in_range, caps.p_in_range, caps.h_in_range, caps.l_in_range)
+
+-- capabilities with the same numbers are the same
+same_ranges : (m p h l : ℕ) (x y : InRange m p h l) → caps_with m p h l x ≡ caps_with m p h l y
+same_ranges m p h l x y = ap (caps_with m p h l) (in_range_once m p h l x y)
+
+same_caps : (a b : Caps) → a.m ≡ b.m → a.p ≡ b.p → a.h ≡ b.h → a.l ≡ b.l → a ≡ b
+same_caps a b same_m same_p same_h same_l =
+    subst (λ (m : ℕ). (range : InRange m b.p b.h b.l) → a ≡ caps_with m b.p b.h b.l range) same_m
+    (subst (λ (p : ℕ). (range : InRange a.m p b.h b.l) → a ≡ caps_with a.m p b.h b.l range) same_p
+    (subst (λ (h : ℕ). (range : InRange a.m a.p h b.l) → a ≡ caps_with a.m a.p h b.l range) same_h
+    (subst (λ (l : ℕ). (range : InRange a.m a.p a.h l) → a ≡ caps_with a.m a.p a.h l range) same_l
+    (same_ranges a.m a.p a.h a.l (ranges a)))))
+    (ranges b)
+
+pub caps_decided : (a b : Caps) → Decides (a.m == b.m && (a.p == b.p && (a.h == b.h && a.l == b.l))) (a ≡ b)
+caps_decided a b =
+    let numbers = Decides-and _ _ (Decides-eqb a.m b.m) (Decides-and _ _ (Decides-eqb a.p b.p) (Decides-and _ _ (Decides-eqb a.h b.h) (Decides-eqb a.l b.l))) in
+    Decides-like _
+    (λ (same : (a.m ≡ b.m) × ((a.p ≡ b.p) × ((a.h ≡ b.h) × (a.l ≡ b.l)))). same_caps a b same.0 same.1.0 same.1.1.0 same.1.1.1)
+    (λ (same : a ≡ b). (ap (λ (c : Caps). c.m) same, (ap (λ (c : Caps). c.p) same, (ap (λ (c : Caps). c.h) same, ap (λ (c : Caps). c.l) same))))
+    numbers
+
+-- ---- links
+
+abbrev link_with : ℕ → ℕ → ℕ → PeerLink
+link_with endpoint peer peer_endpoint = record { endpoint = record { 0 = endpoint }; peer = record { 0 = peer }; peer_endpoint = record { 0 = peer_endpoint } }
+
+same_link : (a b : PeerLink) → a.endpoint.0 ≡ b.endpoint.0 → a.peer.0 ≡ b.peer.0 → a.peer_endpoint.0 ≡ b.peer_endpoint.0 → a ≡ b
+same_link a b same_endpoint same_peer same_other =
+    ap (λ (n : ℕ). link_with n a.peer.0 a.peer_endpoint.0) same_endpoint ∙ ap (λ (n : ℕ). link_with b.endpoint.0 n a.peer_endpoint.0) same_peer ∙ ap (λ (n : ℕ). link_with b.endpoint.0 b.peer.0 n) same_other
+
+pub link_decided : (a b : PeerLink) → Decides (a.endpoint.0 == b.endpoint.0 && (a.peer.0 == b.peer.0 && a.peer_endpoint.0 == b.peer_endpoint.0)) (a ≡ b)
+link_decided a b =
+    let numbers = Decides-and _ _ (Decides-eqb a.endpoint.0 b.endpoint.0) (Decides-and _ _ (Decides-eqb a.peer.0 b.peer.0) (Decides-eqb a.peer_endpoint.0 b.peer_endpoint.0)) in
+    Decides-like _
+    (λ (same : (a.endpoint.0 ≡ b.endpoint.0) × ((a.peer.0 ≡ b.peer.0) × (a.peer_endpoint.0 ≡ b.peer_endpoint.0))). same_link a b same.0 same.1.0 same.1.1)
+    (λ (same : a ≡ b). (ap (λ (l : PeerLink). l.endpoint.0) same, (ap (λ (l : PeerLink). l.peer.0) same, ap (λ (l : PeerLink). l.peer_endpoint.0) same)))
+    numbers
+
+-- ---- prefixes
+
+abbrev prefix_with : ℕ → ℕ → PlainPrefix
+prefix_with bits len = record { bits = bits; len = len }
+
+prefix_decided : (a b : PlainPrefix) → Decides (a.bits == b.bits && a.len == b.len) (a ≡ b)
+prefix_decided a b =
+    Decides-like _
+    (λ (same : (a.bits ≡ b.bits) × (a.len ≡ b.len)). ap (λ (n : ℕ). prefix_with n a.len) same.0 ∙ ap (prefix_with b.bits) same.1)
+    (λ (same : a ≡ b). (ap (λ (p : PlainPrefix). p.bits) same, ap (λ (p : PlainPrefix). p.len) same))
+    (Decides-and _ _ (Decides-eqb a.bits b.bits) (Decides-eqb a.len b.len))
+
+end_decided : (a b : Option ℕ) → Decides (option_eq nat_eq a b) (a ≡ b)
+end_decided None None = (λ _. refl, λ _. refl)
+end_decided None (Some y) = (λ is. absurd (false≢true is), λ same. absurd cc)
+end_decided (Some x) None = (λ is. absurd (false≢true is), λ same. absurd cc)
+end_decided (Some x) (Some y) = Decides-like _ (λ (same : x ≡ y). ap Some same) (λ (same : Some x ≡ Some y). cc) (Decides-eqb x y)
+
+abbrev own_with : PlainPrefix → Option ℕ → Option ℕ → OwnPrefix
+own_with prefix valid preferred = record { prefix = prefix; valid_until = valid; preferred_until = preferred }
+
+same_own : (a b : OwnPrefix) → a.prefix ≡ b.prefix → a.valid_until ≡ b.valid_until → a.preferred_until ≡ b.preferred_until → a ≡ b
+same_own a b prefix valid preferred =
+    ap (λ (p : PlainPrefix). own_with p a.valid_until a.preferred_until) prefix ∙ ap (λ (end : Option ℕ). own_with b.prefix end a.preferred_until) valid ∙ ap (own_with b.prefix b.valid_until) preferred
+
+pub own_decided : (a b : OwnPrefix)
+    → Decides ((a.prefix.bits == b.prefix.bits && a.prefix.len == b.prefix.len) && (option_eq nat_eq a.valid_until b.valid_until && option_eq nat_eq a.preferred_until b.preferred_until)) (a ≡ b)
+own_decided a b =
+    let parts = Decides-and _ _ (prefix_decided a.prefix b.prefix) (Decides-and _ _ (end_decided a.valid_until b.valid_until) (end_decided a.preferred_until b.preferred_until)) in
+    Decides-like _
+    (λ (same : (a.prefix ≡ b.prefix) × ((a.valid_until ≡ b.valid_until) × (a.preferred_until ≡ b.preferred_until))). same_own a b same.0 same.1.0 same.1.1)
+    (λ (same : a ≡ b). (ap (λ (p : OwnPrefix). p.prefix) same, (ap (λ (p : OwnPrefix). p.valid_until) same, ap (λ (p : OwnPrefix). p.preferred_until) same)))
+    parts
+
+abbrev assigned_with : ℕ → ℕ → PlainPrefix → AssignedPrefix
+assigned_with endpoint priority prefix = record { endpoint = record { 0 = endpoint }; priority = priority; prefix = prefix }
+
+same_assigned : (a b : AssignedPrefix) → a.endpoint.0 ≡ b.endpoint.0 → a.priority ≡ b.priority → a.prefix ≡ b.prefix → a ≡ b
+same_assigned a b endpoint priority prefix =
+    ap (λ (n : ℕ). assigned_with n a.priority a.prefix) endpoint ∙ ap (λ (n : ℕ). assigned_with b.endpoint.0 n a.prefix) priority ∙ ap (assigned_with b.endpoint.0 b.priority) prefix
+
+pub assigned_decided : (a b : AssignedPrefix) → Decides (a.endpoint.0 == b.endpoint.0 && (a.priority == b.priority && (a.prefix.bits == b.prefix.bits && a.prefix.len == b.prefix.len))) (a ≡ b)
+assigned_decided a b =
+    let parts = Decides-and _ _ (Decides-eqb a.endpoint.0 b.endpoint.0) (Decides-and _ _ (Decides-eqb a.priority b.priority) (prefix_decided a.prefix b.prefix)) in
+    Decides-like _
+    (λ (same : (a.endpoint.0 ≡ b.endpoint.0) × ((a.priority ≡ b.priority) × (a.prefix ≡ b.prefix))). same_assigned a b same.0 same.1.0 same.1.1)
+    (λ (same : a ≡ b). (ap (λ (p : AssignedPrefix). p.endpoint.0) same, (ap (λ (p : AssignedPrefix). p.priority) same, ap (λ (p : AssignedPrefix). p.prefix) same)))
+    parts
+
+-- ---- all four
+
+-- what `==` says of the lists that two slices show
+pub lists_decided : {A : Type 0} {E : A → A → Bool} → ((a b : A) → Decides (E a b) (a ≡ b)) → (xs ys shown other : List A) (r : Bool) → r ≡ pointwise E shown other → shown ≡ xs → other ≡ ys → Decides r (xs ≡ ys)
+lists_decided each xs ys shown other r is same_xs same_ys =
+    Decides-like r (λ (same : shown ≡ other). sym same_xs ∙ same ∙ same_ys) (λ (same : xs ≡ ys). same_xs ∙ same ∙ sym same_ys) (slice_eq-Decides each shown other r is)
+
+-- a test that passed, and the next one
+pub then_next : {P Q : Type 0} (r test next : Bool) → Decides test P → Decides next Q → test ≡ true → r ≡ next → Decides r (P × Q)
+then_next r test next first second is same = (λ e. (first.0 is, second.0 (sym same ∙ e)), λ both. same ∙ second.1 both.1)
+
+-- a test that failed
+pub else_false : {P : Type 0} (Q : Type 0) (r test : Bool) → Decides test P → test ≡ false → r ≡ test → Decides r (P × Q)
+else_false Q r test first is same = (λ e. absurd (false≢true (sym is ∙ sym same ∙ e)), λ both. absurd (false≢true (sym is ∙ first.1 both.0)))
+
+abbrev items_with : Caps → List PeerLink → List OwnPrefix → List AssignedPrefix → OwnItems
+items_with caps links delegated assigned = record { caps = caps; links = links; delegated = delegated; assigned = assigned }
+
+same_items : (a b : OwnItems) → a.caps ≡ b.caps → a.links ≡ b.links → a.delegated ≡ b.delegated → a.assigned ≡ b.assigned → a ≡ b
+same_items a b caps links delegated assigned =
+    ap (λ (c : Caps). items_with c a.links a.delegated a.assigned) caps ∙ ap (λ (ls : List PeerLink). items_with b.caps ls a.delegated a.assigned) links
+    ∙ ap (λ (ps : List OwnPrefix). items_with b.caps b.links ps a.assigned) delegated ∙ ap (items_with b.caps b.links b.delegated) assigned
+
+pub items_decided : (a b : OwnItems) (r : Bool) → Decides r ((((a.caps ≡ b.caps) × (a.links ≡ b.links)) × (a.delegated ≡ b.delegated)) × (a.assigned ≡ b.assigned)) → Decides r (a ≡ b)
+items_decided a b r all =
+    Decides-like r
+    (λ (same : (((a.caps ≡ b.caps) × (a.links ≡ b.links)) × (a.delegated ≡ b.delegated)) × (a.assigned ≡ b.assigned)). same_items a b same.0.0.0 same.0.0.1 same.0.1 same.1)
+    (λ (same : a ≡ b). (((ap (λ (i : OwnItems). i.caps) same, ap (λ (i : OwnItems). i.links) same), ap (λ (i : OwnItems). i.delegated) same), ap (λ (i : OwnItems). i.assigned) same))
+    all

@@ -1,0 +1,40 @@
+-- What a router publishes of its assignments.
+use Rattle.std.proofs.Common.{◌≡◌, ◌<◌, ◌≤◌, ◌+◌, ◌∙◌, ℕ, List, [], ◌∷◌, ◌++◌, length, take, get_or, Option, Some, None, refl, sym, ap, arith}
+use Rattle.std.specs.Prelude.{All}
+use Rattle.std.specs.List.{cons_option}
+use Rattle.std.proofs.lemmas.List.Elements.{All-cons, All-head, All-nil, All-tail, filter_map-append}
+use Rattle.std.proofs.lemmas.List.{take_more}
+use Rattle.hn_assign.specs.declared.assigned.Assigned.{Assigned}
+use Rattle.hn_assign.specs.Facts.{HasOwnPriority}
+use Rattle.hn_data.specs.declared.said.AssignedPrefix.{AssignedPrefix}
+use Rattle.hn_own.specs.HeldPairs.{published_of, published_in}
+
+-- of one more assignment it publishes one more, or nothing
+pub published_in-more : (assigned : List Assigned) (i : ℕ) (c : Assigned) → i < length assigned → c ≡ get_or assigned i c
+    → published_in (take (i + 1) assigned) ≡ published_in (take i assigned) ++ cons_option (published_of c) []
+published_in-more assigned i c within here =
+    ap published_in (take_more assigned i c within)
+    ∙ filter_map-append published_of (take i assigned) (get_or assigned i c ∷ [])
+    ∙ ap (λ x. published_in (take i assigned) ++ cons_option (published_of x) []) (sym here)
+
+-- it publishes as many as it has at most
+pub published_in-few : (assigned : List Assigned) → length (published_in assigned) ≤ length assigned
+published_in-few [] = omega arith
+published_in-few (c ∷ assigned) = by_published c.published (published_in-few assigned)
+  where
+    by_published : (published : Option ℕ) → length (published_in assigned) ≤ length assigned
+        → length (published_in (record c { published = published } ∷ assigned)) ≤ length (c ∷ assigned)
+    by_published None rest = omega arith
+    by_published (Some priority) rest = omega arith
+
+-- and each with priority 2
+pub published_in-priority : (assigned : List Assigned) → All HasOwnPriority assigned → All (λ a. a.priority ≡ 2) (published_in assigned)
+published_in-priority [] own = All-nil (λ (a : AssignedPrefix). a.priority ≡ 2)
+published_in-priority (c ∷ assigned) own =
+    by_published c.published (All-head HasOwnPriority c assigned own) (published_in-priority assigned (All-tail HasOwnPriority c assigned own))
+  where
+    by_published : (published : Option ℕ) → ((priority : ℕ) → published ≡ Some priority → priority ≡ 2) → All (λ a. a.priority ≡ 2) (published_in assigned)
+        → All (λ a. a.priority ≡ 2) (published_in (record c { published = published } ∷ assigned))
+    by_published None two rest = rest
+    by_published (Some priority) two rest =
+        All-cons (λ (a : AssignedPrefix). a.priority ≡ 2) (record { endpoint = c.endpoint; priority = priority; prefix = c.prefix }) (published_in assigned) (two priority refl) rest

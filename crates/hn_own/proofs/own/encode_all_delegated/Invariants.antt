@@ -1,0 +1,13 @@
+use Rattle.std.proofs.Common.{◌≡◌, map, take}
+use Rattle.std.specs.Prelude.{All}
+use Rattle.std.specs.List.{flat_map}
+use Rattle.hn_tlv.specs.Grammar.{spelling}
+use Rattle.hn_typed.specs.Written.{tlv_of, IsWritable}
+use Rattle.hn_own.specs.Own.{delegated_item}
+use Rattle.hn_own.proofs.own.encode_all_delegated.Given as goal
+
+abbrev pub invariant-loop-own : goal.invariant-loop-own
+invariant-loop-own l = record {
+  bytes : l.bytes.items ≡ flat_map (λ own. spelling (tlv_of (delegated_item l.now own))) (take l.own-index l.list);
+  writable : All IsWritable (map (delegated_item l.now) (take l.own-index l.list));
+}

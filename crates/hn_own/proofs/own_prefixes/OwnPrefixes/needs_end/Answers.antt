@@ -1,0 +1,14 @@
+use Rattle.std.proofs.Common.{◌≡◌, sym, ◌∙◌, rules, tests}
+use Rattle.std.specs.List.{list_any}
+use Rattle.std.proofs.lemmas.Iterator.{YieldsList-from_slice}
+use Rattle.std.proofs.lemmas.Iterator.Search.{any_from_yields_List}
+use Rattle.hn_own.specs.declared.own_prefixes.OwnPrefix.{OwnPrefix}
+use Rattle.hn_own.specs.Lifetimes.{has_ended}
+use Rattle.hn_own.proofs.PrefixLists.{filter_none_passes}
+use Rattle.hn_own.proofs.own_prefixes.OwnPrefixes.needs_end.Goals as goal
+
+pub returns : goal.returns
+returns c none =
+    let ended = λ (p : OwnPrefix). has_ended c.args.now p.valid_until in
+    let any : c.any.result ≡ list_any ended c.args.self.now = any_from_yields_List ended _ _ c.any.result c.any.ensures.ran (YieldsList-from_slice c.args.self.now cc) (λ x b q k. search (rules, tests)) in
+    filter_none_passes ended c.args.self.now (sym any ∙ none)

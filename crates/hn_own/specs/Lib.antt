@@ -1,0 +1,5 @@
+pub mod Lifetimes
+pub mod OwnPrefixes
+pub mod HeldPairs
+pub mod Ports
+pub mod Own

@@ -1,0 +1,82 @@
+//! What a router holds for its pairs of a delegated prefix and an endpoint (RFC 7695, section 4.1).
+
+ghost use Rattle.std.specs.Prelude.{◌≡◌, ◌≤◌, length, All, IfOk};
+ghost use Rattle.hn_own.specs.HeldPairs.{AreHeldPairs, no_pairs, published_of, published_in};
+
+use hn_assign::{Assigned, Held};
+use hn_base::{NoMemory, Sequence};
+use hn_data::AssignedPrefix;
+use std::alloc::Global;
+use std::marker::Model;
+
+/// The assignments and backoffs of a router: at most 512 assignments, each inside its delegated prefix, and with
+/// priority 2 where it is published. Contracts see the lists.
+#[derive(Debug, Drop)]
+pub struct HeldPairs {
+    held: Held,
+}
+
+impl Model for HeldPairs {
+    ghost use Rattle.hn_assign.specs.declared.held.Held.{Held};
+    ghost use Rattle.hn_own.specs.HeldPairs.{AreHeldPairs};
+
+    ghost Value = { Held };
+
+    ghost view = { λ h. h.held };
+
+    ghost invariant = { λ h. AreHeldPairs h.held };
+}
+
+/// What a router publishes of an assignment, if it publishes it.
+fn published_of(c: &Assigned) -> Option<AssignedPrefix>
+    ensures { result ≡ published_of c.now }
+{
+    let priority = c.published?;
+    Some(AssignedPrefix {
+        endpoint: c.endpoint,
+        priority,
+        prefix: c.prefix,
+    })
+}
+
+impl HeldPairs {
+    /// Nothing. Never allocates.
+    pub fn new(alloc: Global) -> HeldPairs
+        ensures { result ≡ no_pairs }
+    {
+        HeldPairs {
+            held: Held::new(alloc),
+        }
+    }
+
+    /// These assignments and backoffs. Never allocates.
+    pub fn of(held: Held) -> HeldPairs
+        requires { AreHeldPairs held }
+        ensures { result ≡ held }
+    {
+        HeldPairs { held }
+    }
+
+    /// The assignments and backoffs. Never allocates.
+    pub fn get(&self) -> &Held
+        ensures held { result.now ≡ self.now }
+        ensures kept { AreHeldPairs self.now }
+    {
+        &self.held
+    }
+
+    /// What the router publishes of the assignments.
+    pub fn published(&self, alloc: Global) -> Result<Sequence<AssignedPrefix>, NoMemory>
+        ensures published { IfOk result (λ published. published ≡ published_in self.now.assigned) }
+        ensures few { IfOk result (λ published. length published ≤ 512) }
+        ensures priority { IfOk result (All (λ a. a.priority ≡ 2)) }
+    {
+        let mut published = Sequence::new(alloc);
+        for c in self.held.assigned.as_slice() {
+            if let Some(a) = published_of(c) {
+                published.push(a)?;
+            }
+        }
+        Ok(published)
+    }
+}

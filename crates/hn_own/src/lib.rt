@@ -1,0 +1,16 @@
+//! What a router has and says of itself: its endpoints, its delegated prefixes, its assignments, and the node data that
+//! it publishes of them (RFC 7787, section 7.3; RFC 7788, sections 6.2, 6.3 and 10).
+#![tactic(auto)]
+
+mod held_pairs;
+mod laws;
+mod lifetimes;
+mod own;
+mod own_prefixes;
+mod ports;
+
+pub use held_pairs::HeldPairs;
+pub use laws::{own_data_is_unique, own_prefixes_stay};
+pub use own::{OwnData, OwnItems};
+pub use own_prefixes::{OwnPrefix, OwnPrefixes};
+pub use ports::{MOST_ENDPOINTS, Ports};

@@ -1,0 +1,104 @@
+-- A new router is one.
+use Rattle.std.proofs.Common.{◌≡◌, ◌<◌, ◌^◌, ◌∙◌, ℕ, List, [], ◌∷◌, ◌++◌, None, map, filter, get_or, inl, refl, sym, ap, subst, arith}
+use Rattle.std.specs.Prelude.{All, Contains, ◌↔◌, nat_lt, is_none}
+use Rattle.std.specs.List.Sorted.{IsStrictlySortedBy}
+use Rattle.std.proofs.lemmas.List.Elements.{All-nil}
+use Rattle.hn_base.specs.NodeIds.{node_cmp}
+use Rattle.hn_base.specs.declared.ids.NodeId.{NodeId}
+use Rattle.hn_assign.specs.declared.held.Held.{Held}
+use Rattle.hn_assign.specs.Facts.{IsInDelegated, HasOwnPriority, IsPast as IsAssignedPast}
+use Rattle.hn_data.specs.View.{ids_of, IsNetwork}
+use Rattle.hn_data.specs.declared.view.Entry.{Entry}
+use Rattle.hn_graph.specs.Path.{IsReachable}
+use Rattle.hn_dncp.specs.Peers.{ArePeers}
+use Rattle.hn_dncp.specs.declared.port.Port.{Port}
+use Rattle.hn_store.specs.Nodes.{Nodes, held, IsTable}
+use Rattle.hn_store.specs.Loss.{is_among}
+use Rattle.hn_store.specs.declared.stored.HeldNode.{HeldNode}
+use Rattle.hn_store.specs.Laws.{NoNodesAreTable}
+use Rattle.hn_own.specs.HeldPairs.{AreHeldPairs, no_pairs}
+use Rattle.hn_own.specs.OwnPrefixes.{AreOwnPrefixes}
+use Rattle.hn_own.specs.Ports.{ArePorts}
+use Rattle.hn_rules.specs.Nodes.{held_entry, own_entry, nodes_of}
+use Rattle.hn_rules.specs.Router.{IsPortPast, IsNodePast, IsWell, WasReach}
+use Rattle.hn_router.specs.Laws.{NewIsRouter}
+
+-- its own node is the only one
+module _ (own : ℕ) (node : Entry) (here : node.id.0 ≡ own) (own_is_reachable : (own : ℕ) (nodes : List Entry) → IsNetwork own nodes → IsReachable own nodes own)
+    (reachable_is_a_node : (own : ℕ) (nodes : List Entry) (y : ℕ) → IsReachable own nodes y → Contains (ids_of nodes) y) where
+  alone : IsNetwork own (node ∷ [])
+  unfolding IsStrictlySortedBy
+  alone = record { ascending = (tt, tt); own_is_there = (0, omega arith, here) }
+
+  one_in : (n x : ℕ) → Contains (n ∷ []) x → n ≡ x
+  one_in n x (k, within, is) = let first : k ≡ 0 = omega arith in subst (λ (i : ℕ). get_or (n ∷ []) i x ≡ x) first is
+
+  alone_reached : (id y : NodeId) → id.0 ≡ own → Contains (id ∷ []) y ↔ IsReachable own (node ∷ []) y.0
+  alone_reached id y is_own = (
+    λ (k, within, is). let first : k ≡ 0 = omega arith in
+        let same : id ≡ y = subst (λ (i : ℕ). get_or (id ∷ []) i y ≡ y) first is in
+        subst (IsReachable own (node ∷ [])) (sym is_own ∙ ap (λ (i : NodeId). i.0) same) (own_is_reachable own (node ∷ []) alone),
+    λ reachable. let same = one_in node.id.0 y.0 (reachable_is_a_node own (node ∷ []) y.0 reachable) in
+        (0, omega arith, ap (λ (n : ℕ). let i : NodeId = record { 0 = n } in i) (is_own ∙ sym here ∙ same)),
+  )
+
+alone_ascending : (id : NodeId) → IsStrictlySortedBy node_cmp (id ∷ [])
+unfolding IsStrictlySortedBy
+alone_ascending id = (tt, tt)
+
+no_ports : ArePorts []
+unfolding IsStrictlySortedBy
+no_ports = record { ascending = tt; few = omega arith; numbered = All-nil (λ (p : Port). 0 < p.id.0) }
+
+no_prefixes : AreOwnPrefixes []
+unfolding IsStrictlySortedBy
+no_prefixes = record { ascending = tt; few = omega arith }
+
+nothing_held : AreHeldPairs no_pairs
+unfolding IsStrictlySortedBy
+nothing_held = record { assigned = tt; backoffs = tt; few = omega arith; inside = All-nil IsInDelegated; priority = All-nil HasOwnPriority }
+
+pub new_is_one : NoNodesAreTable → ((own : ℕ) (nodes : List Entry) → IsNetwork own nodes → IsReachable own nodes own)
+    → ((own : ℕ) (nodes : List Entry) (y : ℕ) → IsReachable own nodes y → Contains (ids_of nodes) y) → NewIsRouter
+new_is_one none own_is_reachable reachable_is_a_node id now s new =
+    record { well = well; refreshed = record { published = sym new.items_are; reached = reached; lost = lost; hashed = new.net_is } }
+  where
+    well : IsWell s
+    well = record {
+      ports = subst ArePorts (sym new.ports_are) no_ports;
+      peers = subst (λ (ports : List Port). All (λ port. ArePeers port.peers) ports) (sym new.ports_are) (All-nil (λ (port : Port). ArePeers port.peers));
+      table = subst IsTable (sym new.table_is) (none 256 (inl refl));
+      own = new.own_is;
+      delegated = subst AreOwnPrefixes (sym new.no_prefixes) no_prefixes;
+      pairs = subst AreHeldPairs (sym new.nothing_held) nothing_held;
+      other = subst (λ (nodes : Nodes). held nodes.entries s.id.0 ≡ None) (sym new.table_is) refl;
+      numbered = record {
+        own = rw new.number_is (omega arith);
+        held = subst (λ (nodes : Nodes). All (λ node. node.stored.number < 2 ^ 32) nodes.entries) (sym new.table_is) (All-nil (λ (node : HeldNode). node.stored.number < 2 ^ 32));
+      };
+      past = record {
+        born = rw (new.born_is, new.moment_is) (omega arith);
+        ports = subst (All (IsPortPast s.moment)) (sym new.ports_are) (All-nil (IsPortPast s.moment));
+        nodes = subst (λ (nodes : Nodes). All (IsNodePast s.moment) nodes.entries) (sym new.table_is) (All-nil (IsNodePast s.moment));
+        assigned = subst (λ (pairs : Held). All (IsAssignedPast s.moment) pairs.assigned) (sym new.nothing_held) (All-nil (IsAssignedPast s.moment));
+      };
+    }
+
+    lost : All (λ node. is_among s.reach node.id.0 ≡ is_none node.stored.lost) s.table.entries
+    lost = subst (λ (nodes : Nodes). All (λ node. is_among s.reach node.id.0 ≡ is_none node.stored.lost) nodes.entries) (sym new.table_is) (All-nil (λ (node : HeldNode). is_among s.reach node.id.0 ≡ is_none node.stored.lost))
+
+    nodes_are : nodes_of s ≡ own_entry s ∷ []
+    nodes_are =
+        ap (λ (nodes : Nodes). filter (λ n. nat_lt n.id.0 s.id.0) (map (held_entry s.moment) nodes.entries) ++ own_entry s ∷ filter (λ n. nat_lt s.id.0 n.id.0) (map (held_entry s.moment) nodes.entries)) new.table_is
+
+    exactly : (y : NodeId) → Contains s.reach y ↔ IsReachable s.id.0 (nodes_of s) y.0
+    exactly y =
+        let one = alone_reached s.id.0 (own_entry s) refl own_is_reachable reachable_is_a_node id y (ap (λ (i : NodeId). i.0) (sym new.id_is)) in
+        rw (new.reach_is, nodes_are) one
+
+    reached : WasReach s
+    reached = record {
+      moment = s.moment;
+      past = omega arith;
+      was = record { ascending = subst (IsStrictlySortedBy node_cmp) (sym new.reach_is) (alone_ascending id); exactly = exactly };
+    }

@@ -1,5 +1,0 @@
-use Rattle.hn_router.proofs.Stays.{new_is_one}
-use Rattle.hn_router.proofs.law.new_is_router.Goals as goal
-
-pub returns : goal.returns
-returns c = new_is_one c.loss_keeps_table.ensures.none c.own_is_reachable.ensures c.reachable_is_a_node.ensures

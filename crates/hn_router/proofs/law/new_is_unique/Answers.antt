@@ -1,5 +1,0 @@
-use Rattle.hn_router.proofs.OneNew.{one_new}
-use Rattle.hn_router.proofs.law.new_is_unique.Goals as goal
-
-pub returns : goal.returns
-returns c = one_new c.ascending_set_is_unique.ensures

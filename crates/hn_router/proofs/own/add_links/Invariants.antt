@@ -1,6 +1,0 @@
-use Rattle.std.proofs.Common.{◌≡◌, ◌++◌, map, take}
-use Rattle.hn_router.specs.Own.{link_at}
-use Rattle.hn_router.proofs.own.add_links.Given as goal
-
-abbrev pub invariant-loop-peer : goal.invariant-loop-peer
-invariant-loop-peer l = l.links ≡ l.initial.links ++ map (link_at l.port) (take l.peer-index l.peer-items)

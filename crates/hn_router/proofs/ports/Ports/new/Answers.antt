@@ -1,5 +1,0 @@
-use Rattle.hn_router.proofs.PortLists.{ArePorts-none}
-use Rattle.hn_router.proofs.ports.Ports.new.Goals as goal
-
-pub invariant_of-result : goal.invariant_of-result
-invariant_of-result c = rw c.new.ensures.items ArePorts-none

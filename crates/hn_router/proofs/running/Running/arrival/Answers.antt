@@ -1,9 +1,0 @@
-use Rattle.std.proofs.lemmas.Result.{on_ok_weaker}
-use Rattle.hn_router.proofs.Arriving.{ran_arrival}
-use Rattle.hn_router.proofs.running.Running.arrival.Goals as goal
-
-pub returns : goal.returns
-returns g c =
-    on_ok_weaker c.send_answers.result
-    (λ answering tlvs list. ran_arrival c.args.from.now tlvs _ _ c.args.self.now c.tlvs.new.self c.send_answers.new.self (c.in_ok-tlvs.ensures tlvs list) answering)
-    c.send_answers.ensures

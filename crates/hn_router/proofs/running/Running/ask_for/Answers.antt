@@ -1,6 +1,0 @@
-use Rattle.std.proofs.Common.{[]}
-use Rattle.hn_typed.specs.Item.{RequestNode}
-use Rattle.hn_router.proofs.running.Running.ask_for.Goals as goal
-
-pub returns : goal.returns
-returns c = c.answer.ensures (RequestNode c.args.node.0 []) c.in_ok-tlv.ensures.spelled

@@ -1,7 +1,0 @@
-use Rattle.std.proofs.Common.{take}
-use Rattle.hn_router.specs.Rules.{Ran, AtPort, Each}
-use Rattle.hn_router.specs.Refresh.{IsPortReset}
-use Rattle.hn_router.proofs.running.Running.reset_ports.Given as goal
-
-abbrev pub invariant-loop-at : goal.invariant-loop-at
-invariant-loop-at g l = Ran (Each (λ at. AtPort at IsPortReset) (take l.at-index l.at-items)) (g.D.Draw.words l.fn.draw) (g.D.Draw.words l.draw) l.fn.self l.self

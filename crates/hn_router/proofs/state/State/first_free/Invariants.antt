@@ -1,7 +1,0 @@
-use Rattle.std.proofs.Common.{◌≡◌, ◌+◌, ◌%◌, ◌^◌, ◌<◌, ℕ, true}
-use Rattle.hn_router.specs.Claim.{is_taken}
-use Rattle.hn_router.proofs.state.State.first_free.Given as goal
-
-abbrev pub invariant-loop-taken : goal.invariant-loop-taken
-invariant-loop-taken l =
-    (l.id ≡ (l.word + l._taken) % 2 ^ 32) × ((j : ℕ) → j < l._taken → is_taken ((l.word + j) % 2 ^ 32) l.self ≡ true)

@@ -1,7 +1,0 @@
-use Rattle.std.proofs.Common.{take}
-use Rattle.std.specs.Prelude.{All}
-use Rattle.hn_router.specs.Tick.{IsExpired}
-use Rattle.hn_router.proofs.state.State.is_some_expired.Given as goal
-
-abbrev pub invariant-loop-peer : goal.invariant-loop-peer
-invariant-loop-peer l = All (λ peer. ¬ (IsExpired l.self peer)) (take l.peer-index l.peers)

@@ -1,7 +1,0 @@
-use Rattle.std.proofs.Common.{take}
-use Rattle.std.specs.Prelude.{All}
-use Rattle.hn_router.proofs.Recent.{LeadsOn}
-use Rattle.hn_router.proofs.state.State.leads_on.Given as goal
-
-abbrev pub invariant-loop-node : goal.invariant-loop-node
-invariant-loop-node l = All (LeadsOn l.self.moment) (take l.node-index l.node-items)

@@ -1,0 +1,105 @@
+-- An assignment of prefixes: the words that it takes, and what it leaves.
+use Rattle.std.proofs.Common.{◌≡◌, ◌∙◌, ℕ, Bool, true, false, List, Option, None, Some, Decides, refl, sym, ap, subst}
+use Rattle.std.specs.Prelude.{◌==◌, ◌&&◌, nat_eq, not}
+use Rattle.std.specs.Cmp.{booleans_Decides}
+use Rattle.std.specs.Cmp.Lexicographic.{pointwise}
+use Rattle.std.specs.Option.{option_eq}
+use Rattle.std.proofs.Math.Bool.{beq}
+use Rattle.std.proofs.lemmas.Bool.{false≢true}
+use Rattle.std.proofs.lemmas.Bool.Decides.{Decides-and, Decides-like, Decides-eqb}
+use Rattle.std.proofs.lemmas.Slice.Eq.{slice_eq-Decides}
+use Rattle.hn_io.specs.Words.{Drew, Took}
+use Rattle.hn_prefix.specs.Prefix.{PlainPrefix}
+use Rattle.hn_assign.specs.declared.assigned.Assigned.{Assigned}
+use Rattle.hn_assign.specs.declared.held.Held.{Held}
+use Rattle.hn_assign.specs.declared.held.Ran.{Ran as Left}
+use Rattle.hn_rules.specs.declared.running.Running.{Running}
+use Rattle.hn_rules.specs.declared.state.State.{State}
+use Rattle.hn_rules.specs.Assigning.{IsAssigned, IsAssigning}
+use Rattle.hn_rules.specs.Rules.{Ran, with_words}
+use Rattle.hn_rules.specs.Router.{IsRefreshed}
+
+-- ---- when assignments are the same
+
+abbrev same_prefix : PlainPrefix → PlainPrefix → Bool
+same_prefix p q = p.bits == q.bits && p.len == q.len
+
+prefix_decided : (p q : PlainPrefix) → Decides (same_prefix p q) (p ≡ q)
+prefix_decided p q =
+    Decides-like _
+    (λ (same : (p.bits ≡ q.bits) × (p.len ≡ q.len)). λ i. record { bits = same.0 i; len = same.1 i })
+    (λ (same : p ≡ q). (ap (λ (x : PlainPrefix). x.bits) same, ap (λ (x : PlainPrefix). x.len) same))
+    (Decides-and _ _ (Decides-eqb p.bits q.bits) (Decides-eqb p.len q.len))
+
+priority_decided : (a b : Option ℕ) → Decides (option_eq nat_eq a b) (a ≡ b)
+priority_decided None None = (λ _. refl, λ _. refl)
+priority_decided None (Some y) = (λ is. absurd (false≢true is), λ same. absurd cc)
+priority_decided (Some x) None = (λ is. absurd (false≢true is), λ same. absurd cc)
+priority_decided (Some x) (Some y) = Decides-like _ (λ (same : x ≡ y). ap Some same) (λ (same : Some x ≡ Some y). cc) (Decides-eqb x y)
+
+abbrev SameParts : Assigned → Assigned → Type 0
+SameParts a b =
+    (a.delegated ≡ b.delegated) × ((a.endpoint.0 ≡ b.endpoint.0) × ((a.prefix ≡ b.prefix) × ((a.published ≡ b.published) × ((a.since ≡ b.since) × (a.applied ≡ b.applied)))))
+
+abbrev same_test : Assigned → Assigned → Bool
+same_test a b =
+    same_prefix a.delegated b.delegated && (a.endpoint.0 == b.endpoint.0 && (same_prefix a.prefix b.prefix && (option_eq nat_eq a.published b.published && (a.since == b.since && beq a.applied b.applied))))
+
+assigned_decided : (a b : Assigned) → Decides (same_test a b) (a ≡ b)
+assigned_decided a b =
+    Decides-like _
+    (λ (same : SameParts a b). λ i. record {
+      delegated = same.0 i;
+      endpoint = record { 0 = same.1.0 i };
+      prefix = same.1.1.0 i;
+      published = same.1.1.1.0 i;
+      since = same.1.1.1.1.0 i;
+      applied = same.1.1.1.1.1 i;
+    })
+    (λ (same : a ≡ b). (
+      ap (λ (c : Assigned). c.delegated) same,
+      (ap (λ (c : Assigned). c.endpoint.0) same, (ap (λ (c : Assigned). c.prefix) same, (ap (λ (c : Assigned). c.published) same, (ap (λ (c : Assigned). c.since) same, ap (λ (c : Assigned). c.applied) same)))),
+    ))
+    (Decides-and _ _ (prefix_decided a.delegated b.delegated) (Decides-and _ _ (Decides-eqb a.endpoint.0 b.endpoint.0) (Decides-and _ _ (prefix_decided a.prefix b.prefix)
+    (Decides-and _ _ (priority_decided a.published b.published) (Decides-and _ _ (Decides-eqb a.since b.since) (booleans_Decides a.applied b.applied))))))
+
+-- assignments of which `!=` answered no
+pub same_assigned : (xs ys : List Assigned) (answer : Bool) → answer ≡ not (pointwise same_test xs ys) → answer ≡ false → xs ≡ ys
+same_assigned xs ys answer is none = by_test (pointwise same_test xs ys) refl (sym is ∙ none)
+  where
+    by_test : (b : Bool) → b ≡ pointwise same_test xs ys → not b ≡ false → xs ≡ ys
+    by_test true test none = (slice_eq-Decides assigned_decided xs ys true test).0 refl
+    by_test false test none = absurd cc
+
+-- ---- an assignment
+
+-- the words that it takes
+pub ran_assigning : (left : Left) (words : List ℕ) (held : Held) (told told_after : Option (ℕ → ℕ)) (before took after : Running) → IsAssigned before.state left → Took told left.words told_after
+    → took ≡ with_words words before → words ≡ left.words → held ≡ left.held → after ≡ record took { state = record took.state { held = held } } → Ran IsAssigning told told_after before after
+ran_assigning left words held told told_after before took after assigned drew gives same_words same_held is =
+    let all : took ≡ with_words left.words before = gives ∙ ap (λ (ws : List ℕ). with_words ws before) same_words in
+    let whole : after ≡ with_words left.words (record before { state = record before.state { held = left.held } }) =
+    is ∙ ap (λ (h : Held). record took { state = record took.state { held = h } }) same_held ∙ ap (λ (r : Running). record r { state = record r.state { held = left.held } }) all in
+    record {
+      holds = record { ran = left; is_assigned = assigned; gives = whole };
+      drew = subst (λ (ws : List ℕ). Drew told before.done.words told_after ws) (ap (λ (r : Running). r.done.words) (sym whole)) (drew before.done.words);
+    }
+
+-- with the same assignments what a refresh makes stays
+pub refreshed_with : (s : State) (held : Held) → held.assigned ≡ s.held.assigned → IsRefreshed s → IsRefreshed (record s { held = held })
+refreshed_with s held same is = record {
+  published = rw same is.published;
+  reached = record {
+    moment = is.reached.moment;
+    past = is.reached.past;
+    was = record { ascending = is.reached.was.ascending; exactly = is.reached.was.exactly };
+  };
+  lost = is.lost;
+  hashed = is.hashed;
+}
+
+pub untouched_assigning : (left : Left) (words : List ℕ) (held : Held) (before took : Running) → took ≡ with_words words before → held ≡ left.held → left.held.assigned ≡ took.state.held.assigned
+    → IsRefreshed before.state → IsRefreshed (record took.state { held = held })
+untouched_assigning left words held before took gives same_held same is =
+    let state : before.state ≡ took.state = ap (λ (r : Running). r.state) (sym gives) in
+    refreshed_with took.state held (ap (λ (h : Held). h.assigned) same_held ∙ same) (subst IsRefreshed state is)

@@ -1,0 +1,96 @@
+-- The Assigned-Prefixes of a router's node data are those of the assignments that it publishes.
+use Rattle.std.proofs.Common.{◌≡◌, ◌↔◌, ◌∙◌, ℕ, List, [], ◌∷◌, ◌++◌, map, refl, sym, ap, subst}
+use Rattle.std.specs.Prelude.{Contains}
+use Rattle.std.specs.List.{filter_map}
+use Rattle.std.proofs.lemmas.List.Elements.{All-contains, All-contains_itself, All-weaker, Contains-append_right, filter_map-append}
+use Rattle.hn_base.proofs.AscendingLists.{Contains-tail, Contains-map, Contains-from_map}
+use Rattle.hn_tlv.specs.Grammar.{PlainTlv, IsTlv, IsTlvList, spelling}
+use Rattle.hn_typed.specs.Item.{PlainItem}
+use Rattle.hn_typed.specs.Table.{IsItem}
+use Rattle.hn_typed.specs.Written.{tlv_of, IsWritable}
+use Rattle.hn_data.specs.Items.{AreItems}
+use Rattle.hn_data.specs.Said.{assigned_of, HasAssigned}
+use Rattle.hn_data.specs.declared.said.AssignedPrefix.{AssignedPrefix}
+use Rattle.hn_data.specs.declared.said.PeerLink.{PeerLink}
+use Rattle.hn_own.specs.declared.own.OwnItems.{OwnItems}
+use Rattle.hn_own.specs.declared.own_prefixes.OwnPrefix.{OwnPrefix}
+use Rattle.hn_own.specs.Own.{PlainData, IsOwnData, peer_item, external_items, assigned_item, items_of}
+use Rattle.hn_rules.specs.Laws.{AssignedIsPublished}
+use Rattle.hn_rules.proofs.LawLists.{contains_filter_map, contains_from_filter_map}
+use Rattle.hn_rules.proofs.LawSpelled.{AreRead, encoding, own_fit, are_read, same_encoded}
+
+-- ---- the Assigned-Prefixes among own items
+
+none_of_links : (links : List PeerLink) → filter_map assigned_of (map peer_item links) ≡ []
+none_of_links [] = refl
+none_of_links (link ∷ links) = none_of_links links
+
+none_of_external : (now : ℕ) (list : List OwnPrefix) → filter_map assigned_of (external_items now list) ≡ []
+none_of_external now [] = refl
+none_of_external now (p ∷ ps) = refl
+
+all_of_assigned : (list : List AssignedPrefix) → filter_map assigned_of (map assigned_item list) ≡ list
+all_of_assigned [] = refl
+all_of_assigned (a ∷ list) = ap (λ (rest : List AssignedPrefix). a ∷ rest) (all_of_assigned list)
+
+assigned_among : (now : ℕ) (own : OwnItems) → filter_map assigned_of (items_of now own) ≡ own.assigned
+assigned_among now own =
+    let links = map peer_item own.links in
+    let external = external_items now own.delegated in
+    let assigned = map assigned_item own.assigned in
+    filter_map-append assigned_of (links ++ external) assigned
+    ∙ rw (filter_map-append assigned_of links external, none_of_links own.links, none_of_external now own.delegated) (all_of_assigned own.assigned)
+
+assigned_there : (now : ℕ) (own : OwnItems) (a : AssignedPrefix) → Contains own.assigned a → Contains (items_of now own) (assigned_item a)
+assigned_there now own a there =
+    let before = map peer_item own.links ++ external_items now own.delegated in
+    Contains-tail _ (before ++ map assigned_item own.assigned) (assigned_item a)
+    (Contains-append_right before (map assigned_item own.assigned) (assigned_item a) (Contains-map assigned_item own.assigned a there))
+
+-- ---- and in own node data
+
+-- the laws of TLVs, of items and of node data on which it rests
+pub record ReadLaws : Type 0 where
+  pub same_begin : (t u : PlainTlv) (x y : List ℕ) → IsTlv t → IsTlv u → spelling t ++ x ≡ spelling u ++ y → (t ≡ u) × (x ≡ y)
+  pub same_item : (tlv : PlainTlv) (item other : PlainItem) → IsItem tlv item → IsItem tlv other → item ≡ other
+  pub written_is_item : (item : PlainItem) → IsWritable item → IsItem (tlv_of item) item
+  pub one_items : (bytes : List ℕ) (a b : List PlainItem) → AreItems bytes a → AreItems bytes b → a ≡ b
+
+module _ (laws : ReadLaws) (own : PlainData) (is : IsOwnData own) where
+  abbrev items : List PlainItem
+  items = items_of own.born own.items
+
+  read_is : AreRead items is.encoded.ascending
+  read_is =
+      let ascending = is.encoded.ascending in
+      are_read laws.same_begin laws.same_item laws.written_is_item items is.writable (own_fit own.born own.items) ascending
+      (All-weaker (Contains ascending) (Contains (map encoding items)) (λ piece there. (is.encoded.same piece).0 there) ascending (All-contains_itself ascending))
+
+  are_items : AreItems own.body read_is.read
+  are_items = record { tlvs = map tlv_of read_is.read; list = subst (IsTlvList (map tlv_of read_is.read)) (sym is.encoded.joined) read_is.list; read = read_is.reading }
+
+  assigned_from : (a : AssignedPrefix) → HasAssigned own.body a → Contains own.items.assigned a
+  assigned_from a (others, are, there) =
+      let same : others ≡ read_is.read = laws.one_items own.body others read_is.read are are_items in
+      let from = contains_from_filter_map assigned_of others a there in
+      let among : Contains items from.0 = All-contains (Contains items) read_is.read from.0 read_is.of_items (subst (λ (list : List PlainItem). Contains list from.0) same from.1) in
+      subst (λ (list : List AssignedPrefix). Contains list a) (assigned_among own.born own.items) (contains_filter_map assigned_of items from.0 a among from.2)
+
+  item_read : (item : PlainItem) → Contains items item → Contains read_is.read item
+  item_read item there =
+      let piece : Contains is.encoded.ascending (encoding item) = (is.encoded.same (encoding item)).1 (Contains-map encoding items item there) in
+      let from = Contains-from_map encoding read_is.read (encoding item) (subst (λ (pieces : List (List ℕ)). Contains pieces (encoding item)) (sym read_is.encoded) piece) in
+      let among : Contains items from.0 = All-contains (Contains items) read_is.read from.0 read_is.of_items from.1 in
+      let same : from.0 ≡ item = same_encoded laws.same_begin laws.same_item laws.written_is_item items is.writable (own_fit own.born own.items) from.0 item among there from.2 in
+      subst (Contains read_is.read) same from.1
+
+  pub assigned_in : (a : AssignedPrefix) → HasAssigned own.body a ↔ Contains own.items.assigned a
+  assigned_in a = (
+    assigned_from a,
+    λ there. (read_is.read, are_items, contains_filter_map assigned_of read_is.read (assigned_item a) a (item_read (assigned_item a) (assigned_there own.born own.items a there)) refl),
+  )
+
+pub assigned_published : ReadLaws → AssignedIsPublished
+assigned_published laws s a router =
+    let published = ap (λ (own : OwnItems). own.assigned) router.refreshed.published in
+    subst (λ (list : List AssignedPrefix). HasAssigned s.own.body a ↔ Contains list a) (sym published) (assigned_in laws s.own router.well.own a)

@@ -1,0 +1,163 @@
+-- Own items that can be written have TLVs, and the ascending set of the encodings of items is read as those items again.
+use Rattle.std.proofs.Common.{◌≡◌, ◌∙◌, ◌<◌, ◌^◌, ◌+◌, ◌*◌, ℕ, zero, suc, List, [], ◌∷◌, ◌++◌, length, map, take, replicate, get_or, refl, sym, ap, subst, inl, arith}
+use Rattle.std.specs.Prelude.{All, Contains, codes}
+use Rattle.std.specs.Int.{w16, w128, byte_at, bytes_high_first, to_be_bytes}
+use Rattle.std.specs.List.{concat}
+use Rattle.std.proofs.lemmas.List.{append-nil}
+use Rattle.std.proofs.lemmas.List.Elements.{All-append, All-cons, All-nil, All-take, All-head, All-tail, All-map, All-replicate, All-contains, All-from_recursion}
+use Rattle.hn_base.proofs.AscendingLists.{Contains-from_map}
+use Rattle.hn_base.specs.Caps.{PlainCaps, plain_caps}
+use Rattle.hn_tlv.specs.Grammar.{PlainTlv, IsTlv, IsTlvList, header, padding, spelling}
+use Rattle.hn_typed.specs.Fields.{word, bytes_for, prefix_field}
+use Rattle.hn_typed.specs.Item.{PlainItem, Version, External}
+use Rattle.hn_typed.specs.Table.{IsItem}
+use Rattle.hn_typed.specs.Written.{tlv_of, IsWritable}
+use Rattle.hn_data.specs.Items.{IsReading}
+use Rattle.hn_data.specs.OwnData.{AreBytes}
+use Rattle.hn_data.specs.declared.said.AssignedPrefix.{AssignedPrefix}
+use Rattle.hn_data.specs.declared.said.PeerLink.{PeerLink}
+use Rattle.hn_own.specs.declared.own.OwnItems.{OwnItems}
+use Rattle.hn_own.specs.declared.own_prefixes.OwnPrefix.{OwnPrefix}
+use Rattle.hn_own.specs.Own.{peer_item, external_items, assigned_item, items_of}
+
+abbrev Small : ℕ → Type 0
+Small byte = byte < 2 ^ 8
+
+-- ---- bytes
+
+byte_small : (i n : ℕ) → byte_at i n < 2 ^ 8
+byte_small zero n = omega arith
+byte_small (suc i) n = omega arith
+
+number_bytes : (k n : ℕ) → AreBytes (bytes_high_first k n)
+number_bytes zero n = All-nil Small
+number_bytes (suc k) n = All-cons Small (byte_at k n) (bytes_high_first k n) (byte_small k n) (number_bytes k n)
+
+spelling_bytes : (tlv : PlainTlv) → IsTlv tlv → AreBytes (spelling tlv)
+spelling_bytes tlv is =
+    let kind = to_be_bytes w16 tlv.kind in
+    let len = to_be_bytes w16 (length tlv.value) in
+    let head : All Small (header tlv.kind (length tlv.value)) = All-append Small kind len (number_bytes 2 tlv.kind) (number_bytes 2 (length tlv.value)) in
+    let zeros : List ℕ = replicate (padding (length tlv.value)) 0 in
+    All-append Small (header tlv.kind (length tlv.value) ++ tlv.value) zeros (All-append Small (header tlv.kind (length tlv.value)) tlv.value head is.bytes)
+    (All-replicate Small (padding (length tlv.value)) 0 (omega arith))
+
+list_bytes : (tlvs : List PlainTlv) (bytes : List ℕ) → IsTlvList tlvs bytes → AreBytes bytes
+list_bytes [] bytes is = subst AreBytes (sym is) (All-nil Small)
+list_bytes (tlv ∷ tlvs) bytes (rest, valid, spelled, more) = subst AreBytes (sym spelled) (All-append Small (spelling tlv) rest (spelling_bytes tlv valid) (list_bytes tlvs rest more))
+
+-- ---- own items
+
+-- an item that has a TLV if it can be written
+abbrev pub IsFit : PlainItem → Type 0
+IsFit item = IsWritable item → IsTlv (tlv_of item)
+
+version_fit : (caps : PlainCaps) → IsFit (Version caps (codes "hncp"))
+version_fit caps is = record {
+  kind_fits = omega arith;
+  length_fits = let short = is.short in omega arith;
+  bytes =
+      let fits = is.in_range in
+      let upper : 16 * caps.m + caps.p < 2 ^ 8 = let m = fits.m in let p = fits.p in omega arith in
+      let lower : 16 * caps.h + caps.l < 2 ^ 8 = let h = fits.h in let l = fits.l in omega arith in
+      let value : List ℕ = 0 ∷ 0 ∷ (16 * caps.m + caps.p) ∷ (16 * caps.h + caps.l) ∷ codes "hncp" in
+      All-from_recursion Small value (omega arith, (omega arith, (upper, (lower, (omega arith, (omega arith, (omega arith, (omega arith, tt))))))));
+}
+
+peer_fit : (link : PeerLink) → IsFit (peer_item link)
+peer_fit link is =
+    let peer = word link.peer.0 in
+    let there = word link.peer_endpoint.0 in
+    let here = word link.endpoint.0 in
+    let none = All-nil Small in
+    record {
+      kind_fits = omega arith;
+      length_fits = let short = is.short in omega arith;
+      bytes =
+          All-append Small (((peer ++ there) ++ here) ++ []) []
+          (All-append Small ((peer ++ there) ++ here) []
+          (All-append Small (peer ++ there) here (All-append Small peer there (number_bytes 4 link.peer.0) (number_bytes 4 link.peer_endpoint.0)) (number_bytes 4 link.endpoint.0)) none) none;
+    }
+
+external_fit : (subs : List ℕ) → IsFit (External subs)
+external_fit [] is = record { kind_fits = omega arith; length_fits = omega arith; bytes = All-nil Small }
+external_fit (byte ∷ subs) is = record {
+  kind_fits = omega arith;
+  length_fits = let short = is.short in omega arith;
+  bytes = list_bytes is.tlvs_after.0 (byte ∷ subs) is.tlvs_after.1;
+}
+
+assigned_fit : (a : AssignedPrefix) → IsFit (assigned_item a)
+assigned_fit a is =
+    let endpoint = word a.endpoint.0 in
+    let bits = take (bytes_for a.prefix.len) (to_be_bytes w128 a.prefix.bits) in
+    let field : All Small (prefix_field a.prefix) =
+    All-cons Small a.prefix.len bits (let len = is.in_range.2.len_in_range in omega arith) (All-take Small (bytes_for a.prefix.len) (to_be_bytes w128 a.prefix.bits) (number_bytes 16 a.prefix.bits))
+    in
+    let priority : 16 * 0 + a.priority < 2 ^ 8 = let fits = is.in_range.1 in omega arith in
+    let after : List ℕ = (16 * 0 + a.priority) ∷ prefix_field a.prefix in
+    let none = All-nil Small in
+    record {
+      kind_fits = omega arith;
+      length_fits = let short = is.short in omega arith;
+      bytes =
+          All-append Small ((endpoint ++ after) ++ []) []
+          (All-append Small (endpoint ++ after) [] (All-append Small endpoint after (number_bytes 4 a.endpoint.0) (All-cons Small (16 * 0 + a.priority) (prefix_field a.prefix) priority field)) none) none;
+    }
+
+externals_fit : (now : ℕ) (list : List OwnPrefix) → All IsFit (external_items now list)
+externals_fit now [] = All-nil IsFit
+externals_fit now (p ∷ ps) = All-cons IsFit (External _) [] (external_fit _) (All-nil IsFit)
+
+pub own_fit : (now : ℕ) (own : OwnItems) → All IsFit (items_of now own)
+own_fit now own =
+    let links = map peer_item own.links in
+    let external = external_items now own.delegated in
+    let assigned = map assigned_item own.assigned in
+    All-cons IsFit (Version (plain_caps own.caps) (codes "hncp")) ((links ++ external) ++ assigned) (version_fit (plain_caps own.caps))
+    (All-append IsFit (links ++ external) assigned
+    (All-append IsFit links external (All-map IsFit peer_item own.links (λ k d within. peer_fit (get_or own.links k d))) (externals_fit now own.delegated))
+    (All-map IsFit assigned_item own.assigned (λ k d within. assigned_fit (get_or own.assigned k d))))
+
+-- ---- pieces that are the encodings of some of the items
+
+abbrev pub encoding : PlainItem → List ℕ
+encoding item = spelling (tlv_of item)
+
+-- what is read in them
+pub record AreRead (items : List PlainItem) (pieces : List (List ℕ)) : Type 0 where
+  pub read : List PlainItem
+  pub list : IsTlvList (map tlv_of read) (concat pieces)
+  pub reading : IsReading (map tlv_of read) read
+  pub of_items : All (Contains items) read
+  pub encoded : map encoding read ≡ pieces
+
+-- the laws of TLVs and of items
+module _ (same_begin : (t u : PlainTlv) (x y : List ℕ) → IsTlv t → IsTlv u → spelling t ++ x ≡ spelling u ++ y → (t ≡ u) × (x ≡ y))
+    (same_item : (tlv : PlainTlv) (item other : PlainItem) → IsItem tlv item → IsItem tlv other → item ≡ other)
+    (written_is_item : (item : PlainItem) → IsWritable item → IsItem (tlv_of item) item)
+    (items : List PlainItem) (writable : All IsWritable items) (fit : All IsFit items) where
+  pub are_read : (pieces : List (List ℕ)) → All (Contains (map encoding items)) pieces → AreRead items pieces
+  are_read [] all = record { read = []; list = refl; reading = refl; of_items = All-nil (Contains items); encoded = refl }
+  are_read (piece ∷ pieces) all =
+      let from = Contains-from_map encoding items piece (All-head (Contains (map encoding items)) piece pieces all) in
+      let can : IsWritable from.0 = All-contains IsWritable items from.0 writable from.1 in
+      let tlv : IsTlv (tlv_of from.0) = All-contains IsFit items from.0 fit from.1 can in
+      let rest = are_read pieces (All-tail (Contains (map encoding items)) piece pieces all) in
+      record {
+        read = from.0 ∷ rest.read;
+        list = (concat pieces, tlv, ap (λ (front : List ℕ). front ++ concat pieces) (sym from.2), rest.list);
+        reading = inl (from.0, rest.read, written_is_item from.0 can, refl, rest.reading);
+        of_items = All-cons (Contains items) from.0 rest.read from.1 rest.of_items;
+        encoded = let head = from.2 in let tail = rest.encoded in cc;
+      }
+
+  -- one encoding is of one item
+  pub same_encoded : (item other : PlainItem) → Contains items item → Contains items other → encoding item ≡ encoding other → item ≡ other
+  same_encoded item other there also same =
+      let can = All-contains IsWritable items item writable there in
+      let can_other = All-contains IsWritable items other writable also in
+      let tlv = All-contains IsFit items item fit there can in
+      let tlv_other = All-contains IsFit items other fit also can_other in
+      let tlvs : tlv_of item ≡ tlv_of other = (same_begin (tlv_of item) (tlv_of other) [] [] tlv tlv_other (append-nil (encoding item) ∙ same ∙ sym (append-nil (encoding other)))).0 in
+      same_item (tlv_of item) item other (written_is_item item can) (subst (λ (t : PlainTlv). IsItem t other) (sym tlvs) (written_is_item other can_other))

@@ -1,0 +1,357 @@
+-- Each rule of a router has at most one result over one stream of words.
+use Rattle.std.proofs.Common.{◌≡◌, ◌∙◌, ◌<◌, ◌+◌, ◌%◌, ◌^◌, ℕ, Bool, true, false, List, [], ◌∷◌, ◌++◌, Option, Some, None, length, map, slice_index, if◌then◌else◌, ◌==◌, is_some, ap, refl, sym, subst, inl, inr, arith}
+use Rattle.std.specs.Prelude.{◌≢◌, ◌↔◌, Contains, IsTrue}
+use Rattle.std.specs.Str.{bytes_eq}
+use Rattle.std.specs.Ordering.{on}
+use Rattle.std.proofs.lemmas.Bool.{cases_lt}
+use Rattle.std.proofs.lemmas.Cmp.{on_total}
+use Rattle.std.specs.List.Sorted.{IsStrictlySortedBy}
+use Rattle.hn_base.specs.NodeIds.{node_cmp}
+use Rattle.hn_base.specs.declared.ids.NodeId.{NodeId}
+use Rattle.hn_base.specs.declared.ids.EpId.{EpId}
+use Rattle.hn_base.proofs.AscendingLists.{ascending_unique}
+use Rattle.hn_io.specs.Words.{Begins}
+use Rattle.hn_tlv.specs.Grammar.{PlainTlv, spelling, IsTlvList, HasTlvs, FirstFault}
+use Rattle.hn_typed.specs.Item.{PlainItem}
+use Rattle.hn_typed.specs.Item as item
+use Rattle.hn_typed.specs.Written.{tlv_of}
+use Rattle.hn_typed.specs.Table.{IsItem}
+use Rattle.hn_typed.specs.Fault.{IsItemFault}
+use Rattle.hn_timers.specs.Interval.{started}
+use Rattle.hn_data.specs.View.{PlainView}
+use Rattle.hn_deleg.specs.declared.delegated.Delegated.{Delegated}
+use Rattle.hn_deleg.specs.Used.{AreUsable}
+use Rattle.hn_assign.specs.declared.assigned.Wish.{Wish}
+use Rattle.hn_assign.specs.declared.held.Held.{Held}
+use Rattle.hn_assign.specs.declared.held.Ran.{Ran as Assigned}
+use Rattle.hn_assign.specs.Pair.{pair_cmp, wish_pair}
+use Rattle.hn_assign.specs.Subroutine.{IsSubroutine}
+use Rattle.hn_dncp.specs.declared.peers.Neighbour.{Neighbour}
+use Rattle.hn_dncp.specs.declared.port.Port.{Port}
+use Rattle.hn_dncp.specs.Port.{begun}
+use Rattle.hn_dncp.specs.declared.greet.Greet.{Greet}
+use Rattle.hn_dncp.specs.declared.greet.Greet.TheVariants as greet
+use Rattle.hn_dncp.specs.Greet.{greeting}
+use Rattle.hn_dncp.specs.Ask.{may_ask, asked}
+use Rattle.hn_dncp.specs.Hash.{asks_for_state}
+use Rattle.hn_dncp.specs.Packing.{IsPacking}
+use Rattle.hn_dncp.specs.Tick.{ticked, tick_sends}
+use Rattle.hn_store.specs.Nodes.{Nodes}
+use Rattle.hn_store.specs.Loss.{marked}
+use Rattle.hn_store.specs.Laws.{AcceptanceIsUnique}
+use Rattle.hn_store.specs.Acceptance.{PlainState}
+use Rattle.hn_store.specs.declared.state.Took.{Took}
+use Rattle.hn_store.specs.declared.state.Took.TheVariants as took
+use Rattle.hn_rules.specs.declared.state.State.{State}
+use Rattle.hn_rules.specs.declared.running.Running.{Running}
+use Rattle.hn_rules.specs.declared.running.Origin.{Origin}
+use Rattle.hn_rules.specs.declared.done.Note.TheVariants as note
+use Rattle.hn_rules.specs.declared.answers.Subject.{Subject}
+use Rattle.hn_rules.specs.declared.answers.Subject.TheVariants as subject
+use Rattle.hn_own.specs.Own.{PlainData, IsOwnData}
+use Rattle.hn_own.specs.Ports.{endpoints_of, attached}
+use Rattle.hn_rules.specs.Nodes.{IsReach}
+use Rattle.hn_rules.specs.Rules.{Then, Each, AtPort, with_words, with_port, noted, IsSole}
+use Rattle.hn_rules.specs.Refresh.{Publishes, IsPublished, next_number, IsPublishing, IsReaching, IsHashing, IsPortReset, IsReset, IsRefresh, network_state_hash}
+use Rattle.hn_rules.specs.Answers.{with_answer}
+use Rattle.hn_rules.specs.Assigning.{AreAsked, IsAssigned, IsAssigning}
+use Rattle.hn_rules.specs.Seen.{seen_by}
+use Rattle.hn_rules.specs.NodeEndpoint.{met, greeting_port, named, node_endpoint}
+use Rattle.hn_rules.specs.NetworkState.{network_state}
+use Rattle.hn_rules.specs.Requests.{state_item, with_some_answer, is_reached, with_state, IsNetworkRequest, request_node}
+use Rattle.hn_rules.specs.Claim.{IsFirstFree, IsFirstClaim, IsSecondClaim, IsClaim, is_taken}
+use Rattle.hn_rules.specs.NodeState.{own_leaf, took_noted, IsTaken, IsNodeState}
+use Rattle.hn_rules.specs.Arrival.{IsItemRule, IsTlvRule, IsTlvs, IsAnswering, IsArrival}
+use Rattle.hn_rules.specs.Tick.{IsExpired, Without, IsPortExpiry, IsExpiry, IsStateSending, IsPortMoving, IsPortSending, IsPortTick, IsPortsTick}
+use Rattle.hn_rules.specs.Events.{IsAttaching, IsPortRestart, emptied, IsRestarting}
+use Rattle.hn_rules.proofs.LawPairs.{pair_total}
+use Rattle.hn_rules.proofs.Sole.{begins_front, begins_back, begins_along, sole_drawn, sole_given, sole_plain, sole_both, sole_each, sole_word, sole_from, sole_start, sole_after, sole_at, sole_or, sole_where, sole_some}
+
+-- the laws of the crates below on which it rests
+pub record HasLaws : Type 0 where
+  pub one_list : (a b : List PlainTlv) (bytes : List ℕ) → IsTlvList a bytes → IsTlvList b bytes → a ≡ b
+  pub no_list : (bytes : List ℕ) (place why : ℕ) → FirstFault bytes place why → ¬ (HasTlvs bytes)
+  pub one_place : (bytes : List ℕ) (p q v w : ℕ) → FirstFault bytes p v → FirstFault bytes q w → (p ≡ q) × (v ≡ w)
+  pub one_item : (tlv : PlainTlv) (i j : PlainItem) → IsItem tlv i → IsItem tlv j → i ≡ j
+  pub no_item : (tlv : PlainTlv) (i : PlainItem) (why : ℕ) → IsItem tlv i → ¬ (IsItemFault tlv why)
+  pub one_fault : (tlv : PlainTlv) (v w : ℕ) → IsItemFault tlv v → IsItemFault tlv w → v ≡ w
+  pub one_own : (a b : PlainData) → IsOwnData a → IsOwnData b → a.items ≡ b.items → a.born ≡ b.born → a ≡ b
+  pub one_order : (xs ys : List NodeId) → IsStrictlySortedBy node_cmp xs → IsStrictlySortedBy node_cmp ys → ((x : NodeId) → Contains xs x ↔ Contains ys x) → xs ≡ ys
+  pub one_acceptance : AcceptanceIsUnique
+  pub one_packing : (own : NodeId) (endpoint : EpId) (tlvs a b : List (List ℕ)) → IsPacking own endpoint tlvs a → IsPacking own endpoint tlvs b → a ≡ b
+  pub one_usable : (view : PlainView) (a b : List Delegated) → AreUsable view a → AreUsable view b → a ≡ b
+  pub one_subroutine : (view : PlainView) (wishes : List Wish) (held : Held) (a b : Assigned) (stream : ℕ → ℕ) → IsSubroutine view wishes held a → IsSubroutine view wishes held b
+      → Begins a.words stream → Begins b.words stream → a ≡ b
+
+apart_tests : (b : Bool) → IsTrue b → b ≡ false → ⊥
+apart_tests b is not = let clash : true ≡ false = sym is ∙ not in absurd cc
+
+-- ---- a refresh
+
+published_with : ℕ → Running → PlainData → Running
+published_with number r own = record r {
+  state = record r.state { number = number; own = own };
+  done = record r.done { published = r.done.published ++ record { id = r.state.id; number = number; body = own.body } ∷ [] };
+}
+
+one_published : HasLaws → (number : ℕ) (r a b : Running) → Publishes number r a → Publishes number r b → a ≡ b
+unfolding published_with
+one_published laws number r a b h k = h.gives ∙ ap (published_with number r) (laws.one_own h.own k.own h.data_is k.data_is (h.items_are ∙ sym k.items_are) (h.born_is ∙ sym k.born_is)) ∙ sym k.gives
+
+published_words : (number : ℕ) (r a : Running) → Publishes number r a → a.done.words ≡ r.done.words
+published_words number r a h = ap (λ (x : Running). x.done.words) h.gives
+
+sole_publishes : HasLaws → (number : ℕ) → IsSole (Publishes number)
+sole_publishes laws number = sole_given (Publishes number) (published_words number) (one_published laws number)
+
+sole_publishing : HasLaws → IsSole IsPublishing
+sole_publishing laws =
+    sole_or (λ r a. IsPublished r.state × (a ≡ r)) (λ r a. ¬ (IsPublished r.state) × Publishes (next_number r.state.number) r a)
+    (sole_where (λ r. IsPublished r.state) (λ r a. a ≡ r) (sole_plain (λ r. r) (λ r. refl)))
+    (sole_where (λ r. ¬ (IsPublished r.state)) (λ r a. Publishes (next_number r.state.number) r a) (sole_start (λ s. Publishes (next_number s.state.number)) (λ s. sole_publishes laws (next_number s.state.number))))
+    (λ r a b h k. k.0 h.0)
+
+one_reach : HasLaws → (s : State) (xs ys : List NodeId) → IsReach s xs → IsReach s ys → xs ≡ ys
+one_reach laws s xs ys a b = laws.one_order xs ys a.ascending b.ascending (λ id. let p = a.exactly id in let q = b.exactly id in (λ x. q.1 (p.0 x), λ y. p.1 (q.0 y)))
+
+sole_reaching : HasLaws → IsSole IsReaching
+sole_reaching laws =
+    sole_given IsReaching (λ r a h. ap (λ (x : Running). x.done.words) h.gives)
+    (λ r a b h k. h.gives ∙ ap (λ (reach : List NodeId). record r { state = record r.state { reach = reach; table = marked reach r.state.moment r.state.table } }) (one_reach laws r.state h.reach k.reach h.is_reach k.is_reach) ∙ sym k.gives)
+
+sole_port_reset : (port : Port) → IsSole (IsPortReset port)
+sole_port_reset port =
+    let reset : ℕ → Running → Running = λ word r. with_words (word ∷ []) (with_port (record port { trickle = started r.state.moment 200 word }) r) in
+    sole_or (λ r a. (port.trickle.len ≡ 200) × (a ≡ r)) (λ r a. (port.trickle.len ≢ 200) × ((word : ℕ) × (a ≡ reset word r)))
+    (sole_where (λ r. port.trickle.len ≡ 200) (λ r a. a ≡ r) (sole_plain (λ r. r) (λ r. refl)))
+    (sole_where (λ r. port.trickle.len ≢ 200) (λ r a. (word : ℕ) × (a ≡ reset word r)) (sole_word reset (λ word r. refl)))
+    (λ r a b h k. k.0 h.0)
+
+sole_reset : IsSole IsReset
+sole_reset = sole_start (λ s. Each (λ at. AtPort at IsPortReset) (endpoints_of s.state.ports)) (λ s. sole_each (λ at. AtPort at IsPortReset) (λ at. sole_at at IsPortReset sole_port_reset) (endpoints_of s.state.ports))
+
+sole_hashing : IsSole IsHashing
+sole_hashing =
+    sole_or (λ r a. (network_state_hash r.state ≡ r.state.net) × (a ≡ r)) (λ r a. (network_state_hash r.state ≢ r.state.net) × IsReset (record r { state = record r.state { net = network_state_hash r.state } }) a)
+    (sole_where (λ r. network_state_hash r.state ≡ r.state.net) (λ r a. a ≡ r) (sole_plain (λ r. r) (λ r. refl)))
+    (sole_where (λ r. network_state_hash r.state ≢ r.state.net) (λ r a. IsReset (record r { state = record r.state { net = network_state_hash r.state } }) a)
+    (sole_after (λ r. record r { state = record r.state { net = network_state_hash r.state } }) IsReset (λ r. refl) sole_reset))
+    (λ r a b h k. k.0 h.0)
+
+pub sole_refresh : HasLaws → IsSole IsRefresh
+sole_refresh laws = sole_both IsPublishing (Then IsReaching IsHashing) (sole_publishing laws) (sole_both IsReaching IsHashing (sole_reaching laws) sole_hashing)
+
+-- ---- a claim
+
+never_before : (s : State) (word i j : ℕ) (h : IsFirstFree s word i) (k : IsFirstFree s word j) → h.steps < k.steps → ⊥
+never_before s word i j h k less =
+    let clash : false ≡ true = sym h.free ∙ ap (λ (id : ℕ). is_taken id s) h.is_it ∙ k.taken_before h.steps less in
+    absurd cc
+
+one_free : (s : State) (word i j : ℕ) → IsFirstFree s word i → IsFirstFree s word j → i ≡ j
+one_free s word i j h k =
+    let same : h.steps ≡ k.steps =
+    elim (cases_lt h.steps k.steps) [
+      | inl less ↦ absurd (never_before s word i j h k less)
+      | inr no_less ↦ elim (cases_lt k.steps h.steps) [ inl less ↦ absurd (never_before s word j i k h less) | inr no_more ↦ omega arith ]
+    ] in
+    h.is_it ∙ ap (λ (n : ℕ). (word + n) % 2 ^ 32) same ∙ sym k.is_it
+
+claiming : Running → ℕ → ℕ → Running
+claiming r word id = with_words (word ∷ []) (record r { state = record r.state { id = record { 0 = id }; claimed = false } })
+
+one_second_claim : HasLaws → (r a b : Running) (h : IsSecondClaim r a) (k : IsSecondClaim r b) → h.word ∷ [] ≡ k.word ∷ [] → a ≡ b
+unfolding claiming
+one_second_claim laws r a b h k same =
+    let word : h.word ≡ k.word = ap (λ (ws : List ℕ). slice_index ws 0) same in
+    let id : h.id ≡ k.id = one_free r.state k.word h.id k.id (subst (λ (w : ℕ). IsFirstFree r.state w h.id) word h.first) k.first in
+    let start : claiming r h.word h.id ≡ claiming r k.word k.id = λ i. claiming r (word i) (id i) in
+    one_published laws 1 (claiming r k.word k.id) a b (subst (λ (m : Running). Publishes 1 m a) start h.publishes) k.publishes
+
+sole_claim : HasLaws → (number : ℕ) → IsSole (IsClaim number)
+sole_claim laws number =
+    sole_or (IsFirstClaim number) IsSecondClaim
+    (sole_given (IsFirstClaim number)
+    (λ r a h. published_words ((number + 1000) % 2 ^ 32) (record r { state = record r.state { claimed = true } }) a h.publishes)
+    (λ r a b h k. one_published laws ((number + 1000) % 2 ^ 32) (record r { state = record r.state { claimed = true } }) a b h.publishes k.publishes))
+    (sole_drawn IsSecondClaim (λ r a h. h.word ∷ [])
+    (λ r a h. published_words 1 (with_words (h.word ∷ []) (record r { state = record r.state { id = record { 0 = h.id }; claimed = false } })) a h.publishes)
+    (λ r a b h k. refl) (one_second_claim laws))
+    (λ r a b h k. let clash : false ≡ true = sym h.none_before ∙ k.one_before in absurd cc)
+
+-- ---- the TLVs of a datagram
+
+if_words : (b : Bool) (x y r : Running) → x.done.words ≡ r.done.words → y.done.words ≡ r.done.words → (if b then x else y).done.words ≡ r.done.words
+if_words true x y r one other = one
+if_words false x y r one other = other
+
+some_words : (about : Subject) (said : Option PlainItem) (r : Running) → (with_some_answer about said r).done.words ≡ r.done.words
+some_words about None r = refl
+some_words about (Some said) r = refl
+
+met_words : (greet : Greet) (port : Port) (r : Running) → (met greet port r).done.words ≡ r.done.words
+met_words greet.Full port r = refl
+met_words greet.Unknown port r = if_words (may_ask r.state.moment port.asked) (with_answer subject.NetworkRequest (item.RequestNetwork []) (with_port (asked r.state.moment port) r)) r r refl refl
+met_words _ port r = refl
+
+named_words : (from : Origin) (node : NodeId) (endpoint : EpId) (port : Port) (r : Running) → (named from node endpoint port r).done.words ≡ r.done.words
+named_words from node endpoint port r =
+    let after = greeting_port from node endpoint r.state.moment port in
+    met_words (greeting node endpoint from.multicast port.peers) after (with_port after (record r { sender = Some (node, endpoint) }))
+
+node_endpoint_words : (from : Origin) (node : NodeId) (endpoint : EpId) (port : Port) (r : Running) → (node_endpoint from node endpoint port r).done.words ≡ r.done.words
+node_endpoint_words from node endpoint port r =
+    let fresh : Running = if is_some r.sender then noted (note.Ignored 3 5) r else named from node endpoint port r in
+    let other : Running = if node.0 == r.state.id.0 then noted (note.Ignored 3 6) r else fresh in
+    if_words (endpoint.0 == 0) (noted (note.Ignored 3 7) r) other r refl
+    (if_words (node.0 == r.state.id.0) (noted (note.Ignored 3 6) r) fresh r refl
+    (if_words (is_some r.sender) (noted (note.Ignored 3 5) r) (named from node endpoint port r) r refl (named_words from node endpoint port r)))
+
+network_state_words : (hash : List ℕ) (port : Port) (r : Running) → (network_state hash port r).done.words ≡ r.done.words
+network_state_words hash port r = if_words (asks_for_state (bytes_eq hash r.state.net) r.state.moment port) _ _ r refl refl
+
+request_node_words : (id : NodeId) (r : Running) → (request_node id r).done.words ≡ r.done.words
+request_node_words id r = if_words (is_reached id r.state.reach) _ _ r (some_words (subject.NodeData id) (state_item true r.state id) r) refl
+
+sole_network_request : IsSole IsNetworkRequest
+sole_network_request =
+    sole_start (λ s r a. Each (λ id b c. c ≡ with_state id b) s.state.reach (with_answer subject.NetworkState (item.NetworkState s.state.net []) r) a)
+    (λ s. sole_after (with_answer subject.NetworkState (item.NetworkState s.state.net [])) (Each (λ id b c. c ≡ with_state id b) s.state.reach) (λ r. refl)
+    (sole_each (λ id b c. c ≡ with_state id b) (λ id. sole_plain (with_state id) (λ r. some_words (subject.NodeState id) (state_item false r.state id) r)) s.state.reach))
+
+sole_taken : HasLaws → (carried : PlainState) (how : Took) → IsSole (IsTaken carried how)
+sole_taken laws carried took.Own = sole_after (noted (note.Own carried.number)) (IsClaim carried.number) (λ r. refl) (sole_claim laws carried.number)
+sole_taken laws carried took.Ask = sole_plain (λ r. with_answer (subject.NodeRequest (record { 0 = carried.node })) (item.RequestNode carried.node []) (took_noted carried took.Ask r)) (λ r. refl)
+sole_taken laws carried how = sole_plain (took_noted carried how) (λ r. refl)
+
+with_table : Running → Nodes → Running
+with_table r table = record r { state = record r.state { table = table } }
+
+sole_node_state : HasLaws → (carried : PlainState) → IsSole (IsNodeState carried)
+unfolding with_table
+sole_node_state laws carried = record {
+  grows = λ stream r a h. (sole_taken laws carried h.how).grows stream (with_table r h.table) a h.taken;
+  one = λ stream r a b h k.
+      let same = laws.one_acceptance r.state.table (own_leaf r.state) carried r.state.moment k.table h.table k.how h.how k.accepts h.accepts in
+      let taken = subst (λ (how : Took). IsTaken carried how (with_table r h.table) b) same.1 (subst (λ (table : Nodes). IsTaken carried k.how (with_table r table) b) same.0 k.taken) in
+      (sole_taken laws carried h.how).one stream (with_table r h.table) a b h.taken taken;
+}
+
+sole_item : HasLaws → (from : Origin) (i : PlainItem) → IsSole (IsItemRule from i)
+sole_item laws from (item.NodeEndpoint node endpoint subs) =
+    sole_at from.endpoint (λ port b a. a ≡ node_endpoint from (record { 0 = node }) (record { 0 = endpoint }) port b)
+    (λ port. sole_plain (node_endpoint from (record { 0 = node }) (record { 0 = endpoint }) port) (node_endpoint_words from (record { 0 = node }) (record { 0 = endpoint }) port))
+sole_item laws from (item.RequestNetwork subs) = sole_network_request
+sole_item laws from (item.RequestNode node subs) = sole_plain (request_node (record { 0 = node })) (request_node_words (record { 0 = node }))
+sole_item laws from (item.NetworkState hash subs) = sole_at from.endpoint (λ port b a. a ≡ network_state hash port b) (λ port. sole_plain (network_state hash port) (network_state_words hash port))
+sole_item laws from (item.NodeState node number age hash body) = sole_node_state laws (record { node = node; number = number; age = age; hash = hash; body = body })
+sole_item laws from _ = sole_plain (λ r. r) (λ r. refl)
+
+sole_tlv : HasLaws → (from : Origin) (tlv : PlainTlv) → IsSole (IsTlvRule from tlv)
+sole_tlv laws from tlv =
+    sole_or (λ r a. (i : PlainItem) × IsItem tlv i × IsItemRule from i r a) (λ r a. (why : ℕ) × IsItemFault tlv why × (a ≡ noted (note.Ignored tlv.kind why) r))
+    (sole_some (IsItem tlv) (IsItemRule from) (laws.one_item tlv) (sole_item laws from))
+    (sole_some (IsItemFault tlv) (λ why r a. a ≡ noted (note.Ignored tlv.kind why) r) (laws.one_fault tlv) (λ why. sole_plain (noted (note.Ignored tlv.kind why)) (λ r. refl)))
+    (λ r a b h k. laws.no_item tlv h.0 k.0 h.1 k.1)
+
+sole_tlvs : HasLaws → (from : Origin) (tlvs : List PlainTlv) → IsSole (IsTlvs from tlvs)
+sole_tlvs laws from tlvs = sole_each (λ tlv. Then (IsTlvRule from tlv) IsRefresh) (λ tlv. sole_both (IsTlvRule from tlv) IsRefresh (sole_tlv laws from tlv) (sole_refresh laws)) tlvs
+
+sole_answering : HasLaws → (from : Origin) → IsSole (IsAnswering from)
+sole_answering laws from =
+    sole_given (IsAnswering from) (λ r a h. ap (λ (x : Running). x.done.words) h.gives)
+    (λ r a b h k. h.gives ∙ ap (λ (datagrams : List (List ℕ)). record r { done = record r.done { sends = r.done.sends ++ map (λ bytes. record { endpoint = from.endpoint; to = Some from.from; bytes = bytes }) datagrams } })
+    (laws.one_packing r.state.id from.endpoint (map (λ a. a.tlv) r.answers) h.datagrams k.datagrams h.packed k.packed) ∙ sym k.gives)
+
+pub sole_arrival : HasLaws → (from : Origin) (tlvs : List PlainTlv) → IsSole (IsArrival from tlvs)
+sole_arrival laws from tlvs = sole_both (IsTlvs from tlvs) (IsAnswering from) (sole_tlvs laws from tlvs) (sole_answering laws from)
+
+-- ---- a tick
+
+one_without : {A : Type 0} (P : A → Type 0) (xs kept other : List A) → Without P xs kept → Without P xs other → kept ≡ other
+one_without P [] kept other h k = h ∙ sym k
+one_without P (x ∷ xs) kept other (inl h) (inl k) = one_without P xs kept other h.1 k.1
+one_without P (x ∷ xs) kept other (inl h) (inr k) = absurd (k.1 h.0)
+one_without P (x ∷ xs) kept other (inr h) (inl k) = absurd (h.1 k.0)
+one_without P (x ∷ xs) kept other (inr h) (inr k) = h.3 ∙ ap (λ l. x ∷ l) (one_without P xs h.0 k.0 h.2 k.2) ∙ sym k.3
+
+sole_port_expiry : (port : Port) → IsSole (IsPortExpiry port)
+sole_port_expiry port =
+    sole_given (IsPortExpiry port) (λ r a h. ap (λ (x : Running). x.done.words) h.gives)
+    (λ r a b h k. h.gives ∙ ap (λ (peers : List Neighbour). with_port (record port { peers = peers }) r) (one_without (IsExpired r.state) port.peers h.peers k.peers h.without k.without) ∙ sym k.gives)
+
+pub sole_expiry : IsSole IsExpiry
+sole_expiry = sole_start (λ s. Each (λ at. AtPort at IsPortExpiry) (endpoints_of s.state.ports)) (λ s. sole_each (λ at. AtPort at IsPortExpiry) (λ at. sole_at at IsPortExpiry sole_port_expiry) (endpoints_of s.state.ports))
+
+sole_port_moving : (port : Port) → IsSole (IsPortMoving port)
+sole_port_moving port =
+    sole_drawn (IsPortMoving port) (λ r a h. h.words) (λ r a h. ap (λ (x : Running). x.done.words) h.gives) (λ r a b h k. h.as_many ∙ sym k.as_many)
+    (λ r a b h k same. h.gives ∙ ap (λ (words : List ℕ). with_words words (with_port (ticked r.state.moment words port) r)) same ∙ sym k.gives)
+
+sole_state_sending : HasLaws → (at : EpId) → IsSole (IsStateSending at)
+sole_state_sending laws at =
+    sole_given (IsStateSending at) (λ r a h. ap (λ (x : Running). x.done.words) h.gives)
+    (λ r a b h k. h.gives ∙ ap (λ (datagrams : List (List ℕ)). record r { done = record r.done { sends = r.done.sends ++ map (λ bytes. record { endpoint = at; to = None; bytes = bytes }) datagrams } })
+    (laws.one_packing r.state.id at (spelling (tlv_of (item.NetworkState r.state.net [])) ∷ []) h.datagrams k.datagrams h.packed k.packed) ∙ sym k.gives)
+
+sole_port_sending : HasLaws → (port : Port) → IsSole (IsPortSending port)
+sole_port_sending laws port =
+    sole_or (λ r a. IsTrue (tick_sends r.state.moment port) × IsStateSending port.id r a) (λ r a. (tick_sends r.state.moment port ≡ false) × (a ≡ r))
+    (sole_where (λ r. IsTrue (tick_sends r.state.moment port)) (IsStateSending port.id) (sole_state_sending laws port.id))
+    (sole_where (λ r. tick_sends r.state.moment port ≡ false) (λ r a. a ≡ r) (sole_plain (λ r. r) (λ r. refl)))
+    (λ r a b h k. apart_tests _ h.0 k.0)
+
+pub sole_ports_tick : HasLaws → IsSole IsPortsTick
+sole_ports_tick laws =
+    sole_start (λ s. Each (λ at. AtPort at IsPortTick) (endpoints_of s.state.ports))
+    (λ s. sole_each (λ at. AtPort at IsPortTick) (λ at. sole_at at IsPortTick (λ port. sole_both (IsPortMoving port) (IsPortSending port) (sole_port_moving port) (sole_port_sending laws port))) (endpoints_of s.state.ports))
+
+-- ---- prefixes are assigned
+
+one_wishes : (view : PlainView) (usable : List Delegated) (ports : List Port) (a b : List Wish) → AreAsked view usable ports a → AreAsked view usable ports b → a ≡ b
+one_wishes view usable ports a b h k =
+    ascending_unique (on wish_pair pair_cmp) (on_total wish_pair pair_total) a b h.are_wishes.ascending k.are_wishes.ascending
+    (λ wish. let p = h.exact wish in let q = k.exact wish in (λ x. q.1 (p.0 x), λ y. p.1 (q.0 y)))
+
+assigned_words : (r a : Running) (h : IsAssigning r a) → a.done.words ≡ r.done.words ++ h.ran.words
+assigned_words r a h = ap (λ (x : Running). x.done.words) h.gives
+
+module _ (laws : HasLaws) (s : State) where
+  one_assigned : (a b : Assigned) (stream : ℕ → ℕ) → IsAssigned s a → IsAssigned s b → Begins a.words stream → Begins b.words stream → a ≡ b
+  one_assigned a b stream h k at_a at_b =
+      let view = seen_by s in
+      let usable : h.usable ≡ k.usable = laws.one_usable view h.usable k.usable h.are_usable k.are_usable in
+      let asked : AreAsked view k.usable s.ports h.wishes = subst (λ (list : List Delegated). AreAsked view list s.ports h.wishes) usable h.are_asked in
+      let wishes : h.wishes ≡ k.wishes = one_wishes view k.usable s.ports h.wishes k.wishes asked k.are_asked in
+      laws.one_subroutine view k.wishes s.held a b stream (subst (λ (list : List Wish). IsSubroutine view list s.held a) wishes h.is_subroutine) k.is_subroutine at_a at_b
+
+pub sole_assigning : HasLaws → IsSole IsAssigning
+sole_assigning laws = record {
+  grows = λ stream r a h begins. begins_front r.done.words h.ran.words stream (begins_along a.done.words (r.done.words ++ h.ran.words) stream (assigned_words r a h) begins);
+  one = λ stream r a b h k at_a at_b.
+      let rest : ℕ → ℕ = λ i. stream (length r.done.words + i) in
+      let words_a : Begins h.ran.words rest = begins_back r.done.words h.ran.words stream (begins_along a.done.words (r.done.words ++ h.ran.words) stream (assigned_words r a h) at_a) in
+      let words_b : Begins k.ran.words rest = begins_back r.done.words k.ran.words stream (begins_along b.done.words (r.done.words ++ k.ran.words) stream (assigned_words r b k) at_b) in
+      h.gives
+      ∙ ap (λ (ran : Assigned). with_words ran.words (record r { state = record r.state { held = ran.held } })) (one_assigned laws r.state h.ran k.ran rest h.is_assigned k.is_assigned words_a words_b)
+      ∙ sym k.gives;
+}
+
+-- ---- the other events
+
+pub sole_attaching : (at : EpId) → IsSole (IsAttaching at)
+sole_attaching at =
+    let rule : ℕ → Running → Running = λ word r. with_words (word ∷ []) (record r { state = record r.state { ports = attached (begun at r.state.moment word) r.state.ports } }) in
+    sole_from (IsAttaching at) (λ r a. (word : ℕ) × (a ≡ rule word r)) (λ r a h. (h.word, h.gives)) (sole_word rule (λ word r. refl))
+
+sole_port_restart : (port : Port) → IsSole (IsPortRestart port)
+sole_port_restart port =
+    let rule : ℕ → Running → Running = λ word r. with_words (word ∷ []) (with_port (begun port.id r.state.moment word) r) in
+    sole_from (IsPortRestart port) (λ r a. (word : ℕ) × (a ≡ rule word r)) (λ r a h. (h.word, h.gives)) (sole_word rule (λ word r. refl))
+
+pub sole_restarting : HasLaws → IsSole IsRestarting
+sole_restarting laws =
+    sole_start (λ s r a. Then (Each (λ at. AtPort at IsPortRestart) (endpoints_of s.state.ports)) (Publishes 1) (emptied r) a)
+    (λ s. sole_after emptied (Then (Each (λ at. AtPort at IsPortRestart) (endpoints_of s.state.ports)) (Publishes 1)) (λ r. refl)
+    (sole_both (Each (λ at. AtPort at IsPortRestart) (endpoints_of s.state.ports)) (Publishes 1)
+    (sole_each (λ at. AtPort at IsPortRestart) (λ at. sole_at at IsPortRestart sole_port_restart) (endpoints_of s.state.ports)) (sole_publishes laws 1)))

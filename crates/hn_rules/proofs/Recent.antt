@@ -1,0 +1,144 @@
+-- Where nothing was touched and no age is due, a refresh changes nothing.
+use Rattle.std.proofs.Common.{◌≡◌, ◌<◌, ◌≤◌, ◌-◌, ◌^◌, ◌∙◌, ℕ, Bool, true, false, List, [], ◌∷◌, map, filter, nat_lt, Option, Some, None, inl, inr, refl, sym, ap, subst, arith}
+use Rattle.std.specs.Prelude.{All, is_none, Contains, ◌⊎◌}
+use Rattle.std.proofs.lemmas.List.Elements.{All-head, All-tail, All-contains, Contains-append_left, Contains-append_right, Contains-append_cases}
+use Rattle.hn_base.specs.declared.ids.NodeId.{NodeId}
+use Rattle.hn_base.proofs.AscendingLists.{Contains-head, Contains-tail, Contains-cases, Contains-map, Contains-from_map}
+use Rattle.hn_data.specs.declared.view.Entry.{Entry}
+use Rattle.hn_graph.specs.Path.{IsReachable}
+use Rattle.hn_graph.specs.Laws.{IsLike, KeepsReach, ReachabilityStays}
+use Rattle.hn_store.specs.Loss.{is_among, lost_after, marked_node}
+use Rattle.hn_store.specs.declared.stored.HeldNode.{HeldNode}
+use Rattle.hn_rules.specs.declared.state.State.{State}
+use Rattle.hn_rules.specs.declared.running.Running.{Running}
+use Rattle.hn_rules.specs.Nodes.{age_at, held_entry, own_entry, IsReach}
+use Rattle.hn_rules.specs.Refresh.{IsReaching, IsRefresh}
+use Rattle.hn_rules.specs.Router.{IsRefreshed}
+use Rattle.hn_rules.proofs.Forgetting.{contains_filter, contains_from_filter, passes_from_filter, between, among_reach, IsMarked}
+
+-- ---- moments of loss
+
+lost_same : (reachable : Bool) (now : ℕ) (lost : Option ℕ) → reachable ≡ is_none lost → lost_after reachable now lost ≡ lost
+lost_same true now None is = refl
+lost_same true now (Some moment) is = absurd cc
+lost_same false now None is = absurd cc
+lost_same false now (Some moment) is = refl
+
+-- where each node is marked, a mark changes nothing
+marks_same : (reach : List NodeId) (now : ℕ) (nodes : List HeldNode) → All (IsMarked reach) nodes → map (marked_node reach now) nodes ≡ nodes
+marks_same reach now [] marked = refl
+marks_same reach now (node ∷ nodes) marked =
+    let one : marked_node reach now node ≡ node =
+    ap (λ (lost : Option ℕ). record node { stored = record node.stored { lost = lost } }) (lost_same (is_among reach node.id.0) now node.stored.lost (All-head (IsMarked reach) node nodes marked)) in
+    let more = marks_same reach now nodes (All-tail (IsMarked reach) node nodes marked) in
+    cc
+
+no_loss : (lost : Option ℕ) → is_none lost ≡ true → lost ≡ None
+no_loss None is = refl
+no_loss (Some moment) is = absurd cc
+
+-- ---- the same nodes are reachable
+
+-- no path ends at a node that has no moment of loss
+abbrev pub LeadsOn : ℕ → HeldNode → Type 0
+LeadsOn now node = node.stored.lost ≡ None → age_at now node.stored < 2 ^ 32 - 2 ^ 15
+
+module _ (s : State) where
+  abbrev lower : Entry → Bool
+  lower n = nat_lt n.id.0 s.id.0
+
+  abbrev greater : Entry → Bool
+  greater n = nat_lt s.id.0 n.id.0
+
+  abbrev own_at : ℕ → Entry
+  own_at moment = own_entry (record s { moment = moment })
+
+  abbrev held_at : ℕ → List Entry
+  held_at moment = map (held_entry moment) s.table.entries
+
+  abbrev nodes_at : ℕ → List Entry
+  nodes_at moment = between lower greater (own_at moment) (held_at moment)
+
+  -- what a held node is at one moment and at another
+  abbrev IsHeld : ℕ → ℕ → Entry → Type 0
+  IsHeld m n x = (node : HeldNode) × Contains s.table.entries node × (held_entry m node ≡ x) × Contains (nodes_at n) (held_entry n node)
+
+  own_there : (moment : ℕ) → Contains (nodes_at moment) (own_at moment)
+  own_there moment = Contains-append_right (filter lower (held_at moment)) (own_at moment ∷ filter greater (held_at moment)) (own_at moment) (Contains-head (own_at moment) (filter greater (held_at moment)))
+
+  -- a node at one moment is the own one or a held one, which is there at the other moment
+  own_or_held : (m n : ℕ) (x : Entry) → Contains (nodes_at m) x → (x ≡ own_at m) ⊎ IsHeld m n x
+  own_or_held m n x there = by_part (Contains-append_cases (filter lower (held_at m)) (own_at m ∷ filter greater (held_at m)) x there)
+    where
+      held : (p : Entry → Bool) → ((node : HeldNode) → p (held_entry m node) ≡ true → p (held_entry n node) ≡ true) → ((y : Entry) → Contains (filter p (held_at n)) y → Contains (nodes_at n) y)
+          → Contains (filter p (held_at m)) x → IsHeld m n x
+      held p alike goes old =
+          let from = Contains-from_map (held_entry m) s.table.entries x (contains_from_filter p (held_at m) x old) in
+          let passes : p (held_entry m from.0) ≡ true = subst (λ (y : Entry). p y ≡ true) (sym from.2) (passes_from_filter p (held_at m) x old) in
+          let other = contains_filter p (held_at n) (held_entry n from.0) (Contains-map (held_entry n) s.table.entries from.0 from.1) (alike from.0 passes) in
+          (from.0, from.1, from.2, goes (held_entry n from.0) other)
+
+      above : (own_at m ≡ x) ⊎ Contains (filter greater (held_at m)) x → (x ≡ own_at m) ⊎ IsHeld m n x
+      above (inl is) = inl (sym is)
+      above (inr old) =
+          inr (held greater (λ node passes. passes)
+          (λ y there. Contains-append_right (filter lower (held_at n)) (own_at n ∷ filter greater (held_at n)) y (Contains-tail (own_at n) (filter greater (held_at n)) y there)) old)
+
+      by_part : Contains (filter lower (held_at m)) x ⊎ Contains (own_at m ∷ filter greater (held_at m)) x → (x ≡ own_at m) ⊎ IsHeld m n x
+      by_part (inl old) = inr (held lower (λ node passes. passes) (λ y there. Contains-append_left (filter lower (held_at n)) (own_at n ∷ filter greater (held_at n)) y there) old)
+      by_part (inr rest) = above (Contains-cases (own_at m) (filter greater (held_at m)) x rest)
+
+  module _ (moment : ℕ) (past : moment ≤ s.moment) (is_reach : IsReach (record s { moment = moment }) s.reach) (marked : All (IsMarked s.reach) s.table.entries)
+      (young : s.moment - s.own.born < 2 ^ 32 - 2 ^ 16) (leads : All (LeadsOn s.moment) s.table.entries) where
+    own_like : (x : Entry) → x ≡ own_at moment → IsLike x (own_at s.moment)
+    own_like x is = subst (λ (y : Entry). IsLike y (own_at s.moment)) (sym is) (record { id = refl; body = refl; recent = λ _. omega arith })
+
+    own_was : (y : Entry) → y ≡ own_at s.moment → IsLike y (own_at moment)
+    own_was y is = subst (λ (x : Entry). IsLike x (own_at moment)) (sym is) (record { id = refl; body = refl; recent = λ recent. omega arith })
+
+    held_like : (x : Entry) (node : HeldNode) → IsReachable s.id.0 (nodes_at moment) x.id.0 → Contains s.table.entries node → held_entry moment node ≡ x → IsLike x (held_entry s.moment node)
+    held_like x node reachable there is =
+        let among : is_among s.reach node.id.0 ≡ true = among_reach s.reach x.id node.id.0 ((is_reach.exactly x.id).1 reachable) (sym (ap (λ (n : Entry). n.id.0) is)) in
+        let mark = All-contains (IsMarked s.reach) s.table.entries node marked there in
+        let recent = All-contains (LeadsOn s.moment) s.table.entries node leads there (no_loss node.stored.lost (sym mark ∙ among)) in
+        subst (λ (y : Entry). IsLike y (held_entry s.moment node)) is (record { id = refl; body = refl; recent = λ _. recent })
+
+    held_was : (y : Entry) (node : HeldNode) → held_entry s.moment node ≡ y → IsLike y (held_entry moment node)
+    held_was y node is = subst (λ (x : Entry). IsLike x (held_entry moment node)) is (record { id = refl; body = refl; recent = λ recent. omega arith })
+
+    keeps : KeepsReach s.id.0 (nodes_at moment) (nodes_at s.moment)
+    keeps = record {
+      kept = λ x there reachable. still x reachable (own_or_held moment s.moment x there);
+      known = λ y there. was y (own_or_held s.moment moment y there);
+    }
+      where
+        still : (x : Entry) → IsReachable s.id.0 (nodes_at moment) x.id.0 → (x ≡ own_at moment) ⊎ IsHeld moment s.moment x → (y : Entry) × Contains (nodes_at s.moment) y × IsLike x y
+        still x reachable (inl is) = (own_at s.moment, own_there s.moment, own_like x is)
+        still x reachable (inr (node, there, is, other)) = (held_entry s.moment node, other, held_like x node reachable there is)
+
+        was : (y : Entry) → (y ≡ own_at s.moment) ⊎ IsHeld s.moment moment y → (x : Entry) × Contains (nodes_at moment) x × IsLike y x
+        was y (inl is) = (own_at moment, own_there moment, own_was y is)
+        was y (inr (node, there, is, other)) = (held_entry moment node, other, held_was y node is)
+
+    same_reach : ReachabilityStays → IsReach s s.reach
+    same_reach reach_stays = record {
+      ascending = is_reach.ascending;
+      exactly = λ id.
+          let same = reach_stays s.id.0 _ _ keeps id.0 in
+          let there = is_reach.exactly id in
+          (λ old. same.0 (there.0 old), λ reachable. there.1 (same.1 reachable));
+    }
+
+-- a refresh that changes nothing
+pub same_refresh : ReachabilityStays → (r : Running) → IsRefreshed r.state → r.state.moment - r.state.own.born < 2 ^ 32 - 2 ^ 16 → All (LeadsOn r.state.moment) r.state.table.entries → IsRefresh r r
+same_refresh reach_stays r is young leads = (r, inl (record { same = is.published; young = young }, refl), (r, reaching, inl (sym is.hashed, refl)))
+  where
+    with_nodes : List HeldNode → Running
+    with_nodes nodes = record r { state = record r.state { table = record r.state.table { entries = nodes } } }
+
+    reaching : IsReaching r r
+    reaching = record {
+      reach = r.state.reach;
+      is_reach = same_reach r.state is.reached.moment is.reached.past is.reached.was is.lost young leads reach_stays;
+      gives = ap with_nodes (sym (marks_same r.state.reach r.state.moment r.state.table.entries is.lost));
+    }

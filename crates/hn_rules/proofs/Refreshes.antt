@@ -1,0 +1,225 @@
+-- What a refresh makes, and what keeps it.
+use Rattle.std.proofs.Common.{◌≡◌, ◌<◌, ◌≤◌, ◌∙◌, ℕ, Bool, true, false, cond, List, [], ◌∷◌, ◌++◌, map, filter, get_or, nat_lt, Option, Some, inl, inr, refl, sym, ap, subst, arith}
+use Rattle.std.specs.Prelude.{All, find, is_none, ◌↔◌, Contains}
+use Rattle.std.specs.Ordering.{nat_cmp}
+use Rattle.std.specs.declared.cmp.Ordering.TheVariants.{Less}
+use Rattle.std.specs.List.{AllByRecursion}
+use Rattle.std.specs.List.Sorted.{IsStrictlySortedBy}
+use Rattle.std.specs.Cmp.{ranked}
+use Rattle.std.proofs.lemmas.Bool.{cond_both, eqb-true, eqb-false}
+use Rattle.std.proofs.lemmas.List.Elements.{All-nil, All-cons, All-head, All-tail, All-map, All-weaker}
+use Rattle.hn_base.specs.declared.ids.NodeId.{NodeId}
+use Rattle.hn_base.specs.declared.ids.EpId.{EpId}
+use Rattle.hn_data.specs.declared.view.Entry.{Entry}
+use Rattle.hn_graph.specs.Path.{IsReachable}
+use Rattle.hn_timers.specs.Interval.{started}
+use Rattle.hn_dncp.specs.declared.port.Port.{Port}
+use Rattle.hn_dncp.specs.Tick.{ticked}
+use Rattle.hn_store.specs.declared.stored.HeldNode.{HeldNode}
+use Rattle.hn_store.specs.Loss.{is_among, lost_after, marked_node}
+use Rattle.hn_rules.specs.declared.state.State.{State}
+use Rattle.hn_rules.specs.declared.running.Running.{Running}
+use Rattle.hn_own.specs.Own.{links_at, links_of}
+use Rattle.hn_own.specs.Ports.{ArePorts, is_port, port_at, put_port, endpoints_of}
+use Rattle.hn_rules.specs.Nodes.{held_entry, own_entry}
+use Rattle.hn_rules.specs.Rules.{Rule, AtPort, with_port}
+use Rattle.hn_rules.specs.Refresh.{own_items, IsPublishing, IsReaching, network_state_hash, IsPortReset, IsHashing, IsRefresh}
+use Rattle.hn_rules.specs.Tick.{IsPortSending, IsPortTick, IsPortsTick}
+use Rattle.hn_rules.specs.Router.{WasReach, IsRefreshed}
+use Rattle.hn_rules.proofs.Known.{KnownLaws}
+use Rattle.hn_rules.proofs.Parts.{IsMade, are-put}
+use Rattle.hn_rules.proofs.Wells.{Keeps, Made, keeps_option, keeps_each, keeps_refresh, keeps_ports_tick}
+
+-- ---- endpoints that keep their number and what the router says of their peers
+
+abbrev number : Port → ℕ
+number port = port.id.0
+
+-- what is found has the number that was sought
+found_number : (at : EpId) (ports : List Port) (port : Port) → port_at at ports ≡ Some port → port.id.0 ≡ at.0
+found_number at [] port found = absurd cc
+found_number at (p ∷ ports) port found = by_test (is_port at p) refl found (found_number at ports port)
+  where
+    by_test : (b : Bool) → is_port at p ≡ b → cond b (Some p) (find (is_port at) ports) ≡ Some port → (port_at at ports ≡ Some port → port.id.0 ≡ at.0) → port.id.0 ≡ at.0
+    by_test true is found more = let same : p ≡ port = cc in subst (λ (q : Port). q.id.0 ≡ at.0) same (eqb-true p.id.0 at.0 is)
+    by_test false is found more = more found
+
+-- no other endpoint has its number
+pub only_one : (at : EpId) (ports : List Port) (port : Port) → IsStrictlySortedBy nat_cmp (map number ports) → port_at at ports ≡ Some port → All (λ p. p.id.0 ≡ port.id.0 → p ≡ port) ports
+unfolding IsStrictlySortedBy
+only_one at [] port up found = All-nil (λ p. p.id.0 ≡ port.id.0 → p ≡ port)
+only_one at (p ∷ ports) port up found = by_test (is_port at p) refl found (only_one at ports port up.1)
+  where
+    above : (p : Port) (ports : List Port) → AllByRecursion (λ n. nat_cmp p.id.0 n ≡ Less) (map number ports) → All (λ q. p.id.0 < q.id.0) ports
+    above p [] all = All-nil (λ (q : Port). p.id.0 < q.id.0)
+    above p (q ∷ ports) all = All-cons (λ (q : Port). p.id.0 < q.id.0) q ports (ranked p.id.0 q.id.0 Less (sym all.0)) (above p ports all.1)
+
+    by_test : (b : Bool) → is_port at p ≡ b → cond b (Some p) (find (is_port at) ports) ≡ Some port → (port_at at ports ≡ Some port → All (λ p. p.id.0 ≡ port.id.0 → p ≡ port) ports)
+        → All (λ p. p.id.0 ≡ port.id.0 → p ≡ port) (p ∷ ports)
+    by_test true is found more =
+        let same : p ≡ port = cc in
+        All-cons (λ p. p.id.0 ≡ port.id.0 → p ≡ port) p ports (λ _. same)
+        (All-weaker (λ (q : Port). p.id.0 < q.id.0) (λ q. q.id.0 ≡ port.id.0 → q ≡ port) (λ q less is. absurd (let one = ap number same in omega arith)) ports (above p ports up.0))
+    by_test false is found more =
+        All-cons (λ p. p.id.0 ≡ port.id.0 → p ≡ port) p ports (λ one. absurd (eqb-false p.id.0 at.0 is (one ∙ found_number at ports port found))) (more found)
+
+links_put : (ports : List Port) (next : Port) → All (λ p. p.id.0 ≡ next.id.0 → links_at next ≡ links_at p) ports → links_of (put_port next ports) ≡ links_of ports
+links_put [] next same = refl
+links_put (p ∷ ports) next same =
+    let P = λ (p : Port). p.id.0 ≡ next.id.0 → links_at next ≡ links_at p in
+    let one = cond_both (is_port next.id p) next p (λ (q : Port). links_at q ≡ links_at p) (λ is. All-head P p ports same (eqb-true p.id.0 next.id.0 is)) (λ _. refl) in
+    let more = links_put ports next (All-tail P p ports same) in
+    cc
+
+-- an endpoint is changed that keeps its number and what the router says of its peers
+kept_links : (at : EpId) (ports : List Port) (port next : Port) → IsStrictlySortedBy nat_cmp (map number ports) → port_at at ports ≡ Some port → next.id ≡ port.id → links_at next ≡ links_at port
+    → links_of (put_port next ports) ≡ links_of ports
+kept_links at ports port next up found same_id same_links =
+    links_put ports next (All-weaker (λ p. p.id.0 ≡ port.id.0 → p ≡ port) (λ p. p.id.0 ≡ next.id.0 → links_at next ≡ links_at p) each ports (only_one at ports port up found))
+  where
+    each : (p : Port) → (p.id.0 ≡ port.id.0 → p ≡ port) → p.id.0 ≡ next.id.0 → links_at next ≡ links_at p
+    each p one is = same_links ∙ ap links_at (sym (one (is ∙ ap (λ (id : EpId). id.0) same_id)))
+
+refreshed_ports : (s : State) (ports : List Port) → links_of ports ≡ links_of s.ports → IsRefreshed s → IsRefreshed (record s { ports = ports })
+refreshed_ports s ports same is = record {
+  published = rw same is.published;
+  reached = record {
+    moment = is.reached.moment;
+    past = is.reached.past;
+    was = record { ascending = is.reached.was.ascending; exactly = is.reached.was.exactly };
+  };
+  lost = is.lost;
+  hashed = is.hashed;
+}
+
+-- ---- endpoints, and what a refresh makes
+
+pub record IsFresh (s : State) : Type 0 where
+  pub ports : ArePorts s.ports
+  pub refreshed : IsRefreshed s
+
+abbrev pub Fresh : Running → Type 0
+Fresh r = IsFresh r.state
+
+pub fresh_port : (at : EpId) (port next : Port) (r : Running) → port_at at r.state.ports ≡ Some port → next.id ≡ port.id → links_at next ≡ links_at port → Fresh r → Fresh (with_port next r)
+fresh_port at port next r found same_id same_links fresh = record {
+  ports = are-put next r.state.ports fresh.ports;
+  refreshed = refreshed_ports r.state (put_port next r.state.ports) (kept_links at r.state.ports port next fresh.ports.ascending found same_id same_links) fresh.refreshed;
+}
+
+-- a rule of an endpoint that keeps its number and what the router says of its peers
+abbrev KeepsLinks : (Port → Rule) → Type 0
+KeepsLinks rule =
+    (port : Port) (r a : Running) → rule port r a → ((next : Port) → next.id ≡ port.id → links_at next ≡ links_at port → Fresh (with_port next r)) → Fresh r → Fresh a
+
+pub keeps_fresh_at : (at : EpId) (rule : Port → Rule) → KeepsLinks rule → Keeps Fresh (AtPort at rule)
+keeps_fresh_at at rule keeps =
+    keeps_option Fresh at rule (λ port r a found holds fresh. keeps port r a holds (λ next same_id same_links. fresh_port at port next r found same_id same_links fresh) fresh)
+
+-- ---- a refresh
+
+-- the facts but for the hash
+record IsReached (s : State) : Type 0 where
+  published : own_items s ≡ s.own.items
+  reached : WasReach s
+  lost : All (λ node. is_among s.reach node.id.0 ≡ is_none node.stored.lost) s.table.entries
+
+published_after : (r a : Running) → IsPublishing r a → own_items a.state ≡ a.state.own.items
+published_after r a (inl (published, is)) = subst (λ (x : Running). own_items x.state ≡ x.state.own.items) (sym is) published.same
+published_after r a (inr (other, is)) = subst (λ (x : Running). own_items x.state ≡ x.state.own.items) (sym is.gives) (sym is.items_are)
+
+-- a mark changes nothing of what is seen of a node
+seen_marked : (reach : List NodeId) (now moment : ℕ) (nodes : List HeldNode) → map (held_entry moment) (map (marked_node reach now) nodes) ≡ map (held_entry moment) nodes
+seen_marked reach now moment [] = refl
+seen_marked reach now moment (node ∷ nodes) = ap (λ rest. held_entry moment node ∷ rest) (seen_marked reach now moment nodes)
+
+lost_is : (reachable : Bool) (now : ℕ) (lost : Option ℕ) → reachable ≡ is_none (lost_after reachable now lost)
+lost_is true now lost = refl
+lost_is false now lost = refl
+
+reached_after : (r a : Running) → IsReaching r a → own_items r.state ≡ r.state.own.items → IsReached a.state
+reached_after r a is published = subst (λ (x : Running). IsReached x.state) (sym is.gives) (record {
+  published = published;
+  reached = record { moment = s.moment; past = omega arith; was = record { ascending = is.is_reach.ascending; exactly = exactly } };
+  lost = All-map (λ (node : HeldNode). is_among is.reach node.id.0 ≡ is_none node.stored.lost) (marked_node is.reach s.moment) s.table.entries
+      (λ k d within. let node = get_or s.table.entries k d in lost_is (is_among is.reach node.id.0) s.moment node.stored.lost);
+})
+  where
+    s : State
+    s = r.state
+
+    among : List Entry → List Entry
+    among nodes = filter (λ n. nat_lt n.id.0 r.state.id.0) nodes ++ own_entry r.state ∷ filter (λ n. nat_lt r.state.id.0 n.id.0) nodes
+
+    exactly : (id : NodeId) → Contains is.reach id ↔ IsReachable r.state.id.0 (among (map (held_entry r.state.moment) (map (marked_node is.reach r.state.moment) r.state.table.entries))) id.0
+    exactly id = rw (seen_marked is.reach r.state.moment r.state.moment r.state.table.entries) (is.is_reach.exactly id)
+
+with_hash : (s : State) (net : List ℕ) → IsReached s → net ≡ network_state_hash s → IsRefreshed (record s { net = net })
+with_hash s net is same = record {
+  published = is.published;
+  reached = record { moment = is.reached.moment; past = is.reached.past; was = record { ascending = is.reached.was.ascending; exactly = is.reached.was.exactly } };
+  lost = is.lost;
+  hashed = same;
+}
+
+reset_keeps : KeepsLinks IsPortReset
+reset_keeps port r a (inl (shortest, is)) changed fresh = subst Fresh (sym is) fresh
+reset_keeps port r a (inr (longer, (word, is))) changed fresh = subst Fresh (sym is) (changed (record port { trickle = started r.state.moment 200 word }) refl refl)
+
+fresh_hashing : (r a : Running) → IsHashing r a → ArePorts r.state.ports → IsReached r.state → Fresh a
+fresh_hashing r a (inl (same, is)) are reached = subst Fresh (sym is) (record { ports = are; refreshed = with_hash r.state r.state.net reached (sym same) })
+fresh_hashing r a (inr (other, resets)) are reached =
+    let hashed : Running = record r { state = record r.state { net = network_state_hash r.state } } in
+    let start : Fresh hashed = record { ports = are; refreshed = with_hash r.state (network_state_hash r.state) reached refl } in
+    keeps_each Fresh (λ at. AtPort at IsPortReset) (λ at. keeps_fresh_at at IsPortReset reset_keeps) (endpoints_of r.state.ports) hashed a resets start
+
+ports_after : (r a : Running) → IsPublishing r a → a.state.ports ≡ r.state.ports
+ports_after r a (inl (published, is)) = ap (λ (x : Running). x.state.ports) is
+ports_after r a (inr (other, is)) = ap (λ (x : Running). x.state.ports) is.gives
+
+-- after a refresh
+pub fresh_refresh : (r a : Running) → IsRefresh r a → ArePorts r.state.ports → Fresh a
+fresh_refresh r a (published, publishes, (reached, reaches, hashes)) are =
+    let same : reached.state.ports ≡ r.state.ports = ap (λ (x : Running). x.state.ports) reaches.gives ∙ ports_after r published publishes in
+    fresh_hashing reached a hashes (subst ArePorts (sym same) are) (reached_after published reached reaches (published_after r published publishes))
+
+tick_keeps : KeepsLinks IsPortTick
+tick_keeps port r a (between, moves, sends) changed fresh =
+    sent sends (subst Fresh (sym moves.gives) (changed (ticked r.state.moment moves.words port) refl refl))
+  where
+    sent : IsPortSending port between a → Fresh between → Fresh a
+    sent (inl (due, is)) fresh = subst Fresh (sym is.gives) fresh
+    sent (inr (none, is)) fresh = subst Fresh (sym is) fresh
+
+-- ---- a router with all its facts
+
+pub record IsDone (r : Running) : Type 0 where
+  pub made : IsMade r.state
+  pub refreshed : IsRefreshed r.state
+
+-- a refresh makes all facts of a router
+pub done_refresh : KnownLaws → (r a : Running) → IsRefresh r a → Made r → IsDone a
+done_refresh known r a refreshes made = record {
+  made = keeps_refresh known r a refreshes made;
+  refreshed = (fresh_refresh r a refreshes made.ports.are).refreshed;
+}
+
+pub keeps_done_ticks : Keeps IsDone IsPortsTick
+keeps_done_ticks r a ticks done =
+    let start : Fresh r = record { ports = done.made.ports.are; refreshed = done.refreshed } in
+    record {
+      made = keeps_ports_tick r a ticks done.made;
+      refreshed = (keeps_each Fresh (λ at. AtPort at IsPortTick) (λ at. keeps_fresh_at at IsPortTick tick_keeps) (endpoints_of r.state.ports) r a ticks start).refreshed;
+    }
+
+pub refreshed-later : (now : ℕ) (s : State) → s.moment ≤ now → IsRefreshed s → IsRefreshed (record s { moment = now })
+refreshed-later now s rises is = record {
+  published = is.published;
+  reached = record {
+    moment = is.reached.moment;
+    past = let past = is.reached.past in omega arith;
+    was = record { ascending = is.reached.was.ascending; exactly = is.reached.was.exactly };
+  };
+  lost = is.lost;
+  hashed = is.hashed;
+}

@@ -1,0 +1,53 @@
+-- A refresh, and the words that its steps take.
+use Rattle.std.proofs.Common.{◌≡◌, ◌≢◌, ◌∙◌, ℕ, List, [], ◌∷◌, ◌++◌, Option, Some, ap, refl, sym, subst, inl, inr}
+use Rattle.hn_base.specs.declared.ids.EpId.{EpId}
+use Rattle.hn_io.specs.Words.{Drew}
+use Rattle.hn_timers.specs.Interval.{Interval, started}
+use Rattle.hn_dncp.specs.declared.port.Port.{Port}
+use Rattle.hn_rules.specs.declared.done.Publication.{Publication}
+use Rattle.hn_rules.specs.declared.running.Running.{Running}
+use Rattle.hn_own.specs.Own.{PlainData, IsOwnData}
+use Rattle.hn_own.specs.Ports.{port_at}
+use Rattle.hn_rules.specs.Rules.{AtPort, Ran, with_words, with_port}
+use Rattle.hn_rules.specs.Refresh.{own_items, IsPortReset, Publishes, IsPublishing, IsReaching, IsHashing, IsRefresh}
+use Rattle.hn_rules.proofs.Rans.{at_port}
+
+-- what was written is a publication
+pub publishes : (number : ℕ) (body : List ℕ) (own : PlainData) (published : List Publication) (before : Running)
+    → IsOwnData own → own.items ≡ own_items before.state → own.born ≡ before.state.moment → body ≡ own.body
+    → published ≡ before.done.published ++ record { id = before.state.id; number = number; body = body } ∷ []
+    → Publishes number before (record before { state = record before.state { number = number; own = own }; done = record before.done { published = published } })
+publishes number body own published before is_data items present same pushed = record {
+  own = own;
+  data_is = is_data;
+  items_are = items;
+  born_is = present;
+  gives = rw (pushed, same) refl;
+}
+
+-- a publication takes no word
+pub publishing_words : (before after : Running) → IsPublishing before after → after.done.words ≡ before.done.words
+publishing_words before after (inl (_, same)) = ap (λ (r : Running). r.done.words) same
+publishing_words before after (inr (_, published)) = ap (λ (r : Running). r.done.words) published.gives
+
+-- a refresh in three steps
+pub ran_refresh : (told told_after : Option (ℕ → ℕ)) (before published reached after : Running) → IsPublishing before published → IsReaching published reached → Ran IsHashing told told_after reached after → Ran IsRefresh told told_after before after
+ran_refresh told told_after before published reached after publishing reaching hashing =
+    let words : reached.done.words ≡ before.done.words = ap (λ (r : Running). r.done.words) reaching.gives ∙ publishing_words before published publishing in
+    record {
+      holds = (published, publishing, (reached, reaching, hashing.holds));
+      drew = subst (λ (ws : List ℕ). Drew told ws told_after after.done.words) words hashing.drew;
+    }
+
+-- Trickle of an endpoint is reset
+pub reset_one : (at : EpId) (port copy : Port) (trickle : Interval) (word now : ℕ) (told told_after : Option (ℕ → ℕ)) (ports : List Port) (before between after : Running)
+    → Some port ≡ port_at at ports → ports ≡ before.state.ports → port.trickle.len ≢ 200 → copy ≡ port → now ≡ before.state.moment → trickle ≡ started now 200 word
+    → between ≡ with_words (word ∷ []) before → Drew told before.done.words told_after between.done.words
+    → after ≡ with_port (record copy { trickle = trickle }) between
+    → Ran (AtPort at IsPortReset) told told_after before after
+reset_one at port copy trickle word now told told_after ports before between after here same_ports long same present began took drew gives =
+    let whole : after ≡ with_words (word ∷ []) (with_port (record port { trickle = started before.state.moment 200 word }) before) = cc in
+    record {
+      holds = at_port at port ports IsPortReset before after here same_ports (inr (long, (word, whole)));
+      drew = subst (λ (ws : List ℕ). Drew told before.done.words told_after ws) (ap (λ (r : Running). r.done.words) (sym gives)) drew;
+    }

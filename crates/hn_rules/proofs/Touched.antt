@@ -1,0 +1,190 @@
+-- What touches nothing that a refresh makes.
+use Rattle.std.proofs.Common.{◌≡◌, ◌≢◌, ◌<◌, ◌+◌, ◌∙◌, ℕ, Bool, true, false, cond, List, [], ◌∷◌, ◌++◌, length, map, take, get_or, Option, Some, None, inr, refl, sym, ap, subst}
+use Rattle.std.specs.Prelude.{All, ◌==◌, ◌||◌}
+use Rattle.std.specs.Str.{bytes_eq}
+use Rattle.std.proofs.lemmas.Bool.{cond_both, and_parts, eqb-true, eq-eqb}
+use Rattle.std.proofs.lemmas.List.{take_more}
+use Rattle.std.proofs.lemmas.List.Elements.{All-head, All-tail, All-push}
+use Rattle.hn_base.specs.declared.ids.NodeId.{NodeId}
+use Rattle.hn_base.specs.declared.ids.EpId.{EpId}
+use Rattle.hn_typed.specs.Item.{PlainItem}
+use Rattle.hn_typed.specs.Item as item
+use Rattle.hn_data.specs.declared.said.PeerLink.{PeerLink}
+use Rattle.hn_dncp.specs.declared.peers.Neighbour.{Neighbour}
+use Rattle.hn_dncp.specs.declared.port.Port.{Port}
+use Rattle.hn_dncp.specs.declared.greet.Greet.{Greet}
+use Rattle.hn_dncp.specs.declared.greet.Greet.TheVariants.{Known, Added, Full, Unknown}
+use Rattle.hn_dncp.specs.Peers.{is_peer, has_peer}
+use Rattle.hn_dncp.specs.Greet.{greeting}
+use Rattle.hn_dncp.specs.Ask.{may_ask, asked}
+use Rattle.hn_dncp.specs.Hash.{contacted, hashed, asks_for_state}
+use Rattle.hn_rules.specs.declared.running.Running.{Running}
+use Rattle.hn_rules.specs.declared.running.Origin.{Origin}
+use Rattle.hn_rules.specs.declared.answers.Subject.{Subject}
+use Rattle.hn_rules.specs.declared.answers.Subject.TheVariants as subject
+use Rattle.hn_rules.specs.Answers.{with_answer}
+use Rattle.hn_own.specs.Ports.{ArePorts, is_port, port_at, put_port}
+use Rattle.hn_own.specs.Own.{link_at, links_at}
+use Rattle.hn_rules.specs.Rules.{OnPort, AtPort, with_port}
+use Rattle.hn_rules.specs.NodeEndpoint.{greeting_port, named}
+use Rattle.hn_rules.specs.NodeEndpoint as rule
+use Rattle.hn_rules.specs.NetworkState.{network_state}
+use Rattle.hn_rules.specs.Requests.{with_some_answer, state_item, with_state, is_reached, request_node, IsNetworkRequest}
+use Rattle.hn_rules.specs.Tick.{IsExpired, Without, IsPortExpiry}
+use Rattle.hn_rules.specs.Router.{IsRefreshed}
+use Rattle.hn_rules.proofs.Refreshes.{Fresh, only_one, fresh_port, keeps_fresh_at}
+use Rattle.hn_rules.proofs.Wells.{keeps_each}
+
+-- ---- in a loop
+
+-- where neither of two steps touched anything, both changed nothing
+pub neither : {P Q : Type 0} (a b : Bool) → (a ≡ false → P) → (b ≡ false → P → Q) → (a || b) ≡ false → Q
+neither false b p q none = q none (p refl)
+neither true b p q none = absurd cc
+
+-- ---- what a router says of peers
+
+-- elements that are changed, and give the same
+map_alike : {A B : Type 0} (f : A → A) (g : A → B) → ((x : A) → g (f x) ≡ g x) → (xs : List A) → map g (map f xs) ≡ map g xs
+map_alike f g same [] = refl
+map_alike f g same (x ∷ xs) = let one = same x in let more = map_alike f g same xs in cc
+
+-- of one that was heard
+contacted_links : (port : Port) (sender : Option (NodeId × EpId)) (now : ℕ) (peers : List Neighbour) → map (link_at port) (contacted sender now peers) ≡ map (link_at port) peers
+contacted_links port None now peers = refl
+contacted_links port (Some sender) now peers =
+    map_alike (λ (peer : Neighbour). cond (is_peer sender.0 sender.1 peer) (record peer { contact = now }) peer) (link_at port)
+    (λ peer. cond_both (is_peer sender.0 sender.1 peer) (record peer { contact = now }) peer (λ (p : Neighbour). link_at port p ≡ link_at port peer) (λ _. refl) (λ _. refl)) peers
+
+hashed_links : (same : Bool) (sender : Option (NodeId × EpId)) (now : ℕ) (port : Port) → links_at (hashed same sender now port) ≡ links_at port
+hashed_links true sender now port = contacted_links port sender now port.peers
+hashed_links false sender now port = refl
+
+-- of one that was met
+same_peer : (port : Port) (peer other : Neighbour) → is_peer peer.node peer.endpoint other ≡ true → link_at port peer ≡ link_at port other
+same_peer port peer other is =
+    let parts = and_parts (other.node.0 == peer.node.0) (other.endpoint.0 == peer.endpoint.0) is in
+    let link = λ (node endpoint : ℕ). let l : PeerLink = record { endpoint = port.id; peer = record { 0 = node }; peer_endpoint = record { 0 = endpoint } } in l in
+    ap (λ (n : ℕ). link n peer.endpoint.0) (sym (eqb-true other.node.0 peer.node.0 parts.0)) ∙ ap (link other.node.0) (sym (eqb-true other.endpoint.0 peer.endpoint.0 parts.1))
+
+renewed_links : (port : Port) (peer : Neighbour) (peers : List Neighbour) → map (link_at port) (map (λ other. cond (is_peer peer.node peer.endpoint other) peer other) peers) ≡ map (link_at port) peers
+renewed_links port peer peers =
+    map_alike (λ (other : Neighbour). cond (is_peer peer.node peer.endpoint other) peer other) (link_at port)
+    (λ other. cond_both (is_peer peer.node peer.endpoint other) peer other (λ (p : Neighbour). link_at port p ≡ link_at port other) (same_peer port peer other) (λ _. refl)) peers
+
+met_links : (port : Port) (peer : Neighbour) (peers : List Neighbour) (known multicast full : Bool) → cond known Known (cond multicast Unknown (cond full Full Added)) ≢ Added
+    → map (link_at port) (cond multicast peers (cond known (map (λ other. cond (is_peer peer.node peer.endpoint other) peer other) peers) (cond full peers (peers ++ peer ∷ [])))) ≡ map (link_at port) peers
+met_links port peer peers known true full other = refl
+met_links port peer peers true false full other = renewed_links port peer peers
+met_links port peer peers false false true other = refl
+met_links port peer peers false false false other = absurd (other refl)
+
+-- an endpoint that greets a sender and adds no peer says the same of its peers
+greeted_links : (from : Origin) (node : NodeId) (endpoint : EpId) (now : ℕ) (port : Port) → greeting node endpoint from.multicast port.peers ≢ Added → links_at (greeting_port from node endpoint now port) ≡ links_at port
+greeted_links from node endpoint now port other =
+    let peer : Neighbour = record { node = node; endpoint = endpoint; contact = now; addr = from.from } in
+    met_links port peer port.peers (has_peer node endpoint port.peers) from.multicast (length port.peers == 64) other
+
+-- ---- a Node Endpoint
+
+-- an endpoint is changed twice
+put_twice : (first second : Port) → second.id ≡ first.id → (ports : List Port) → put_port second (put_port first ports) ≡ put_port second ports
+put_twice first second same [] = refl
+put_twice first second same (p ∷ ports) =
+    let one = cond_both (is_port first.id p) first p (λ (q : Port). cond (is_port second.id q) second q ≡ cond (is_port second.id p) second p) same_put (λ _. refl) in
+    let more = put_twice first second same ports in
+    cc
+  where
+    same_put : is_port first.id p ≡ true → cond (is_port second.id first) second first ≡ cond (is_port second.id p) second p
+    same_put is =
+        let here : is_port second.id first ≡ true = eq-eqb first.id.0 second.id.0 (ap (λ (id : EpId). id.0) (sym same)) in
+        let there : is_port second.id p ≡ true = eq-eqb p.id.0 second.id.0 (eqb-true p.id.0 first.id.0 is ∙ ap (λ (id : EpId). id.0) (sym same)) in
+        cc
+
+fresh_met : (greet : Greet) (at : EpId) (port next : Port) (r : Running) → port_at at r.state.ports ≡ Some port → next.id ≡ port.id → links_at next ≡ links_at port → Fresh r → Fresh (rule.met greet next (with_port next r))
+fresh_met Full at port next r found same_id same_links fresh = fresh_port at port next r found same_id same_links fresh
+fresh_met Known at port next r found same_id same_links fresh = fresh_port at port next r found same_id same_links fresh
+fresh_met Added at port next r found same_id same_links fresh = fresh_port at port next r found same_id same_links fresh
+fresh_met Unknown at port next r found same_id same_links fresh =
+    let asks = asked r.state.moment next in
+    let put : Running = with_port next r in
+    let once : Fresh (with_port asks r) = fresh_port at port asks r found same_id same_links fresh in
+    let twice : Fresh (with_port asks put) = subst (λ (ports : List Port). Fresh (record r { state = record r.state { ports = ports } })) (sym (put_twice next asks refl r.state.ports)) once in
+    cond_both (may_ask r.state.moment next.asked) (with_answer subject.NetworkRequest (item.RequestNetwork []) (with_port asks put)) put Fresh
+    (λ _. twice) (λ _. fresh_port at port next r found same_id same_links fresh)
+
+-- the sender is named, and no peer is added
+pub named_untouched : (from : Origin) (node : NodeId) (endpoint : EpId) (port copy : Port) (ports : List Port) (r a : Running) → ArePorts ports → Some port ≡ port_at from.endpoint ports → ports ≡ r.state.ports → copy ≡ port
+    → greeting node endpoint from.multicast copy.peers ≢ Added → a ≡ named from node endpoint copy r → IsRefreshed r.state → IsRefreshed a.state
+named_untouched from node endpoint port copy ports r a are here same_ports same_port other is refreshed =
+    let start : Running = record r { sender = Some (node, endpoint) } in
+    let after = greeting_port from node endpoint r.state.moment copy in
+    let found : port_at from.endpoint r.state.ports ≡ Some copy = sym (ap Some same_port ∙ here ∙ ap (port_at from.endpoint) same_ports) in
+    let same_links = greeted_links from node endpoint r.state.moment copy other in
+    let fresh = fresh_met (greeting node endpoint from.multicast copy.peers) from.endpoint copy after start found refl same_links (record { ports = subst ArePorts same_ports are; refreshed = refreshed }) in
+    subst (λ (x : Running). IsRefreshed x.state) (sym is) fresh.refreshed
+
+-- ---- a Network State
+
+pub network_state_untouched : (from : Origin) (hash : List ℕ) (r a : Running) → ArePorts r.state.ports → AtPort from.endpoint (λ port b a. a ≡ network_state hash port b) r a → IsRefreshed r.state → IsRefreshed a.state
+network_state_untouched from hash r a are holds refreshed =
+    (keeps_fresh_at from.endpoint (λ port b a. a ≡ network_state hash port b) one r a holds (record { ports = are; refreshed = refreshed })).refreshed
+  where
+    one : (port : Port) (r a : Running) → a ≡ network_state hash port r → ((next : Port) → next.id ≡ port.id → links_at next ≡ links_at port → Fresh (with_port next r)) → Fresh r → Fresh a
+    one port r a is changed fresh =
+        let same = bytes_eq hash r.state.net in
+        let next = hashed same r.sender r.state.moment port in
+        let after : Fresh (with_port next r) = changed next refl (hashed_links same r.sender r.state.moment port) in
+        subst Fresh (sym is)
+        (cond_both (asks_for_state same r.state.moment port) (with_answer subject.NetworkRequest (item.RequestNetwork []) (with_port next r)) (with_port next r) Fresh (λ _. after) (λ _. after))
+
+-- ---- requests
+
+some_answer_state : (about : Subject) (o : Option PlainItem) (r : Running) → (with_some_answer about o r).state ≡ r.state
+some_answer_state about None r = refl
+some_answer_state about (Some i) r = refl
+
+abbrev Refreshed : Running → Type 0
+Refreshed r = IsRefreshed r.state
+
+pub network_request_untouched : (r a : Running) → IsNetworkRequest r a → IsRefreshed r.state → IsRefreshed a.state
+network_request_untouched r a holds refreshed =
+    keeps_each Refreshed (λ id b a. a ≡ with_state id b)
+    (λ id b a is before. subst IsRefreshed (sym (ap (λ (x : Running). x.state) is ∙ some_answer_state (subject.NodeState id) (state_item false b.state id) b)) before)
+    r.state.reach (with_answer subject.NetworkState (item.NetworkState r.state.net []) r) a holds refreshed
+
+pub request_node_untouched : (id : NodeId) (r a : Running) → a ≡ request_node id r → IsRefreshed r.state → IsRefreshed a.state
+request_node_untouched id r a is refreshed =
+    let answers = with_some_answer (subject.NodeData id) (state_item true r.state id) r in
+    subst Refreshed (sym is)
+    (cond_both (is_reached id r.state.reach) answers r Refreshed (λ _. subst IsRefreshed (sym (some_answer_state (subject.NodeData id) (state_item true r.state id) r)) refreshed) (λ _. refreshed))
+
+-- ---- expiry
+
+-- one element more, as a `for` goes over a slice
+pub all_next : {A : Type 0} (P : A → Type 0) (xs : List A) (i : ℕ) (d : A) → i < length xs → All P (take i xs) → P (get_or xs i d) → All P (take (i + 1) xs)
+all_next P xs i d within all one = subst (All P) (sym (take_more xs i d within)) (All-push P (take i xs) (get_or xs i d) all one)
+
+pub without_none : {A : Type 0} (P : A → Type 0) (xs : List A) → All (λ x. ¬ (P x)) xs → Without P xs xs
+without_none P [] none = refl
+without_none P (x ∷ xs) none = inr (xs, All-head (λ y. ¬ (P y)) x xs none, without_none P xs (All-tail (λ y. ¬ (P y)) x xs none), refl)
+
+put_same : (port : Port) (ports : List Port) → All (λ p. p.id.0 ≡ port.id.0 → p ≡ port) ports → put_port port ports ≡ ports
+put_same port [] one = refl
+put_same port (p ∷ ports) one =
+    let P = λ (q : Port). q.id.0 ≡ port.id.0 → q ≡ port in
+    let here = cond_both (is_port port.id p) port p (λ (q : Port). q ≡ p) (λ is. sym (All-head P p ports one (eqb-true p.id.0 port.id.0 is))) (λ _. refl) in
+    let more = put_same port ports (All-tail P p ports one) in
+    cc
+
+-- where no peer of an endpoint is expired, nothing happens
+pub none_expire : (at : EpId) (r : Running) → ArePorts r.state.ports → ((port : Port) → port_at at r.state.ports ≡ Some port → All (λ peer. ¬ (IsExpired r.state peer)) port.peers) → AtPort at IsPortExpiry r r
+none_expire at r are none = by_port (port_at at r.state.ports) refl
+  where
+    by_port : (o : Option Port) → port_at at r.state.ports ≡ o → OnPort IsPortExpiry o r r
+    by_port None found = refl
+    by_port (Some port) found = record {
+      peers = port.peers;
+      without = without_none (IsExpired r.state) port.peers (none port found);
+      gives = ap (λ (ports : List Port). record r { state = record r.state { ports = ports } }) (sym (put_same port r.state.ports (only_one at r.state.ports port are.ascending found)));
+    }

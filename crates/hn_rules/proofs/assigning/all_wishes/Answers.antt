@@ -1,0 +1,24 @@
+use Rattle.std.proofs.Common.{List, subst, sym}
+use Rattle.hn_assign.specs.declared.assigned.Wish.{Wish}
+use Rattle.hn_data.specs.View.{plain_view}
+use Rattle.hn_rules.proofs.WishLists.{HasBelow, below_none, below_next, below_all, below_are}
+use Rattle.hn_rules.proofs.assigning.all_wishes.Goals as goal
+
+pub loop-place-init : goal.loop-place-init
+loop-place-init c =
+    subst (λ (wishes : List Wish). HasBelow (plain_view c.args.view.now) c.args.usable.now c.args.endpoints.now 0 wishes) (sym c.new-wishes.ensures)
+    (below_none (plain_view c.args.view.now) c.args.usable.now c.args.endpoints.now)
+
+pub add_wishes-requires : goal.add_wishes-requires
+add_wishes-requires c = record {
+  there = c.loop-place-test.true;
+  usable = c.requires.usable;
+  network = c.requires.network;
+  asked = below_are (plain_view c.args.view.now) c.args.usable.now c.args.endpoints.now c.loop-place.place c.loop-place.wishes c.loop-place.invariant;
+}
+
+pub loop-place-preserved : goal.loop-place-preserved
+loop-place-preserved c = below_next (plain_view c.args.view.now) c.args.usable.now c.args.endpoints.now c.loop-place.place c.loop-place.wishes c.add_wishes.new.wishes c.loop-place.invariant c.in_ok-add_wishes.ensures
+
+pub returns : goal.returns
+returns c = below_all (plain_view c.args.view.now) c.args.usable.now c.args.endpoints.now c.loop-place.place c.loop-place.wishes c.loop-place-test.false c.loop-place.invariant

@@ -1,0 +1,10 @@
+use Rattle.std.proofs.Common.{take, ◌≡◌, false}
+use Rattle.hn_rules.specs.Rules.{AtPort, Each}
+use Rattle.hn_rules.specs.Tick.{IsPortExpiry}
+use Rattle.hn_rules.proofs.running.Running.expire_ports.Given as goal
+
+abbrev pub invariant-loop-at : goal.invariant-loop-at
+invariant-loop-at l = record {
+  so_far : Each (λ at. AtPort at IsPortExpiry) (take l.at-index l.at-items) l.initial.self l.self;
+  untouched : l.touched ≡ false → l.self ≡ l.initial.self;
+}

@@ -1,0 +1,29 @@
+use Rattle.std.proofs.Common.{refl, subst}
+use Rattle.std.proofs.lemmas.Result.{on_ok_weaker}
+use Rattle.hn_own.specs.Ports.{ArePorts}
+use Rattle.hn_rules.specs.Refresh.{IsRefresh}
+use Rattle.hn_rules.proofs.Rans.{ran_plain}
+use Rattle.hn_rules.proofs.Recent.{same_refresh}
+use Rattle.hn_rules.proofs.Refreshes.{fresh_refresh}
+use Rattle.hn_rules.proofs.Refreshing.{ran_refresh}
+use Rattle.hn_rules.proofs.running.Running.refresh.Goals as goal
+
+pub returns-then-is_recent-clause-ran : goal.returns-then-is_recent-clause-ran
+returns-then-is_recent-clause-ran g c =
+    let r = c.args.self.now in
+    let recent = c.is_recent.ensures in
+    let same = same_refresh c.reachability_stays.ensures r (c.requires c.if-not-touched.true) (recent.young c.if-is_recent.true) (recent.leads c.if-is_recent.true) in
+    ran_plain IsRefresh _ r r same refl
+
+pub returns-clause-ran : goal.returns-clause-ran
+returns-clause-ran g c =
+    on_ok_weaker c.find_hash.result
+    (λ ran. ran_refresh _ _ c.args.self.now c.publish_where_due.new.self c.find_reach.new.self _ c.in_ok-publish_where_due.ensures c.in_ok-find_reach.ensures ran)
+    c.find_hash.ensures
+
+pub returns-clause-refreshed : goal.returns-clause-refreshed
+returns-clause-refreshed g c =
+    let are = subst ArePorts c.get.ensures c.as_slice-kept.ensures.kept in
+    on_ok_weaker c.find_hash.result
+    (λ ran. (fresh_refresh c.args.self.now c.find_hash.new.self (c.publish_where_due.new.self, c.in_ok-publish_where_due.ensures, (c.find_reach.new.self, c.in_ok-find_reach.ensures, ran.holds)) are).refreshed)
+    c.find_hash.ensures

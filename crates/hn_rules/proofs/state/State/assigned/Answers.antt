@@ -1,0 +1,50 @@
+use Rattle.std.proofs.Common.{◌∙◌, ap, subst, sym, arith}
+use Rattle.std.specs.Prelude.{All}
+use Rattle.hn_data.specs.View.{PlainView, IsNetwork, plain_view}
+use Rattle.hn_deleg.specs.Used.{AreUsable}
+use Rattle.hn_assign.specs.declared.held.Held.{Held}
+use Rattle.hn_assign.specs.Facts.{IsInDelegated, IsPast, HasOwnPriority}
+use Rattle.hn_rules.specs.Seen.{seen_by}
+use Rattle.hn_rules.proofs.AssignPairs.{assigned_of, kept_of}
+use Rattle.hn_rules.proofs.state.State.assigned.Goals as goal
+
+pub wishes-requires : goal.wishes-requires
+wishes-requires g c =
+    let s = c.args.self.now in
+    record {
+      view = c.view-view.ensures;
+      usable = subst (AreUsable (seen_by s)) (sym c.as_slice-2.ensures) (subst (λ (v : PlainView). AreUsable v c.in_ok-usable.usable) c.view-view.ensures c.in_ok-usable.ensures);
+      network = c.view_is_a_network.ensures s c.requires;
+    }
+
+pub subroutine-requires-clause-network : goal.subroutine-requires-clause-network
+subroutine-requires-clause-network g c =
+    subst (λ (v : PlainView). IsNetwork v.own v.nodes) (sym c.view-view.ensures) (c.view_is_a_network.ensures c.args.self.now c.requires)
+
+pub subroutine-requires-clause-moment : goal.subroutine-requires-clause-moment
+subroutine-requires-clause-moment g c =
+    let present = c.get-now.ensures in
+    let same = ap (λ (v : PlainView). v.now) c.view-view.ensures in
+    omega arith
+
+pub subroutine-requires-clause-inside : goal.subroutine-requires-clause-inside
+subroutine-requires-clause-inside g c = subst (λ (held : Held). All IsInDelegated held.assigned) (sym c.get-2.ensures.held) c.get-2.ensures.kept.inside
+
+pub subroutine-requires-clause-past : goal.subroutine-requires-clause-past
+subroutine-requires-clause-past g c =
+    subst (λ (v : PlainView). All (IsPast v.now) c.get-2.result.now.assigned) (sym c.view-view.ensures)
+    (subst (λ (held : Held). All (IsPast c.args.self.now.moment) held.assigned) (sym (c.get-2.ensures.held ∙ c.get.ensures)) c.requires.well.past.assigned)
+
+pub returns-clause-assigned : goal.returns-clause-assigned
+returns-clause-assigned g c =
+    let s = c.args.self.now in
+    let usable = subst (AreUsable (seen_by s)) (sym c.as_slice-2.ensures) (subst (λ (v : PlainView). AreUsable v c.in_ok-usable.usable) c.view-view.ensures c.in_ok-usable.ensures) in
+    assigned_of s (plain_view c.view-view.result) c.as_slice-2.result.now c.in_ok-wishes.wishes c.get-2.result.now c.subroutine.result
+    c.view-view.ensures (c.get-2.ensures.held ∙ c.get.ensures) usable c.in_ok-wishes.ensures c.subroutine.ensures.subroutine
+
+pub returns-clause-kept : goal.returns-clause-kept
+returns-clause-kept g c =
+    let held = c.get-2.ensures in
+    let priority = subst (λ (h : Held). All HasOwnPriority h.assigned) (sym held.held) held.kept.priority in
+    kept_of c.subroutine_leaves.ensures.wished c.args.self.now c.subroutine.result c.requires.well.ports (returns-clause-assigned g c)
+    c.subroutine.ensures.ascending c.subroutine.ensures.inside (c.subroutine.ensures.priority priority)

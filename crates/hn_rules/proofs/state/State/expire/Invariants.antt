@@ -1,0 +1,10 @@
+use Rattle.std.proofs.Common.{◌-◌, length}
+use Rattle.hn_rules.specs.Tick.{IsExpired}
+use Rattle.hn_rules.proofs.Without.{LeftSoFar}
+use Rattle.hn_rules.proofs.state.State.expire.Given as goal
+
+abbrev pub invariant-loop-place : goal.invariant-loop-place
+invariant-loop-place l = LeftSoFar (IsExpired l.self) l.initial.peers l.peers l.place
+
+abbrev pub decreases-loop-place : goal.decreases-loop-place
+decreases-loop-place l = length l.peers - l.place

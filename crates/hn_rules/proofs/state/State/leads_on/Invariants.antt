@@ -1,0 +1,7 @@
+use Rattle.std.proofs.Common.{take}
+use Rattle.std.specs.Prelude.{All}
+use Rattle.hn_rules.proofs.Recent.{LeadsOn}
+use Rattle.hn_rules.proofs.state.State.leads_on.Given as goal
+
+abbrev pub invariant-loop-node : goal.invariant-loop-node
+invariant-loop-node l = All (LeadsOn l.self.moment) (take l.node-index l.node-items)

@@ -1,0 +1,10 @@
+use Rattle.std.proofs.Common.{◌≡◌, take}
+use Rattle.std.specs.List.{filter_map}
+use Rattle.hn_rules.specs.Nodes.{entry_of}
+use Rattle.hn_rules.proofs.state.State.seen.Given as goal
+
+abbrev pub invariant-loop-id : goal.invariant-loop-id
+invariant-loop-id l = record {
+  all : l.id-items ≡ l.self.reach;
+  so_far : l.nodes.items ≡ filter_map (entry_of l.self) (take l.id-index l.id-items);
+}

@@ -1,0 +1,40 @@
+-- Events beside arrivals and ticks: endpoints that are attached and detached, capabilities, a restart.
+use Rattle.std.specs.Prelude.{◌≡◌, ℕ, false, [], ◌∷◌}
+use Rattle.hn_base.specs.declared.ids.EpId.{EpId}
+use Rattle.hn_base.specs.declared.caps.Caps.{Caps}
+use Rattle.hn_dncp.specs.declared.port.Port.{Port}
+use Rattle.hn_dncp.specs.Port.{begun}
+use Rattle.hn_rules.specs.declared.running.Running.{Running}
+use Rattle.hn_own.specs.HeldPairs.{no_pairs}
+use Rattle.hn_own.specs.Ports.{attached, detached, endpoints_of}
+use Rattle.hn_rules.specs.Rules.{Rule, Then, Each, AtPort, with_words, with_port}
+use Rattle.hn_rules.specs.Refresh.{Publishes}
+
+-- an endpoint is attached, with a word for its first interval
+pub record IsAttaching (at : EpId) (before after : Running) : Type 0 where
+  pub word : ℕ
+  pub gives : after ≡ with_words (word ∷ []) (record before { state = record before.state { ports = attached (begun at before.state.moment word) before.state.ports } })
+
+-- an endpoint is detached, with its peers
+abbrev pub detaching : EpId → Running → Running
+detaching at r = record r { state = record r.state { ports = detached at r.state.ports } }
+
+-- the router gets these capabilities
+abbrev pub setting_caps : Caps → Running → Running
+setting_caps caps r = record r { state = record r.state { caps = caps } }
+
+-- an endpoint begins anew, with a word for its first interval
+pub record IsPortRestart (port : Port) (before after : Running) : Type 0 where
+  pub word : ℕ
+  pub gives : after ≡ with_words (word ∷ []) (with_port (begun port.id before.state.moment word) before)
+
+-- the nodes that were held, the assignments, the backoffs and the claims are forgotten
+abbrev pub emptied : Running → Running
+emptied r = record r { state = record r.state { table = record r.state.table { entries = [] }; held = no_pairs; claimed = false } }
+
+-- A restart: the router keeps its identifier, its capabilities, its delegated prefixes and its endpoints, each of which
+-- begins anew, in ascending order; it forgets the nodes it held, its peers, its assignments and backoffs and the claims,
+-- and publishes with number 1 (RFC 7787, section 4.4).
+abbrev pub IsRestarting : Rule
+IsRestarting before after =
+    Then (Each (λ at. AtPort at IsPortRestart) (endpoints_of before.state.ports)) (Publishes 1) (emptied before) after

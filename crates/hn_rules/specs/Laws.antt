@@ -1,0 +1,76 @@
+-- Laws of the rules, and of what holds of a router.
+use Rattle.std.specs.Prelude.{◌≡◌, ◌↔◌, ℕ, ◌<◌, ◌≤◌, true, length, Contains}
+use Rattle.hn_base.specs.declared.ids.EpId.{EpId}
+use Rattle.hn_prefix.specs.Prefix.{PlainPrefix}
+use Rattle.hn_hash.specs.Network.{network_hash, AreNumbered}
+use Rattle.hn_data.specs.Said.{HasAssigned}
+use Rattle.hn_data.specs.View.{IsNetwork}
+use Rattle.hn_data.specs.declared.said.AssignedPrefix.{AssignedPrefix}
+use Rattle.hn_own.specs.HeldPairs.{published_in}
+use Rattle.hn_own.specs.OwnPrefixes.{may_delegate}
+use Rattle.hn_own.specs.Ports.{endpoints_of}
+use Rattle.hn_rules.specs.declared.running.Running.{Running}
+use Rattle.hn_rules.specs.declared.state.State.{State}
+use Rattle.hn_rules.specs.Assigning.{IsAssigning}
+use Rattle.hn_rules.specs.Delegating.{delegating}
+use Rattle.hn_rules.specs.Events.{IsAttaching}
+use Rattle.hn_rules.specs.Nodes.{leaves_of, view_of}
+use Rattle.hn_rules.specs.Refresh.{IsRefresh}
+use Rattle.hn_rules.specs.Router.{IsWell, IsRouter}
+use Rattle.hn_rules.specs.Rules.{Rule}
+
+-- ---- what a router is
+
+-- A router's network state hash is that of the leaves of the nodes that it reaches.
+abbrev pub HashIsOfLeaves : Type 0
+HashIsOfLeaves = (s : State) → IsRouter s → (s.net ≡ network_hash (leaves_of s)) × AreNumbered (leaves_of s)
+
+-- What others see of a router's assignments is what it holds: the Assigned-Prefixes of its node data are those of the
+-- assignments that it publishes.
+abbrev pub AssignedIsPublished : Type 0
+AssignedIsPublished =
+    (s : State) (a : AssignedPrefix) → IsRouter s → HasAssigned s.own.body a ↔ Contains (published_in s.held.assigned) a
+
+-- The nodes that a router sees are a network with its own node.
+abbrev pub ViewIsNetwork : Type 0
+ViewIsNetwork = (s : State) → IsRouter s → IsNetwork s.id.0 (view_of s)
+
+-- While time passes and nothing happens, a router stays one.
+abbrev pub RouterStaysLater : Type 0
+RouterStaysLater = (now : ℕ) (s : State) → IsRouter s → s.moment ≤ now → IsRouter (record s { moment = now })
+
+-- ---- what a rule keeps
+
+-- what holds of a router
+abbrev pub KeepsRouter : Rule → Type 0
+KeepsRouter rule = (before after : Running) → rule before after → IsRouter before.state → IsRouter after.state
+
+-- what holds of a router beside what a refresh makes
+abbrev pub KeepsWell : Rule → Type 0
+KeepsWell rule = (before after : Running) → rule before after → IsWell before.state → IsWell after.state
+
+-- the moment, and which endpoints are attached
+abbrev pub KeepsEndpoints : Rule → Type 0
+KeepsEndpoints rule =
+    (before after : Running) → rule before after
+    → (after.state.moment ≡ before.state.moment) × (endpoints_of after.state.ports ≡ endpoints_of before.state.ports)
+
+-- A refresh makes a router of a state of which the rest holds.
+abbrev pub RefreshMakesRouter : Type 0
+RefreshMakesRouter = (before after : Running) → IsRefresh before after → IsWell before.state → IsRouter after.state
+
+-- A router stays one, but for what a refresh makes, while prefixes are assigned.
+abbrev pub AssigningKeeps : Type 0
+AssigningKeeps = (before after : Running) → IsAssigning before after → IsRouter before.state → IsWell after.state
+
+-- A delegated prefix may be added where it is there already, or there are fewer than 8.
+abbrev pub DelegatingKeeps : Type 0
+DelegatingKeeps =
+    (prefix : PlainPrefix) (valid preferred : ℕ) (before : Running) → may_delegate prefix before.state.delegated ≡ true
+    → IsWell before.state → IsWell (delegating prefix valid preferred before).state
+
+-- An endpoint other than 0 may be attached where there are fewer than 16.
+abbrev pub AttachingKeeps : Type 0
+AttachingKeeps =
+    (at : EpId) (before after : Running) → 0 < at.0 → length before.state.ports < 16 → IsAttaching at before after
+    → IsWell before.state → IsWell after.state

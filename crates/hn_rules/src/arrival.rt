@@ -1,0 +1,175 @@
+//! The TLVs of a datagram: a rule for each kind, and a refresh after each TLV.
+
+ghost use Rattle.std.specs.Prelude.{◌≡◌, ℕ, List, IfOk, OnOk, map, false};
+ghost use Rattle.hn_tlv.specs.Grammar.{PlainTlv, IsTlvList, HasTlvs};
+ghost use Rattle.hn_tlv.specs.View.{plain};
+ghost use Rattle.hn_typed.specs.View.{plain_item};
+ghost use Rattle.hn_rules.specs.Rules.{Then, Ran};
+ghost use Rattle.hn_rules.specs.Refresh.{IsRefresh};
+ghost use Rattle.hn_rules.specs.Router.{IsRefreshed};
+ghost use Rattle.hn_rules.specs.Arrival.{IsItemRule, IsTlvRule, IsTlvs, IsAnswering, IsArrival};
+
+use crate::done::Note;
+use crate::running::{Origin, Running};
+use hn_base::{Bytes, NoMemory};
+use hn_dncp::pack;
+use hn_io::Draw;
+use hn_store::State as CarriedState;
+use hn_tlv::{Tlv, fault_after_list, first_fault_is_unique, list_grows, list_is_unique, next};
+use hn_typed::{Item, read};
+use std::alloc::Global;
+
+mod claim;
+mod network_state;
+mod node_endpoint;
+mod node_state;
+mod requests;
+
+impl Running {
+    /// The rule of an item: whether it touched what a refresh makes.
+    fn item<D: Draw>(
+        &mut self,
+        alloc: Global,
+        from: &Origin,
+        item: &Item<'_>,
+        draw: &mut D,
+    ) -> Result<bool, NoMemory>
+        ensures ran { OnOk result (Ran (IsItemRule from.now (plain_item item.now)) (D.words draw.old) (D.words draw.new) self.old self.new) }
+        ensures untouched { IfOk result (λ touched. touched ≡ false → IsRefreshed self.old.state → IsRefreshed self.new.state) }
+    {
+        let _kept = self.state.ports.get().as_slice();
+        match *item {
+            Item::NodeEndpoint { node, endpoint, .. } => {
+                self.node_endpoint(alloc, from, node, endpoint)
+            }
+            Item::RequestNetwork { .. } => {
+                self.request_network(alloc)?;
+                Ok(false)
+            }
+            Item::RequestNode { node, .. } => {
+                self.request_node(alloc, node)?;
+                Ok(false)
+            }
+            Item::NetworkState { hash, .. } => {
+                self.network_state(alloc, from, hash)?;
+                Ok(false)
+            }
+            Item::NodeState {
+                node,
+                number,
+                age,
+                hash,
+                body,
+            } => {
+                let carried = CarriedState {
+                    node,
+                    number,
+                    age,
+                    hash,
+                    body,
+                };
+                self.node_state(alloc, &carried, draw)
+            }
+            _ => Ok(false),
+        }
+    }
+
+    /// A TLV: the rule of its item; one that the item table refuses is noted. Whether it touched what a refresh makes.
+    fn tlv<D: Draw>(
+        &mut self,
+        alloc: Global,
+        from: &Origin,
+        tlv: &Tlv<'_>,
+        draw: &mut D,
+    ) -> Result<bool, NoMemory>
+        ensures ran { OnOk result (Ran (IsTlvRule from.now (plain tlv.now)) (D.words draw.old) (D.words draw.new) self.old self.new) }
+        ensures untouched { IfOk result (λ touched. touched ≡ false → IsRefreshed self.old.state → IsRefreshed self.new.state) }
+    {
+        match read(tlv) {
+            Ok(item) => self.item(alloc, from, &item, draw),
+            Err(fault) => {
+                self.note(Note::Ignored {
+                    kind: fault.kind,
+                    why: fault.why,
+                })?;
+                Ok(false)
+            }
+        }
+    }
+
+    /// A TLV, and a refresh after it.
+    fn tlv_and_refresh<D: Draw>(
+        &mut self,
+        alloc: Global,
+        from: &Origin,
+        tlv: &Tlv<'_>,
+        draw: &mut D,
+    ) -> Result<(), NoMemory>
+        requires { IsRefreshed self.old.state }
+        ensures ran { OnOk result (Ran (Then (IsTlvRule from.now (plain tlv.now)) IsRefresh) (D.words draw.old) (D.words draw.new) self.old self.new) }
+        ensures refreshed { OnOk result (IsRefreshed self.new.state) }
+    {
+        let touched = self.tlv(alloc, from, tlv, draw)?;
+        self.refresh(alloc, touched, draw)
+    }
+
+    /// The TLVs of a datagram, in order.
+    fn tlvs<D: Draw>(
+        &mut self,
+        alloc: Global,
+        from: &Origin,
+        bytes: &[u8],
+        draw: &mut D,
+    ) -> Result<(), NoMemory>
+        requires list { HasTlvs bytes.now }
+        requires refreshed { IsRefreshed self.old.state }
+        ensures { OnOk result ((tlvs : List PlainTlv) → IsTlvList tlvs bytes.now → Ran (IsTlvs from.now tlvs) (D.words draw.old) (D.words draw.new) self.old self.new) }
+    {
+        list_grows();
+        list_is_unique();
+        fault_after_list();
+        first_fault_is_unique();
+        let mut place = 0;
+        while let Ok(Some((tlv, after))) = next(bytes, place) {
+            self.tlv_and_refresh(alloc, from, &tlv, draw)?;
+            place = after;
+        }
+        Ok(())
+    }
+
+    /// The TLVs of the answers.
+    fn answer_tlvs(&self, alloc: Global) -> Result<Vec<Bytes>, NoMemory>
+        ensures { IfOk result (λ tlvs. tlvs.items ≡ map (λ a. a.tlv) self.now.answers) }
+    {
+        let mut tlvs = Vec::new(alloc);
+        for answer in self.answers.as_slice() {
+            tlvs.push(Bytes::copy_of(alloc, answer.tlv.as_slice())?)?;
+        }
+        Ok(tlvs)
+    }
+
+    /// The answers are sent to the source.
+    fn send_answers(&mut self, alloc: Global, from: &Origin) -> Result<(), NoMemory>
+        ensures { OnOk result (IsAnswering from.now self.old self.new) }
+    {
+        let tlvs = self.answer_tlvs(alloc)?;
+        let datagrams = pack(alloc, self.state.id, from.endpoint, tlvs.as_slice())?;
+        self.send(from.endpoint, Some(from.from), datagrams)
+    }
+
+    /// A datagram that is a list of TLVs arrives.
+    pub fn arrival<D: Draw>(
+        &mut self,
+        alloc: Global,
+        from: &Origin,
+        bytes: &[u8],
+        draw: &mut D,
+    ) -> Result<(), NoMemory>
+        requires list { HasTlvs bytes.now }
+        requires refreshed { IsRefreshed self.old.state }
+        ensures { OnOk result ((tlvs : List PlainTlv) → IsTlvList tlvs bytes.now → Ran (IsArrival from.now tlvs) (D.words draw.old) (D.words draw.new) self.old self.new) }
+    {
+        self.tlvs(alloc, from, bytes, draw)?;
+        self.send_answers(alloc, from)
+    }
+}

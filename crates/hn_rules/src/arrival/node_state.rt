@@ -1,0 +1,85 @@
+ghost use Rattle.std.specs.Prelude.{◌≡◌, [], IfOk, OnOk, false};
+ghost use Rattle.hn_typed.specs.Item.{RequestNode};
+ghost use Rattle.hn_store.specs.Acceptance.{plain_state};
+ghost use Rattle.hn_rules.specs.declared.answers.Subject.TheVariants.{NodeRequest};
+ghost use Rattle.hn_rules.specs.Answers.{with_answer};
+ghost use Rattle.hn_rules.specs.Rules.{Ran};
+ghost use Rattle.hn_rules.specs.Router.{IsRefreshed};
+ghost use Rattle.hn_rules.specs.NodeState.{own_leaf, IsTaken, IsNodeState};
+
+use crate::answers::Subject;
+use crate::done::Note;
+use crate::running::Running;
+use crate::state::State;
+use hn_base::{NoMemory, NodeId};
+use hn_data::encode;
+use hn_io::Draw;
+use hn_store::{OwnLeaf, State as CarriedState, Took};
+use hn_typed::Item;
+use std::alloc::Global;
+
+impl State {
+    /// The own node, as the table compares it.
+    fn own_leaf(&self) -> OwnLeaf
+        ensures { result ≡ own_leaf self.now }
+    {
+        OwnLeaf {
+            id: self.id,
+            number: self.number,
+            hash: self.own.get().hash(),
+        }
+    }
+}
+
+impl Running {
+    /// Asks for the data of a node.
+    fn ask_for(&mut self, alloc: Global, node: NodeId) -> Result<(), NoMemory>
+        ensures { OnOk result (self.new ≡ with_answer (NodeRequest node) (RequestNode node.0 []) self.old) }
+    {
+        let tlv = encode(alloc, &Item::RequestNode { node, subs: &[] })?;
+        self.answer(Subject::NodeRequest(node), tlv)
+    }
+
+    /// What comes of the table's answer.
+    fn took<D: Draw>(
+        &mut self,
+        alloc: Global,
+        carried: &CarriedState<'_>,
+        how: Took,
+        draw: &mut D,
+    ) -> Result<(), NoMemory>
+        ensures { OnOk result (Ran (IsTaken (plain_state carried.now) how) (D.words draw.old) (D.words draw.new) self.old self.new) }
+    {
+        if how == Took::Own {
+            self.note(Note::Own {
+                number: carried.number,
+            })?;
+            return self.claim(alloc, carried.number, draw);
+        }
+        self.note(Note::Took {
+            node: carried.node,
+            how,
+        })?;
+        if how == Took::Ask {
+            self.ask_for(alloc, carried.node)?;
+        }
+        Ok(())
+    }
+
+    /// A Node State (RFC 7787, section 7.2.3): that it touched what a refresh makes.
+    pub(crate) fn node_state<D: Draw>(
+        &mut self,
+        alloc: Global,
+        carried: &CarriedState<'_>,
+        draw: &mut D,
+    ) -> Result<bool, NoMemory>
+        ensures ran { OnOk result (Ran (IsNodeState (plain_state carried.now)) (D.words draw.old) (D.words draw.new) self.old self.new) }
+        ensures untouched { IfOk result (λ touched. touched ≡ false → IsRefreshed self.old.state → IsRefreshed self.new.state) }
+    {
+        let own = self.state.own_leaf();
+        let now = self.state.moment.get();
+        let how = self.state.table.edit()?.take(alloc, &own, carried, now)?;
+        self.took(alloc, carried, how, draw)?;
+        Ok(true)
+    }
+}

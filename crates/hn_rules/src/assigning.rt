@@ -1,0 +1,147 @@
+//! The assignment of prefixes to the links of the attached endpoints (RFC 7788, section 6.3).
+
+ghost use Rattle.std.specs.Prelude.{◌≡◌, ◌<◌, ◌⊎◌, ◌↔◌, ℕ, false, length, Contains, IfOk, OnOk};
+ghost use Rattle.hn_data.specs.View.{IsNetwork, plain_view};
+ghost use Rattle.hn_deleg.specs.Used.{AreUsable};
+ghost use Rattle.hn_io.specs.Words.{Took};
+ghost use Rattle.hn_assign.specs.declared.assigned.Wish.{Wish};
+ghost use Rattle.hn_assign.specs.Subroutine.{IsSubroutine};
+ghost use Rattle.hn_rules.specs.Nodes.{view_of};
+ghost use Rattle.hn_own.specs.Ports.{endpoints_of};
+ghost use Rattle.hn_rules.specs.Router.{IsRouter, IsRefreshed};
+ghost use Rattle.hn_rules.specs.Rules.{Ran};
+ghost use Rattle.hn_rules.specs.Seen.{seen_by};
+ghost use Rattle.hn_own.specs.HeldPairs.{AreHeldPairs};
+ghost use Rattle.hn_rules.specs.Assigning.{IsWishAt, AreAsked, IsAssigned, IsAssigning};
+
+use crate::laws::view_is_a_network;
+use crate::running::Running;
+use crate::state::State;
+use hn_assign::{Wish, Wishes, subroutine, subroutine_leaves};
+use hn_base::{EpId, NoMemory, Shared};
+use hn_data::View;
+use hn_deleg::{Delegated, used, wanted};
+use hn_io::Draw;
+use hn_link::{common, common_link_is_unique};
+use hn_own::HeldPairs;
+use std::alloc::Global;
+
+/// The length of the prefixes that links get.
+const LINK_LENGTH: u8 = 64;
+
+/// What is asked for the pair of a usable delegated prefix and an endpoint.
+fn wish_at(
+    alloc: Global,
+    view: &View<'_>,
+    usable: &[Delegated],
+    place: usize,
+    endpoint: EpId,
+) -> Result<Wish, NoMemory>
+    requires there { place < length usable.now }
+    requires network { IsNetwork view.now.own.0 view.now.nodes.now }
+    ensures wish { IfOk result (IsWishAt (plain_view view.entry.now) usable.now place) }
+    ensures endpoint { IfOk result (λ wish. wish.endpoint ≡ endpoint) }
+{
+    Ok(Wish {
+        delegated: usable[place].prefix,
+        wanted: wanted(usable, place),
+        endpoint,
+        common: common(alloc, view, endpoint)?,
+        length: LINK_LENGTH,
+    })
+}
+
+/// Adds the wishes for a usable delegated prefix and each endpoint.
+fn add_wishes(
+    alloc: Global,
+    wishes: &mut Wishes,
+    view: &View<'_>,
+    usable: &[Delegated],
+    place: usize,
+    endpoints: &[EpId],
+) -> Result<(), NoMemory>
+    requires there { place < length usable.now }
+    requires usable { AreUsable (plain_view view.now) usable.now }
+    requires network { IsNetwork view.now.own.0 view.now.nodes.now }
+    requires asked { (wish : Wish) → Contains wishes.old wish → (other : ℕ) × IsWishAt (plain_view view.now) usable.now other wish }
+    ensures { OnOk result ((wish : Wish) → Contains wishes.new wish
+        ↔ (Contains wishes.old wish ⊎ (IsWishAt (plain_view view.entry.now) usable.now place wish × Contains endpoints.now wish.endpoint))) }
+{
+    common_link_is_unique();
+    for endpoint in endpoints {
+        let wish = wish_at(alloc, view, usable, place, *endpoint)?;
+        wishes.add(wish)?;
+    }
+    Ok(())
+}
+
+/// The wishes for each usable delegated prefix and each endpoint.
+fn all_wishes(
+    alloc: Global,
+    view: &View<'_>,
+    usable: &[Delegated],
+    endpoints: &[EpId],
+) -> Result<Wishes, NoMemory>
+    requires usable { AreUsable (plain_view view.now) usable.now }
+    requires network { IsNetwork view.now.own.0 view.now.nodes.now }
+    ensures { IfOk result (λ wishes. (wish : Wish) → Contains wishes wish
+        ↔ ((place : ℕ) × IsWishAt (plain_view view.entry.now) usable.now place wish × Contains endpoints.now wish.endpoint)) }
+{
+    let mut wishes = Wishes::new(alloc);
+    for place in 0..usable.len() {
+        add_wishes(alloc, &mut wishes, view, usable, place, endpoints)?;
+    }
+    Ok(wishes)
+}
+
+impl State {
+    /// What the router asks, as it sees the network.
+    fn wishes(
+        &self,
+        alloc: Global,
+        view: &View<'_>,
+        usable: &[Delegated],
+    ) -> Result<Wishes, NoMemory>
+        requires view { plain_view view.now ≡ seen_by self.now }
+        requires usable { AreUsable (seen_by self.now) usable.now }
+        requires network { IsNetwork self.now.id.0 (view_of self.now) }
+        ensures { IfOk result (AreAsked (seen_by self.now) usable.now self.now.ports) }
+    {
+        let endpoints = self.ports.get().endpoints(alloc)?;
+        let wishes = all_wishes(alloc, view, usable, endpoints.as_slice())?;
+        let _kept = wishes.as_slice();
+        Ok(wishes)
+    }
+
+    /// What the assignment subroutine makes of the router's assignments and backoffs.
+    fn assigned<D: Draw>(&self, alloc: Global, draw: &mut D) -> Result<hn_assign::Ran, NoMemory>
+        requires { IsRouter self.now }
+        ensures assigned { IfOk result (IsAssigned self.now) }
+        ensures kept { IfOk result (λ ran. AreHeldPairs ran.held) }
+        ensures drew { IfOk result (λ ran. Took (D.words draw.old) ran.words (D.words draw.new)) }
+    {
+        view_is_a_network();
+        subroutine_leaves();
+        let nodes = self.seen(alloc)?;
+        let view = self.view(nodes.as_slice());
+        let _now = self.moment.get();
+        let usable = used(alloc, &view)?;
+        let wishes = self.wishes(alloc, &view, usable.as_slice())?;
+        subroutine(alloc, &view, &wishes, self.held.get().get(), draw)
+    }
+}
+
+impl Running {
+    /// The assignment of prefixes: whether it made, changed or destroyed an assignment.
+    pub fn assign<D: Draw>(&mut self, alloc: Global, draw: &mut D) -> Result<bool, NoMemory>
+        requires { IsRouter self.old.state }
+        ensures ran { OnOk result (Ran IsAssigning (D.words draw.old) (D.words draw.new) self.old self.new) }
+        ensures untouched { IfOk result (λ touched. touched ≡ false → IsRefreshed self.new.state) }
+    {
+        let hn_assign::Ran { held, words } = self.state.assigned(alloc, draw)?;
+        self.took_words(words.as_slice())?;
+        let touched = held.assigned.as_slice() != self.state.held.get().get().assigned.as_slice();
+        self.state.held = Shared::new(alloc, HeldPairs::of(held))?;
+        Ok(touched)
+    }
+}

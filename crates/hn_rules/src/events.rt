@@ -1,0 +1,98 @@
+//! Events beside arrivals and ticks: endpoints that are attached and detached, capabilities, a restart.
+
+ghost use Rattle.std.specs.Prelude.{◌≡◌, ◌<◌, false, length, OnOk};
+ghost use Rattle.hn_own.specs.Ports.{is_attached, endpoints_of};
+ghost use Rattle.hn_rules.specs.Rules.{AtPort, Each, Ran};
+ghost use Rattle.hn_rules.specs.Events.{IsAttaching, detaching, setting_caps, IsPortRestart, emptied, IsRestarting};
+
+use crate::running::Running;
+use hn_base::{Caps, EpId, NoMemory, Shared};
+use hn_dncp::Port;
+use hn_io::Draw;
+use hn_own::HeldPairs;
+use hn_store::Table;
+use std::alloc::Global;
+
+impl Running {
+    /// An endpoint is attached.
+    pub fn add_port<D: Draw>(
+        &mut self,
+        alloc: Global,
+        at: EpId,
+        draw: &mut D,
+    ) -> Result<(), NoMemory>
+        requires numbered { 0 < at.0 }
+        requires unknown { is_attached at self.old.state.ports ≡ false }
+        requires room { length self.old.state.ports < 16 }
+        ensures { OnOk result (Ran (IsAttaching at) (D.words draw.old) (D.words draw.new) self.old self.new) }
+    {
+        let word = self.take(draw)?;
+        let port = Port::start(alloc, at, self.state.moment.get(), word);
+        self.state.ports.edit()?.insert(port)
+    }
+
+    /// An endpoint is detached, with its peers.
+    pub fn remove_port(&mut self, at: EpId) -> Result<(), NoMemory>
+        ensures { OnOk result (self.new ≡ detaching at self.old) }
+    {
+        self.state.ports.edit()?.remove(at);
+        Ok(())
+    }
+
+    /// The router gets these capabilities. Never allocates.
+    pub fn put_caps(&mut self, caps: Caps)
+        ensures { self.new ≡ setting_caps caps self.old }
+    {
+        self.state.caps = caps;
+    }
+
+    /// An endpoint begins anew.
+    fn restart_port<D: Draw>(
+        &mut self,
+        alloc: Global,
+        at: EpId,
+        draw: &mut D,
+    ) -> Result<(), NoMemory>
+        ensures { OnOk result (Ran (AtPort at IsPortRestart) (D.words draw.old) (D.words draw.new) self.old self.new) }
+    {
+        if !self.state.ports.get().has(at) {
+            return Ok(());
+        }
+        let word = self.take(draw)?;
+        let port = Port::start(alloc, at, self.state.moment.get(), word);
+        self.put_port(port)
+    }
+
+    /// The nodes that were held, the assignments, the backoffs and the claims are forgotten.
+    fn empty(&mut self, alloc: Global) -> Result<(), NoMemory>
+        ensures { OnOk result (self.new ≡ emptied self.old) }
+    {
+        let table = self.state.table.get();
+        let _kept = table.entries();
+        let empty = Table::sized(alloc, table.limit());
+        self.state.table = Shared::new(alloc, empty)?;
+        self.state.held = Shared::new(alloc, HeldPairs::new(alloc))?;
+        self.state.claimed = false;
+        Ok(())
+    }
+
+    /// The endpoints begin anew, in ascending order.
+    fn restart_ports<D: Draw>(&mut self, alloc: Global, draw: &mut D) -> Result<(), NoMemory>
+        ensures { OnOk result (Ran (λ before after. Each (λ at. AtPort at IsPortRestart) (endpoints_of before.state.ports) before after) (D.words draw.old) (D.words draw.new) self.old self.new) }
+    {
+        let endpoints = self.state.ports.get().endpoints(alloc)?;
+        for at in &endpoints {
+            self.restart_port(alloc, *at, draw)?;
+        }
+        Ok(())
+    }
+
+    /// A restart.
+    pub fn restart<D: Draw>(&mut self, alloc: Global, draw: &mut D) -> Result<(), NoMemory>
+        ensures { OnOk result (Ran IsRestarting (D.words draw.old) (D.words draw.new) self.old self.new) }
+    {
+        self.empty(alloc)?;
+        self.restart_ports(alloc, draw)?;
+        self.publish(alloc, 1)
+    }
+}

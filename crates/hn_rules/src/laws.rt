@@ -1,0 +1,136 @@
+//! Laws of the rules, and of what holds of a router. Each is the contract of a function that does nothing: call it to
+//! know its law.
+
+ghost use Rattle.std.specs.Prelude.{◌≡◌, List};
+ghost use Rattle.hn_base.specs.declared.caps.Caps.{Caps};
+ghost use Rattle.hn_base.specs.declared.ids.EpId.{EpId};
+ghost use Rattle.hn_prefix.specs.Prefix.{PlainPrefix};
+ghost use Rattle.hn_tlv.specs.Grammar.{PlainTlv};
+ghost use Rattle.hn_rules.specs.declared.running.Origin.{Origin};
+ghost use Rattle.hn_rules.specs.Arrival.{IsArrival};
+ghost use Rattle.hn_rules.specs.Assigning.{IsAssigning};
+ghost use Rattle.hn_rules.specs.Delegating.{withdrawing, ending};
+ghost use Rattle.hn_rules.specs.Events.{IsAttaching, detaching, setting_caps, IsRestarting};
+ghost use Rattle.hn_rules.specs.Laws.{HashIsOfLeaves, AssignedIsPublished, ViewIsNetwork, RouterStaysLater, KeepsRouter, KeepsWell, KeepsEndpoints, RefreshMakesRouter, AssigningKeeps, DelegatingKeeps, AttachingKeeps};
+ghost use Rattle.hn_rules.specs.Refresh.{IsRefresh};
+ghost use Rattle.hn_rules.specs.Rules.{IsSole};
+ghost use Rattle.hn_rules.specs.Tick.{IsExpiry, forgetting, IsPortsTick};
+
+use hn_assign::{subroutine_has_one_result, subroutine_keeps, subroutine_leaves};
+use hn_base::{NodeId, ascending_is_unique};
+use hn_data::items_are_unique;
+use hn_deleg::usable_is_unique;
+use hn_dncp::{packing_is_unique, peers_stay};
+use hn_graph::{own_is_reachable, reachability_stays};
+use hn_own::{own_data_is_unique, own_prefixes_stay};
+use hn_store::{
+    acceptance_is_unique, acceptance_keeps_table, held_is_of_an_entry, loss_keeps_table, own_stays,
+};
+use hn_tlv::{first_fault_is_unique, list_is_unique, spelling_is_prefix_free};
+use hn_typed::{item_fault_is_unique, item_is_unique, written_is_read};
+
+/// The network state hash of a router is that of the leaves of the nodes that it reaches.
+pub fn hash_is_of_leaves()
+    ensures { HashIsOfLeaves }
+{
+    held_is_of_an_entry();
+}
+
+/// What others see of a router's assignments is what it holds: the Assigned-Prefixes of its node data are those of the
+/// assignments that it publishes.
+pub fn assigned_is_published()
+    ensures { AssignedIsPublished }
+{
+    spelling_is_prefix_free();
+    item_is_unique();
+    written_is_read();
+    items_are_unique();
+}
+
+/// The nodes that a router sees are a network with its own node.
+pub fn view_is_a_network()
+    ensures { ViewIsNetwork }
+{
+    own_is_reachable();
+}
+
+/// While time passes and nothing happens, a router stays one.
+pub fn router_stays_later()
+    ensures { RouterStaysLater }
+{}
+
+/// A refresh makes a router of a state of which the rest holds.
+pub fn refresh_makes_a_router()
+    ensures { RefreshMakesRouter }
+{
+    peers_stay();
+    held_is_of_an_entry();
+    acceptance_keeps_table();
+    own_stays();
+    loss_keeps_table();
+    reachability_stays();
+}
+
+/// An arrival, the forgetting of lost nodes and what is due at the endpoints keep what holds of a router.
+pub fn rules_keep_a_router()
+    ensures arrival { (from : Origin) (tlvs : List PlainTlv) → KeepsRouter (IsArrival from tlvs) }
+    ensures forgetting { KeepsRouter (λ b a. a ≡ forgetting b) }
+    ensures ports { KeepsRouter IsPortsTick }
+{
+    peers_stay();
+    held_is_of_an_entry();
+    acceptance_keeps_table();
+    own_stays();
+    loss_keeps_table();
+    reachability_stays();
+}
+
+/// The other rules keep what holds of a router beside what a refresh makes.
+pub fn rules_keep_the_rest()
+    ensures expiry { KeepsWell IsExpiry }
+    ensures ending { KeepsWell (λ b a. a ≡ ending b) }
+    ensures assigning { AssigningKeeps }
+    ensures delegating { DelegatingKeeps }
+    ensures withdrawing { (prefix : PlainPrefix) → KeepsWell (λ b a. a ≡ withdrawing prefix b) }
+    ensures attaching { AttachingKeeps }
+    ensures detaching { (at : EpId) → KeepsWell (λ b a. a ≡ detaching at b) }
+    ensures caps { (caps : Caps) → KeepsWell (λ b a. a ≡ setting_caps caps b) }
+    ensures restarting { KeepsWell IsRestarting }
+{
+    loss_keeps_table();
+    own_prefixes_stay();
+    subroutine_keeps();
+    subroutine_leaves();
+}
+
+/// Over one stream of words each rule has at most one result.
+pub fn rules_have_one_result()
+    ensures refresh { IsSole IsRefresh }
+    ensures arrival { (from : Origin) (tlvs : List PlainTlv) → IsSole (IsArrival from tlvs) }
+    ensures expiry { IsSole IsExpiry }
+    ensures assigning { IsSole IsAssigning }
+    ensures ports { IsSole IsPortsTick }
+    ensures attaching { (at : EpId) → IsSole (IsAttaching at) }
+    ensures restarting { IsSole IsRestarting }
+{
+    list_is_unique();
+    first_fault_is_unique();
+    item_is_unique();
+    item_fault_is_unique();
+    own_data_is_unique();
+    ascending_is_unique::<NodeId>();
+    acceptance_is_unique();
+    packing_is_unique();
+    usable_is_unique();
+    subroutine_has_one_result();
+}
+
+/// These rules keep the moment, and which endpoints are attached.
+pub fn rules_keep_the_endpoints()
+    ensures refresh { KeepsEndpoints IsRefresh }
+    ensures arrival { (from : Origin) (tlvs : List PlainTlv) → KeepsEndpoints (IsArrival from tlvs) }
+    ensures expiry { KeepsEndpoints IsExpiry }
+    ensures assigning { KeepsEndpoints IsAssigning }
+    ensures ports { KeepsEndpoints IsPortsTick }
+    ensures restarting { KeepsEndpoints IsRestarting }
+{}

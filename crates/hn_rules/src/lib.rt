@@ -1,0 +1,30 @@
+//! The rules by which an event changes the state of a home router, and what they keep (RFC 7787; RFC 7788, sections 3 to
+//! 6).
+#![tactic(auto)]
+
+mod answers;
+mod arrival;
+mod assigning;
+mod delegating;
+mod done;
+mod events;
+mod laws;
+mod nodes;
+mod present;
+mod refresh;
+mod running;
+mod seen;
+mod state;
+mod take;
+mod tick;
+
+pub use answers::{Answer, Subject};
+pub use done::{Done, Note, Outgoing, Publication};
+pub use laws::{
+    assigned_is_published, hash_is_of_leaves, refresh_makes_a_router, router_stays_later,
+    rules_have_one_result, rules_keep_a_router, rules_keep_the_endpoints, rules_keep_the_rest,
+    view_is_a_network,
+};
+pub use present::Present;
+pub use running::{Origin, Running};
+pub use state::State;

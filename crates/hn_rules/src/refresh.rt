@@ -1,0 +1,193 @@
+//! A refresh: publish where due, reachability, moments of loss, the network state hash, resets of Trickle.
+
+ghost use Rattle.std.specs.Prelude.{◌≡◌, ◌≤◌, ◌<◌, ◌-◌, ◌^◌, ◌↔◌, false, None, All, length, IsTrue, IfOk, OnOk};
+ghost use Rattle.hn_own.specs.Own.{AreFew};
+ghost use Rattle.hn_rules.specs.Rules.{Ran, AtPort, Each};
+ghost use Rattle.hn_rules.specs.Nodes.{age_at};
+ghost use Rattle.hn_rules.specs.Router.{IsRefreshed};
+ghost use Rattle.hn_rules.specs.Refresh.{own_items, Publishes, IsPublished, IsPublishing, IsReaching, network_state_hash, IsPortReset, IsReset, IsHashing, IsRefresh};
+
+use crate::done::Publication;
+use crate::nodes::age_at;
+use crate::running::Running;
+use crate::state::State;
+use hn_base::{EpId, NoMemory, Shared};
+use hn_graph::reachability_stays;
+use hn_hash::network_of;
+use hn_io::Draw;
+use hn_own::{OwnData, OwnItems};
+use hn_timers::{SHORTEST_INTERVAL, Trickle};
+use std::alloc::Global;
+
+/// The age from which own node data is published again, in milliseconds: 2^16 before it can no longer be sent (RFC
+/// 7787, section 4.3).
+const OLDEST_OWN_DATA: u64 = (1 << 32) - (1 << 16);
+
+/// The age from which no path leads on from a node, in milliseconds (RFC 7787, section 4.6).
+const OLDEST_DATA: u64 = (1 << 32) - (1 << 15);
+
+impl State {
+    /// The own items as they are now.
+    fn own_items(&self, alloc: Global) -> Result<OwnItems, NoMemory>
+        ensures items { IfOk result (λ items. items ≡ own_items self.now) }
+        ensures few { IfOk result AreFew }
+    {
+        OwnItems::of(
+            alloc,
+            self.caps,
+            self.ports.get(),
+            self.delegated.get(),
+            self.held.get(),
+        )
+    }
+
+    /// Whether these own items are those last published, and their node data is young.
+    fn is_published(&self, items: &OwnItems) -> bool
+        requires { items.now ≡ own_items self.now }
+        ensures { IsTrue result ↔ IsPublished self.now }
+    {
+        items.is(self.own.get().items()) && self.own_age() < OLDEST_OWN_DATA
+    }
+
+    /// Whether each held node without a moment of loss is one from which paths lead on. Never allocates.
+    fn leads_on(&self) -> bool
+        ensures { IsTrue result → All (λ node. node.stored.lost ≡ None → age_at self.now.moment node.stored < 2 ^ 32 - 2 ^ 15) self.now.table.entries }
+    {
+        let now = self.moment.get();
+        for node in self.table.get().entries() {
+            if node.stored.lost.is_none() && age_at(now, &node.stored) >= OLDEST_DATA {
+                return false;
+            }
+        }
+        true
+    }
+
+    /// Whether time alone makes no refresh due: the own node data is young, and paths lead on from each reachable node.
+    /// Never allocates.
+    fn is_recent(&self) -> bool
+        ensures young { IsTrue result → self.now.moment - self.now.own.born < 2 ^ 32 - 2 ^ 16 }
+        ensures leads { IsTrue result → All (λ node. node.stored.lost ≡ None → age_at self.now.moment node.stored < 2 ^ 32 - 2 ^ 15) self.now.table.entries }
+    {
+        self.own_age() < OLDEST_OWN_DATA && self.leads_on()
+    }
+
+    /// The network state hash of the reachable nodes.
+    fn network_state_hash(&self, alloc: Global) -> Result<[u8; 8], NoMemory>
+        ensures { IfOk result (λ hash. hash ≡ network_state_hash self.now) }
+    {
+        let parts = self.parts(alloc)?;
+        Ok(network_of(parts.as_slice()))
+    }
+}
+
+impl Running {
+    /// Publishes own items with a sequence number.
+    fn publish_items(&mut self, alloc: Global, number: u32, items: OwnItems) -> Result<(), NoMemory>
+        requires items { items ≡ own_items self.old.state }
+        requires few { AreFew items }
+        ensures { OnOk result (Publishes number self.old self.new) }
+    {
+        let own = OwnData::new(alloc, items, self.state.moment.get())?;
+        self.done.published.push(Publication {
+            id: self.state.id,
+            number,
+            body: own.body().share()?,
+        })?;
+        self.state.number = number;
+        self.state.own = Shared::new(alloc, own)?;
+        Ok(())
+    }
+
+    /// Publishes the present own items with a sequence number.
+    pub(crate) fn publish(&mut self, alloc: Global, number: u32) -> Result<(), NoMemory>
+        ensures { OnOk result (Publishes number self.old self.new) }
+    {
+        let items = self.state.own_items(alloc)?;
+        self.publish_items(alloc, number, items)
+    }
+
+    /// Publishes where due.
+    fn publish_where_due(&mut self, alloc: Global) -> Result<(), NoMemory>
+        ensures { OnOk result (IsPublishing self.old self.new) }
+    {
+        let items = self.state.own_items(alloc)?;
+        if self.state.is_published(&items) {
+            return Ok(());
+        }
+        self.publish_items(alloc, self.state.number.wrapping_add(1), items)
+    }
+
+    /// Reachability, and moments of loss.
+    fn find_reach(&mut self, alloc: Global) -> Result<(), NoMemory>
+        ensures { OnOk result (IsReaching self.old self.new) }
+    {
+        let reach = self.state.reachable(alloc)?;
+        let now = self.state.moment.get();
+        if self.state.table.get().needs_mark(reach.as_slice()) {
+            self.state.table.edit()?.mark(reach.as_slice(), now);
+        }
+        self.state.reach = Shared::new(alloc, reach)?;
+        Ok(())
+    }
+
+    /// Resets Trickle of an endpoint.
+    fn reset_port<D: Draw>(&mut self, at: EpId, draw: &mut D) -> Result<(), NoMemory>
+        ensures { OnOk result (Ran (AtPort at IsPortReset) (D.words draw.old) (D.words draw.new) self.old self.new) }
+    {
+        let now = self.state.moment.get();
+        let Some(port) = self.state.ports.get().find(at) else {
+            return Ok(());
+        };
+        if port.trickle.len == SHORTEST_INTERVAL {
+            return Ok(());
+        }
+        let mut port = port.clone()?;
+        let word = self.take(draw)?;
+        port.trickle = Trickle::start(now, SHORTEST_INTERVAL, word);
+        self.put_port(port)
+    }
+
+    /// Resets Trickle of each endpoint.
+    fn reset_ports<D: Draw>(&mut self, alloc: Global, draw: &mut D) -> Result<(), NoMemory>
+        ensures { OnOk result (Ran IsReset (D.words draw.old) (D.words draw.new) self.old self.new) }
+    {
+        let endpoints = self.state.ports.get().endpoints(alloc)?;
+        for at in &endpoints {
+            self.reset_port(*at, draw)?;
+        }
+        Ok(())
+    }
+
+    /// The network state hash, and resets of Trickle where it changed.
+    fn find_hash<D: Draw>(&mut self, alloc: Global, draw: &mut D) -> Result<(), NoMemory>
+        ensures { OnOk result (Ran IsHashing (D.words draw.old) (D.words draw.new) self.old self.new) }
+    {
+        let hash = self.state.network_state_hash(alloc)?;
+        if hash == self.state.net {
+            return Ok(());
+        }
+        self.state.net = hash;
+        self.reset_ports(alloc, draw)
+    }
+
+    /// A refresh. Where nothing was touched that it makes and no age is due, it changes nothing and computes nothing.
+    pub fn refresh<D: Draw>(
+        &mut self,
+        alloc: Global,
+        touched: bool,
+        draw: &mut D,
+    ) -> Result<(), NoMemory>
+        requires { touched ≡ false → IsRefreshed self.old.state }
+        ensures ran { OnOk result (Ran IsRefresh (D.words draw.old) (D.words draw.new) self.old self.new) }
+        ensures refreshed { OnOk result (IsRefreshed self.new.state) }
+    {
+        reachability_stays();
+        let _kept = self.state.ports.get().as_slice();
+        if !touched && self.state.is_recent() {
+            return Ok(());
+        }
+        self.publish_where_due(alloc)?;
+        self.find_reach(alloc)?;
+        self.find_hash(alloc, draw)
+    }
+}

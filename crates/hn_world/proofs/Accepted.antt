@@ -4,13 +4,14 @@ use Rattle.std.specs.Option.{option_or}
 use Rattle.std.proofs.lemmas.Bool.{leb-false}
 use Rattle.hn_base.specs.Name.{name_text}
 use Rattle.hn_base.specs.declared.ids.EpId.{EpId}
+use Rattle.hn_prefix.specs.Prefix.{PlainPrefix}
 use Rattle.hn_world.specs.declared.copies.MailCopy.{MailCopy}
 use Rattle.hn_world.specs.declared.event.WEvent.{WEvent}
 use Rattle.hn_world.specs.declared.event.WEvent.TheVariants as event
 use Rattle.hn_world.specs.declared.member.Member.{Member}
 use Rattle.hn_world.specs.declared.parts.Parts.{Parts}
 use Rattle.hn_world.specs.Names.{is_taken, member_named, link_place}
-use Rattle.hn_world.specs.Refusal.{code_if, of_router, of_link, of_copy, unless_running, unless_attached, unless_free, unless_apart, unless_full_of_endpoints, unless_full_of_events, unless_full_of_mail, unless_acts, unless_detached, unless_ticked, unless_received, unless_joined, unless_new, copy_at, refusal}
+use Rattle.hn_world.specs.Refusal.{code_if, of_router, of_link, of_copy, unless_running, unless_attached, unless_free, unless_apart, unless_full_of_endpoints, unless_full_of_events, unless_full_of_mail, unless_acts, unless_detached, unless_ticked, unless_received, unless_joined, unless_new, copy_at, refusal, unless_full_of_prefixes, unless_delegated}
 
 -- none of two codes
 pub or_none : (a b : Option ℕ) → option_or a b ≡ None → (a ≡ None) × (b ≡ None)
@@ -65,6 +66,11 @@ room_to_join w endpoint m link accepted =
     let third = or_none (unless_apart link m) _ second.1 in
     (or_none (unless_full_of_endpoints m) (unless_full_of_events w) third.1).1
 
+room_to_delegate : (w : Parts) (prefix : PlainPrefix) (m : Member) → unless_delegated w prefix m ≡ None → HasRoom w
+room_to_delegate w prefix m accepted =
+    let first = or_none (unless_running m) _ accepted in
+    (or_none (unless_full_of_prefixes prefix m) (unless_full_of_events w) first.1).1
+
 room : (w : Parts) (event : WEvent) → refusal w event ≡ None → HasRoom w
 room w (event.Router name id) accepted = room_to_define w (name_text name) _ accepted
 room w (event.Link name) accepted = room_to_define w (name_text name) _ accepted
@@ -75,6 +81,12 @@ room w (event.Attach name endpoint link) accepted =
 room w (event.Detach name endpoint) accepted =
     let router = some_router (unless_detached w endpoint) (member_named (name_text name) w) accepted in
     room_to_detach w endpoint router.0 router.2
+room w (event.External name prefix valid preferred) accepted =
+    let router = some_router (unless_delegated w prefix) (member_named (name_text name) w) accepted in
+    room_to_delegate w prefix router.0 router.2
+room w (event.Withdraw name prefix) accepted =
+    let router = some_router (unless_acts w) (member_named (name_text name) w) accepted in
+    room_to_act w router.0 router.2
 room w (event.Caps name caps) accepted =
     let router = some_router (unless_acts w) (member_named (name_text name) w) accepted in
     room_to_act w router.0 router.2

@@ -11,9 +11,9 @@ use Rattle.hn_base.specs.declared.name.Name.{Name}
 use Rattle.hn_io.specs.Words.{Took, Drew}
 use Rattle.hn_router.specs.Act.{PlainEvent, Arrive}
 use Rattle.hn_router.specs.New.{IsNew}
-use Rattle.hn_router.specs.declared.done.Note.{Note}
-use Rattle.hn_router.specs.declared.done.Publication.{Publication}
-use Rattle.hn_router.specs.declared.state.State.{State}
+use Rattle.hn_rules.specs.declared.done.Note.{Note}
+use Rattle.hn_rules.specs.declared.done.Publication.{Publication}
+use Rattle.hn_rules.specs.declared.state.State.{State}
 use Rattle.hn_world.specs.declared.copies.MailCopy.{MailCopy}
 use Rattle.hn_world.specs.declared.event.WEvent.{WEvent}
 use Rattle.hn_world.specs.declared.event.WEvent.TheVariants as event

@@ -2,8 +2,8 @@
 use Rattle.std.proofs.Common.{◌∙◌, List, sym}
 use Rattle.std.proofs.lemmas.List.Elements.{All-contains}
 use Rattle.hn_hash.specs.Agreement.{EqualHashesAgreeOrCollide}
-use Rattle.hn_router.specs.Laws.{HashIsOfLeaves}
-use Rattle.hn_router.specs.Nodes.{leaves_of}
+use Rattle.hn_rules.specs.Laws.{HashIsOfLeaves}
+use Rattle.hn_rules.specs.Nodes.{leaves_of}
 use Rattle.hn_world.specs.declared.event.Traced.{Traced}
 use Rattle.hn_world.specs.declared.event.Version.{Version}
 use Rattle.hn_world.specs.declared.parts.Parts.{Parts}

@@ -13,10 +13,10 @@ use Rattle.hn_base.proofs.Keys.{same_id}
 use Rattle.hn_base.specs.Name.{name_text}
 use Rattle.hn_base.specs.declared.ids.EpId.{EpId}
 use Rattle.hn_base.specs.declared.name.Name.{Name}
-use Rattle.hn_router.specs.declared.done.Note.{Note}
+use Rattle.hn_rules.specs.declared.done.Note.{Note}
 use Rattle.hn_router.specs.Act.{PlainEvent, Attach, Detach, is_refused}
 use Rattle.hn_router.specs.Laws.{endpoints_by, EndpointsFollow}
-use Rattle.hn_router.specs.Ports.{endpoints_of, is_attached}
+use Rattle.hn_own.specs.Ports.{endpoints_of, is_attached}
 use Rattle.hn_world.specs.declared.event.WEvent.{WEvent}
 use Rattle.hn_world.specs.declared.event.WEvent.TheVariants as event
 use Rattle.hn_world.specs.declared.event.Traced.{Traced}
@@ -320,6 +320,8 @@ module _ (follow : EndpointsFollow) where
   attached_event (event.Link name) words notes before after accepted h all = subst AreAttached (sym h.gives) all
   attached_event (event.Attach name endpoint link) words notes before after accepted h all = attached_attaches name endpoint link words notes before after accepted h all
   attached_event (event.Detach name endpoint) words notes before after accepted h all = attached_detaches name endpoint words notes before after accepted h all
+  attached_event (event.External name prefix valid preferred) words notes before after accepted h all = attached_acts name _ words notes before after (λ ends. refl) h all
+  attached_event (event.Withdraw name prefix) words notes before after accepted h all = attached_acts name _ words notes before after (λ ends. refl) h all
   attached_event (event.Caps name caps) words notes before after accepted h all = attached_acts name _ words notes before after (λ ends. refl) h all
   attached_event (event.Stop name) words notes before after accepted h all =
       subst AreAttached (sym h.quietly.gives) (attached_change name _ before h.changed (λ m is. record { endpoints = is.endpoints; apart = is.apart }) h.changes all)

@@ -1,6 +1,6 @@
 -- One more event of a world that is the replay of its trace.
 use Rattle.std.proofs.Common.{List, [], ◌∷◌, ◌++◌, refl, sym, subst}
-use Rattle.hn_router.specs.declared.done.Note.{Note}
+use Rattle.hn_rules.specs.declared.done.Note.{Note}
 use Rattle.hn_world.specs.declared.event.Traced.{Traced}
 use Rattle.hn_world.specs.declared.event.Version.{Version}
 use Rattle.hn_world.specs.declared.parts.Parts.{Parts}

@@ -5,9 +5,9 @@ use Rattle.std.proofs.lemmas.Option.{same_Some}
 use Rattle.hn_base.specs.declared.ids.NodeId.{NodeId}
 use Rattle.hn_base.specs.declared.name.Name.{Name}
 use Rattle.hn_io.specs.Words as drawn
-use Rattle.hn_router.specs.declared.done.Done.{Done}
-use Rattle.hn_router.specs.declared.done.Note.{Note}
-use Rattle.hn_router.specs.declared.state.State.{State}
+use Rattle.hn_rules.specs.declared.done.Done.{Done}
+use Rattle.hn_rules.specs.declared.done.Note.{Note}
+use Rattle.hn_rules.specs.declared.state.State.{State}
 use Rattle.hn_router.specs.Act.{PlainEvent, Happened}
 use Rattle.hn_router.specs.Laws.{OneResult, NewIsUnique}
 use Rattle.hn_world.specs.declared.copies.MailCopy.{MailCopy}
@@ -96,6 +96,8 @@ module _ (laws : HasLaws) (stream : ℕ → ℕ) where
       (subst (λ (l : ℕ). Changes name (attached_to l endpoint) k.between b) (sym at) k.changes)
   one_event (event.Detach name endpoint) v w m n before a b begins begun h k =
       one_acts_changed name _ _ v w m n before h.between k.between a b begins begun h.acts k.acts h.changes k.changes
+  one_event (event.External name prefix valid preferred) v w m n before a b begins begun h k = one_acts name _ v w m n before a b begins begun h k
+  one_event (event.Withdraw name prefix) v w m n before a b begins begun h k = one_acts name _ v w m n before a b begins begun h k
   one_event (event.Caps name caps) v w m n before a b begins begun h k = one_acts name _ v w m n before a b begins begun h k
   one_event (event.Stop name) v w m n before a b begins begun h k = one_quiet h.changed k.changed v w m n a b (one_change name _ before h.changed k.changed h.changes k.changes) h.quietly k.quietly
   one_event (event.Start name) v w m n before a b begins begun h k =
@@ -162,6 +164,8 @@ past_of_event (event.Router name id) words notes before after h = ap past_of h.q
 past_of_event (event.Link name) words notes before after h = ap past_of h.gives
 past_of_event (event.Attach name endpoint link) words notes before after h = past_of_change name _ h.between after h.changes ∙ past_of_acts name _ words notes before h.between h.acts
 past_of_event (event.Detach name endpoint) words notes before after h = past_of_change name _ h.between after h.changes ∙ past_of_acts name _ words notes before h.between h.acts
+past_of_event (event.External name prefix valid preferred) words notes before after h = past_of_acts name _ words notes before after h
+past_of_event (event.Withdraw name prefix) words notes before after h = past_of_acts name _ words notes before after h
 past_of_event (event.Caps name caps) words notes before after h = past_of_acts name _ words notes before after h
 past_of_event (event.Stop name) words notes before after h = ap past_of h.quietly.gives ∙ past_of_change name _ before h.changed h.changes
 past_of_event (event.Start name) words notes before after h = past_of_change name _ h.between after h.changes ∙ past_of_acts name _ words notes before h.between h.acts

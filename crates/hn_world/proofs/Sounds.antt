@@ -5,10 +5,10 @@ use Rattle.std.proofs.lemmas.Bool.{ltb-false}
 use Rattle.std.proofs.lemmas.List.Elements.{All-nil, All-push, All-set, All-weaker, All-contains}
 use Rattle.hn_base.proofs.Parts.{contains_at}
 use Rattle.hn_base.specs.declared.name.Name.{Name}
-use Rattle.hn_router.specs.declared.done.Note.{Note}
+use Rattle.hn_rules.specs.declared.done.Note.{Note}
 use Rattle.hn_router.specs.Act.{PlainEvent}
 use Rattle.hn_router.specs.Laws.{NewIsRouter, RouterStays, MomentIsNow}
-use Rattle.hn_router.specs.Router.{IsRouter}
+use Rattle.hn_rules.specs.Router.{IsRouter}
 use Rattle.hn_world.specs.declared.event.WEvent.{WEvent}
 use Rattle.hn_world.specs.declared.event.WEvent.TheVariants as event
 use Rattle.hn_world.specs.declared.event.Traced.{Traced}
@@ -96,6 +96,8 @@ sound_event laws (event.Attach name endpoint link) words notes before after acce
     sound_change name _ h.between after (λ moment m is. record { router = is.router; past = is.past }) h.changes (sound_acts laws name _ words notes before h.between h.acts all)
 sound_event laws (event.Detach name endpoint) words notes before after accepted h all =
     sound_change name _ h.between after (λ moment m is. record { router = is.router; past = is.past }) h.changes (sound_acts laws name _ words notes before h.between h.acts all)
+sound_event laws (event.External name prefix valid preferred) words notes before after accepted h all = sound_acts laws name _ words notes before after h all
+sound_event laws (event.Withdraw name prefix) words notes before after accepted h all = sound_acts laws name _ words notes before after h all
 sound_event laws (event.Caps name caps) words notes before after accepted h all = sound_acts laws name _ words notes before after h all
 sound_event laws (event.Stop name) words notes before after accepted h all =
     subst IsSound (sym h.quietly.gives) (sound_change name _ before h.changed (λ moment m is. record { router = is.router; past = is.past }) h.changes all)

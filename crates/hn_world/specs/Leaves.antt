@@ -7,7 +7,7 @@ use Rattle.hn_hash.specs.declared.agreement.Agreement.{Agreement}
 use Rattle.hn_hash.specs.declared.agreement.Agreement.TheVariants.{Differ, Same, Collide}
 use Rattle.hn_hash.specs.Agreement.{IsCollision, IsExhibited}
 use Rattle.hn_hash.specs.Network.{network_hash}
-use Rattle.hn_router.specs.Nodes.{leaves_of}
+use Rattle.hn_rules.specs.Nodes.{leaves_of}
 use Rattle.hn_world.specs.declared.member.Member.{Member}
 use Rattle.hn_world.specs.declared.parts.Parts.{Parts}
 use Rattle.hn_world.specs.declared.copies.MailCopy.{MailCopy}

@@ -2,8 +2,8 @@
 use Rattle.std.specs.Prelude.{ℕ, suc, ◌+◌, ◌*◌, ◌^◌, Bool, true, not, ◌==◌, ◌&&◌, List, [], ◌∷◌, ◌++◌, map, filter, is_none, Option, None, Some}
 use Rattle.std.specs.List.{flat_map}
 use Rattle.hn_base.specs.declared.addr.Addr.{Addr}
-use Rattle.hn_router.specs.Ports.{endpoints_of}
-use Rattle.hn_router.specs.declared.done.Outgoing.{Outgoing}
+use Rattle.hn_own.specs.Ports.{endpoints_of}
+use Rattle.hn_rules.specs.declared.done.Outgoing.{Outgoing}
 use Rattle.hn_world.specs.declared.copies.MailCopy.{MailCopy}
 use Rattle.hn_world.specs.declared.copies.Target.{Target}
 use Rattle.hn_world.specs.declared.member.Member.{Member}

@@ -4,7 +4,9 @@ use Rattle.std.specs.List.{list_any, slice_get}
 use Rattle.std.specs.Option.{option_or}
 use Rattle.hn_base.specs.Name.{name_text}
 use Rattle.hn_base.specs.declared.ids.EpId.{EpId}
-use Rattle.hn_router.specs.Ports.{is_attached}
+use Rattle.hn_prefix.specs.Prefix.{PlainPrefix}
+use Rattle.hn_own.specs.Ports.{is_attached}
+use Rattle.hn_own.specs.OwnPrefixes.{may_delegate}
 use Rattle.hn_world.specs.declared.copies.MailCopy.{MailCopy}
 use Rattle.hn_world.specs.declared.event.WEvent.{WEvent}
 use Rattle.hn_world.specs.declared.event.WEvent.TheVariants as event
@@ -42,9 +44,12 @@ unless_free endpoint m = code_if 11 (is_attached endpoint m.router.ports)
 abbrev pub unless_apart : ℕ → Member → Option ℕ
 unless_apart link m = code_if 14 (list_any (λ a. a.link == link) m.attachments)
 
--- 9: the 17th endpoint of a router; the 1,000,001st event
+-- 9: the 17th endpoint of a router; its ninth delegated prefix; the 1,000,001st event
 abbrev pub unless_full_of_endpoints : Member → Option ℕ
 unless_full_of_endpoints m = code_if 9 (not (nat_lt (length m.router.ports) 16))
+
+abbrev pub unless_full_of_prefixes : PlainPrefix → Member → Option ℕ
+unless_full_of_prefixes prefix m = code_if 9 (not (may_delegate prefix m.router.delegated))
 
 abbrev pub unless_full_of_events : Parts → Option ℕ
 unless_full_of_events w = code_if 9 (nat_le 1000000 (length w.trace))
@@ -58,6 +63,11 @@ unless_full_of_mail w =
 abbrev pub unless_acts : Parts → Member → Option ℕ
 unless_acts w m = option_or (unless_running m) (unless_full_of_events w)
 
+-- of a router that is to get a delegated prefix: there is room for it
+abbrev pub unless_delegated : Parts → PlainPrefix → Member → Option ℕ
+unless_delegated w prefix m = option_or (unless_running m) (option_or (unless_full_of_prefixes prefix m) (unless_full_of_events w))
+
+-- of an endpoint that is to do something: it is attached
 abbrev pub unless_detached : Parts → EpId → Member → Option ℕ
 unless_detached w endpoint m = option_or (unless_running m) (option_or (unless_attached endpoint m) (unless_full_of_events w))
 
@@ -93,6 +103,8 @@ refusal w (event.Link name) = unless_new w (name_text name) (length w.links)
 refusal w (event.Attach name endpoint link) =
     of_router (λ m. of_link (unless_joined w endpoint m) (link_place (name_text link) w)) (member_named (name_text name) w)
 refusal w (event.Detach name endpoint) = of_router (unless_detached w endpoint) (member_named (name_text name) w)
+refusal w (event.External name prefix valid preferred) = of_router (unless_delegated w prefix) (member_named (name_text name) w)
+refusal w (event.Withdraw name prefix) = of_router (unless_acts w) (member_named (name_text name) w)
 refusal w (event.Caps name caps) = of_router (unless_acts w) (member_named (name_text name) w)
 refusal w (event.Stop name) = of_router (unless_acts w) (member_named (name_text name) w)
 refusal w (event.Start name) = of_router (λ m. unless_full_of_events w) (member_named (name_text name) w)

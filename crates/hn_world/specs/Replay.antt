@@ -2,9 +2,9 @@
 use Rattle.std.specs.Prelude.{◌≡◌, ◌≢◌, ◌<◌, ◌≤◌, ◌↔◌, ℕ, List, [], ◌∷◌, ◌++◌, map, All, Contains}
 use Rattle.std.specs.List.{flat_map, AllPairs}
 use Rattle.hn_base.specs.declared.ids.EpId.{EpId}
-use Rattle.hn_router.specs.declared.done.Note.{Note}
-use Rattle.hn_router.specs.Ports.{endpoints_of}
-use Rattle.hn_router.specs.Router.{IsRouter}
+use Rattle.hn_rules.specs.declared.done.Note.{Note}
+use Rattle.hn_own.specs.Ports.{endpoints_of}
+use Rattle.hn_rules.specs.Router.{IsRouter}
 use Rattle.hn_world.specs.declared.event.Traced.{Traced}
 use Rattle.hn_world.specs.declared.event.Version.{Version}
 use Rattle.hn_world.specs.declared.member.Member.{Member}

@@ -6,10 +6,10 @@ use Rattle.hn_base.specs.declared.name.Name.{Name}
 use Rattle.hn_base.specs.declared.ids.NodeId.{NodeId}
 use Rattle.hn_base.specs.declared.ids.EpId.{EpId}
 use Rattle.hn_io.specs.Words.{Took}
-use Rattle.hn_router.specs.declared.done.Done.{Done}
-use Rattle.hn_router.specs.declared.done.Note.{Note}
-use Rattle.hn_router.specs.declared.state.State.{State}
-use Rattle.hn_router.specs.Act.{PlainEvent, Arrive, Tick, Attach, Detach, SetCaps, Restart, Happened}
+use Rattle.hn_rules.specs.declared.done.Done.{Done}
+use Rattle.hn_rules.specs.declared.done.Note.{Note}
+use Rattle.hn_rules.specs.declared.state.State.{State}
+use Rattle.hn_router.specs.Act.{PlainEvent, Arrive, Tick, Attach, Detach, External, Withdraw, SetCaps, Restart, Happened}
 use Rattle.hn_router.specs.New.{IsNew}
 use Rattle.hn_world.specs.declared.copies.MailCopy.{MailCopy}
 use Rattle.hn_world.specs.declared.event.WEvent.{WEvent}
@@ -134,6 +134,8 @@ Does (event.Router name id) words notes before after = Begins name id words note
 Does (event.Link name) words notes before after = Quietly (record before { links = before.links ++ name ∷ [] }) words notes after
 Does (event.Attach name endpoint link) words notes before after = Attaches name endpoint link words notes before after
 Does (event.Detach name endpoint) words notes before after = Detaches name endpoint words notes before after
+Does (event.External name prefix valid preferred) words notes before after = Acts name (External prefix valid preferred) words notes before after
+Does (event.Withdraw name prefix) words notes before after = Acts name (Withdraw prefix) words notes before after
 Does (event.Caps name caps) words notes before after = Acts name (SetCaps caps) words notes before after
 Does (event.Stop name) words notes before after = Stops name words notes before after
 Does (event.Start name) words notes before after = Starts name words notes before after

@@ -11,7 +11,9 @@ use crate::event::WEvent;
 use crate::parts::Parts;
 use hn_base::{Addr, Bytes, Caps, EpId, Name, NoMemory, Sequence};
 use hn_io::Draw;
-use hn_router::{Event, Note};
+use hn_prefix::Prefix;
+use hn_router::Event;
+use hn_rules::Note;
 use std::alloc::Global;
 
 impl Parts {
@@ -70,6 +72,59 @@ impl Parts {
         let notes = self.finish(WEvent::Detach { name, endpoint }, prepared)?;
         self.members.set_attachments(place, attachments);
         Ok(notes)
+    }
+
+    /// A router gets a delegated prefix.
+    pub(crate) fn delegate<D: Draw>(
+        &mut self,
+        alloc: Global,
+        name: Name,
+        prefix: Prefix,
+        valid: u32,
+        preferred: u32,
+        draw: &mut D,
+    ) -> Result<Sequence<Note>, NoMemory>
+        requires accepted { refusal self.old (event.External name prefix valid preferred) ≡ None }
+        requires sound { IsSound self.old }
+        ensures ok { IfOk result (λ notes. IsStep (event.External name prefix valid preferred) notes (D.words draw.old) (D.words draw.new) self.old self.new) }
+        ensures err { OnErr result (self.new ≡ self.old) }
+    {
+        let Some(place) = self.members.place_of(&name) else {
+            unreachable!()
+        };
+        let external = Event::External {
+            prefix,
+            valid,
+            preferred,
+        };
+        let prepared = self.prepare(alloc, place, &external, draw)?;
+        let event = WEvent::External {
+            name,
+            prefix,
+            valid,
+            preferred,
+        };
+        self.finish(event, prepared)
+    }
+
+    /// A router no longer has a delegated prefix.
+    pub(crate) fn withdraw<D: Draw>(
+        &mut self,
+        alloc: Global,
+        name: Name,
+        prefix: Prefix,
+        draw: &mut D,
+    ) -> Result<Sequence<Note>, NoMemory>
+        requires accepted { refusal self.old (event.Withdraw name prefix) ≡ None }
+        requires sound { IsSound self.old }
+        ensures ok { IfOk result (λ notes. IsStep (event.Withdraw name prefix) notes (D.words draw.old) (D.words draw.new) self.old self.new) }
+        ensures err { OnErr result (self.new ≡ self.old) }
+    {
+        let Some(place) = self.members.place_of(&name) else {
+            unreachable!()
+        };
+        let prepared = self.prepare(alloc, place, &Event::Withdraw { prefix }, draw)?;
+        self.finish(WEvent::Withdraw { name, prefix }, prepared)
     }
 
     /// A router gets capabilities.

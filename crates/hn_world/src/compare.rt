@@ -1,7 +1,7 @@
 ghost use Rattle.std.specs.Prelude.{◌≡◌, ◌+◌, ◌<◌, ℕ, suc, IsSome, IfOk, Some, length, count_by, option_copied};
 ghost use Rattle.std.specs.Option.{option_map};
 ghost use Rattle.hn_base.specs.Name.{name_text};
-ghost use Rattle.hn_router.specs.Nodes.{leaves_of};
+ghost use Rattle.hn_rules.specs.Nodes.{leaves_of};
 ghost use Rattle.hn_world.specs.declared.member.Member.{Member};
 ghost use Rattle.hn_world.specs.Names.{member_named};
 ghost use Rattle.hn_world.specs.Waiting.{first_waiting};

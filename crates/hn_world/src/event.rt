@@ -1,4 +1,5 @@
 use hn_base::{Addr, Bytes, Caps, EpId, Moment, Name, NoMemory, NodeId, Words};
+use hn_prefix::Prefix;
 use std::error::Error;
 use std::fmt;
 
@@ -30,6 +31,19 @@ pub enum WEvent {
     Detach {
         name: Name,
         endpoint: EpId,
+    },
+    /// A router gets a delegated prefix, or the same one anew, with its valid and its preferred lifetime in seconds;
+    /// 4294967295 is one that never ends.
+    External {
+        name: Name,
+        prefix: Prefix,
+        valid: u32,
+        preferred: u32,
+    },
+    /// A router no longer has a delegated prefix.
+    Withdraw {
+        name: Name,
+        prefix: Prefix,
     },
     /// A router gets these capabilities.
     Caps {
@@ -81,10 +95,10 @@ pub struct Traced {
 #[derive(Clone, Copy, Debug, PartialEq, Eq, Hash)]
 pub enum WorldFault {
     /// It is refused with this code: 7, a name is unknown or names the other kind; 8, the name of a new router or link is
-    /// taken; 9, the 65th router, the 65th link, the 17th endpoint of a router, or the 1,000,001st event; 10, the moment
-    /// would fall; 11, the endpoint is in use or not attached; 12, the router is stopped; 13, there is no such copy; 14,
-    /// the router already has an endpoint on that link; 16, there are 1,000,000 copies, or they and the injected
-    /// datagrams have 2^28 bytes together.
+    /// taken; 9, the 65th router, the 65th link, the 17th endpoint of a router, its ninth delegated prefix, or the
+    /// 1,000,001st event; 10, the moment would fall; 11, the endpoint is in use or not attached; 12, the router is
+    /// stopped; 13, there is no such copy; 14, the router already has an endpoint on that link; 16, there are 1,000,000
+    /// copies, or they and the injected datagrams have 2^28 bytes together.
     Refused(u8),
     /// Out of memory.
     NoMemory,

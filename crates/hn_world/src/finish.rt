@@ -15,7 +15,8 @@ use crate::mail::copies_of;
 use crate::parts::Parts;
 use hn_base::{NoMemory, Sequence, Words};
 use hn_io::Draw;
-use hn_router::{Done, Event, Note, Plan};
+use hn_router::{Event, Plan};
+use hn_rules::{Done, Note};
 use std::alloc::Global;
 
 /// What an event at a router would do.

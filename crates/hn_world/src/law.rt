@@ -3,7 +3,7 @@
 ghost use Rattle.std.specs.Prelude.{◌≡◌, ◌<◌, ◌++◌, ◌∷◌, [], ℕ, List, Some, length};
 ghost use Rattle.hn_hash.specs.declared.agreement.Agreement.{Agreement};
 ghost use Rattle.hn_hash.specs.declared.leaf.Leaf.{Leaf};
-ghost use Rattle.hn_router.specs.declared.done.Note.{Note};
+ghost use Rattle.hn_rules.specs.declared.done.Note.{Note};
 ghost use Rattle.hn_world.specs.declared.event.WEvent.{WEvent};
 ghost use Rattle.hn_world.specs.declared.event.Traced.{Traced};
 ghost use Rattle.hn_world.specs.declared.event.Version.{Version};
@@ -14,9 +14,9 @@ ghost use Rattle.hn_world.specs.Leaves.{EqualHashesAgree, Agrees};
 
 use hn_hash::equal_hashes_agree_or_collide;
 use hn_router::{
-    endpoints_follow, hash_is_of_leaves, moment_is_now, new_is_router, new_is_unique, one_result,
-    router_stays,
+    endpoints_follow, moment_is_now, new_is_router, new_is_unique, one_result, router_stays,
 };
+use hn_rules::hash_is_of_leaves;
 
 /// From one world, with one event and one stream of words that a draw tells, there is at most one result.
 pub fn step_is_unique()

@@ -26,4 +26,5 @@ pub use law::{
     agreement_is_unique, always_attached, always_sound, at_most_one_world, each_event_is_entered,
     equal_hashes_always_agree, step_is_unique,
 };
+pub use member::{Attachment, Member};
 pub use world::World;

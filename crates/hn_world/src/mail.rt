@@ -6,7 +6,7 @@ ghost use Rattle.hn_world.specs.Mail.{address_of, on_link_at, on_link, is_same, 
 use crate::copies::{MailCopy, Target};
 use crate::member::Member;
 use hn_base::{Addr, Bytes, EpId, NoMemory};
-use hn_router::Outgoing;
+use hn_rules::Outgoing;
 use std::alloc::Global;
 
 /// The port of HNCP (RFC 7788, section 3).

@@ -6,7 +6,8 @@ ghost use Rattle.hn_world.specs.Names.{is_named, is_of, link_of, is_on};
 ghost use Rattle.hn_world.specs.Step.{attached_to, detached_from};
 
 use hn_base::{EpId, Name, NoMemory, Sequence};
-use hn_router::{Done, Plan, Router};
+use hn_router::{Plan, Router};
+use hn_rules::Done;
 use std::alloc::Global;
 use std::marker::Model;
 

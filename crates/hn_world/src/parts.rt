@@ -4,7 +4,7 @@ use crate::links::Links;
 use crate::member::Members;
 use crate::published::Publications;
 use crate::trace::Trace;
-use hn_router::Present;
+use hn_rules::Present;
 
 /// The fields of a world.
 #[derive(Debug, Drop)]

@@ -1,7 +1,7 @@
 //! Events at no router: a new router, a new link, the moment, a router that stops, a copy that is dropped.
 
 ghost use Rattle.std.specs.Prelude.{◌≡◌, ◌≤◌, ◌^◌, ◌++◌, ◌∷◌, [], ℕ, List, Option, OnOk, OnErr, None};
-ghost use Rattle.hn_router.specs.declared.done.Note.{Note};
+ghost use Rattle.hn_rules.specs.declared.done.Note.{Note};
 ghost use Rattle.hn_world.specs.declared.event.WEvent.TheVariants as event;
 ghost use Rattle.hn_world.specs.Refusal.{refusal};
 ghost use Rattle.hn_world.specs.Step.{Step};
@@ -13,7 +13,8 @@ use crate::parts::Parts;
 use crate::published::Publications;
 use crate::trace::Trace;
 use hn_base::{Moment, Name, NoMemory, NodeId, Sequence, Words};
-use hn_router::{Present, Publication, Router};
+use hn_router::Router;
+use hn_rules::{Present, Publication};
 use std::alloc::Global;
 
 /// An event that took no random words.

@@ -1,6 +1,6 @@
 ghost use Rattle.std.specs.Prelude.{◌≡◌, []};
 
-use hn_router::Publication;
+use hn_rules::Publication;
 use std::alloc::Global;
 use std::marker::Model;
 
@@ -12,7 +12,7 @@ pub struct Publications {
 
 impl Model for Publications {
     ghost use Rattle.std.specs.Prelude.{List};
-    ghost use Rattle.hn_router.specs.declared.done.Publication.{Publication};
+    ghost use Rattle.hn_rules.specs.declared.done.Publication.{Publication};
 
     ghost Value = { List Publication };
 

@@ -5,13 +5,14 @@ ghost use Rattle.std.specs.List.{slice_get};
 ghost use Rattle.hn_world.specs.declared.event.WEvent.TheVariants as event;
 ghost use Rattle.hn_base.specs.Name.{name_text};
 ghost use Rattle.hn_world.specs.Names.{is_taken, member_named};
-ghost use Rattle.hn_world.specs.Refusal.{code_if, of_router, unless_running, unless_attached, unless_free, unless_apart, unless_full_of_endpoints, unless_full_of_events, unless_full_of_mail, unless_acts, unless_detached, unless_ticked, unless_received, unless_joined, copy_at, unless_new, refusal};
+ghost use Rattle.hn_world.specs.Refusal.{code_if, of_router, unless_running, unless_attached, unless_free, unless_apart, unless_full_of_endpoints, unless_full_of_prefixes, unless_full_of_events, unless_full_of_mail, unless_acts, unless_delegated, unless_detached, unless_ticked, unless_received, unless_joined, copy_at, unless_new, refusal};
 
 use crate::copies::{MOST_BYTES, MailCopy};
 use crate::event::WEvent;
 use crate::member::Member;
 use crate::parts::Parts;
 use hn_base::{EpId, Name};
+use hn_prefix::Prefix;
 
 /// The code of a name that is unknown or names the other kind.
 const UNKNOWN: u8 = 7;
@@ -62,6 +63,12 @@ impl Member {
     {
         code_if(9, !self.router.has_room())
     }
+
+    fn unless_full_of_prefixes(&self, prefix: &Prefix) -> Option<u8>
+        ensures { result ≡ unless_full_of_prefixes prefix.now self.now }
+    {
+        code_if(9, !self.router.may_have(prefix))
+    }
 }
 
 impl Parts {
@@ -85,6 +92,16 @@ impl Parts {
         ensures { result ≡ unless_acts self.now member.now }
     {
         member.unless_running().or(self.unless_full_of_events())
+    }
+
+    fn unless_delegated(&self, prefix: &Prefix, member: &Member) -> Option<u8>
+        ensures { result ≡ unless_delegated self.now prefix.now member.now }
+    {
+        member.unless_running().or(
+            member
+                .unless_full_of_prefixes(prefix)
+                .or(self.unless_full_of_events()),
+        )
     }
 
     fn unless_detached(&self, endpoint: EpId, member: &Member) -> Option<u8>
@@ -216,6 +233,15 @@ impl Parts {
         }
     }
 
+    fn refuses_external(&self, name: &Name, prefix: &Prefix) -> Option<u8>
+        ensures { result ≡ of_router (unless_delegated self.now prefix.now) (member_named (name_text name.now) self.now) }
+    {
+        match self.members.find(name) {
+            Some(member) => self.unless_delegated(prefix, member),
+            None => Some(UNKNOWN),
+        }
+    }
+
     fn refuses_tick(&self, name: &Name) -> Option<u8>
         ensures { result ≡ of_router (unless_ticked self.now) (member_named (name_text name.now) self.now) }
     {
@@ -247,7 +273,10 @@ impl Parts {
                 link,
             } => self.refuses_attach(name, *endpoint, link),
             WEvent::Detach { name, endpoint } => self.refuses_detach(name, *endpoint),
-            WEvent::Caps { name, .. } | WEvent::Stop { name } => self.refuses_act(name),
+            WEvent::External { name, prefix, .. } => self.refuses_external(name, prefix),
+            WEvent::Withdraw { name, .. } | WEvent::Caps { name, .. } | WEvent::Stop { name } => {
+                self.refuses_act(name)
+            }
             WEvent::Start { name } => self.refuses_start(name),
             WEvent::Time { moment } => {
                 code_if(10, *moment < self.moment.get()).or(self.unless_full_of_events())

@@ -12,13 +12,14 @@ use crate::copies::Copies;
 use crate::event::{Traced, Version, WEvent, WorldFault};
 use crate::law::always_sound;
 use crate::links::Links;
-use crate::member::Members;
+use crate::member::{Member, Members};
 use crate::parts::Parts;
 use crate::published::Publications;
 use crate::trace::Trace;
 use hn_base::{Moment, Name, NoMemory, Sequence};
 use hn_io::Draw;
-use hn_router::{Note, Present, Publication, Router};
+use hn_router::Router;
+use hn_rules::{Note, Present, Publication};
 use std::alloc::Global;
 use std::marker::Model;
 
@@ -66,6 +67,15 @@ impl Parts {
             } => return self.attach(alloc, name, endpoint, link, draw),
             WEvent::Detach { name, endpoint } => {
                 return self.detach(alloc, name, endpoint, draw);
+            }
+            WEvent::External {
+                name,
+                prefix,
+                valid,
+                preferred,
+            } => return self.delegate(alloc, name, prefix, valid, preferred, draw),
+            WEvent::Withdraw { name, prefix } => {
+                return self.withdraw(alloc, name, prefix, draw);
             }
             WEvent::Caps { name, caps } => return self.set_caps(alloc, name, caps, draw),
             WEvent::Start { name } => return self.start(alloc, name, draw),
@@ -162,6 +172,13 @@ impl World {
         ensures { result ≡ option_map (λ m. m.name) (slice_get self.now.members place) }
     {
         self.parts.members.get(place).map(|member| member.name)
+    }
+
+    /// The routers, stopped ones too, with their attachments, in order of definition. Never allocates.
+    pub fn members(&self) -> &[Member]
+        ensures { result.now ≡ self.now.members }
+    {
+        self.parts.members.as_slice()
     }
 
     /// The events that were accepted, in order. Never allocates.

@@ -1,6 +1,6 @@
 use Rattle.std.proofs.Common.{◌∙◌, ℕ, List, true, ap, subst}
 use Rattle.hn_router.specs.New.{IsNew}
-use Rattle.hn_router.specs.declared.done.Publication.{Publication}
+use Rattle.hn_rules.specs.declared.done.Publication.{Publication}
 use Rattle.hn_world.specs.declared.member.Attachment.{Attachment}
 use Rattle.hn_world.specs.declared.member.Member.{Member}
 use Rattle.hn_world.proofs.Acting.{on_ok, begun_step}

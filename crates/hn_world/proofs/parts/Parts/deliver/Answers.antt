@@ -1,7 +1,7 @@
 use Rattle.std.proofs.Common.{◌≡◌, ◌∙◌, ℕ, List, Some, sym, ap, subst}
 use Rattle.std.specs.Prelude.{option_copied}
 use Rattle.hn_router.specs.Act.{Arrive}
-use Rattle.hn_router.specs.declared.running.Origin.{Origin}
+use Rattle.hn_rules.specs.declared.running.Origin.{Origin}
 use Rattle.hn_world.specs.Prepared.{IsPrepared}
 use Rattle.hn_world.specs.Refusal.{copy_at}
 use Rattle.hn_world.proofs.Acting.{stays_within, delivered_step}

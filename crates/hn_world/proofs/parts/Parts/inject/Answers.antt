@@ -1,7 +1,7 @@
 use Rattle.std.proofs.Common.{◌∙◌, ℕ, List, sym, subst}
 use Rattle.hn_base.specs.Name.{name_text}
 use Rattle.hn_router.specs.Act.{Arrive}
-use Rattle.hn_router.specs.declared.running.Origin.{Origin}
+use Rattle.hn_rules.specs.declared.running.Origin.{Origin}
 use Rattle.hn_world.specs.declared.event.WEvent.TheVariants as event
 use Rattle.hn_world.specs.Prepared.{IsPrepared}
 use Rattle.hn_world.proofs.Acting.{both, no_router, router_past, acted_step}

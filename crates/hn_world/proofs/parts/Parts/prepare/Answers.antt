@@ -1,6 +1,6 @@
 use Rattle.std.proofs.Common.{◌∙◌, ℕ, List, subst, ap, refl}
 use Rattle.hn_router.specs.Act.{plain_event, Happened}
-use Rattle.hn_router.specs.declared.done.Done.{Done}
+use Rattle.hn_rules.specs.declared.done.Done.{Done}
 use Rattle.hn_world.specs.declared.member.Member.{Member}
 use Rattle.hn_world.specs.Mail.{copies_of}
 use Rattle.hn_world.proofs.parts.Parts.prepare.Goals as goal

@@ -8,7 +8,7 @@ use Rattle.hn_lab.specs.Stage.{Stage}
 use Rattle.hn_lab.specs.Told.{Told, told}
 use Rattle.hn_lab.specs.Play.{IsCutPlay}
 use Rattle.hn_lab.proofs.LawSole.{StepsAreUnique}
-use Rattle.hn_lab.proofs.LawLines.{AgreementsAreUnique}
+use Rattle.hn_lab.proofs.LawLines.{ReportLaws}
 use Rattle.hn_lab.proofs.LawPlays.{Plays, plays, compared}
 use Rattle.hn_lab.proofs.LawGrows.{EventsAreEntered, Extends, extends_stage, extends_then, grows_line}
 
@@ -66,10 +66,10 @@ record IsPlayTo (front : List (ℕ × Line)) (p : Stage) (text : List Told) (las
   text_is : text ≡ so_far ++ told after.world (line ∷ [])
   last_is : last ≡ after.world
 
-module _ (steps : StepsAreUnique) (agreements : AgreementsAreUnique) (entered : EventsAreEntered) where
+module _ (steps : StepsAreUnique) (reports : ReportLaws) (entered : EventsAreEntered) where
   -- of two plays of fronts the longer goes on from the shorter
   goes_on : (front rest : List (ℕ × Line)) (r q : End) (p a b : Stage) (s t : List Told) → Plays front r p s a → Plays (front ++ rest) q p t b → ((more : List Told) × (t ≡ s ++ more)) × Extends a b
-  goes_on front rest r q p a b s t h k = elim (compared steps agreements front rest r q p a b s t h k) [
+  goes_on front rest r q p a b s t h k = elim (compared steps reports front rest r q p a b s t h k) [
     | inl same ↦ (([], sym same.texts ∙ sym (append-nil s)), extends_stage a b (sym same.stages))
     | inr on ↦ ((on.more, on.text_is), grows_play entered rest q a b on.more on.goes)
   ]

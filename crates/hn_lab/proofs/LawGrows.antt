@@ -2,7 +2,7 @@
 use Rattle.std.proofs.Common.{◌≡◌, ◌∙◌, ◌<◌, ◌+◌, inl, inr, ℕ, zero, suc, Bool, true, false, List, [], ◌∷◌, ◌++◌, append_assoc, append-nil, length, length-append, if◌then◌else◌, ◌||◌, ◌==◌, Option, None, Some, refl, sym, ap, arith}
 use Rattle.std.proofs.lemmas.List.{nil_from_length}
 use Rattle.hn_base.specs.declared.name.Name.{Name}
-use Rattle.hn_router.specs.declared.done.Note.{Note}
+use Rattle.hn_rules.specs.declared.done.Note.{Note}
 use Rattle.hn_script.specs.declared.line.Line.{Line}
 use Rattle.hn_script.specs.declared.line.Line.TheVariants as line
 use Rattle.hn_world.specs.declared.copies.MailCopy.{MailCopy}
@@ -15,7 +15,8 @@ use Rattle.hn_world.specs.Step.{Step}
 use Rattle.hn_lab.specs.Stage.{Stage}
 use Rattle.hn_lab.specs.Process.{Process, Then, Times, Until}
 use Rattle.hn_lab.specs.Events.{Happens, EventEnds, CopyEnds, HasWaiting, Flow, TicksOf, Ticks, Passes, Round, Runs, treatment, drawn}
-use Rattle.hn_lab.specs.Line.{Noted, Reports, LineEnds, IsOf, Compares, receiver, injection, unless_known, unless_runs, unless_both_run, mail_report}
+use Rattle.hn_lab.specs.Line.{Noted, Reports, LineEnds, IsOf, Compares, receiver, injection, unless_known, unless_runs, unless_both_run, mail_report, ReportsLines, Tells, unless_elects}
+use Rattle.hn_lab.specs.PrefixReports.{AreUsedLines, prefixes_lines, IsElectLine}
 use Rattle.hn_lab.specs.Reports.{show_line, hash_line}
 use Rattle.hn_lab.proofs.LawSole.{parts_of}
 
@@ -128,11 +129,17 @@ module _ (entered : EventsAreEntered) where
   grows_report unless IsReport None lines p a h = extends_stage p a h.4
   grows_report unless IsReport (Some code) lines p a h = extends_stage p a h.2
 
+  grows_lines : (unless : Option ℕ) (AreReport : List (List ℕ) → Type 0) (code : Option ℕ) (lines : List (List ℕ)) (p a : Stage) → ReportsLines unless AreReport code lines p a → Extends p a
+  grows_lines unless AreReport None lines p a h = extends_stage p a h.2
+  grows_lines unless AreReport (Some code) lines p a h = extends_stage p a h.2
+
   pub grows_line : (l : Line) (code : Option ℕ) (lines : List (List ℕ)) (p a : Stage) → LineEnds l code lines p a → Extends p a
   grows_line (line.Router name id) code lines p a h = (grows_event (event.Router name id)).grows code p a h.0
   grows_line (line.Link name) code lines p a h = (grows_event (event.Link name)).grows code p a h.0
   grows_line (line.Attach name endpoint link) code lines p a h = (grows_event (event.Attach name endpoint link)).grows code p a h.0
   grows_line (line.Detach name endpoint) code lines p a h = (grows_event (event.Detach name endpoint)).grows code p a h.0
+  grows_line (line.External name prefix valid preferred) code lines p a h = (grows_event (event.External name prefix valid preferred)).grows code p a h.0
+  grows_line (line.Withdraw name prefix) code lines p a h = (grows_event (event.Withdraw name prefix)).grows code p a h.0
   grows_line (line.Caps name caps) code lines p a h = (grows_event (event.Caps name caps)).grows code p a h.0
   grows_line (line.Stop name) code lines p a h = (grows_event (event.Stop name)).grows code p a h.0
   grows_line (line.Start name) code lines p a h = (grows_event (event.Start name)).grows code p a h.0
@@ -147,5 +154,8 @@ module _ (entered : EventsAreEntered) where
   grows_line (line.Inject name endpoint how bytes) code lines p a h = grows_noted (injection name endpoint how bytes) (Some name) code lines p a h
   grows_line (line.Show name) code lines p a h = grows_report (unless_known name p.world) (IsOf name p.world (show_line name)) code lines p a h
   grows_line (line.Hash name) code lines p a h = grows_report (unless_runs name p.world) (IsOf name p.world (hash_line name)) code lines p a h
+  grows_line (line.Used name) code lines p a h = grows_lines (unless_runs name p.world) (Tells name p.world (AreUsedLines name)) code lines p a h
+  grows_line (line.Prefixes name) code lines p a h = grows_lines (unless_runs name p.world) (Tells name p.world (λ m told. told ≡ prefixes_lines name m)) code lines p a h
+  grows_line (line.Elect name e letter) code lines p a h = grows_report (unless_elects name e p.world) (Tells name p.world (IsElectLine name e letter)) code lines p a h
   grows_line (line.Compare left right) code lines p a h = grows_report (unless_both_run left right p.world) (Compares left right p.world) code lines p a h
   grows_line line.Mail code lines p a h = grows_report None (λ (l : List ℕ). l ≡ mail_report p.world) code lines p a h

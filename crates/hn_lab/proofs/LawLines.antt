@@ -1,13 +1,22 @@
 -- A line of a script has at most one end, with one text, and leads to at most one stage.
 use Rattle.std.proofs.Common.{◌≡◌, ◌∙◌, ◌↔◌, ℕ, Bool, true, false, List, [], ◌∷◌, map, Option, None, Some, refl, sym, ap, subst}
 use Rattle.std.specs.Option.{option_map_or}
-use Rattle.std.specs.Prelude.{IsTrue}
+use Rattle.std.specs.Prelude.{IsTrue, MatchOption}
 use Rattle.std.proofs.lemmas.Option.{same_Some}
+use Rattle.hn_base.specs.declared.ids.EpId.{EpId}
+use Rattle.hn_base.specs.declared.ids.NodeId.{NodeId}
+use Rattle.hn_base.specs.declared.letter.Letter.{Letter}
 use Rattle.hn_base.specs.declared.name.Name.{Name}
+use Rattle.hn_data.specs.View.{PlainView}
+use Rattle.hn_deleg.specs.Used.{AreUsable}
+use Rattle.hn_deleg.specs.declared.delegated.Delegated.{Delegated}
+use Rattle.hn_link.specs.CommonLink.{IsCommonLink}
+use Rattle.hn_link.specs.Election.{IsElected, HasNoCandidate}
+use Rattle.hn_rules.specs.Seen.{seen_by}
 use Rattle.hn_hash.specs.declared.agreement.Agreement.{Agreement}
 use Rattle.hn_hash.specs.declared.leaf.Leaf.{Leaf}
-use Rattle.hn_router.specs.Nodes.{leaves_of}
-use Rattle.hn_router.specs.declared.done.Note.{Note}
+use Rattle.hn_rules.specs.Nodes.{leaves_of}
+use Rattle.hn_rules.specs.declared.done.Note.{Note}
 use Rattle.hn_script.specs.declared.line.Line.{Line}
 use Rattle.hn_script.specs.declared.line.Line.TheVariants as line
 use Rattle.hn_world.specs.declared.event.WEvent.{WEvent}
@@ -20,12 +29,20 @@ use Rattle.hn_lab.specs.Stage.{Stage}
 use Rattle.hn_lab.specs.Process.{Process}
 use Rattle.hn_lab.specs.Events.{EventEnds, Flow, Runs}
 use Rattle.hn_lab.specs.Reports.{IsCompareLine, compare_line, show_line, hash_line, note_line}
-use Rattle.hn_lab.specs.Line.{LineProcess, Silent, Noted, Reports, Sets, IsOf, Compares, LineEnds, receiver, injection, unless_known, unless_runs, unless_both_run, mail_report, seeded}
+use Rattle.hn_lab.specs.Line.{LineProcess, Silent, Noted, Reports, ReportsLines, Sets, Tells, IsOf, Compares, LineEnds, receiver, injection, unless_known, unless_runs, unless_both_run, unless_elects, mail_report, seeded}
+use Rattle.hn_lab.specs.PrefixReports.{AreUsedLines, used_lines, prefixes_lines, IsElectLine, elect_line}
 use Rattle.hn_lab.proofs.LawSole.{StepsAreUnique, IsSole, sole_event, sole_flow, sole_run, happens_once, not_refused, same_code, unlike}
 
 -- a law of worlds: two lists of leaves agree in one way
 abbrev pub AgreementsAreUnique : Type 0
 AgreementsAreUnique = (a b : List Leaf) (x y : Agreement) → Agrees a b x → Agrees a b y → x ≡ y
+
+-- laws of what reports tell
+pub record ReportLaws : Type 0 where
+  pub agreements : AgreementsAreUnique
+  pub usable : (view : PlainView) (a b : List Delegated) → AreUsable view a → AreUsable view b → a ≡ b
+  pub common : (view : PlainView) (e : ℕ) (a b : List (NodeId × EpId)) → IsCommonLink view e a → IsCommonLink view e b → a ≡ b
+  pub elected : (view : PlainView) (common : List (NodeId × EpId)) (letter : Letter) (a b : NodeId) → IsElected view common letter a → IsElected view common letter b → a ≡ b
 
 -- a line that ends in one way
 pub record IsSoleLine (process : LineProcess) : Type 0 where
@@ -53,15 +70,57 @@ sole_noted steps event name = record { one = cases }
     cases (Some c) None s t p a b h k = absurd (not_refused event k.0 c p b k.1 h.0)
     cases (Some c) (Some d) s t p a b h k = (ap Some (same_code c d (refusal p.world event) h.0 k.0), h.2 ∙ sym k.2, h.1 ∙ sym k.1)
 
--- a report is one line
-pub record IsOneReport (IsReport : List ℕ → Type 0) : Type 0 where
-  pub one : (l m : List ℕ) → IsReport l → IsReport m → l ≡ m
+-- a report tells one thing
+pub record IsOneReport {A : Type 0} (IsReport : A → Type 0) : Type 0 where
+  pub one : (l m : A) → IsReport l → IsReport m → l ≡ m
 
 reports_once : (unless : Option ℕ) (IsReport : List ℕ → Type 0) → IsOneReport IsReport → (c d : Option ℕ) (s t : List (List ℕ)) (p a b : Stage) → Reports unless IsReport c s p a → Reports unless IsReport d t p b → (c ≡ d) × (s ≡ t) × (a ≡ b)
 reports_once unless IsReport report None None s t p a b h k = (refl, h.3 ∙ ap (λ (l : List ℕ). l ∷ []) (report.one h.1 k.1 h.2 k.2) ∙ sym k.3, h.4 ∙ sym k.4)
 reports_once unless IsReport report None (Some d) s t p a b h k = absurd (unlike d unless h.0 k.0)
 reports_once unless IsReport report (Some c) None s t p a b h k = absurd (unlike c unless k.0 h.0)
 reports_once unless IsReport report (Some c) (Some d) s t p a b h k = (ap Some (same_code c d unless h.0 k.0), h.1 ∙ sym k.1, h.2 ∙ sym k.2)
+
+-- a report of several lines
+lines_once : (unless : Option ℕ) (AreReport : List (List ℕ) → Type 0) → IsOneReport AreReport → (c d : Option ℕ) (s t : List (List ℕ)) (p a b : Stage) → ReportsLines unless AreReport c s p a → ReportsLines unless AreReport d t p b → (c ≡ d) × (s ≡ t) × (a ≡ b)
+lines_once unless AreReport report None None s t p a b h k = (refl, report.one s t h.1 k.1, h.2 ∙ sym k.2)
+lines_once unless AreReport report None (Some d) s t p a b h k = absurd (unlike d unless h.0 k.0)
+lines_once unless AreReport report (Some c) None s t p a b h k = absurd (unlike c unless k.0 h.0)
+lines_once unless AreReport report (Some c) (Some d) s t p a b h k = (ap Some (same_code c d unless h.0 k.0), h.1 ∙ sym k.1, h.2 ∙ sym k.2)
+
+-- a report on the router of a name
+one_tells : {A : Type 0} (name : Name) (w : Parts) (report : Member → A → Type 0) → ((m : Member) → IsOneReport (report m)) → IsOneReport (Tells name w report)
+one_tells {A} name w report each = record { one = once }
+  where
+    once : (l k : A) → Tells name w report l → Tells name w report k → l ≡ k
+    once l k is other =
+        let same : other.0 ≡ is.0 = same_Some other.0 is.0 (sym other.1 ∙ is.1) in
+        (each is.0).one l k is.2 (subst (λ (m : Member). report m k) same other.2)
+
+one_used : ReportLaws → (name : Name) (m : Member) → IsOneReport (AreUsedLines name m)
+one_used reports name m = record {
+  one = λ l k is other. is.lines_are ∙ ap (used_lines name) (reports.usable (seen_by m.router) is.used other.used is.are_usable other.are_usable) ∙ sym other.lines_are;
+}
+
+one_prefixes : (name : Name) (m : Member) → IsOneReport (λ (told : List (List ℕ)). told ≡ prefixes_lines name m)
+one_prefixes name m = record { one = λ l k is other. is ∙ sym other }
+
+-- who is elected
+one_who : ReportLaws → (view : PlainView) (common : List (NodeId × EpId)) (letter : Letter) (who other : Option NodeId)
+    → MatchOption who (HasNoCandidate view common letter) (IsElected view common letter) → MatchOption other (HasNoCandidate view common letter) (IsElected view common letter) → who ≡ other
+one_who reports view common letter None None is k = refl
+one_who reports view common letter None (Some b) is k = absurd (is b k.caps k.candidate)
+one_who reports view common letter (Some a) None is k = absurd (k a is.caps is.candidate)
+one_who reports view common letter (Some a) (Some b) is k = ap Some (reports.elected view common letter a b is k)
+
+one_elect : ReportLaws → (name : Name) (e : EpId) (letter : Letter) (m : Member) → IsOneReport (IsElectLine name e letter m)
+one_elect reports name e letter m = record { one = once }
+  where
+    once : (l k : List ℕ) → IsElectLine name e letter m l → IsElectLine name e letter m k → l ≡ k
+    once l k is other =
+        let common = reports.common (seen_by m.router) e.0 other.is_elected.common is.is_elected.common other.is_elected.is_common is.is_elected.is_common in
+        let elected = subst (λ (link : List (NodeId × EpId)). MatchOption other.who (HasNoCandidate (seen_by m.router) link letter) (IsElected (seen_by m.router) link letter)) common other.is_elected.is_elected in
+        let who = one_who reports (seen_by m.router) is.is_elected.common letter is.who other.who is.is_elected.is_elected elected in
+        is.line_is ∙ ap (elect_line name e letter) who ∙ sym other.line_is
 
 one_of : (name : Name) (w : Parts) (report : Member → List ℕ) → IsOneReport (IsOf name w report)
 one_of name w report = record { one = λ l m h k. h.2 ∙ ap report (same_Some h.0 k.0 (sym h.1 ∙ k.1)) ∙ sym k.2 }
@@ -96,24 +155,29 @@ one_mail w = record { one = λ l m h k. h ∙ sym k }
 
 -- ---- each line
 
-pub sole_line : StepsAreUnique → AgreementsAreUnique → (l : Line) → IsSoleLine (LineEnds l)
-sole_line steps agreements (line.Router name id) = one_event steps (event.Router name id)
-sole_line steps agreements (line.Link name) = one_event steps (event.Link name)
-sole_line steps agreements (line.Attach name endpoint link) = one_event steps (event.Attach name endpoint link)
-sole_line steps agreements (line.Detach name endpoint) = one_event steps (event.Detach name endpoint)
-sole_line steps agreements (line.Caps name caps) = one_event steps (event.Caps name caps)
-sole_line steps agreements (line.Stop name) = one_event steps (event.Stop name)
-sole_line steps agreements (line.Start name) = one_event steps (event.Start name)
-sole_line steps agreements (line.Seed seed) = sole_sets (seeded seed)
-sole_line steps agreements (line.Loss percent) = sole_sets (λ (x : Stage). record x { loss = percent })
-sole_line steps agreements (line.Time moment) = one_event steps (event.Time moment)
-sole_line steps agreements (line.Tick name) = one_event steps (event.Tick name)
-sole_line steps agreements (line.Run end step) = sole_silent (Runs end step) (sole_run steps end step)
-sole_line steps agreements (line.Deliver copy) = record { one = λ c d s t p a b h k. (sole_noted steps (event.Deliver copy) (receiver p.world copy)).one c d s t p a b h k }
-sole_line steps agreements (line.Drop copy) = one_event steps (event.Drop copy)
-sole_line steps agreements line.Flow = sole_silent Flow (sole_flow steps)
-sole_line steps agreements (line.Inject name endpoint how bytes) = sole_noted steps (injection name endpoint how bytes) (Some name)
-sole_line steps agreements (line.Show name) = record { one = λ c d s t p a b. reports_once (unless_known name p.world) (IsOf name p.world (show_line name)) (one_of name p.world (show_line name)) c d s t p a b }
-sole_line steps agreements (line.Hash name) = record { one = λ c d s t p a b. reports_once (unless_runs name p.world) (IsOf name p.world (hash_line name)) (one_of name p.world (hash_line name)) c d s t p a b }
-sole_line steps agreements (line.Compare left right) = record { one = λ c d s t p a b. reports_once (unless_both_run left right p.world) (Compares left right p.world) (one_compare agreements left right p.world) c d s t p a b }
-sole_line steps agreements line.Mail = record { one = λ c d s t p a b. reports_once None (λ (l : List ℕ). l ≡ mail_report p.world) (one_mail p.world) c d s t p a b }
+pub sole_line : StepsAreUnique → ReportLaws → (l : Line) → IsSoleLine (LineEnds l)
+sole_line steps reports (line.Router name id) = one_event steps (event.Router name id)
+sole_line steps reports (line.Link name) = one_event steps (event.Link name)
+sole_line steps reports (line.Attach name endpoint link) = one_event steps (event.Attach name endpoint link)
+sole_line steps reports (line.Detach name endpoint) = one_event steps (event.Detach name endpoint)
+sole_line steps reports (line.External name prefix valid preferred) = one_event steps (event.External name prefix valid preferred)
+sole_line steps reports (line.Withdraw name prefix) = one_event steps (event.Withdraw name prefix)
+sole_line steps reports (line.Caps name caps) = one_event steps (event.Caps name caps)
+sole_line steps reports (line.Stop name) = one_event steps (event.Stop name)
+sole_line steps reports (line.Start name) = one_event steps (event.Start name)
+sole_line steps reports (line.Seed seed) = sole_sets (seeded seed)
+sole_line steps reports (line.Loss percent) = sole_sets (λ (x : Stage). record x { loss = percent })
+sole_line steps reports (line.Time moment) = one_event steps (event.Time moment)
+sole_line steps reports (line.Tick name) = one_event steps (event.Tick name)
+sole_line steps reports (line.Run end step) = sole_silent (Runs end step) (sole_run steps end step)
+sole_line steps reports (line.Deliver copy) = record { one = λ c d s t p a b h k. (sole_noted steps (event.Deliver copy) (receiver p.world copy)).one c d s t p a b h k }
+sole_line steps reports (line.Drop copy) = one_event steps (event.Drop copy)
+sole_line steps reports line.Flow = sole_silent Flow (sole_flow steps)
+sole_line steps reports (line.Inject name endpoint how bytes) = sole_noted steps (injection name endpoint how bytes) (Some name)
+sole_line steps reports (line.Show name) = record { one = λ c d s t p a b. reports_once (unless_known name p.world) (IsOf name p.world (show_line name)) (one_of name p.world (show_line name)) c d s t p a b }
+sole_line steps reports (line.Hash name) = record { one = λ c d s t p a b. reports_once (unless_runs name p.world) (IsOf name p.world (hash_line name)) (one_of name p.world (hash_line name)) c d s t p a b }
+sole_line steps reports (line.Used name) = record { one = λ c d s t p a b. lines_once (unless_runs name p.world) (Tells name p.world (AreUsedLines name)) (one_tells name p.world (AreUsedLines name) (one_used reports name)) c d s t p a b }
+sole_line steps reports (line.Prefixes name) = record { one = λ c d s t p a b. lines_once (unless_runs name p.world) (Tells name p.world (λ m told. told ≡ prefixes_lines name m)) (one_tells name p.world (λ m told. told ≡ prefixes_lines name m) (one_prefixes name)) c d s t p a b }
+sole_line steps reports (line.Elect name e letter) = record { one = λ c d s t p a b. reports_once (unless_elects name e p.world) (Tells name p.world (IsElectLine name e letter)) (one_tells name p.world (IsElectLine name e letter) (one_elect reports name e letter)) c d s t p a b }
+sole_line steps reports (line.Compare left right) = record { one = λ c d s t p a b. reports_once (unless_both_run left right p.world) (Compares left right p.world) (one_compare reports.agreements left right p.world) c d s t p a b }
+sole_line steps reports line.Mail = record { one = λ c d s t p a b. reports_once None (λ (l : List ℕ). l ≡ mail_report p.world) (one_mail p.world) c d s t p a b }

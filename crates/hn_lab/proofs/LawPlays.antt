@@ -11,7 +11,7 @@ use Rattle.hn_lab.specs.Reports.{refused_line}
 use Rattle.hn_lab.specs.Told.{Told, told}
 use Rattle.hn_lab.specs.Play.{LinesDone, IsPlay, IsCutPlay}
 use Rattle.hn_lab.proofs.LawSole.{StepsAreUnique, apart}
-use Rattle.hn_lab.proofs.LawLines.{AgreementsAreUnique, sole_line}
+use Rattle.hn_lab.proofs.LawLines.{ReportLaws, sole_line}
 
 -- ---- a play by its first line
 
@@ -78,22 +78,22 @@ pub record GoesOn (rest : List (ℕ × Line)) (r q : End) (s t : List Told) (a b
   pub text_is : t ≡ s ++ more
   pub goes : Plays rest q a more b
 
-module _ (steps : StepsAreUnique) (agreements : AgreementsAreUnique) where
+module _ (steps : StepsAreUnique) (reports : ReportLaws) where
   same_halt : (number : ℕ) (l : Line) (r q : End) (p a b : Stage) (s t : List Told) → Halts number l r p s a → Halts number l q p t b → AreSame r q s t a b
   same_halt number l r q p a b s t h k =
-      let same = (sole_line steps agreements l).one (Some h.code) (Some k.code) [] [] p a b h.refused k.refused in
+      let same = (sole_line steps reports l).one (Some h.code) (Some k.code) [] [] p a b h.refused k.refused in
       let codes : h.code ≡ k.code = same_Some h.code k.code same.0 in
       let lines : told a.world (refused_line number h.code ∷ []) ≡ told b.world (refused_line number k.code ∷ []) = λ i. told (same.2 i).world (refused_line number (codes i) ∷ []) in
       record { ends = h.end_is ∙ ap (λ (c : ℕ). Refused number c) codes ∙ sym k.end_is; texts = h.text_is ∙ lines ∙ sym k.text_is; stages = same.2 }
 
   not_halted : (number : ℕ) (l : Line) (Rest : End → Stage → List Told → Stage → Type 0) (r q : End) (p a b : Stage) (s t : List Told) → Goes l Rest r p s a → Halts number l q p t b → ⊥
-  not_halted number l Rest r q p a b s t h k = apart k.code (sym ((sole_line steps agreements l).one None (Some k.code) h.lines [] p h.between b h.line k.refused).0)
+  not_halted number l Rest r q p a b s t h k = apart k.code (sym ((sole_line steps reports l).one None (Some k.code) h.lines [] p h.between b h.line k.refused).0)
 
   -- the line that both begin with, and what follows it
   after_line : (l : Line) (Rest : End → Stage → List Told → Stage → Type 0) (p m b : Stage) (lines : List (List ℕ)) (q : End) (t : List Told) → LineEnds l None lines p m → Goes l Rest q p t b
       → (u : List Told) × Rest q m u b × (t ≡ told m.world lines ++ u)
   after_line l Rest p m b lines q t h k =
-      let same = (sole_line steps agreements l).one None None lines k.lines p m k.between h k.line in
+      let same = (sole_line steps reports l).one None None lines k.lines p m k.between h k.line in
       let begins : told k.between.world k.lines ≡ told m.world lines = λ i. told (sym same.2 i).world (sym same.1 i) in
       (k.rest, subst (λ (x : Stage). Rest q x k.rest b) (sym same.2) k.goes, k.text_is ∙ ap (λ (x : List Told). x ++ k.rest) begins)
 

@@ -7,8 +7,10 @@ mod TextReports
 mod TextStreams
 mod PlayLines
 mod PlayScripts
+mod PrefixTexts
 mod LawCuts
 mod LawGrows
 mod LawLines
 mod LawPlays
 mod LawSole
+pub mod WholeSources

@@ -9,7 +9,7 @@ use Rattle.hn_base.specs.Name.{name_text}
 use Rattle.hn_base.specs.declared.name.Name.{Name}
 use Rattle.hn_base.specs.declared.ids.NodeId.{NodeId}
 use Rattle.hn_hash.specs.declared.agreement.Agreement.{Agreement}
-use Rattle.hn_router.specs.Nodes.{leaves_of}
+use Rattle.hn_rules.specs.Nodes.{leaves_of}
 use Rattle.hn_router.specs.declared.router.Router.{Router}
 use Rattle.hn_world.specs.Leaves.{Agrees}
 use Rattle.hn_store.specs.declared.table.Table.{Table}

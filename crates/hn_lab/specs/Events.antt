@@ -2,7 +2,7 @@
 use Rattle.std.specs.Prelude.{◌≡◌, ◌≢◌, ◌⊎◌, ◌≤◌, ◌<◌, ◌+◌, ◌%◌, ◌||◌, ◌==◌, if◌then◌else◌, nat_lt, min, ℕ, suc, List, [], ◌∷◌, Option, None, Some}
 use Rattle.std.specs.List.{slice_get}
 use Rattle.hn_base.specs.declared.name.Name.{Name}
-use Rattle.hn_router.specs.declared.done.Note.{Note}
+use Rattle.hn_rules.specs.declared.done.Note.{Note}
 use Rattle.hn_world.specs.declared.copies.MailCopy.{MailCopy}
 use Rattle.hn_world.specs.declared.event.WEvent.{WEvent}
 use Rattle.hn_world.specs.declared.event.WEvent.TheVariants as event

@@ -1,6 +1,7 @@
 pub mod Input
 pub mod Told
 pub mod Reports
+pub mod PrefixReports
 pub mod Stage
 pub mod Process
 pub mod Events

@@ -9,7 +9,7 @@ use Rattle.hn_base.specs.declared.addr.Addr.{Addr}
 use Rattle.hn_base.specs.declared.ids.EpId.{EpId}
 use Rattle.hn_base.specs.declared.name.Name.{Name}
 use Rattle.hn_io.specs.Pcg.{pcg_word}
-use Rattle.hn_router.specs.declared.done.Note.{Note}
+use Rattle.hn_rules.specs.declared.done.Note.{Note}
 use Rattle.hn_script.specs.declared.line.Line.{Line}
 use Rattle.hn_script.specs.declared.line.Line.TheVariants as line
 use Rattle.hn_script.specs.declared.line.How.{How}
@@ -19,10 +19,11 @@ use Rattle.hn_world.specs.declared.event.WEvent.TheVariants as event
 use Rattle.hn_world.specs.declared.member.Member.{Member}
 use Rattle.hn_world.specs.declared.parts.Parts.{Parts}
 use Rattle.hn_world.specs.Names.{member_named}
-use Rattle.hn_world.specs.Refusal.{refusal, of_router, unless_running, copy_at}
+use Rattle.hn_world.specs.Refusal.{refusal, of_router, unless_running, unless_attached, copy_at}
 use Rattle.hn_lab.specs.Stage.{Stage}
 use Rattle.hn_lab.specs.Process.{Process}
 use Rattle.hn_lab.specs.Events.{Happens, EventEnds, Flow, Runs}
+use Rattle.hn_lab.specs.PrefixReports.{AreUsedLines, prefixes_lines, IsElectLine}
 use Rattle.hn_lab.specs.Reports.{show_line, hash_line, IsCompareLine, mail_line, note_line}
 
 -- a line ends, and these lines of text come up at its end
@@ -43,6 +44,11 @@ Noted event name (Some code) lines before after = (refusal before.world event �
 abbrev pub Reports : Option ℕ → (List ℕ → Type 0) → LineProcess
 Reports unless IsReport None lines before after = (unless ≡ None) × (line : List ℕ) × IsReport line × (lines ≡ line ∷ []) × (after ≡ before)
 Reports unless IsReport (Some code) lines before after = (unless ≡ Some code) × (lines ≡ []) × (after ≡ before)
+
+-- the lines of a report, unless it is refused
+abbrev pub ReportsLines : Option ℕ → (List (List ℕ) → Type 0) → LineProcess
+ReportsLines unless AreReport None lines before after = (unless ≡ None) × AreReport lines × (after ≡ before)
+ReportsLines unless AreReport (Some code) lines before after = (unless ≡ Some code) × (lines ≡ []) × (after ≡ before)
 
 -- something else than the world is set
 abbrev pub Sets : (Stage → Stage) → LineProcess
@@ -72,14 +78,22 @@ unless_known name w = of_router (λ _. None) (member_named (name_text name) w)
 abbrev pub unless_runs : Name → Parts → Option ℕ
 unless_runs name w = of_router unless_running (member_named (name_text name) w)
 
+-- 11, beside these: its endpoint is not attached
+abbrev pub unless_elects : Name → EpId → Parts → Option ℕ
+unless_elects name e w = of_router (λ m. option_or (unless_running m) (unless_attached e m)) (member_named (name_text name) w)
+
 -- of two routers: both names are looked at first
 abbrev pub unless_both_run : Name → Name → Parts → Option ℕ
 unless_both_run left right w =
     option_or (unless_known left w) (option_or (unless_known right w) (option_or (unless_runs left w) (unless_runs right w)))
 
--- a report on the router of a name, and one on two routers
+-- what a report tells of the router of a name
+abbrev pub Tells : {A : Type 0} → Name → Parts → (Member → A → Type 0) → A → Type 0
+Tells name w report told = (m : Member) × (member_named (name_text name) w ≡ Some m) × report m told
+
+-- a line on the router of a name, and one on two routers
 abbrev pub IsOf : Name → Parts → (Member → List ℕ) → List ℕ → Type 0
-IsOf name w report line = (m : Member) × (member_named (name_text name) w ≡ Some m) × (line ≡ report m)
+IsOf name w report line = Tells name w (λ m told. told ≡ report m) line
 
 pub record Compares (left right : Name) (w : Parts) (line : List ℕ) : Type 0 where
   pub a : Member
@@ -98,6 +112,8 @@ LineEnds (line.Router name id) code lines before after = Silent (EventEnds (even
 LineEnds (line.Link name) code lines before after = Silent (EventEnds (event.Link name)) code lines before after
 LineEnds (line.Attach name endpoint link) code lines before after = Silent (EventEnds (event.Attach name endpoint link)) code lines before after
 LineEnds (line.Detach name endpoint) code lines before after = Silent (EventEnds (event.Detach name endpoint)) code lines before after
+LineEnds (line.External name prefix valid preferred) code lines before after = Silent (EventEnds (event.External name prefix valid preferred)) code lines before after
+LineEnds (line.Withdraw name prefix) code lines before after = Silent (EventEnds (event.Withdraw name prefix)) code lines before after
 LineEnds (line.Caps name caps) code lines before after = Silent (EventEnds (event.Caps name caps)) code lines before after
 LineEnds (line.Stop name) code lines before after = Silent (EventEnds (event.Stop name)) code lines before after
 LineEnds (line.Start name) code lines before after = Silent (EventEnds (event.Start name)) code lines before after
@@ -112,5 +128,8 @@ LineEnds line.Flow code lines before after = Silent Flow code lines before after
 LineEnds (line.Inject name endpoint how bytes) code lines before after = Noted (injection name endpoint how bytes) (Some name) code lines before after
 LineEnds (line.Show name) code lines before after = Reports (unless_known name before.world) (IsOf name before.world (show_line name)) code lines before after
 LineEnds (line.Hash name) code lines before after = Reports (unless_runs name before.world) (IsOf name before.world (hash_line name)) code lines before after
+LineEnds (line.Used name) code lines before after = ReportsLines (unless_runs name before.world) (Tells name before.world (AreUsedLines name)) code lines before after
+LineEnds (line.Prefixes name) code lines before after = ReportsLines (unless_runs name before.world) (Tells name before.world (λ m told. told ≡ prefixes_lines name m)) code lines before after
+LineEnds (line.Elect name e letter) code lines before after = Reports (unless_elects name e before.world) (Tells name before.world (IsElectLine name e letter)) code lines before after
 LineEnds (line.Compare left right) code lines before after = Reports (unless_both_run left right before.world) (Compares left right before.world) code lines before after
 LineEnds line.Mail code lines before after = Reports None (λ line. line ≡ mail_report before.world) code lines before after

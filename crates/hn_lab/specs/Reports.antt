@@ -6,9 +6,9 @@ use Rattle.hn_base.specs.Name.{name_text}
 use Rattle.hn_base.specs.declared.name.Name.{Name}
 use Rattle.hn_hash.specs.declared.agreement.Agreement.{Agreement}
 use Rattle.hn_hash.specs.declared.agreement.Agreement.TheVariants.{Differ, Same, Collide}
-use Rattle.hn_router.specs.Nodes.{leaves_of}
-use Rattle.hn_router.specs.declared.done.Note.{Note}
-use Rattle.hn_router.specs.declared.done.Note.TheVariants as note
+use Rattle.hn_rules.specs.Nodes.{leaves_of}
+use Rattle.hn_rules.specs.declared.done.Note.{Note}
+use Rattle.hn_rules.specs.declared.done.Note.TheVariants as note
 use Rattle.hn_store.specs.declared.state.Took.{Took}
 use Rattle.hn_store.specs.declared.state.Took.TheVariants as took
 use Rattle.hn_world.specs.Leaves.{Agrees}

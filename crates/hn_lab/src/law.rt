@@ -8,6 +8,8 @@ ghost use Rattle.hn_lab.specs.Stage.{Stage};
 ghost use Rattle.hn_lab.specs.Play.{IsPlay, IsCutPlay};
 ghost use Rattle.hn_lab.specs.Told.{Told};
 
+use hn_deleg::usable_is_unique;
+use hn_link::{common_link_is_unique, elected_is_unique};
 use hn_world::{agreement_is_unique, each_event_is_entered, step_is_unique};
 
 /// Lines have at most one play: one end, one text, and one world with the random words that are to come.
@@ -17,6 +19,9 @@ pub fn at_most_one_play()
 {
     step_is_unique();
     agreement_is_unique();
+    usable_is_unique();
+    common_link_is_unique();
+    elected_is_unique();
 }
 
 /// At each line of its text, a play is cut in one way: with one text up to there, and one world.
@@ -26,6 +31,9 @@ pub fn at_most_one_cut_play()
 {
     step_is_unique();
     agreement_is_unique();
+    usable_is_unique();
+    common_link_is_unique();
+    elected_is_unique();
     each_event_is_entered();
 }
 
@@ -36,4 +44,7 @@ pub fn cut_text_is_a_front()
 {
     step_is_unique();
     agreement_is_unique();
+    usable_is_unique();
+    common_link_is_unique();
+    elected_is_unique();
 }

@@ -10,6 +10,7 @@ mod lines;
 mod notes;
 mod output;
 mod playing;
+mod prefix_reports;
 mod reports;
 mod rounds;
 mod scripts;

@@ -10,6 +10,7 @@ use crate::playing::Playing;
 use crate::stream::Stream;
 use crate::treated::Treated;
 use hn_base::{Addr, Bytes, EpId, Moment, Name, NoMemory};
+use hn_prefix::Prefix;
 use hn_script::{How, Line};
 use hn_world::WEvent;
 use std::alloc::Global;
@@ -72,6 +73,26 @@ impl Playing {
             name,
             endpoint,
             link,
+        };
+        self.silent(alloc, event)
+    }
+
+    /// The router gets a delegated prefix, with its valid and its preferred lifetime in seconds.
+    fn delegate(
+        &mut self,
+        alloc: Global,
+        name: Name,
+        prefix: Prefix,
+        lifetimes: (u32, u32),
+    ) -> Result<Treated, NoMemory>
+        ensures { IfOk result (λ t. LineEnds (line.External name prefix lifetimes.0 lifetimes.1) t.code t.lines (stage_of self.old) (stage_of self.new)) }
+    {
+        let (valid, preferred) = lifetimes;
+        let event = WEvent::External {
+            name,
+            prefix,
+            valid,
+            preferred,
         };
         self.silent(alloc, event)
     }
@@ -139,6 +160,10 @@ impl Playing {
             Line::Link(name) => self.silent(alloc, WEvent::Link { name }),
             Line::Attach(name, endpoint, link) => self.attach(alloc, name, endpoint, link),
             Line::Detach(name, endpoint) => self.silent(alloc, WEvent::Detach { name, endpoint }),
+            Line::External(name, prefix, valid, preferred) => {
+                self.delegate(alloc, name, prefix, (valid, preferred))
+            }
+            Line::Withdraw(name, prefix) => self.silent(alloc, WEvent::Withdraw { name, prefix }),
             Line::Caps(name, caps) => self.silent(alloc, WEvent::Caps { name, caps }),
             Line::Stop(name) => self.silent(alloc, WEvent::Stop { name }),
             Line::Start(name) => self.silent(alloc, WEvent::Start { name }),
@@ -155,6 +180,9 @@ impl Playing {
             }
             Line::Show(name) => self.show(alloc, &name),
             Line::Hash(name) => self.hash(alloc, &name),
+            Line::Used(name) => self.used(alloc, &name),
+            Line::Prefixes(name) => self.prefixes(alloc, &name),
+            Line::Elect(name, endpoint, letter) => self.elect(alloc, &name, endpoint, letter),
             Line::Compare(left, right) => self.compare(alloc, &left, &right),
             Line::Mail => self.mail(alloc),
         }

@@ -4,7 +4,7 @@ ghost use Rattle.std.specs.Prelude.{◌≡◌, IfOk, string_bytes};
 ghost use Rattle.hn_lab.specs.Reports.{took_text, note_text, note_line};
 
 use hn_base::Name;
-use hn_router::Note;
+use hn_rules::Note;
 use hn_store::Took;
 use std::alloc::{AllocError, Global};
 

@@ -22,7 +22,7 @@ const UNKNOWN: u8 = 7;
 /// The code of a router that is stopped.
 const STOPPED: u8 = 12;
 
-fn yes_no(answer: bool) -> &'static str
+pub(crate) fn yes_no(answer: bool) -> &'static str
     ensures { result.now ≡ yes_no answer }
 {
     if answer { "yes" } else { "no" }
@@ -102,7 +102,7 @@ impl Playing {
     }
 
     /// Why there is none: it is unknown, or the router is stopped.
-    fn unless_runs(&self, name: &Name) -> Option<u8>
+    pub(crate) fn unless_runs(&self, name: &Name) -> Option<u8>
         ensures { result ≡ unless_runs name.now self.now.world }
     {
         if self.world.router(name).is_none() {

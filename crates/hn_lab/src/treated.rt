@@ -4,7 +4,7 @@ ghost use Rattle.hn_lab.specs.Reports.{note_line};
 
 use crate::notes::note_line;
 use hn_base::{Name, NoMemory};
-use hn_router::Note;
+use hn_rules::Note;
 use std::alloc::Global;
 use std::marker::Model;
 
@@ -83,6 +83,14 @@ impl Treated {
         let mut lines = Lines::new(alloc);
         lines.push(line)?;
         Ok(Treated { code: None, lines })
+    }
+
+    /// A line that is done, with these lines of text. Never allocates.
+    pub(crate) fn told(lines: Lines) -> Treated
+        ensures code { result.code ≡ None }
+        ensures lines { result.lines ≡ lines }
+    {
+        Treated { code: None, lines }
     }
 
     /// A line that is done, with a line of text for each note of the router of a name.

@@ -1,26 +1,10 @@
--- What was read of a source, and the bytes that the source has.
+-- What is said of the bytes that were read is said of a longer source.
 use Rattle.std.proofs.Common.{◌<◌, ◌≤◌, ◌^◌, ℕ, zero, suc, List, [], ◌∷◌, ◌++◌, Option, None, Some, length, inl, inr, subst, sym, ap, arith, length-append}
 use Rattle.std.specs.Prelude.{IfSome, Contains}
-use Rattle.std.specs.Io.KnownBytes.{Consumes}
-use Rattle.std.proofs.lemmas.Bool.{cases_lt}
 use Rattle.hn_io.specs.declared.fault.IoFault.{IoFault}
 use Rattle.hn_io.specs.declared.fault.IoFault.TheVariants.{NoMemory}
-use Rattle.hn_lab.specs.Input.{IsWhole}
 use Rattle.hncp.specs.Decode.{IsDecodeOf, WritesDecode, CutsDecode}
 use Rattle.hncp.proofs.Streams.{AppendsFront-none}
-
-length_front : (whole : List ℕ) (after : Option (List ℕ)) (read : List ℕ) → Consumes (Some whole) after read → length read ≤ length whole
-length_front whole None read c = absurd c
-length_front whole (Some rest) read c = omega (arith, ap length c, length-append read rest)
-
--- What holds of the bytes that were read holds of the whole source, where it does not depend on those past 2^24.
-pub of_source : (R : List ℕ → Type 0) → ((whole read : List ℕ) → 2 ^ 24 < length read → length read ≤ length whole → R read → R whole) → (left after : Option (List ℕ)) (read : List ℕ) → Consumes left after read → (length read ≤ 2 ^ 24 → IsWhole left read) → R read → IfSome left R
-of_source R longer None after read c all holds = tt
-of_source R longer (Some whole) after read c all holds =
-    elim (cases_lt (2 ^ 24) (length read)) [
-      | inl long ↦ longer whole read long (length_front whole after read c) holds
-      | inr short ↦ subst R (sym (all short)) holds
-    ]
 
 -- what is among some numbers is among more
 pub Contains-more : (xs ys : List ℕ) (more x : ℕ) → Contains (xs ++ ys) x → Contains (xs ++ more ∷ ys) x

@@ -1,5 +1,13 @@
 use Rattle.hn_lab.proofs.LawCuts.{one_cut}
+use Rattle.hn_lab.proofs.LawLines.{ReportLaws}
 use Rattle.hn_lab.proofs.law.at_most_one_cut_play.Goals as goal
 
 pub returns : goal.returns
-returns c = one_cut c.step_is_unique.ensures c.agreement_is_unique.ensures c.each_event_is_entered.ensures.entered
+returns c =
+    let reports : ReportLaws = record {
+      agreements = c.agreement_is_unique.ensures;
+      usable = c.usable_is_unique.ensures;
+      common = c.common_link_is_unique.ensures;
+      elected = c.elected_is_unique.ensures;
+    } in
+    one_cut c.step_is_unique.ensures reports c.each_event_is_entered.ensures.entered

@@ -1,7 +1,8 @@
 use Rattle.std.proofs.Common.{ℕ, List, [], ◌∷◌, refl, lit<}
 use Rattle.hn_io.specs.declared.fault.IoFault.TheVariants.{Failed, NoMemory}
 use Rattle.hncp.specs.Decode.{WritesDecode, CutsDecode}
-use Rattle.hncp.proofs.Sources.{of_source, decode_longer, cut_longer, cut_of_unread, Contains-more}
+use Rattle.hn_lab.proofs.WholeSources.{of_source}
+use Rattle.hncp.proofs.Sources.{decode_longer, cut_longer, cut_of_unread, Contains-more}
 use Rattle.hncp.proofs.run.decode.Goals as goal
 
 pub returns-in-Ok-clause-written : goal.returns-in-Ok-clause-written

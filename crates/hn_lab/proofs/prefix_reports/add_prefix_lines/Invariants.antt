@@ -1,0 +1,8 @@
+use Rattle.std.proofs.Common.{◌≡◌, ◌++◌, take}
+use Rattle.std.specs.Prelude.{map}
+use Rattle.hn_lab.specs.PrefixReports.{prefix_line}
+use Rattle.hn_lab.proofs.prefix_reports.add_prefix_lines.Given as goal
+
+-- the assignments so far have a line each
+abbrev pub invariant-loop-c : goal.invariant-loop-c
+invariant-loop-c l = l.lines ≡ l.fn.lines ++ map (prefix_line l.name) (take l.c-index l.assigned)

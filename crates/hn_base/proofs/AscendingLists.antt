@@ -73,10 +73,10 @@ found {K} R o exact xs x (Err i) up within at =
 pub nothing_in : {K : Type 0} (x : K) → ¬ (Contains {X = K} [] x)
 nothing_in x (k, lt, at) = omega (arith, lt)
 
-below_head : {K : Type 0} (R : K → K → Ordering) (x : K) (xs : List K) → IsStrictlySortedBy R (x ∷ xs) → (y : K) → Contains xs y → R x y ≡ Less
+pub below_head : {K : Type 0} (R : K → K → Ordering) (x : K) (xs : List K) → IsStrictlySortedBy R (x ∷ xs) → (y : K) → Contains xs y → R x y ≡ Less
 below_head {K} R x xs up y h = All-contains (λ (z : K). R x z ≡ Less) xs y (All-from_recursion (λ (z : K). R x z ≡ Less) xs (sorted_head R x xs up)) h
 
-not_both : {K : Type 0} (R : K → K → Ordering) → IsTotalOrder R → (x y : K) → R x y ≡ Less → R y x ≡ Less → ⊥
+pub not_both : {K : Type 0} (R : K → K → Ordering) → IsTotalOrder R → (x y : K) → R x y ≡ Less → R y x ≡ Less → ⊥
 not_both R o x y up down = let turned : R x y ≡ Greater = o.antisymm x y ∙ ap ordering_reverse down in cc
 
 same_head : {K : Type 0} (R : K → K → Ordering) → IsTotalOrder R → (x y : K) (xs ys : List K) → IsStrictlySortedBy R (x ∷ xs) → IsStrictlySortedBy R (y ∷ ys)

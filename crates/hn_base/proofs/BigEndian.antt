@@ -1,10 +1,12 @@
 -- Bytes in network byte order and the number that they make, for any count of them; and so for 16.
 use Rattle.std.proofs.Common.{◌≡◌, ℕ, zero, suc, ◌+◌, ◌-◌, ◌*◌, ◌/◌, ◌%◌, ◌^◌, ◌<◌, ◌≤◌, List, [], ◌∷◌, ◌++◌, length, get_or, take, drop, replicate, refl, sym, ap, subst, ◌∙◌, arith}
+use Rattle.std.specs.Prelude.{All}
 use Rattle.std.specs.List.{AllByRecursion}
 use Rattle.std.specs.Int.{w32, w128, byte_at, byte_worth, bytes_high_first, sum_through, to_be_bytes, from_be_bytes}
 use Rattle.std.proofs.lemmas.List.{length-append, length-replicate, length-drop, length-take-le, take-append-drop, take_at}
 use Rattle.std.proofs.lemmas.Nat.{from_be_bytes-to_be_bytes_4, pow-add, mod-pow-add, mul-add-lt, same_from_place, mod_low}
 use Rattle.std.proofs.Math.Nat.{pow-suc}
+use Rattle.std.proofs.lemmas.List.Elements.{All-nil, All-cons}
 use Rattle.hn_base.proofs.Recursions.{AllByRecursion-append, AllByRecursion-take, AllByRecursion-drop}
 
 -- the number that bytes make
@@ -201,3 +203,13 @@ zeros_below n i k le e =
     let parts : i - k + k ≡ i = omega arith in
     let sum : (n / 2 ^ k % 2 ^ (i - k)) * 2 ^ k + n % 2 ^ k ≡ 0 = sym (mod-pow-add n (i - k) k) ∙ ap (λ m. n % 2 ^ m) parts ∙ e in
     omega arith
+
+-- ---- each has eight bits
+
+pub byte_small : (i n : ℕ) → byte_at i n < 2 ^ 8
+byte_small zero n = omega arith
+byte_small (suc i) n = omega arith
+
+pub number_bytes : (k n : ℕ) → All (λ byte. byte < 2 ^ 8) (bytes_high_first k n)
+number_bytes zero n = All-nil (λ (byte : ℕ). byte < 2 ^ 8)
+number_bytes (suc k) n = All-cons (λ (byte : ℕ). byte < 2 ^ 8) (byte_at k n) (bytes_high_first k n) (byte_small k n) (number_bytes k n)

@@ -1,6 +1,9 @@
 pub mod AscendingLists
 pub mod AscendingNumbers
 pub mod BigEndian
+pub mod Decisions
+pub mod Elements
+pub mod FirstWords
 pub mod Firsts
 pub mod Fronts
 pub mod HexLemmas

@@ -1,6 +1,6 @@
 -- What is known of a result.
 use Rattle.std.proofs.Common.{◌≡◌, ◌↔◌, Result, Ok, Err, MatchResult, IfOk, refl, sym, ap, subst, ◌∙◌}
-use Rattle.std.specs.Prelude.{IsOk, IsErr}
+use Rattle.std.specs.Prelude.{IsOk, IsErr, OnErr}
 
 pub not_ok : {A E : Type 0} (e : E) (x : A) → Err e ≡ Ok x → ⊥
 not_ok e x same = absurd cc
@@ -28,6 +28,11 @@ ok_with (Err e) x y ok is same = absurd cc
 pub ok_where : {A E : Type 0} (r : Result A E) (P : A → Type 0) (Q : E → Type 0) (U : Type 0) → MatchResult r P (λ e. ¬ U × Q e) → U → IsOk r
 ok_where (Ok x) P Q U cases holds = refl
 ok_where (Err e) P Q U cases holds = absurd (cases.0 holds)
+
+-- what holds after each answer holds after an error
+pub on_err : {T E : Type 0} (r : Result T E) (P : Type 0) → P → OnErr r P
+on_err (Ok x) P holds = tt
+on_err (Err e) P holds = holds
 
 -- which faults of a kind a result tells, where at most one is so
 module _ {X E F : Type 0} (wrap : F → E) (P : F → Type 0) where

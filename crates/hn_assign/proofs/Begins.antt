@@ -3,11 +3,6 @@ use Rattle.std.proofs.Common.{◌≡◌, ℕ, List, [], ◌∷◌, ◌++◌, len
 use Rattle.std.proofs.lemmas.Grind.{common_steps}
 use Rattle.hn_io.specs.Words.{Begins}
 
-pub begins_front : (xs ys : List ℕ) (stream : ℕ → ℕ) → Begins (xs ++ ys) stream → Begins xs stream
-begins_front xs ys stream begins i within =
-    let h = begins i (omega (arith, length-append xs ys)) in
-    grind (arith, common_steps)
-
 last_word : (taken : List ℕ) (word : ℕ) (stream : ℕ → ℕ) → Begins (taken ++ word ∷ []) stream → word ≡ stream (length taken)
 last_word taken word stream begins =
     let h = begins (length taken) (simp length-append (omega arith)) in

@@ -18,7 +18,7 @@ pub fn gather(alloc: Global, view: &View<'_>, held: &Held) -> Result<AdvertisedP
     requires { IsNetwork view.now.own.0 view.now.nodes.now }
     ensures { IfOk result (AreAdvertised (plain_view view.entry.now) held.now.assigned) }
 {
-    let mut items = Vec::new(alloc);
+    let mut items = Vec::with_capacity(alloc, view.nodes.len())?;
     add_others(&mut items, view.own, view.nodes)?;
     add_own(&mut items, view.own, held.assigned.as_slice())?;
     Ok(AdvertisedPrefixes::from(items))

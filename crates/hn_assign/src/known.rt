@@ -39,26 +39,36 @@ fn prefixes_of(alloc: Global, advertised: &[Advertised]) -> Result<Vec<Prefix>, 
 }
 
 impl Known {
+    /// These advertised prefixes.
+    ///
+    /// # Errors
+    ///
+    /// Out of memory.
+    pub fn of(alloc: Global, advertised: AdvertisedPrefixes) -> Result<Known, NoMemory>
+        ensures { IfOk result (λ known. known ≡ advertised) }
+    {
+        let taken = prefixes_of(alloc, advertised.as_slice())?;
+        Ok(Known { advertised, taken })
+    }
+
     /// What a router with these assignments knows to be advertised.
     pub(crate) fn gather(alloc: Global, view: &View<'_>, held: &Held) -> Result<Known, NoMemory>
         requires { IsNetwork view.now.own.0 view.now.nodes.now }
         ensures { IfOk result (AreAdvertised (plain_view view.entry.now) held.now.assigned) }
     {
-        let advertised = gather(alloc, view, held)?;
-        let taken = prefixes_of(alloc, advertised.as_slice())?;
-        Ok(Known { advertised, taken })
+        Known::of(alloc, gather(alloc, view, held)?)
     }
 
-    /// The advertised prefixes.
-    pub(crate) fn as_slice(&self) -> &[Advertised]
+    /// The advertised prefixes. Never allocates.
+    pub fn as_slice(&self) -> &[Advertised]
         ensures { result.now ≡ self.now }
     {
         self.advertised.as_slice()
     }
 
     /// The first free prefix of a length inside another, in cyclic order from a place; `None` if and only if nothing
-    /// is free. Nothing is where the other one is longer.
-    pub(crate) fn first_free(&self, outer: &Prefix, start: u32, len: u8) -> Option<Prefix>
+    /// is free. Nothing is where the other one is longer. Never allocates.
+    pub fn first_free(&self, outer: &Prefix, start: u32, len: u8) -> Option<Prefix>
         requires { len ≤ 64 }
         ensures first { IfSome result (IsFirstFree outer.now start (map (λ a. a.prefix) self.now) len) }
         ensures free { IfSome result (IsFreeIn self.now outer.now len) }

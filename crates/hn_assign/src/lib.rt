@@ -29,6 +29,7 @@ pub use backoff::Backoff;
 pub use backoffs::Backoffs;
 pub use gathering::{AdvertisedPrefixes, gather};
 pub use held::{Held, Ran};
+pub use known::Known;
 pub use laws::{
     lines_exclude_each_other, rest_is_unchanged, subroutine_has_one_result, subroutine_keeps,
     subroutine_leaves,

@@ -55,7 +55,9 @@ fn is_eligible(a: &Advertised, own: NodeId, common: &[(NodeId, EpId)], delegated
 fn is_on_link(a: &Advertised, common: &[(NodeId, EpId)]) -> bool
     ensures { IsTrue result ↔ IsOnLink common.now a.now }
 {
-    common.contains(&(a.key.node, a.key.endpoint))
+    common
+        .iter()
+        .any(|e| e.0 == a.key.node && e.1 == a.key.endpoint)
 }
 
 /// Whether an assignment to the link of some endpoints is valid: no prefix that overlaps it is advertised on another
@@ -87,5 +89,5 @@ fn overrides(a: &Advertised, common: &[(NodeId, EpId)], key: &Key, prefix: &Pref
     ensures { IsTrue result
         ↔ ¬ (IsOnLink common.now a.now) × Overlaps a.now.prefix prefix.now × IsAbove a.now.key key.now }
 {
-    !is_on_link(a, common) && a.prefix.overlaps(prefix) && a.key.is_above(key)
+    a.key.is_above(key) && a.prefix.overlaps(prefix) && !is_on_link(a, common)
 }

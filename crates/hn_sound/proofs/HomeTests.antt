@@ -13,7 +13,7 @@ use Rattle.hn_sound.specs.AtRest.{EachPair, PairFact, IsAssignmentOf}
 use Rattle.hn_sound.specs.Home.{Home, Endpoint, Held, HasAssignment, advertised, wish_of}
 use Rattle.hn_sound.specs.Premises.{Premise, Meets, IsHome, IsHomeBut}
 use Rattle.hn_sound.specs.Premises.Premise.{OneLink, OnceOnLink, UsedApart, ForUsed, PublishedInside, OneEach, PriorityTwo}
-use Rattle.hn_sound.proofs.Members.{in_filter, from_filter}
+use Rattle.hn_base.proofs.Elements.{in_filter, from_filter}
 use Rattle.hn_sound.proofs.Tests.{implies, then_true, each_passes, one_passes, prefix_is, from_prefix_is, to_prefix_is, is_within, within_from, may_overlap, to_may_overlap}
 
 -- ---- the assignments of a pair

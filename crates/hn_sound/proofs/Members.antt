@@ -1,72 +1,10 @@
 -- Which elements lists have.
-use Rattle.std.proofs.Common.{◌≡◌, ◌⊎◌, inl, inr, Bool, true, false, cond, Option, Some, None, List, [], ◌∷◌, refl, sym, ap, ◌∙◌, subst}
+use Rattle.std.proofs.Common.{◌≡◌, ◌⊎◌, inl, inr, List, [], ◌∷◌, refl, sym, subst}
 use Rattle.std.specs.declared.cmp.Ordering.{Ordering}
 use Rattle.std.specs.declared.cmp.Ordering.TheVariants.{Less, Equal, Greater}
 use Rattle.std.specs.Cmp.{IsTotalOrder}
-use Rattle.std.specs.List.{Contains, filter, filter_map, cons_option}
+use Rattle.std.specs.List.{Contains}
 use Rattle.hn_base.proofs.AscendingLists.{not_below_itself, nothing_in, Contains-head, Contains-tail, Contains-cases}
-
--- ---- filter
-
-pub in_filter : {X : Type 0} (test : X → Bool) (xs : List X) (x : X) → Contains xs x → test x ≡ true → Contains (filter test xs) x
-in_filter test [] x h passes = absurd (nothing_in x h)
-in_filter {X} test (y ∷ xs) x h passes =
-    elim (Contains-cases y xs x h) [
-      | inl same ↦ first (test y) (ap test same ∙ passes) same
-      | inr later ↦ next (test y) (in_filter test xs x later passes)
-    ]
-  where
-    first : (b : Bool) → b ≡ true → y ≡ x → Contains (cond b (y ∷ filter test xs) (filter test xs)) x
-    first true e same = subst (λ z. Contains (y ∷ filter test xs) z) same (Contains-head y (filter test xs))
-    first false e same = absurd (cc)
-
-    next : (b : Bool) → Contains (filter test xs) x → Contains (cond b (y ∷ filter test xs) (filter test xs)) x
-    next true k = Contains-tail y (filter test xs) x k
-    next false k = k
-
-pub from_filter : {X : Type 0} (test : X → Bool) (xs : List X) (x : X) → Contains (filter test xs) x → Contains xs x × (test x ≡ true)
-from_filter test [] x h = absurd (nothing_in x h)
-from_filter {X} test (y ∷ xs) x h = go (test y) refl h (from_filter test xs x)
-  where
-    go : (b : Bool) → test y ≡ b → Contains (cond b (y ∷ filter test xs) (filter test xs)) x → (Contains (filter test xs) x → Contains xs x × (test x ≡ true)) → Contains (y ∷ xs) x × (test x ≡ true)
-    go true e k rest =
-        elim (Contains-cases y (filter test xs) x k) [
-          | inl same ↦ (subst (λ z. Contains (y ∷ xs) z) same (Contains-head y xs), sym (ap test same) ∙ e)
-          | inr later ↦ (Contains-tail y xs x (rest later).0, (rest later).1)
-        ]
-    go false e k rest = (Contains-tail y xs x (rest k).0, (rest k).1)
-
--- ---- filter_map
-
-pub in_filter_map : {X Y : Type 0} (h : X → Option Y) (xs : List X) (x : X) (y : Y) → Contains xs x → h x ≡ Some y → Contains (filter_map h xs) y
-in_filter_map h [] x y k is = absurd (nothing_in x k)
-in_filter_map {X} {Y} h (z ∷ xs) x y k is =
-    elim (Contains-cases z xs x k) [
-      | inl same ↦ first (h z) (ap h same ∙ is)
-      | inr later ↦ next (h z) (in_filter_map h xs x y later is)
-    ]
-  where
-    first : (o : Option Y) → o ≡ Some y → Contains (cons_option o (filter_map h xs)) y
-    first None e = absurd (cc)
-    first (Some w) e =
-        let same : w ≡ y = cc in
-        subst (λ v. Contains (w ∷ filter_map h xs) v) same (Contains-head w (filter_map h xs))
-
-    next : (o : Option Y) → Contains (filter_map h xs) y → Contains (cons_option o (filter_map h xs)) y
-    next None l = l
-    next (Some w) l = Contains-tail w (filter_map h xs) y l
-
-pub from_filter_map : {X Y : Type 0} (h : X → Option Y) (xs : List X) (y : Y) → Contains (filter_map h xs) y → (x : X) × Contains xs x × (h x ≡ Some y)
-from_filter_map h [] y k = absurd (nothing_in y k)
-from_filter_map {X} {Y} h (x ∷ xs) y k = go (h x) refl k (from_filter_map h xs y)
-  where
-    go : (o : Option Y) → h x ≡ o → Contains (cons_option o (filter_map h xs)) y → (Contains (filter_map h xs) y → (z : X) × Contains xs z × (h z ≡ Some y)) → (z : X) × Contains (x ∷ xs) z × (h z ≡ Some y)
-    go None e l rest = let found = rest l in (found.0, Contains-tail x xs found.0 found.1, found.2)
-    go (Some w) e l rest =
-        elim (Contains-cases w (filter_map h xs) y l) [
-          | inl same ↦ (x, Contains-head x xs, e ∙ ap Some same)
-          | inr later ↦ let found = rest later in (found.0, Contains-tail x xs found.0 found.1, found.2)
-        ]
 
 -- ---- an element with a fact that can be decided
 

@@ -9,7 +9,7 @@ use Rattle.hn_assign.specs.declared.assigned.Advertised.{Advertised}
 use Rattle.hn_assign.specs.Advertised.{key_of}
 use Rattle.hn_sound.specs.Home.{Home, Endpoint, Held, advertised, advertised_as, common_link}
 use Rattle.hn_sound.specs.Members.{IsAdvertised, IsOnLinkOf}
-use Rattle.hn_sound.proofs.Members.{in_filter, from_filter, in_filter_map, from_filter_map}
+use Rattle.hn_base.proofs.Elements.{in_filter, from_filter, in_filter_map, from_filter_map}
 
 -- what a published assignment is advertised as
 as_published : (h : Held) (priority : ℕ) → h.assigned.published ≡ Some priority → advertised_as h ≡ Some (record { key = key_of priority h.node.0 h.assigned.endpoint.0; prefix = h.assigned.prefix })

@@ -5,3 +5,5 @@ mod Tops
 mod Live
 mod Whole
 mod Unique
+mod Fits
+mod Ordered

@@ -7,11 +7,14 @@ use Rattle.std.proofs.lemmas.Bool.Decides.{nat_tests}
 use Rattle.std.proofs.lemmas.List.Elements.{All-push, filter_map-append, Contains-push, Contains-push_cases, Contains-append_left, Contains-append_right, Contains-append_cases}
 use Rattle.hn_prefix.specs.Prefix.{IsPrefix}
 use Rattle.std.proofs.lemmas.List.{append-nil}
+use Rattle.hn_base.proofs.AscendingLists.{nothing_in}
+use Rattle.hn_base.proofs.Decisions.{both_true}
+use Rattle.hn_base.proofs.Elements.{in_filter_map, from_filter_map}
 use Rattle.hn_data.specs.Said.{HasVersion}
 use Rattle.hn_data.specs.Delegations.{HasDelegation}
 use Rattle.hn_data.specs.declared.said.Delegation.{Delegation}
 use Rattle.hn_data.specs.declared.view.Entry.{Entry}
-use Rattle.hn_deleg.proofs.Lists.{nothing_in, take_at, Contains-filter_map, Contains-from_filter_map}
+use Rattle.hn_deleg.proofs.Lists.{take_at}
 use Rattle.hn_deleg.specs.Live.{remaining}
 use Rattle.hn_deleg.specs.Steps.{live_of, HasPrefixes, IsLiveAt, IsLiveIn}
 use Rattle.hn_deleg.specs.declared.delegated.Delegated.{Delegated}
@@ -62,11 +65,11 @@ live_added node old new said version are is u =
     let more = filter_map (live_of node.age) said in (
       λ h. ⊎_elim (λ (before : Contains old u). inl before)
           (λ (added : Contains more u).
-          let found = Contains-from_filter_map (live_of node.age) said u added in
+          let found = from_filter_map (live_of node.age) said u added in
           inr (record { version = version; delegation = found.0; said = (are found.0).0 found.1; remains = found.2 }))
           (Contains-append_cases old more u (subst (λ (l : List Delegated). Contains l u) is h)),
       λ h. subst (λ (l : List Delegated). Contains l u) (sym is) (⊎_elim (λ (before : Contains old u). Contains-append_left old more u before)
-          (λ (at : IsLiveAt node u). Contains-append_right old more u (Contains-filter_map (live_of node.age) said at.delegation u ((are at.delegation).1 at.said) at.remains))
+          (λ (at : IsLiveAt node u). Contains-append_right old more u (in_filter_map (live_of node.age) said at.delegation u ((are at.delegation).1 at.said) at.remains))
           h),
     )
 
@@ -106,10 +109,6 @@ pub record Leaves (age : ℕ) (d : Delegation) (u : Delegated) : Type 0 where
   pub prefix_is : u.prefix ≡ d.prefix
   pub valid_is : u.valid ≡ remaining age d.valid
   pub preferred_is : u.preferred ≡ remaining age d.preferred
-
-both_true : (a b : Bool) → (a && b) ≡ true → (a ≡ true) × (b ≡ true)
-both_true true b h = (refl, h)
-both_true false b h = absurd (cc)
 
 le_from_test : (m n : ℕ) → nat_le m n ≡ true → m ≤ n
 le_from_test m n h = grind (arith, nat_tests)

@@ -1,8 +1,8 @@
 -- Prefixes: when two are one, and their order.
-use Rattle.std.proofs.Common.{◌≡◌, ◌≢◌, ◌⊎◌, ◌↔◌, ℕ, ◌-◌, ◌^◌, ◌<◌, ◌≤◌, Ordering, true, false, eqb, refl, ap, inl, inr, ⊎_elim, arith}
+use Rattle.std.proofs.Common.{◌≡◌, ◌≢◌, ◌⊎◌, ◌↔◌, ℕ, ◌-◌, ◌^◌, ◌<◌, ◌≤◌, Ordering, true, false, eqb, refl, sym, ap, inl, inr, ⊎_elim, arith}
 use Rattle.std.specs.Prelude.{◌&&◌}
 use Rattle.std.specs.declared.cmp.Ordering.TheVariants.{Less, Equal, Greater}
-use Rattle.std.specs.Cmp.{IsTotalOrder}
+use Rattle.std.specs.Cmp.{IsTotalOrder, nat_cmp_is}
 use Rattle.std.specs.Ordering.{nat_cmp, ordering_then}
 use Rattle.std.proofs.lemmas.Bool.Decides.{nat_tests}
 use Rattle.std.proofs.lemmas.Cmp.{on_total, then_total, nat_cmp_total, ranked, by_ranked}
@@ -57,6 +57,10 @@ less_cases p q h =
 
 pub less_bits : (p q : PlainPrefix) → prefix_cmp p q ≡ Less → p.bits ≤ q.bits
 less_bits p q h = ⊎_elim (λ (less : p.bits < q.bits). omega arith) (λ (tie : (p.bits ≡ q.bits) × (p.len < q.len)). omega arith) (less_cases p q h)
+
+-- the bits decide where they differ
+pub cmp_from_bits : (p q : PlainPrefix) → p.bits < q.bits → prefix_cmp p q ≡ Less
+cmp_from_bits p q h = ap (λ o. ordering_then o (nat_cmp p.len q.len)) (sym (nat_cmp_is p.bits q.bits Less h))
 
 -- a prefix comes before those that are strictly inside it
 pub not_within_later : WithinIsRange → (p q : PlainPrefix) → IsPrefix p → IsPrefix q → prefix_cmp p q ≡ Less → ¬ (IsWithin p q)

@@ -2,9 +2,9 @@
 use Rattle.std.proofs.Common.{◌≡◌, ◌≢◌, ◌⊎◌, ℕ, ◌<◌, ◌≤◌, List, take, slice_get, Some, ◌+◌, [], ◌∷◌, ◌++◌, Contains, refl, sym, ◌∙◌, ap, subst, inl, inr, ⊎_elim, arith, max, min}
 use Rattle.std.proofs.lemmas.Bool.{cases_lt}
 use Rattle.std.proofs.lemmas.List.Elements.{Contains-push, Contains-push_cases, Contains-append_left}
-use Rattle.hn_base.proofs.AscendingLists.{Contains-from_map}
+use Rattle.hn_base.proofs.AscendingLists.{Contains-from_map, nothing_in}
 use Rattle.hn_prefix.specs.Prefix.{PlainPrefix}
-use Rattle.hn_deleg.proofs.Lists.{nothing_in, take_at}
+use Rattle.hn_deleg.proofs.Lists.{take_at}
 use Rattle.hn_deleg.specs.declared.delegated.Delegated.{Delegated}
 use Rattle.hn_deleg.specs.Steps.{IsGreatestIn, HasLifetimesIn}
 use Rattle.hn_deleg.specs.Used.{prefixes_of}

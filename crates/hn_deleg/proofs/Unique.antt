@@ -4,17 +4,17 @@ use Rattle.std.specs.Prelude.{All}
 use Rattle.std.specs.declared.cmp.Ordering.TheVariants.{Less}
 use Rattle.std.proofs.lemmas.List.{length-append, length-map}
 use Rattle.std.proofs.lemmas.List.Elements.{All-contains, Contains-push_cases}
-use Rattle.hn_base.proofs.AscendingLists.{ascending_unique, Contains-head, Contains-tail, Contains-from_map}
+use Rattle.hn_base.proofs.AscendingLists.{ascending_unique, Contains-head, Contains-tail, Contains-from_map, sorted_push, not_both}
 use Rattle.hn_prefix.specs.Prefix.{PlainPrefix, IsWithin, Overlaps, prefix_cmp}
 use Rattle.hn_data.specs.View.{PlainView}
 use Rattle.hn_data.specs.declared.said.Delegation.{Delegation}
 use Rattle.hn_deleg.specs.declared.delegated.Delegated.{Delegated}
 use Rattle.hn_deleg.specs.Live.{IsGreatest}
 use Rattle.hn_deleg.specs.Used.{prefixes_of, IsOutermost, HasLifetimes, AreUsable}
-use Rattle.hn_deleg.proofs.Lists.{sorted_push, not_both, no_longer}
+use Rattle.hn_deleg.proofs.Lists.{no_longer}
 use Rattle.hn_deleg.proofs.Prefixes.{OverlapIsNesting, prefix_total}
 
-outermost_of : (view : PlainView) (list : List Delegated) (p : PlainPrefix) → AreUsable view list → Contains (prefixes_of list) p → IsOutermost view p
+pub outermost_of : (view : PlainView) (list : List Delegated) (p : PlainPrefix) → AreUsable view list → Contains (prefixes_of list) p → IsOutermost view p
 outermost_of view list p are h =
     let found = Contains-from_map (λ (u : Delegated). u.prefix) list p h in
     subst (IsOutermost view) found.2 (All-contains (λ (u : Delegated). IsOutermost view u.prefix) list found.0 are.outermost found.1)

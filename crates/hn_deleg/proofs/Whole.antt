@@ -6,6 +6,7 @@ use Rattle.std.specs.List.Sorted.{IsStrictlySortedBy}
 use Rattle.std.proofs.lemmas.List.{length-map, length-take, map-append}
 use Rattle.std.proofs.lemmas.List.Elements.{All-contains}
 use Rattle.hn_base.proofs.AscendingLists.{Contains-map, Contains-from_map}
+use Rattle.hn_base.proofs.Elements.{all_of}
 use Rattle.hn_prefix.specs.Prefix.{PlainPrefix, IsPrefix, prefix_cmp}
 use Rattle.hn_data.specs.View.{PlainView}
 use Rattle.hn_data.specs.declared.said.Delegation.{Delegation}
@@ -15,7 +16,7 @@ use Rattle.hn_deleg.specs.Live.{remaining, IsAnnounced, IsCandidate, IsGreatest}
 use Rattle.hn_deleg.specs.Steps.{live_of, HasPrefixes, IsLiveIn, IsOutermostIn, AreOutermost, IsGreatestIn, HasLifetimesIn}
 use Rattle.hn_deleg.specs.Used.{prefixes_of, IsOutermost, HasLifetimes, AreUsable}
 use Rattle.hn_deleg.proofs.Live.{leaves, left, left_of}
-use Rattle.hn_deleg.proofs.Lists.{all_of, take_at, sorted_take, taken_or_after, Contains-from_take}
+use Rattle.hn_deleg.proofs.Lists.{take_at, sorted_take, taken_or_after, Contains-from_take}
 
 -- ---- candidates and lifetimes
 

@@ -1,5 +1,5 @@
 -- Usable delegated prefixes (RFC 7788, sections 6.2 and 6.3).
-use Rattle.std.specs.Prelude.{◌≡◌, ℕ, ◌<◌, ◌≤◌, ◌⊎◌, List, length, map, min, All, Contains, slice_get, Some}
+use Rattle.std.specs.Prelude.{◌≡◌, ℕ, ◌-◌, ◌/◌, ◌^◌, ◌==◌, if◌then◌else◌, ◌<◌, ◌≤◌, ◌⊎◌, List, length, map, min, All, Contains, slice_get, Some}
 use Rattle.std.specs.declared.cmp.Ordering.TheVariants.{Less}
 use Rattle.std.specs.List.Sorted.{IsStrictlySortedBy}
 use Rattle.hn_prefix.specs.Prefix.{PlainPrefix, IsWithin, prefix_cmp}
@@ -21,6 +21,10 @@ pub record HasLifetimes (view : PlainView) (u : Delegated) : Type 0 where
   pub greatest_valid : IsGreatest view u.prefix (λ d. d.valid) u.valid
   pub greatest_preferred : IsGreatest view u.prefix (λ d. d.preferred) preferred
   pub cut : u.preferred ≡ min preferred u.valid
+
+-- a remaining lifetime in whole seconds, rounded down; 4294967295 for one that never ends
+abbrev pub whole_seconds : ℕ → ℕ
+whole_seconds ms = if ms == 2 ^ 64 - 1 then 4294967295 else ms / 1000
 
 -- the prefixes of a list
 abbrev pub prefixes_of : List Delegated → List PlainPrefix

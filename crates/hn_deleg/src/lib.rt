@@ -12,6 +12,6 @@ mod tests;
 mod usable;
 
 pub use choice::{outside, wanted};
-pub use delegated::Delegated;
-pub use laws::{usable_is_unique, usable_never_overlap};
+pub use delegated::{Delegated, whole_seconds};
+pub use laws::{inside_keeps_the_order, lifetimes_fit, usable_is_unique, usable_never_overlap};
 pub use usable::used;

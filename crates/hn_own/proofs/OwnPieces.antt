@@ -1,12 +1,13 @@
 -- The encodings of own items, one after the other.
-use Rattle.std.proofs.Common.{◌≡◌, ◌<◌, ◌+◌, ◌^◌, ◌∙◌, ℕ, zero, suc, List, [], ◌∷◌, ◌++◌, length, map, take, get_or, refl, ap, subst, sym, append_assoc, arith}
+use Rattle.std.proofs.Common.{◌≡◌, ◌<◌, ◌+◌, ◌^◌, ◌∙◌, ℕ, List, [], ◌∷◌, ◌++◌, length, map, take, get_or, refl, ap, subst, sym, append_assoc, arith}
 use Rattle.std.specs.Prelude.{All, ◌==◌, false}
-use Rattle.std.specs.Int.{w128, byte_at, bytes_high_first, to_be_bytes}
+use Rattle.std.specs.Int.{w128, to_be_bytes}
 use Rattle.std.specs.List.{flat_map}
 use Rattle.std.proofs.lemmas.Bool.{false≢true}
 use Rattle.std.proofs.lemmas.List.{map_more, map_push, take_more, append-nil}
 use Rattle.std.proofs.lemmas.List.Concat.{flat_map-append}
 use Rattle.std.proofs.lemmas.List.Elements.{All-append, All-cons, All-nil, All-push, All-take, All-head, All-tail, All-map}
+use Rattle.hn_base.proofs.BigEndian.{number_bytes}
 use Rattle.hn_prefix.specs.Prefix.{IsPrefix}
 use Rattle.hn_tlv.specs.Grammar.{IsTlv, IsTlvList, HasTlvs, spelling}
 use Rattle.hn_typed.specs.Fields.{word, bytes_for, prefix_field}
@@ -46,14 +47,6 @@ bytes_more {X} item_of xs i d bytes piece within are is =
     let bytes_of : X → List ℕ = λ x. spelling (tlv_of (item_of x)) in
     ap (λ (front : List ℕ). front ++ piece) are ∙ ap (λ (last : List ℕ). flat_map bytes_of (take i xs) ++ last) (is.spelled ∙ sym (append-nil (bytes_of (get_or xs i d))))
     ∙ sym (ap (flat_map bytes_of) (take_more xs i d within) ∙ flat_map-append bytes_of (take i xs) (get_or xs i d ∷ []))
-
-byte_small : (i n : ℕ) → byte_at i n < 2 ^ 8
-byte_small zero n = omega arith
-byte_small (suc i) n = omega arith
-
-number_bytes : (k n : ℕ) → AreBytes (bytes_high_first k n)
-number_bytes zero n = All-nil (λ (byte : ℕ). byte < 2 ^ 8)
-number_bytes (suc k) n = All-cons (λ (byte : ℕ). byte < 2 ^ 8) (byte_at k n) (bytes_high_first k n) (byte_small k n) (number_bytes k n)
 
 delegated_bytes : (now : ℕ) (own : OwnPrefix) → IsPrefix own.prefix → AreBytes (value_of (delegated_item now own))
 delegated_bytes now own is =

@@ -1,5 +1,5 @@
 -- When two routers' own items are the same.
-use Rattle.std.proofs.Common.{◌≡◌, ◌≤◌, ◌∙◌, ℕ, Bool, true, false, List, Option, None, Some, Decides, refl, sym, ap, subst}
+use Rattle.std.proofs.Common.{◌≡◌, ◌≤◌, ◌∙◌, ℕ, Bool, true, false, List, Option, Decides, sym, ap, subst}
 use Rattle.std.proofs.Props.{props}
 use Rattle.std.specs.Prelude.{◌==◌, ◌&&◌, nat_eq}
 use Rattle.std.specs.Cmp.Lexicographic.{pointwise}
@@ -8,6 +8,7 @@ use Rattle.std.proofs.lemmas.Bool.{false≢true}
 use Rattle.std.proofs.lemmas.Bool.Decides.{Decides-and, Decides-like, Decides-eqb}
 use Rattle.std.proofs.lemmas.Slice.Eq.{slice_eq-Decides}
 use Rattle.hn_base.specs.declared.caps.Caps.{Caps}
+use Rattle.hn_base.proofs.Decisions.{numbers_decide, option_decided}
 use Rattle.hn_prefix.specs.Prefix.{PlainPrefix}
 use Rattle.hn_data.specs.declared.said.PeerLink.{PeerLink}
 use Rattle.hn_data.specs.declared.said.AssignedPrefix.{AssignedPrefix}
@@ -68,21 +69,8 @@ link_decided a b =
 
 -- ---- prefixes
 
-abbrev prefix_with : ℕ → ℕ → PlainPrefix
-prefix_with bits len = record { bits = bits; len = len }
-
 prefix_decided : (a b : PlainPrefix) → Decides (a.bits == b.bits && a.len == b.len) (a ≡ b)
-prefix_decided a b =
-    Decides-like _
-    (λ (same : (a.bits ≡ b.bits) × (a.len ≡ b.len)). ap (λ (n : ℕ). prefix_with n a.len) same.0 ∙ ap (prefix_with b.bits) same.1)
-    (λ (same : a ≡ b). (ap (λ (p : PlainPrefix). p.bits) same, ap (λ (p : PlainPrefix). p.len) same))
-    (Decides-and _ _ (Decides-eqb a.bits b.bits) (Decides-eqb a.len b.len))
-
-end_decided : (a b : Option ℕ) → Decides (option_eq nat_eq a b) (a ≡ b)
-end_decided None None = (λ _. refl, λ _. refl)
-end_decided None (Some y) = (λ is. absurd (false≢true is), λ same. absurd cc)
-end_decided (Some x) None = (λ is. absurd (false≢true is), λ same. absurd cc)
-end_decided (Some x) (Some y) = Decides-like _ (λ (same : x ≡ y). ap Some same) (λ (same : Some x ≡ Some y). cc) (Decides-eqb x y)
+prefix_decided = numbers_decide (λ p. p.bits) (λ p. p.len) (λ a b bits len. λ i. record { bits = bits i; len = len i })
 
 abbrev own_with : PlainPrefix → Option ℕ → Option ℕ → OwnPrefix
 own_with prefix valid preferred = record { prefix = prefix; valid_until = valid; preferred_until = preferred }
@@ -94,7 +82,7 @@ same_own a b prefix valid preferred =
 pub own_decided : (a b : OwnPrefix)
     → Decides ((a.prefix.bits == b.prefix.bits && a.prefix.len == b.prefix.len) && (option_eq nat_eq a.valid_until b.valid_until && option_eq nat_eq a.preferred_until b.preferred_until)) (a ≡ b)
 own_decided a b =
-    let parts = Decides-and _ _ (prefix_decided a.prefix b.prefix) (Decides-and _ _ (end_decided a.valid_until b.valid_until) (end_decided a.preferred_until b.preferred_until)) in
+    let parts = Decides-and _ _ (prefix_decided a.prefix b.prefix) (Decides-and _ _ (option_decided a.valid_until b.valid_until) (option_decided a.preferred_until b.preferred_until)) in
     Decides-like _
     (λ (same : (a.prefix ≡ b.prefix) × ((a.valid_until ≡ b.valid_until) × (a.preferred_until ≡ b.preferred_until))). same_own a b same.0 same.1.0 same.1.1)
     (λ (same : a ≡ b). (ap (λ (p : OwnPrefix). p.prefix) same, (ap (λ (p : OwnPrefix). p.valid_until) same, ap (λ (p : OwnPrefix). p.preferred_until) same)))

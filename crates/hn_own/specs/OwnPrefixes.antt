@@ -40,6 +40,10 @@ delegated_without prefix list = filter (λ p. not (is_prefix prefix p)) list
 abbrev pub delegated_after : ℕ → List OwnPrefix → List OwnPrefix
 delegated_after now list = filter (λ p. not (has_ended now p.valid_until)) list
 
+-- whether the valid lifetime of some prefix has ended
+abbrev pub has_ended_one : ℕ → List OwnPrefix → Bool
+has_ended_one now list = list_any (λ p. has_ended now p.valid_until) list
+
 -- a prefix whose lifetimes in seconds begin now
 abbrev pub own_prefix : ℕ → PlainPrefix → ℕ → ℕ → OwnPrefix
 own_prefix now prefix valid preferred =

@@ -2,7 +2,7 @@
 
 ghost use Rattle.std.specs.Prelude.{◌≡◌, ◌≤◌, ◌^◌, [], true, false, IfOk, OnOk};
 ghost use Rattle.hn_own.specs.Lifetimes.{end_after, has_ended};
-ghost use Rattle.hn_own.specs.OwnPrefixes.{AreOwnPrefixes, is_delegated, may_delegate, delegated_with, delegated_without, delegated_after, own_prefix};
+ghost use Rattle.hn_own.specs.OwnPrefixes.{AreOwnPrefixes, is_delegated, may_delegate, delegated_with, delegated_without, delegated_after, has_ended_one, own_prefix};
 
 use crate::lifetimes::{end_after, has_ended};
 use hn_base::{Exact, Moment, NoMemory, Sequence};
@@ -130,7 +130,8 @@ impl OwnPrefixes {
 
     /// Whether the valid lifetime of some prefix has ended. Never allocates.
     pub fn needs_end(&self, now: Moment) -> bool
-        ensures { result ≡ false → delegated_after now self.now ≡ self.now }
+        ensures ended { result ≡ has_ended_one now self.now }
+        ensures kept { result ≡ false → delegated_after now self.now ≡ self.now }
     {
         self.items.iter().any(|own| has_ended(now, own.valid_until))
     }

@@ -1,13 +1,13 @@
 -- An assignment of prefixes: the words that it takes, and what it leaves.
-use Rattle.std.proofs.Common.{◌≡◌, ◌∙◌, ℕ, Bool, true, false, List, Option, None, Some, Decides, refl, sym, ap, subst}
+use Rattle.std.proofs.Common.{◌≡◌, ◌∙◌, ℕ, Bool, true, false, List, Option, Decides, refl, sym, ap, subst}
 use Rattle.std.specs.Prelude.{◌==◌, ◌&&◌, nat_eq, not}
 use Rattle.std.specs.Cmp.{booleans_Decides}
 use Rattle.std.specs.Cmp.Lexicographic.{pointwise}
 use Rattle.std.specs.Option.{option_eq}
 use Rattle.std.proofs.Math.Bool.{beq}
-use Rattle.std.proofs.lemmas.Bool.{false≢true}
 use Rattle.std.proofs.lemmas.Bool.Decides.{Decides-and, Decides-like, Decides-eqb}
 use Rattle.std.proofs.lemmas.Slice.Eq.{slice_eq-Decides}
+use Rattle.hn_base.proofs.Decisions.{numbers_decide, option_decided}
 use Rattle.hn_io.specs.Words.{Drew, Took}
 use Rattle.hn_prefix.specs.Prefix.{PlainPrefix}
 use Rattle.hn_assign.specs.declared.assigned.Assigned.{Assigned}
@@ -25,17 +25,7 @@ abbrev same_prefix : PlainPrefix → PlainPrefix → Bool
 same_prefix p q = p.bits == q.bits && p.len == q.len
 
 prefix_decided : (p q : PlainPrefix) → Decides (same_prefix p q) (p ≡ q)
-prefix_decided p q =
-    Decides-like _
-    (λ (same : (p.bits ≡ q.bits) × (p.len ≡ q.len)). λ i. record { bits = same.0 i; len = same.1 i })
-    (λ (same : p ≡ q). (ap (λ (x : PlainPrefix). x.bits) same, ap (λ (x : PlainPrefix). x.len) same))
-    (Decides-and _ _ (Decides-eqb p.bits q.bits) (Decides-eqb p.len q.len))
-
-priority_decided : (a b : Option ℕ) → Decides (option_eq nat_eq a b) (a ≡ b)
-priority_decided None None = (λ _. refl, λ _. refl)
-priority_decided None (Some y) = (λ is. absurd (false≢true is), λ same. absurd cc)
-priority_decided (Some x) None = (λ is. absurd (false≢true is), λ same. absurd cc)
-priority_decided (Some x) (Some y) = Decides-like _ (λ (same : x ≡ y). ap Some same) (λ (same : Some x ≡ Some y). cc) (Decides-eqb x y)
+prefix_decided = numbers_decide (λ p. p.bits) (λ p. p.len) (λ p q bits len. λ i. record { bits = bits i; len = len i })
 
 abbrev SameParts : Assigned → Assigned → Type 0
 SameParts a b =
@@ -61,7 +51,7 @@ assigned_decided a b =
       (ap (λ (c : Assigned). c.endpoint.0) same, (ap (λ (c : Assigned). c.prefix) same, (ap (λ (c : Assigned). c.published) same, (ap (λ (c : Assigned). c.since) same, ap (λ (c : Assigned). c.applied) same)))),
     ))
     (Decides-and _ _ (prefix_decided a.delegated b.delegated) (Decides-and _ _ (Decides-eqb a.endpoint.0 b.endpoint.0) (Decides-and _ _ (prefix_decided a.prefix b.prefix)
-    (Decides-and _ _ (priority_decided a.published b.published) (Decides-and _ _ (Decides-eqb a.since b.since) (booleans_Decides a.applied b.applied))))))
+    (Decides-and _ _ (option_decided a.published b.published) (Decides-and _ _ (Decides-eqb a.since b.since) (booleans_Decides a.applied b.applied))))))
 
 -- assignments of which `!=` answered no
 pub same_assigned : (xs ys : List Assigned) (answer : Bool) → answer ≡ not (pointwise same_test xs ys) → answer ≡ false → xs ≡ ys

@@ -3,11 +3,12 @@ use Rattle.std.proofs.Common.{◌≡◌, ◌∙◌, ℕ, Bool, true, false, cond
 use Rattle.std.specs.Prelude.{All, is_none, ◌==◌, Contains, ◌⊎◌, ◌+◌, nat_le}
 use Rattle.std.specs.Option.{option_map, option_map_or}
 use Rattle.std.specs.List.{filter_map, cons_option}
-use Rattle.std.proofs.lemmas.Bool.{cond_both, eq-eqb, eqb-true}
-use Rattle.std.proofs.lemmas.List.Elements.{All-nil, All-cons, All-head, All-tail, All-filter, All-weaker, filter_passes, All-contains, All-contains_itself, Contains-append_left, Contains-append_right, Contains-append_cases}
+use Rattle.std.proofs.lemmas.Bool.{eq-eqb, eqb-true}
+use Rattle.std.proofs.lemmas.List.Elements.{All-head, All-tail, All-filter, All-weaker, All-contains, All-contains_itself, Contains-append_left, Contains-append_right, Contains-append_cases}
 use Rattle.std.proofs.lemmas.List.Folds.{list_any_at}
 use Rattle.hn_base.specs.declared.ids.NodeId.{NodeId}
-use Rattle.hn_base.proofs.AscendingLists.{Contains-head, Contains-tail, Contains-map, Contains-from_map}
+use Rattle.hn_base.proofs.AscendingLists.{Contains-map, Contains-from_map}
+use Rattle.hn_base.proofs.Elements.{in_filter, from_filter}
 use Rattle.hn_hash.specs.Hash.{hash_of}
 use Rattle.hn_hash.specs.Network.{part_text}
 use Rattle.hn_hash.specs.declared.part.Part.{Part}
@@ -26,25 +27,6 @@ use Rattle.hn_rules.specs.Router.{IsRefreshed}
 use Rattle.hn_rules.proofs.Finding.{find-filter}
 
 -- ---- lists
-
-module _ {A : Type 0} (p : A → Bool) where
-  in_filter : (xs : List A) → All (λ x. p x ≡ true → Contains (filter p xs) x) xs
-  in_filter [] = All-nil (λ x. p x ≡ true → Contains (filter p []) x)
-  in_filter (x ∷ xs) =
-      let more = in_filter xs in
-      let P = λ (kept : List A) (y : A). p y ≡ true → Contains kept y in
-      cond_both (p x) (x ∷ filter p xs) (filter p xs) (λ kept. All (P kept) (x ∷ xs))
-      (λ is. All-cons (P (x ∷ filter p xs)) x xs (λ _. Contains-head x (filter p xs)) (All-weaker (P (filter p xs)) (P (x ∷ filter p xs)) (λ y there passes. Contains-tail x (filter p xs) y (there passes)) xs more))
-      (λ is. All-cons (P (filter p xs)) x xs (λ passes. absurd (let clash = sym passes ∙ is in cc)) more)
-
-  pub contains_filter : (xs : List A) (x : A) → Contains xs x → p x ≡ true → Contains (filter p xs) x
-  contains_filter xs x there passes = All-contains (λ y. p y ≡ true → Contains (filter p xs) y) xs x (in_filter xs) there passes
-
-  pub contains_from_filter : (xs : List A) (x : A) → Contains (filter p xs) x → Contains xs x
-  contains_from_filter xs x there = All-contains (Contains xs) (filter p xs) x (All-filter p (Contains xs) xs (All-contains_itself xs)) there
-
-  pub passes_from_filter : (xs : List A) (x : A) → Contains (filter p xs) x → p x ≡ true
-  passes_from_filter xs x there = All-contains (λ y. p y ≡ true) (filter p xs) x (filter_passes p xs) there
 
 module _ {A B : Type 0} where
   filter_map-same : (f g : A → Option B) (xs : List A) → All (λ x. f x ≡ g x) xs → filter_map f xs ≡ filter_map g xs
@@ -65,11 +47,11 @@ module _ {A : Type 0} (lower greater : A → Bool) (m : A) where
     where
       above : Contains (m ∷ []) x ⊎ Contains (filter greater xs) x → Contains (m ∷ filter greater ys) x
       above (inl here) = Contains-append_left (m ∷ []) (filter greater ys) x here
-      above (inr old) = Contains-append_right (m ∷ []) (filter greater ys) x (contains_filter greater ys x (goes (contains_from_filter greater xs x old)) (passes_from_filter greater xs x old))
+      above (inr old) = Contains-append_right (m ∷ []) (filter greater ys) x (in_filter greater ys x (goes (from_filter greater xs x old).0) (from_filter greater xs x old).1)
 
       by_part : Contains (filter lower xs) x ⊎ Contains (m ∷ filter greater xs) x → Contains (between ys) x
       by_part (inl old) =
-          Contains-append_left (filter lower ys) (m ∷ filter greater ys) x (contains_filter lower ys x (goes (contains_from_filter lower xs x old)) (passes_from_filter lower xs x old))
+          Contains-append_left (filter lower ys) (m ∷ filter greater ys) x (in_filter lower ys x (goes (from_filter lower xs x old).0) (from_filter lower xs x old).1)
       by_part (inr rest) = Contains-append_right (filter lower ys) (m ∷ filter greater ys) x (above (Contains-append_cases (m ∷ []) (filter greater xs) x rest))
 
 -- ---- who is forgotten
@@ -120,13 +102,13 @@ module _ (s : State) (moment now : ℕ) (is_reach : IsReach (record s { moment =
       let same : node.id.0 ≡ x.id.0 = ap (λ (n : Entry). n.id.0) from.2 in
       let among : is_among s.reach node.id.0 ≡ true = among_reach s.reach x.id node.id.0 ((is_reach.exactly x.id).1 reachable) (sym same) in
       let remains = reachable_stays s.reach now node (All-contains (IsMarked s.reach) s.table.entries node marked from.1) among in
-      let held = Contains-map (held_entry moment) (filter (stays now) s.table.entries) node (contains_filter (stays now) s.table.entries node from.1 remains) in
+      let held = Contains-map (held_entry moment) (filter (stays now) s.table.entries) node (in_filter (stays now) s.table.entries node from.1 remains) in
       subst (Contains after) from.2 held
 
   was_held : (y : Entry) → Contains after y → Contains before y
   was_held y there =
       let from = Contains-from_map (held_entry moment) (filter (stays now) s.table.entries) y there in
-      subst (Contains before) from.2 (Contains-map (held_entry moment) s.table.entries from.0 (contains_from_filter (stays now) s.table.entries from.0 from.1))
+      subst (Contains before) from.2 (Contains-map (held_entry moment) s.table.entries from.0 (from_filter (stays now) s.table.entries from.0 from.1).0)
 
   keeps_reach : KeepsReach s.id.0 (between lower greater own before) (between lower greater own after)
   keeps_reach = record {

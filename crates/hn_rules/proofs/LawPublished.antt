@@ -15,8 +15,8 @@ use Rattle.hn_data.specs.declared.said.PeerLink.{PeerLink}
 use Rattle.hn_own.specs.declared.own.OwnItems.{OwnItems}
 use Rattle.hn_own.specs.declared.own_prefixes.OwnPrefix.{OwnPrefix}
 use Rattle.hn_own.specs.Own.{PlainData, IsOwnData, peer_item, external_items, assigned_item, items_of}
-use Rattle.hn_rules.specs.Laws.{AssignedIsPublished}
-use Rattle.hn_rules.proofs.LawLists.{contains_filter_map, contains_from_filter_map}
+use Rattle.hn_rules.specs.Laws.{AssignedIsPublished, ItemsArePublished}
+use Rattle.hn_base.proofs.Elements.{in_filter_map, from_filter_map}
 use Rattle.hn_rules.proofs.LawSpelled.{AreRead, encoding, own_fit, are_read, same_encoded}
 
 -- ---- the Assigned-Prefixes among own items
@@ -72,9 +72,9 @@ module _ (laws : ReadLaws) (own : PlainData) (is : IsOwnData own) where
   assigned_from : (a : AssignedPrefix) → HasAssigned own.body a → Contains own.items.assigned a
   assigned_from a (others, are, there) =
       let same : others ≡ read_is.read = laws.one_items own.body others read_is.read are are_items in
-      let from = contains_from_filter_map assigned_of others a there in
+      let from = from_filter_map assigned_of others a there in
       let among : Contains items from.0 = All-contains (Contains items) read_is.read from.0 read_is.of_items (subst (λ (list : List PlainItem). Contains list from.0) same from.1) in
-      subst (λ (list : List AssignedPrefix). Contains list a) (assigned_among own.born own.items) (contains_filter_map assigned_of items from.0 a among from.2)
+      subst (λ (list : List AssignedPrefix). Contains list a) (assigned_among own.born own.items) (in_filter_map assigned_of items from.0 a among from.2)
 
   item_read : (item : PlainItem) → Contains items item → Contains read_is.read item
   item_read item there =
@@ -87,8 +87,20 @@ module _ (laws : ReadLaws) (own : PlainData) (is : IsOwnData own) where
   pub assigned_in : (a : AssignedPrefix) → HasAssigned own.body a ↔ Contains own.items.assigned a
   assigned_in a = (
     assigned_from a,
-    λ there. (read_is.read, are_items, contains_filter_map assigned_of read_is.read (assigned_item a) a (item_read (assigned_item a) (assigned_there own.born own.items a there)) refl),
+    λ there. (read_is.read, are_items, in_filter_map assigned_of read_is.read (assigned_item a) a (item_read (assigned_item a) (assigned_there own.born own.items a there)) refl),
   )
+
+pub items_published : ReadLaws → ItemsArePublished
+items_published laws s router =
+    let own = router.well.own in
+    let read = read_is laws s.own own in (
+      read.read,
+      are_items laws s.own own,
+      λ item. (
+        λ there. All-contains (Contains (items_of s.own.born s.own.items)) read.read item read.of_items there,
+        item_read laws s.own own item,
+      ),
+    )
 
 pub assigned_published : ReadLaws → AssignedIsPublished
 assigned_published laws s a router =

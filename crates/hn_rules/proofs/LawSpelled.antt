@@ -1,11 +1,12 @@
 -- Own items that can be written have TLVs, and the ascending set of the encodings of items is read as those items again.
-use Rattle.std.proofs.Common.{◌≡◌, ◌∙◌, ◌<◌, ◌^◌, ◌+◌, ◌*◌, ℕ, zero, suc, List, [], ◌∷◌, ◌++◌, length, map, take, replicate, get_or, refl, sym, ap, subst, inl, arith}
+use Rattle.std.proofs.Common.{◌≡◌, ◌∙◌, ◌<◌, ◌^◌, ◌+◌, ◌*◌, ℕ, List, [], ◌∷◌, ◌++◌, length, map, take, replicate, get_or, refl, sym, ap, subst, inl, arith}
 use Rattle.std.specs.Prelude.{All, Contains, codes}
-use Rattle.std.specs.Int.{w16, w128, byte_at, bytes_high_first, to_be_bytes}
+use Rattle.std.specs.Int.{w16, w128, to_be_bytes}
 use Rattle.std.specs.List.{concat}
 use Rattle.std.proofs.lemmas.List.{append-nil}
 use Rattle.std.proofs.lemmas.List.Elements.{All-append, All-cons, All-nil, All-take, All-head, All-tail, All-map, All-replicate, All-contains, All-from_recursion}
 use Rattle.hn_base.proofs.AscendingLists.{Contains-from_map}
+use Rattle.hn_base.proofs.BigEndian.{number_bytes}
 use Rattle.hn_base.specs.Caps.{PlainCaps, plain_caps}
 use Rattle.hn_tlv.specs.Grammar.{PlainTlv, IsTlv, IsTlvList, header, padding, spelling}
 use Rattle.hn_typed.specs.Fields.{word, bytes_for, prefix_field}
@@ -24,14 +25,6 @@ abbrev Small : ℕ → Type 0
 Small byte = byte < 2 ^ 8
 
 -- ---- bytes
-
-byte_small : (i n : ℕ) → byte_at i n < 2 ^ 8
-byte_small zero n = omega arith
-byte_small (suc i) n = omega arith
-
-number_bytes : (k n : ℕ) → AreBytes (bytes_high_first k n)
-number_bytes zero n = All-nil Small
-number_bytes (suc k) n = All-cons Small (byte_at k n) (bytes_high_first k n) (byte_small k n) (number_bytes k n)
 
 spelling_bytes : (tlv : PlainTlv) → IsTlv tlv → AreBytes (spelling tlv)
 spelling_bytes tlv is =

@@ -18,7 +18,7 @@ use Rattle.hn_rules.specs.declared.state.State.{State}
 use Rattle.hn_rules.specs.Laws.{ViewIsNetwork}
 use Rattle.hn_rules.specs.Nodes.{held_entry, own_entry, entry_of, view_of}
 use Rattle.hn_rules.specs.Router.{WasReach}
-use Rattle.hn_rules.proofs.LawLists.{contains_filter_map}
+use Rattle.hn_base.proofs.Elements.{in_filter_map}
 use Rattle.hn_rules.proofs.NodeLists.{nodes_are_network}
 
 -- ---- what is there of some identifiers, in their order
@@ -68,5 +68,5 @@ view_network own_reachable s router =
     let own_there : Contains s.reach s.id = (was.was.exactly s.id).1 (own_reachable s.id.0 _ network) in
     record {
       ascending = ascending_there (entry_of s) (entry_named s) s.reach ((sorted_parts (λ (id : NodeId). id.0) nat_cmp s.reach).0 was.was.ascending);
-      own_is_there = Contains-map (λ (n : Entry). n.id.0) (view_of s) (own_entry s) (contains_filter_map (entry_of s) s.reach s.id (own_entry s) own_there (own_seen s));
+      own_is_there = Contains-map (λ (n : Entry). n.id.0) (view_of s) (own_entry s) (in_filter_map (entry_of s) s.reach s.id (own_entry s) own_there (own_seen s));
     }

@@ -7,7 +7,6 @@ mod Forgetting
 mod FreeIds
 mod Known
 mod LawAssigned
-mod LawLists
 mod LawPairs
 mod LawPublished
 mod LawSpelled

@@ -1,12 +1,12 @@
--- The nodes that a router knows, in order, and lists that grow by what an element gives.
-use Rattle.std.proofs.Common.{◌≡◌, ◌∙◌, ◌<◌, ◌≤◌, ◌+◌, ℕ, Bool, true, false, cond, List, [], ◌∷◌, ◌++◌, length, map, filter, take, get_or, Option, Some, None, Result, Ok, Err, nat_lt, refl, sym, ap, subst, arith}
+-- The nodes that a router knows, in order.
+use Rattle.std.proofs.Common.{◌≡◌, ◌∙◌, ◌≤◌, ◌+◌, ℕ, Bool, true, false, cond, List, [], ◌∷◌, ◌++◌, length, map, filter, take, Option, Some, None, Result, Ok, Err, nat_lt, refl, sym, ap, subst, arith}
 use Rattle.std.specs.Prelude.{Contains, IfOk, ◌↔◌}
 use Rattle.std.specs.List.{filter_map, cons_option}
 use Rattle.std.specs.Option.{option_map}
 use Rattle.std.specs.Ordering.{nat_cmp}
 use Rattle.std.specs.List.Sorted.{IsStrictlySortedBy}
-use Rattle.std.proofs.lemmas.List.{map-append, take_more, take_all, append-nil}
-use Rattle.std.proofs.lemmas.List.Elements.{filter_map-append, Contains-append_right}
+use Rattle.std.proofs.lemmas.List.{map-append, take_all}
+use Rattle.std.proofs.lemmas.List.Elements.{Contains-append_right}
 use Rattle.hn_base.specs.NodeIds.{node_cmp}
 use Rattle.hn_base.specs.declared.ids.NodeId.{NodeId}
 use Rattle.hn_base.specs.declared.memory.NoMemory.{NoMemory}
@@ -19,20 +19,6 @@ use Rattle.hn_store.specs.declared.stored.HeldNode.{HeldNode}
 use Rattle.hn_base.proofs.AscendingNumbers.{ascending-around}
 use Rattle.hn_rules.specs.declared.state.State.{State}
 use Rattle.hn_rules.specs.Nodes.{held_entry, own_entry, held_entries, nodes_of, IsReach}
-
--- ---- what an element gives, as a `for` goes over a slice
-
-pub given_next : {X Y : Type 0} (h : X → Option Y) (xs : List X) (i : ℕ) (x d : X) (y : Y) (ys zs : List Y) → i < length xs → x ≡ get_or xs i d → h x ≡ Some y
-    → ys ≡ filter_map h (take i xs) → zs ≡ ys ++ y ∷ [] → zs ≡ filter_map h (take (i + 1) xs)
-given_next {X} {Y} h xs i x d y ys zs within is gives so_far last =
-    let more : take (i + 1) xs ≡ take i xs ++ x ∷ [] = take_more xs i d within ∙ ap (λ (v : X). take i xs ++ v ∷ []) (sym is) in
-    last ∙ rw (so_far, more, filter_map-append h (take i xs) (x ∷ []), gives) refl
-
-pub passed_next : {X Y : Type 0} (h : X → Option Y) (xs : List X) (i : ℕ) (x d : X) (ys zs : List Y) → i < length xs → x ≡ get_or xs i d → h x ≡ None
-    → ys ≡ filter_map h (take i xs) → zs ≡ ys → zs ≡ filter_map h (take (i + 1) xs)
-passed_next {X} {Y} h xs i x d ys zs within is gives so_far last =
-    let more : take (i + 1) xs ≡ take i xs ++ x ∷ [] = take_more xs i d within ∙ ap (λ (v : X). take i xs ++ v ∷ []) (sym is) in
-    last ∙ rw (so_far, more, filter_map-append h (take i xs) (x ∷ []), gives) (sym (append-nil _))
 
 -- ---- the nodes are in ascending order
 

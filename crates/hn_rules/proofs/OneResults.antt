@@ -65,7 +65,8 @@ use Rattle.hn_rules.specs.Arrival.{IsItemRule, IsTlvRule, IsTlvs, IsAnswering, I
 use Rattle.hn_rules.specs.Tick.{IsExpired, Without, IsPortExpiry, IsExpiry, IsStateSending, IsPortMoving, IsPortSending, IsPortTick, IsPortsTick}
 use Rattle.hn_rules.specs.Events.{IsAttaching, IsPortRestart, emptied, IsRestarting}
 use Rattle.hn_rules.proofs.LawPairs.{pair_total}
-use Rattle.hn_rules.proofs.Sole.{begins_front, begins_back, begins_along, sole_drawn, sole_given, sole_plain, sole_both, sole_each, sole_word, sole_from, sole_start, sole_after, sole_at, sole_or, sole_where, sole_some}
+use Rattle.hn_base.proofs.FirstWords.{begins_front}
+use Rattle.hn_rules.proofs.Sole.{begins_back, begins_along, sole_drawn, sole_given, sole_plain, sole_both, sole_each, sole_word, sole_from, sole_start, sole_after, sole_at, sole_or, sole_where, sole_some}
 
 -- the laws of the crates below on which it rests
 pub record HasLaws : Type 0 where

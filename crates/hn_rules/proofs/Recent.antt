@@ -4,6 +4,7 @@ use Rattle.std.specs.Prelude.{All, is_none, Contains, ◌⊎◌}
 use Rattle.std.proofs.lemmas.List.Elements.{All-head, All-tail, All-contains, Contains-append_left, Contains-append_right, Contains-append_cases}
 use Rattle.hn_base.specs.declared.ids.NodeId.{NodeId}
 use Rattle.hn_base.proofs.AscendingLists.{Contains-head, Contains-tail, Contains-cases, Contains-map, Contains-from_map}
+use Rattle.hn_base.proofs.Elements.{in_filter, from_filter}
 use Rattle.hn_data.specs.declared.view.Entry.{Entry}
 use Rattle.hn_graph.specs.Path.{IsReachable}
 use Rattle.hn_graph.specs.Laws.{IsLike, KeepsReach, ReachabilityStays}
@@ -14,7 +15,7 @@ use Rattle.hn_rules.specs.declared.running.Running.{Running}
 use Rattle.hn_rules.specs.Nodes.{age_at, held_entry, own_entry, IsReach}
 use Rattle.hn_rules.specs.Refresh.{IsReaching, IsRefresh}
 use Rattle.hn_rules.specs.Router.{IsRefreshed}
-use Rattle.hn_rules.proofs.Forgetting.{contains_filter, contains_from_filter, passes_from_filter, between, among_reach, IsMarked}
+use Rattle.hn_rules.proofs.Forgetting.{between, among_reach, IsMarked}
 
 -- ---- moments of loss
 
@@ -73,9 +74,9 @@ module _ (s : State) where
       held : (p : Entry → Bool) → ((node : HeldNode) → p (held_entry m node) ≡ true → p (held_entry n node) ≡ true) → ((y : Entry) → Contains (filter p (held_at n)) y → Contains (nodes_at n) y)
           → Contains (filter p (held_at m)) x → IsHeld m n x
       held p alike goes old =
-          let from = Contains-from_map (held_entry m) s.table.entries x (contains_from_filter p (held_at m) x old) in
-          let passes : p (held_entry m from.0) ≡ true = subst (λ (y : Entry). p y ≡ true) (sym from.2) (passes_from_filter p (held_at m) x old) in
-          let other = contains_filter p (held_at n) (held_entry n from.0) (Contains-map (held_entry n) s.table.entries from.0 from.1) (alike from.0 passes) in
+          let from = Contains-from_map (held_entry m) s.table.entries x (from_filter p (held_at m) x old).0 in
+          let passes : p (held_entry m from.0) ≡ true = subst (λ (y : Entry). p y ≡ true) (sym from.2) (from_filter p (held_at m) x old).1 in
+          let other = in_filter p (held_at n) (held_entry n from.0) (Contains-map (held_entry n) s.table.entries from.0 from.1) (alike from.0 passes) in
           (from.0, from.1, from.2, goes (held_entry n from.0) other)
 
       above : (own_at m ≡ x) ⊎ Contains (filter greater (held_at m)) x → (x ≡ own_at m) ⊎ IsHeld m n x

@@ -5,17 +5,13 @@ use Rattle.std.proofs.lemmas.List.{append-nil, length-append}
 use Rattle.std.proofs.Math.Seq.{drop-append_seam}
 use Rattle.hn_io.specs.Words.{Begins}
 use Rattle.hn_base.specs.declared.ids.EpId.{EpId}
+use Rattle.hn_base.proofs.FirstWords.{begins_front}
 use Rattle.hn_dncp.specs.declared.port.Port.{Port}
 use Rattle.hn_rules.specs.declared.running.Running.{Running}
 use Rattle.hn_own.specs.Ports.{port_at}
 use Rattle.hn_rules.specs.Rules.{Rule, Then, Each, OnPort, AtPort, IsSole}
 
 -- ---- words of a stream
-
-pub begins_front : (xs ys : List ℕ) (stream : ℕ → ℕ) → Begins (xs ++ ys) stream → Begins xs stream
-begins_front xs ys stream begins i within =
-    let h = begins i (omega (arith, length-append xs ys)) in
-    grind (arith, common_steps)
 
 -- the words after some are those of the rest of the stream
 pub begins_back : (xs ys : List ℕ) (stream : ℕ → ℕ) → Begins (xs ++ ys) stream → Begins ys (λ i. stream (length xs + i))

@@ -29,6 +29,12 @@ use Rattle.hn_rules.specs.Rules.{OnPort, AtPort, with_port}
 use Rattle.hn_rules.specs.NodeEndpoint.{greeting_port, named}
 use Rattle.hn_rules.specs.NodeEndpoint as rule
 use Rattle.hn_rules.specs.NetworkState.{network_state}
+use Rattle.hn_rules.specs.NodeState.{touches, Takes, IsTaken}
+use Rattle.hn_rules.specs.declared.state.State.{State}
+use Rattle.hn_store.specs.Nodes.{Nodes}
+use Rattle.hn_store.specs.Acceptance.{PlainState, entries_after}
+use Rattle.hn_store.specs.declared.state.Took.{Took}
+use Rattle.hn_store.specs.declared.state.Took.TheVariants as took
 use Rattle.hn_rules.specs.Requests.{with_some_answer, state_item, with_state, is_reached, request_node, IsNetworkRequest}
 use Rattle.hn_rules.specs.Tick.{IsExpired, Without, IsPortExpiry}
 use Rattle.hn_rules.specs.Router.{IsRefreshed}
@@ -137,6 +143,37 @@ network_state_untouched from hash r a are holds refreshed =
         let after : Fresh (with_port next r) = changed next refl (hashed_links same r.sender r.state.moment port) in
         subst Fresh (sym is)
         (cond_both (asks_for_state same r.state.moment port) (with_answer subject.NetworkRequest (item.RequestNetwork []) (with_port next r)) (with_port next r) Fresh (λ _. after) (λ _. after))
+
+-- ---- a Node State
+
+taken_state : (carried : PlainState) (how : Took) (before after : Running) → touches how ≡ false → IsTaken carried how before after → after.state ≡ before.state
+taken_state carried took.Kept before after none taken = absurd cc
+taken_state carried took.Renumbered before after none taken = absurd cc
+taken_state carried took.Own before after none taken = absurd cc
+taken_state carried took.Ask before after none taken = ap (λ (r : Running). r.state) taken
+taken_state carried took.Stale before after none taken = ap (λ (r : Running). r.state) taken
+taken_state carried took.BadHash before after none taken = ap (λ (r : Running). r.state) taken
+taken_state carried took.BadBody before after none taken = ap (λ (r : Running). r.state) taken
+taken_state carried took.TooLong before after none taken = ap (λ (r : Running). r.state) taken
+taken_state carried took.Full before after none taken = ap (λ (r : Running). r.state) taken
+
+same_table : (carried : PlainState) (how : Took) (now : ℕ) (nodes next : Nodes) → touches how ≡ false → next ≡ record nodes { entries = entries_after nodes.entries carried now how } → next ≡ nodes
+same_table carried took.Kept now nodes next none after = absurd cc
+same_table carried took.Renumbered now nodes next none after = absurd cc
+same_table carried took.Own now nodes next none after = absurd cc
+same_table carried took.Ask now nodes next none after = after
+same_table carried took.Stale now nodes next none after = after
+same_table carried took.BadHash now nodes next none after = after
+same_table carried took.BadBody now nodes next none after = after
+same_table carried took.TooLong now nodes next none after = after
+same_table carried took.Full now nodes next none after = after
+
+-- an answer that changes nothing of what is held
+pub node_state_untouched : (carried : PlainState) (how : Took) (r between a : Running) → touches how ≡ false → Takes carried how r between → IsTaken carried how between a → IsRefreshed r.state → IsRefreshed a.state
+node_state_untouched carried how r between a none takes taken refreshed =
+    let state : a.state ≡ between.state = taken_state carried how between a none taken in
+    let table : takes.table ≡ r.state.table = same_table carried how r.state.moment r.state.table takes.table none takes.accepts.after in
+    subst IsRefreshed (sym (state ∙ ap (λ (x : Running). x.state) takes.gives ∙ ap (λ (nodes : Nodes). let s : State = record r.state { table = nodes } in s) table)) refreshed
 
 -- ---- requests
 

@@ -3,10 +3,13 @@ use Rattle.std.specs.Prelude.{◌≡◌, ◌↔◌, ℕ, ◌<◌, ◌≤◌, tru
 use Rattle.hn_base.specs.declared.ids.EpId.{EpId}
 use Rattle.hn_prefix.specs.Prefix.{PlainPrefix}
 use Rattle.hn_hash.specs.Network.{network_hash, AreNumbered}
+use Rattle.hn_typed.specs.Item.{PlainItem}
+use Rattle.hn_data.specs.Items.{Reads}
 use Rattle.hn_data.specs.Said.{HasAssigned}
 use Rattle.hn_data.specs.View.{IsNetwork}
 use Rattle.hn_data.specs.declared.said.AssignedPrefix.{AssignedPrefix}
 use Rattle.hn_own.specs.HeldPairs.{published_in}
+use Rattle.hn_own.specs.Own.{items_of}
 use Rattle.hn_own.specs.OwnPrefixes.{may_delegate}
 use Rattle.hn_own.specs.Ports.{endpoints_of}
 use Rattle.hn_rules.specs.declared.running.Running.{Running}
@@ -30,6 +33,12 @@ HashIsOfLeaves = (s : State) → IsRouter s → (s.net ≡ network_hash (leaves_
 abbrev pub AssignedIsPublished : Type 0
 AssignedIsPublished =
     (s : State) (a : AssignedPrefix) → IsRouter s → HasAssigned s.own.body a ↔ Contains (published_in s.held.assigned) a
+
+-- The items of a router's node data are its own items.
+abbrev pub ItemsArePublished : Type 0
+ItemsArePublished =
+    (s : State) → IsRouter s
+    → Reads s.own.body (λ items. (item : PlainItem) → Contains items item ↔ Contains (items_of s.own.born s.own.items) item)
 
 -- The nodes that a router sees are a network with its own node.
 abbrev pub ViewIsNetwork : Type 0

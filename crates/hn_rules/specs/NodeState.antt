@@ -1,5 +1,5 @@
 -- A Node State (RFC 7787, sections 4.4 and 7.2.3).
-use Rattle.std.specs.Prelude.{◌≡◌, []}
+use Rattle.std.specs.Prelude.{◌≡◌, Bool, true, false, []}
 use Rattle.hn_typed.specs.Item.{RequestNode}
 use Rattle.hn_store.specs.Nodes.{Nodes}
 use Rattle.hn_store.specs.Acceptance.{PlainState, Accepts}
@@ -27,6 +27,19 @@ abbrev pub IsTaken : PlainState → Took → Rule
 IsTaken carried took.Own before after = IsClaim carried.number (noted (note.Own carried.number) before) after
 IsTaken carried took.Ask before after = after ≡ with_answer (NodeRequest (record { 0 = carried.node })) (RequestNode carried.node []) (took_noted carried took.Ask before)
 IsTaken carried how before after = after ≡ took_noted carried how before
+
+-- the answers after which a refresh is due: what is held has changed, or the own identifier is claimed
+abbrev pub touches : Took → Bool
+touches took.Kept = true
+touches took.Renumbered = true
+touches took.Own = true
+touches _ = false
+
+-- the table takes it, with this answer
+pub record Takes (carried : PlainState) (how : Took) (before after : Running) : Type 0 where
+  pub table : Nodes
+  pub accepts : Accepts before.state.table (own_leaf before.state) carried before.state.moment table how
+  pub gives : after ≡ record before { state = record before.state { table = table } }
 
 -- the rule
 pub record IsNodeState (carried : PlainState) (before after : Running) : Type 0 where

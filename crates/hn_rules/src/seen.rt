@@ -33,7 +33,7 @@ impl State {
     pub fn seen(&self, alloc: Global) -> Result<Vec<Entry>, NoMemory>
         ensures { IfOk result (λ nodes. nodes.items ≡ view_of self.now) }
     {
-        let mut nodes = Vec::new(alloc);
+        let mut nodes = Vec::with_capacity(alloc, self.reach.get().as_slice().len())?;
         for id in self.reach.get().as_slice() {
             let entry = self.entry(*id)?;
             if let Some(entry) = entry {

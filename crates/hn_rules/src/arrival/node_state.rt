@@ -5,7 +5,7 @@ ghost use Rattle.hn_rules.specs.declared.answers.Subject.TheVariants.{NodeReques
 ghost use Rattle.hn_rules.specs.Answers.{with_answer};
 ghost use Rattle.hn_rules.specs.Rules.{Ran};
 ghost use Rattle.hn_rules.specs.Router.{IsRefreshed};
-ghost use Rattle.hn_rules.specs.NodeState.{own_leaf, IsTaken, IsNodeState};
+ghost use Rattle.hn_rules.specs.NodeState.{own_leaf, touches, Takes, IsTaken, IsNodeState};
 
 use crate::answers::Subject;
 use crate::done::Note;
@@ -17,6 +17,13 @@ use hn_io::Draw;
 use hn_store::{OwnLeaf, State as CarriedState, Took};
 use hn_typed::Item;
 use std::alloc::Global;
+
+/// Whether a refresh is due after an answer: what is held has changed, or the own identifier is claimed.
+fn touches(how: Took) -> bool
+    ensures { result ≡ touches how }
+{
+    matches!(how, Took::Kept | Took::Renumbered | Took::Own)
+}
 
 impl State {
     /// The own node, as the table compares it.
@@ -66,7 +73,16 @@ impl Running {
         Ok(())
     }
 
-    /// A Node State (RFC 7787, section 7.2.3): that it touched what a refresh makes.
+    /// A node state is taken by the table: its answer.
+    fn take_state(&mut self, alloc: Global, carried: &CarriedState<'_>) -> Result<Took, NoMemory>
+        ensures { IfOk result (λ how. Takes (plain_state carried.now) how self.old self.new) }
+    {
+        let own = self.state.own_leaf();
+        let now = self.state.moment.get();
+        self.state.table.edit()?.take(alloc, &own, carried, now)
+    }
+
+    /// A Node State (RFC 7787, section 7.2.3): whether it touched what a refresh makes.
     pub(crate) fn node_state<D: Draw>(
         &mut self,
         alloc: Global,
@@ -76,10 +92,8 @@ impl Running {
         ensures ran { OnOk result (Ran (IsNodeState (plain_state carried.now)) (D.words draw.old) (D.words draw.new) self.old self.new) }
         ensures untouched { IfOk result (λ touched. touched ≡ false → IsRefreshed self.old.state → IsRefreshed self.new.state) }
     {
-        let own = self.state.own_leaf();
-        let now = self.state.moment.get();
-        let how = self.state.table.edit()?.take(alloc, &own, carried, now)?;
+        let how = self.take_state(alloc, carried)?;
         self.took(alloc, carried, how, draw)?;
-        Ok(true)
+        Ok(touches(how))
     }
 }

@@ -1,7 +1,8 @@
 use Rattle.std.proofs.Common.{◌∙◌, ap, refl, sym, arith}
 use Rattle.std.specs.Option.{option_map}
+use Rattle.hn_base.proofs.Elements.{given_next, passed_next}
 use Rattle.hn_rules.specs.Nodes.{leaf_of, entry_of}
-use Rattle.hn_rules.proofs.NodeLists.{given_next, passed_next, mapped_whole}
+use Rattle.hn_rules.proofs.NodeLists.{mapped_whole}
 use Rattle.hn_rules.proofs.state.State.leaves.Goals.{in-Some+in_ok-push, in_default}
 use Rattle.hn_rules.proofs.state.State.leaves.Goals as goal
 

@@ -1,0 +1,12 @@
+use Rattle.hn_rules.proofs.LawPublished.{ReadLaws, items_published}
+use Rattle.hn_rules.proofs.laws.items_are_published.Goals as goal
+
+pub returns : goal.returns
+returns c =
+    let laws : ReadLaws = record {
+      same_begin = c.spelling_is_prefix_free.ensures;
+      same_item = c.item_is_unique.ensures;
+      written_is_item = c.written_is_read.ensures;
+      one_items = c.items_are_unique.ensures;
+    } in
+    items_published laws

@@ -7,3 +7,5 @@ mod Planning
 mod Shift
 mod Stays
 mod Ticking
+mod InfoLists
+mod OneAdverts

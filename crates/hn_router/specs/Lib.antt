@@ -3,3 +3,5 @@ pub mod Act
 pub mod New
 pub mod Laws
 pub mod Plan
+pub mod Advertising
+pub mod Infos

@@ -1,8 +1,14 @@
 //! Laws of the router. Each is the contract of a function that does nothing: call it to know its law.
 
+ghost use Rattle.std.specs.Prelude.{◌≡◌, ℕ, List};
+ghost use Rattle.hn_base.specs.declared.ids.EpId.{EpId};
+ghost use Rattle.hn_rules.specs.declared.state.State.{State};
+ghost use Rattle.hn_router.specs.Advertising.{IsAdvertBytes};
 ghost use Rattle.hn_router.specs.Laws.{OneResult, NewIsUnique, NewIsRouter, RouterStays, MomentIsNow, EndpointsFollow};
 
+use hn_deleg::usable_is_unique;
 use hn_graph::{own_is_reachable, reachable_is_a_node};
+use hn_link::common_link_is_unique;
 use hn_own::own_data_is_unique;
 use hn_rules::{
     refresh_makes_a_router, router_stays_later, rules_have_one_result, rules_keep_a_router,
@@ -58,4 +64,12 @@ pub fn endpoints_follow()
     ensures { EndpointsFollow }
 {
     rules_keep_the_endpoints();
+}
+
+/// A router has at most one advertisement on an endpoint at its moment.
+pub fn router_has_one_advert()
+    ensures { (s : State) (e : EpId) (a b : List ℕ) → IsAdvertBytes s e a → IsAdvertBytes s e b → a ≡ b }
+{
+    usable_is_unique();
+    common_link_is_unique();
 }

@@ -3,6 +3,9 @@
 #![tactic(auto)]
 
 mod act;
+#[cfg(test)]
+mod advert_tests;
+mod advertising;
 mod event;
 mod events;
 mod laws;
@@ -15,6 +18,7 @@ mod tick;
 
 pub use event::Event;
 pub use laws::{
-    endpoints_follow, moment_is_now, new_is_router, new_is_unique, one_result, router_stays,
+    endpoints_follow, moment_is_now, new_is_router, new_is_unique, one_result,
+    router_has_one_advert, router_stays,
 };
 pub use router::{Plan, Router};

@@ -1,11 +1,13 @@
 ghost use Rattle.std.specs.Prelude.{◌≡◌, ◌≤◌, ◌^◌, [], ◌∷◌, nat_lt, length, IfOk, OnErr, IsTrue, ◌↔◌};
 ghost use Rattle.hn_base.specs.Caps.{plain_caps};
+ghost use Rattle.hn_assign.specs.Gathered.{AreAdvertised};
 ghost use Rattle.hn_io.specs.Words.{Took};
 ghost use Rattle.hn_own.specs.Ports.{is_attached, endpoints_of};
 ghost use Rattle.hn_rules.specs.Nodes.{leaves_of};
 ghost use Rattle.hn_own.specs.OwnPrefixes.{may_delegate};
 ghost use Rattle.hn_rules.specs.Seen.{seen_by, IsElectedAt};
-ghost use Rattle.hn_deleg.specs.Used.{AreUsable};
+ghost use Rattle.hn_deleg.specs.Used.{AreUsable, IsOutside};
+ghost use Rattle.hn_own.specs.HeldPairs.{AreHeldPairs};
 ghost use Rattle.hn_link.specs.CommonLink.{IsCommonLink};
 ghost use Rattle.hn_router.specs.Act.{plain_event, Happened};
 ghost use Rattle.hn_router.specs.New.{no_caps, IsNew};
@@ -13,10 +15,10 @@ ghost use Rattle.hn_router.specs.New.{no_caps, IsNew};
 use crate::act::run;
 use crate::event::Event;
 use crate::laws::{new_is_router, router_stays};
-use hn_assign::Held;
+use hn_assign::{AdvertisedPrefixes, Assigned, Held, gather};
 use hn_base::{Caps, Endpoints, EpId, Letter, Moment, NoMemory, NodeId, NodeIds, Sequence, Shared};
 use hn_data::NodeData;
-use hn_deleg::{Delegated, used};
+use hn_deleg::{Delegated, outside, used};
 use hn_hash::{Leaf, Part, network_of};
 use hn_io::Draw;
 use hn_link::{common, elected};
@@ -286,6 +288,23 @@ impl Router {
         self.state.held.get().get()
     }
 
+    /// Its assignments, in ascending order of their pairs.
+    pub(crate) fn assigned(&self) -> &[Assigned]
+        ensures value { result.now ≡ self.now.held.assigned }
+        ensures kept { AreHeldPairs self.now.held }
+    {
+        self.state.held.get().get().assigned.as_slice()
+    }
+
+    /// Whether a reachable node with an HNCP-Version has a connection to the outside, as of the router's moment (RFC 7788,
+    /// section 10.2).
+    pub(crate) fn outside(&self, alloc: Global) -> Result<bool, NoMemory>
+        ensures { IfOk result (λ outside. IsTrue outside ↔ IsOutside (seen_by self.now)) }
+    {
+        let nodes = self.state.seen(alloc)?;
+        Ok(outside(&self.state.view(nodes.as_slice())))
+    }
+
     /// The delegated prefixes that the router uses, in ascending order, at its moment (RFC 7788, sections 6.2 and 6.3).
     ///
     /// # Errors
@@ -309,6 +328,20 @@ impl Router {
         view_is_a_network();
         let nodes = self.state.seen(alloc)?;
         common(alloc, &self.state.view(nodes.as_slice()), e)
+    }
+
+    /// The advertised prefixes as the router sees them, in no order, at its moment (RFC 7695, section 2; RFC 7788, section
+    /// 10.3).
+    ///
+    /// # Errors
+    ///
+    /// Out of memory.
+    pub fn advertised(&self, alloc: Global) -> Result<AdvertisedPrefixes, NoMemory>
+        ensures { IfOk result (AreAdvertised (seen_by self.now) self.now.held.assigned) }
+    {
+        view_is_a_network();
+        let nodes = self.state.seen(alloc)?;
+        gather(alloc, &self.state.view(nodes.as_slice()), self.held())
     }
 
     /// Who is elected for a capability on the Common Link of an endpoint; `None` if and only if nobody is (RFC 7788,

@@ -1,0 +1,223 @@
+-- What an endpoint advertises of a router's assignments, one after the other.
+use Rattle.std.proofs.Common.{◌≡◌, ◌↔◌, ◌⊎◌, ℕ, ◌+◌, ◌<◌, List, [], ◌∷◌, ◌++◌, length, map, take, get_or, slice_get, Some, arith, Ordering, Contains, refl, sym, ◌∙◌, ap, subst, ⊎_elim}
+use Rattle.std.specs.Prelude.{All}
+use Rattle.std.specs.declared.cmp.Ordering.TheVariants.{Less, Equal, Greater}
+use Rattle.std.specs.Cmp.{IsTotalOrder}
+use Rattle.std.specs.List.Sorted.{IsStrictlySortedBy}
+use Rattle.std.specs.Ordering.{on, nat_cmp, ordering_then}
+use Rattle.std.proofs.lemmas.Cmp.{on_total, then_total, nat_cmp_total, tied_itself}
+use Rattle.std.proofs.lemmas.List.{map-append, take_more, length-take, get_or-take}
+use Rattle.std.proofs.lemmas.List.Elements.{All-contains, All-from_recursion, All-push, All-take, Contains-push, Contains-push_cases, Contains-append_left}
+use Rattle.std.proofs.lemmas.Map.Keys.{sorted_head, sorted_tail, Less-from_sorted}
+use Rattle.std.proofs.lemmas.Option.{get_or_from_slice_get, slice_get_within}
+use Rattle.hn_base.proofs.AscendingLists.{not_below_itself, nothing_in, Contains-cases, Contains-map, Contains-from_map, sorted_push}
+use Rattle.hn_base.proofs.Parts.{contains_at}
+use Rattle.hn_base.specs.declared.ids.EpId.{EpId}
+use Rattle.hn_prefix.specs.Prefix.{PlainPrefix, IsPrefix, IsWithin, prefix_cmp}
+use Rattle.hn_advert.specs.declared.advert.Info.{Info}
+use Rattle.hn_assign.specs.declared.assigned.Assigned.{Assigned}
+use Rattle.hn_assign.specs.Facts.{IsInDelegated}
+use Rattle.hn_assign.specs.Pair.{pair_cmp, assigned_pair, IsAscending}
+use Rattle.hn_data.specs.View.{PlainView}
+use Rattle.hn_deleg.specs.declared.delegated.Delegated.{Delegated}
+use Rattle.hn_deleg.specs.Used.{AreUsable, prefixes_of, whole_seconds}
+use Rattle.hn_rules.specs.declared.state.State.{State}
+use Rattle.hn_rules.specs.Seen.{seen_by}
+use Rattle.hn_router.specs.Advertising.{IsInfoOf, AreInfos}
+use Rattle.hn_router.specs.Infos.{IsInfoFrom, HasNoInfo}
+
+-- the law of hn_deleg: prefixes inside two usable prefixes are in the order of these
+abbrev pub InsideKeepsOrder : Type 0
+InsideKeepsOrder =
+    (view : PlainView) (list : List Delegated) (d f p q : PlainPrefix) → AreUsable view list → Contains (prefixes_of list) d → Contains (prefixes_of list) f
+    → IsPrefix p → IsPrefix q → IsWithin p d → IsWithin q f → prefix_cmp d f ≡ Less → prefix_cmp p q ≡ Less
+
+-- ---- orders
+
+pub prefix_total : IsTotalOrder prefix_cmp
+prefix_total = then_total (on_total (λ p. p.bits) nat_cmp_total) (on_total (λ p. p.len) nat_cmp_total)
+
+first_less : (a b : Ordering) → b ≡ Equal → ordering_then a b ≡ Less → a ≡ Less
+first_less Less b tied h = refl
+first_less Equal b tied h = absurd (cc)
+first_less Greater b tied h = absurd (cc)
+
+-- of one endpoint the delegated prefixes ascend
+delegated_less : (a c : Assigned) → a.endpoint ≡ c.endpoint → pair_cmp (assigned_pair a) (assigned_pair c) ≡ Less → prefix_cmp a.delegated c.delegated ≡ Less
+delegated_less a c same less =
+    let tied : nat_cmp a.endpoint.0 c.endpoint.0 ≡ Equal = ap (λ (e : EpId). nat_cmp a.endpoint.0 e.0) (sym same) ∙ tied_itself nat_cmp_total a.endpoint.0 in
+    first_less (prefix_cmp a.delegated c.delegated) (nat_cmp a.endpoint.0 c.endpoint.0) tied less
+
+-- a prefix has one element
+one_used : (xs : List Delegated) (u v : Delegated) → IsStrictlySortedBy prefix_cmp (prefixes_of xs) → Contains xs u → Contains xs v → u.prefix ≡ v.prefix → u ≡ v
+one_used [] u v up hu hv same = absurd (nothing_in u hu)
+one_used (x ∷ xs) u v up hu hv same =
+    let all_after : All (λ (q : PlainPrefix). prefix_cmp x.prefix q ≡ Less) (prefixes_of xs) = All-from_recursion (λ (q : PlainPrefix). prefix_cmp x.prefix q ≡ Less) (prefixes_of xs) (sorted_head prefix_cmp x.prefix (prefixes_of xs) up) in
+    let after : (z : Delegated) → Contains xs z → prefix_cmp x.prefix z.prefix ≡ Less = λ z h. All-contains (λ (q : PlainPrefix). prefix_cmp x.prefix q ≡ Less) (prefixes_of xs) z.prefix all_after (Contains-map (λ (w : Delegated). w.prefix) xs z h) in
+    ⊎_elim
+    (λ (is_u : x ≡ u). ⊎_elim
+    (λ (is_v : x ≡ v). sym is_u ∙ is_v)
+    (λ (rest : Contains xs v). absurd (not_below_itself prefix_cmp prefix_total x.prefix v.prefix (ap (λ (w : Delegated). w.prefix) is_u ∙ same) (after v rest)))
+    (Contains-cases x xs v hv))
+    (λ (early : Contains xs u). ⊎_elim
+    (λ (is_v : x ≡ v). absurd (not_below_itself prefix_cmp prefix_total x.prefix u.prefix (ap (λ (w : Delegated). w.prefix) is_v ∙ sym same) (after u early)))
+    (λ (rest : Contains xs v). one_used xs u v (sorted_tail prefix_cmp x.prefix (prefixes_of xs) up) early rest same)
+    (Contains-cases x xs v hv))
+    (Contains-cases x xs u hu)
+
+-- ---- of one assignment
+
+-- what is advertised of an assignment is one
+one_info : (view : PlainView) (usable : List Delegated) (e : EpId) (c : Assigned) (i j : Info) → AreUsable view usable → IsInfoFrom usable e c i → IsInfoFrom usable e c j → i ≡ j
+one_info view usable e c i j are f g =
+    let same : f.delegated ≡ g.delegated = one_used usable f.delegated g.delegated are.ascending f.is_used g.is_used (f.of_delegated ∙ sym g.of_delegated) in
+    let prefix : i.prefix ≡ j.prefix = f.prefix ∙ sym g.prefix in
+    let valid : i.valid ≡ j.valid = f.valid ∙ ap (λ (d : Delegated). whole_seconds d.valid) same ∙ sym g.valid in
+    let preferred : i.preferred ≡ j.preferred = f.preferred ∙ ap (λ (d : Delegated). whole_seconds d.preferred) same ∙ sym g.preferred in
+    λ k. record { prefix = prefix k; valid = valid k; preferred = preferred k }
+
+-- its delegated prefix is a used one, and has its prefix inside
+used_one : (usable : List Delegated) (e : EpId) (c : Assigned) (i : Info) → IsInfoFrom usable e c i → Contains (prefixes_of usable) c.delegated
+used_one usable e c i f = subst (Contains (prefixes_of usable)) f.of_delegated (Contains-map (λ (u : Delegated). u.prefix) usable f.delegated f.is_used)
+
+inside_one : (usable : List Delegated) (e : EpId) (c : Assigned) (i : Info) → IsInDelegated c → IsInfoFrom usable e c i → IsWithin i.prefix c.delegated
+inside_one usable e c i inside f = subst (λ (p : PlainPrefix). IsWithin p c.delegated) (sym f.prefix) inside
+
+-- ---- of several assignments
+
+-- what is advertised of these assignments, in ascending order
+pub record AreInfosOf (usable : List Delegated) (e : EpId) (assigned : List Assigned) (infos : List Info) : Type 0 where
+  pub ascending : IsStrictlySortedBy prefix_cmp (map (λ i. i.prefix) infos)
+  pub valid : All (λ i. IsPrefix i.prefix) infos
+  pub each : (i : Info) → Contains infos i ↔ ((c : Assigned) × Contains assigned c × IsInfoFrom usable e c i)
+
+pub infos_none : (usable : List Delegated) (e : EpId) → AreInfosOf usable e [] []
+unfolding IsStrictlySortedBy
+infos_none usable e = record {
+  ascending = tt;
+  valid = λ k d lt. absurd (nothing_in d (k, lt, refl));
+  each = λ i. (λ h. absurd (nothing_in i h), λ h. absurd (nothing_in h.0 h.1));
+}
+
+-- the next assignment of a router comes after these, and each is inside its delegated prefix
+pub record IsNext (view : PlainView) (usable : List Delegated) (done : List Assigned) (c : Assigned) : Type 0 where
+  pub are_usable : AreUsable view usable
+  pub before : All (λ b. pair_cmp (assigned_pair b) (assigned_pair c) ≡ Less) done
+  pub inside : All IsInDelegated done
+  pub inside_c : IsInDelegated c
+
+-- one that is advertised of an earlier assignment comes before
+before_next : InsideKeepsOrder → (view : PlainView) (usable : List Delegated) (e : EpId) (done : List Assigned) (c : Assigned) (b : Assigned) (i j : Info) → IsNext view usable done c → Contains done b
+    → IsInfoFrom usable e b j → IsInfoFrom usable e c i → IsPrefix j.prefix → IsPrefix i.prefix → prefix_cmp j.prefix i.prefix ≡ Less
+before_next keeps view usable e done c b i j next early from_b from_c valid_j valid_i =
+    let less : pair_cmp (assigned_pair b) (assigned_pair c) ≡ Less = All-contains (λ (x : Assigned). pair_cmp (assigned_pair x) (assigned_pair c) ≡ Less) done b next.before early in
+    let inside_b = All-contains IsInDelegated done b next.inside early in
+    keeps view usable b.delegated c.delegated j.prefix i.prefix next.are_usable (used_one usable e b j from_b) (used_one usable e c i from_c) valid_j valid_i
+    (inside_one usable e b j inside_b from_b) (inside_one usable e c i next.inside_c from_c) (delegated_less b c (from_b.of_endpoint ∙ sym from_c.of_endpoint) less)
+
+pub infos_more : InsideKeepsOrder → (view : PlainView) (usable : List Delegated) (e : EpId) (done : List Assigned) (c : Assigned) (infos : List Info) (i : Info) → IsNext view usable done c
+    → AreInfosOf usable e done infos → IsInfoFrom usable e c i → IsPrefix i.prefix → AreInfosOf usable e (done ++ c ∷ []) (infos ++ i ∷ [])
+infos_more keeps view usable e done c infos i next were from valid = record {
+  ascending = subst (IsStrictlySortedBy prefix_cmp) (sym (map-append (λ (x : Info). x.prefix) infos (i ∷ [])))
+      (sorted_push prefix_cmp (map (λ (x : Info). x.prefix) infos) i.prefix were.ascending (λ q h.
+      let found = Contains-from_map (λ (x : Info). x.prefix) infos q h in
+      let b = (were.each found.0).0 found.1 in
+      let valid_j = All-contains (λ (x : Info). IsPrefix x.prefix) infos found.0 were.valid found.1 in
+      subst (λ (p : PlainPrefix). prefix_cmp p i.prefix ≡ Less) found.2 (before_next keeps view usable e done c b.0 i found.0 next b.1 b.2 from valid_j valid)));
+  valid = All-push (λ (x : Info). IsPrefix x.prefix) infos i were.valid valid;
+  each = λ j. (
+    λ h. ⊎_elim
+        (λ (old : Contains infos j). let b = (were.each j).0 old in (b.0, Contains-append_left done (c ∷ []) b.0 b.1, b.2))
+        (λ (new : i ≡ j). (c, Contains-push done c, subst (IsInfoFrom usable e c) new from))
+        (Contains-push_cases infos i j h),
+    λ h. ⊎_elim
+        (λ (old : Contains done h.0). Contains-append_left infos (i ∷ []) j ((were.each j).1 (h.0, old, h.2)))
+        (λ (new : c ≡ h.0).
+        let same : i ≡ j = one_info view usable e c i j next.are_usable from (subst (λ (x : Assigned). IsInfoFrom usable e x j) (sym new) h.2) in
+        subst (Contains (infos ++ i ∷ [])) same (Contains-push infos i))
+        (Contains-push_cases done c h.0 h.1),
+  );
+}
+
+pub infos_same : (usable : List Delegated) (e : EpId) (done : List Assigned) (c : Assigned) (infos : List Info) → AreInfosOf usable e done infos → HasNoInfo usable e c → AreInfosOf usable e (done ++ c ∷ []) infos
+infos_same usable e done c infos were none = record {
+  ascending = were.ascending;
+  valid = were.valid;
+  each = λ j. (
+    λ h. let b = (were.each j).0 h in (b.0, Contains-append_left done (c ∷ []) b.0 b.1, b.2),
+    λ h. ⊎_elim
+        (λ (old : Contains done h.0). (were.each j).1 (h.0, old, h.2))
+        (λ (new : c ≡ h.0). absurd (none j (subst (λ (x : Assigned). IsInfoFrom usable e x j) (sym new) h.2)))
+        (Contains-push_cases done c h.0 h.1),
+  );
+}
+
+-- ---- the same, by the place of the next assignment
+
+-- the first elements and the next one
+take_at : (xs : List Assigned) (n : ℕ) (c : Assigned) → slice_get xs n ≡ Some c → take (n + 1) xs ≡ take n xs ++ c ∷ []
+take_at xs n c at = take_more xs n c (slice_get_within xs n c at) ∙ ap (λ (b : Assigned). take n xs ++ b ∷ []) (get_or_from_slice_get xs n c c at)
+
+before_at : (xs : List Assigned) (n : ℕ) (c : Assigned) → slice_get xs n ≡ Some c → IsAscending assigned_pair xs → All (λ b. pair_cmp (assigned_pair b) (assigned_pair c) ≡ Less) (take n xs)
+before_at xs n c at up k d within =
+    let size = length-take n xs in
+    let early : k < n = omega arith in
+    let less : pair_cmp (assigned_pair (get_or xs k d)) (assigned_pair (get_or xs n d)) ≡ Less = Less-from_sorted (on assigned_pair pair_cmp) xs k n d up early (slice_get_within xs n c at) in
+    rw (get_or-take n xs k d early) (subst (λ (b : Assigned). pair_cmp (assigned_pair (get_or xs k d)) (assigned_pair b) ≡ Less) (get_or_from_slice_get xs n c d at) less)
+
+next_at : (view : PlainView) (usable : List Delegated) (xs : List Assigned) (n : ℕ) (c : Assigned) → slice_get xs n ≡ Some c → AreUsable view usable → IsAscending assigned_pair xs → All IsInDelegated xs
+    → IsNext view usable (take n xs) c
+next_at view usable xs n c at are up inside = record {
+  are_usable = are;
+  before = before_at xs n c at up;
+  inside = All-take IsInDelegated n xs inside;
+  inside_c = All-contains IsInDelegated xs c inside (contains_at xs n c at);
+}
+
+pub infos_more_at : InsideKeepsOrder → (view : PlainView) (usable : List Delegated) (e : EpId) (xs : List Assigned) (n : ℕ) (c : Assigned) (infos : List Info) (i : Info) → slice_get xs n ≡ Some c → AreUsable view usable
+    → IsAscending assigned_pair xs → All IsInDelegated xs → AreInfosOf usable e (take n xs) infos → IsInfoFrom usable e c i → IsPrefix i.prefix → AreInfosOf usable e (take (n + 1) xs) (infos ++ i ∷ [])
+infos_more_at keeps view usable e xs n c infos i at are up inside were from valid =
+    subst (λ (l : List Assigned). AreInfosOf usable e l (infos ++ i ∷ [])) (sym (take_at xs n c at)) (infos_more keeps view usable e (take n xs) c infos i (next_at view usable xs n c at are up inside) were from valid)
+
+pub infos_same_at : (usable : List Delegated) (e : EpId) (xs : List Assigned) (n : ℕ) (c : Assigned) (infos : List Info) → slice_get xs n ≡ Some c → AreInfosOf usable e (take n xs) infos → HasNoInfo usable e c
+    → AreInfosOf usable e (take (n + 1) xs) infos
+infos_same_at usable e xs n c infos at were none = subst (λ (l : List Assigned). AreInfosOf usable e l infos) (sym (take_at xs n c at)) (infos_same usable e (take n xs) c infos were none)
+
+-- ---- of a router
+
+pub infos_are : (s : State) (usable : List Delegated) (e : EpId) (infos : List Info) → AreUsable (seen_by s) usable → AreInfosOf usable e s.held.assigned infos → AreInfos s e infos
+infos_are s usable e infos are of = record {
+  usable = usable;
+  are_usable = are;
+  ascending = of.ascending;
+  each = λ i. (
+    λ h. let b = (of.each i).0 h in
+        let f = b.2 in
+        record {
+          assignment = b.0;
+          held = b.1;
+          of_endpoint = f.of_endpoint;
+          applied = f.applied;
+          delegated = f.delegated;
+          is_used = f.is_used;
+          of_delegated = f.of_delegated;
+          prefix = f.prefix;
+          valid = f.valid;
+          preferred = f.preferred;
+        },
+    λ h. (of.each i).1 (
+      h.assignment,
+      h.held,
+      record {
+        of_endpoint = h.of_endpoint;
+        applied = h.applied;
+        delegated = h.delegated;
+        is_used = h.is_used;
+        of_delegated = h.of_delegated;
+        prefix = h.prefix;
+        valid = h.valid;
+        preferred = h.preferred;
+      },
+    ),
+  );
+}

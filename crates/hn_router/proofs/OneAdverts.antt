@@ -1,0 +1,70 @@
+-- A router advertises one thing on an endpoint.
+use Rattle.std.proofs.Common.{◌≡◌, ◌↔◌, ◌⊎◌, ℕ, List, Option, Some, None, refl, sym, ◌∙◌, ap, subst, ⊎_elim, Contains, map}
+use Rattle.std.specs.Prelude.{Bool, is_some, MatchOption}
+use Rattle.std.specs.Ordering.{on}
+use Rattle.std.proofs.lemmas.Cmp.{on_total}
+use Rattle.hn_base.proofs.AscendingLists.{ascending_unique, sorted_parts}
+use Rattle.hn_base.specs.declared.ids.EpId.{EpId}
+use Rattle.hn_base.specs.declared.ids.NodeId.{NodeId}
+use Rattle.hn_base.specs.declared.letter.Letter.{Letter}
+use Rattle.hn_base.specs.declared.letter.Letter.TheVariants.{H}
+use Rattle.hn_prefix.specs.Prefix.{prefix_cmp}
+use Rattle.hn_advert.specs.declared.advert.Advert.{Advert}
+use Rattle.hn_advert.specs.declared.advert.Info.{Info}
+use Rattle.hn_advert.specs.Advert.{advert_bytes}
+use Rattle.hn_data.specs.View.{PlainView}
+use Rattle.hn_deleg.specs.declared.delegated.Delegated.{Delegated}
+use Rattle.hn_deleg.specs.Used.{AreUsable, IsOutside}
+use Rattle.hn_link.specs.CommonLink.{IsCommonLink}
+use Rattle.hn_link.specs.Election.{IsElected, HasNoCandidate}
+use Rattle.hn_rules.specs.declared.state.State.{State}
+use Rattle.hn_rules.specs.Seen.{seen_by, IsElectedAt}
+use Rattle.hn_router.specs.Advertising.{IsInfoOf, AreInfos, IsLifetime, IsAdvertAt, IsAdvertBytes}
+use Rattle.hn_router.proofs.InfoLists.{prefix_total}
+
+-- the laws of hn_deleg and hn_link: a view has one list of usable prefixes, and an endpoint one Common Link
+abbrev pub OneUsable : Type 0
+OneUsable = (view : PlainView) (a b : List Delegated) → AreUsable view a → AreUsable view b → a ≡ b
+
+abbrev pub OneCommonLink : Type 0
+OneCommonLink = (view : PlainView) (e : ℕ) (a b : List (NodeId × EpId)) → IsCommonLink view e a → IsCommonLink view e b → a ≡ b
+
+-- somebody is elected or nobody
+one_flag : (view : PlainView) (common : List (NodeId × EpId)) (letter : Letter) (a b : Option NodeId) → MatchOption a (HasNoCandidate view common letter) (IsElected view common letter)
+    → MatchOption b (HasNoCandidate view common letter) (IsElected view common letter) → is_some a ≡ is_some b
+one_flag view common letter None None f g = refl
+one_flag view common letter None (Some y) f g = absurd (f y g.caps g.candidate)
+one_flag view common letter (Some x) None f g = absurd (g x f.caps f.candidate)
+one_flag view common letter (Some x) (Some y) f g = refl
+
+one_elected : OneCommonLink → (s : State) (e : EpId) (letter : Letter) (a b : Option NodeId) → IsElectedAt s e letter a → IsElectedAt s e letter b → is_some a ≡ is_some b
+one_elected one_link s e letter a b f g =
+    let same : g.common ≡ f.common = one_link (seen_by s) e.0 g.common f.common g.is_common f.is_common in
+    one_flag (seen_by s) f.common letter a b f.is_elected (subst (λ (c : List (NodeId × EpId)). MatchOption b (HasNoCandidate (seen_by s) c letter) (IsElected (seen_by s) c letter)) same g.is_elected)
+
+one_lifetime : (s : State) (m n : ℕ) → IsLifetime s m → IsLifetime s n → m ≡ n
+one_lifetime s m n f g =
+    ⊎_elim (λ (there : IsOutside (seen_by s) × (m ≡ 1800)).
+    ⊎_elim (λ (too : IsOutside (seen_by s) × (n ≡ 1800)). there.1 ∙ sym too.1) (λ (none : ¬ IsOutside (seen_by s) × (n ≡ 0)). absurd (none.0 there.0)) g)
+    (λ (away : ¬ IsOutside (seen_by s) × (m ≡ 0)).
+    ⊎_elim (λ (too : IsOutside (seen_by s) × (n ≡ 1800)). absurd (away.0 too.0)) (λ (none : ¬ IsOutside (seen_by s) × (n ≡ 0)). away.1 ∙ sym none.1) g)
+    f
+
+one_infos : OneUsable → (s : State) (e : EpId) (a b : List Info) → AreInfos s e a → AreInfos s e b → a ≡ b
+one_infos one_usable s e a b f g =
+    let same : g.usable ≡ f.usable = one_usable (seen_by s) g.usable f.usable g.are_usable f.are_usable in
+    let each : (i : Info) → Contains b i ↔ IsInfoOf s f.usable e i = subst (λ (u : List Delegated). (i : Info) → Contains b i ↔ IsInfoOf s u e i) same g.each in
+    ascending_unique (on (λ i. i.prefix) prefix_cmp) (on_total (λ i. i.prefix) prefix_total) a b ((sorted_parts (λ (i : Info). i.prefix) prefix_cmp a).1 f.ascending) ((sorted_parts (λ (i : Info). i.prefix) prefix_cmp b).1 g.ascending)
+    (λ i. (λ h. (each i).1 ((f.each i).0 h), λ h. (f.each i).1 ((each i).0 h)))
+
+one_advert : OneUsable → OneCommonLink → (s : State) (e : EpId) (a b : Advert) → IsAdvertAt s e a → IsAdvertAt s e b → a ≡ b
+one_advert one_usable one_link s e a b f g =
+    let who : is_some f.who ≡ is_some g.who = one_elected one_link s e H f.who g.who f.is_elected g.is_elected in
+    let managed : a.managed ≡ b.managed = f.managed ∙ who ∙ sym g.managed in
+    let other : a.other ≡ b.other = f.other ∙ who ∙ sym g.other in
+    let lifetime : a.lifetime ≡ b.lifetime = one_lifetime s a.lifetime b.lifetime f.lifetime g.lifetime in
+    let infos : a.infos ≡ b.infos = one_infos one_usable s e a.infos b.infos f.infos g.infos in
+    λ k. record { managed = managed k; other = other k; lifetime = lifetime k; infos = infos k }
+
+pub one_bytes : OneUsable → OneCommonLink → (s : State) (e : EpId) (a b : List ℕ) → IsAdvertBytes s e a → IsAdvertBytes s e b → a ≡ b
+one_bytes one_usable one_link s e a b f g = f.2 ∙ ap advert_bytes (one_advert one_usable one_link s e f.0 g.0 f.1 g.1) ∙ sym g.2

@@ -1,0 +1,103 @@
+//! What a router advertises on an endpoint (RFC 4861, sections 4.2 and 4.6.2; RFC 7788, section 7).
+
+ghost use Rattle.std.specs.Prelude.{◌≡◌, ◌≢◌, ◌^◌, ◌<◌, All, Contains, IfOk, IfSome, IfNone};
+ghost use Rattle.hn_prefix.specs.Prefix.{IsPrefix};
+ghost use Rattle.hn_deleg.specs.Used.{whole_seconds};
+ghost use Rattle.hn_router.specs.Advertising.{AreInfos, IsLifetime, IsAdvertBytes};
+ghost use Rattle.hn_router.specs.Infos.{FitsFields, IsInfoFrom, HasNoInfo};
+
+use crate::router::Router;
+use hn_advert::{Advert, Info, Infos, bytes};
+use hn_assign::Assigned;
+use hn_base::{Bytes, EpId, Letter, NoMemory};
+use hn_deleg::{Delegated, inside_keeps_the_order, lifetimes_fit, whole_seconds};
+use hn_prefix::Prefix;
+use std::alloc::Global;
+
+/// The lifetime in seconds of a router that has a way to the outside.
+const LIFETIME: u16 = 1800;
+
+/// A remaining lifetime in whole seconds, which fit the field of a Prefix Information option.
+fn seconds(ms: u64) -> u32
+    requires { whole_seconds ms < 2 ^ 32 }
+    ensures { result ≡ whole_seconds ms }
+{
+    whole_seconds(ms) as u32
+}
+
+/// The used one of this prefix.
+fn used_of<'a>(usable: &'a [Delegated], prefix: &Prefix) -> Option<&'a Delegated>
+    ensures found { IfSome result (λ d. Contains usable.now d.now × (d.now.prefix ≡ prefix.now)) }
+    ensures none { IfNone result (All (λ d. d.prefix ≢ prefix.now) usable.now) }
+{
+    usable.iter().find(|d| d.prefix == *prefix)
+}
+
+/// What an endpoint advertises of an assignment: its prefix, if it is of this endpoint and applied, and inside a usable
+/// prefix, with the lifetimes of that one.
+fn info_of(usable: &[Delegated], e: EpId, c: &Assigned) -> Option<Info>
+    requires { All FitsFields usable.now }
+    ensures some { IfSome result (IsInfoFrom usable.now e c.now) }
+    ensures none { IfNone result (HasNoInfo usable.now e c.now) }
+    ensures valid { IfSome result (λ i. IsPrefix i.prefix) }
+{
+    if c.endpoint != e || !c.applied {
+        return None;
+    }
+    let delegated = used_of(usable, &c.delegated)?;
+    prove!(c.prefix.len() <= 128);
+    Some(Info {
+        prefix: c.prefix,
+        valid: seconds(delegated.valid),
+        preferred: seconds(delegated.preferred),
+    })
+}
+
+impl Router {
+    /// The prefixes that an endpoint advertises, in ascending order, with their lifetimes.
+    fn infos(&self, alloc: Global, e: EpId) -> Result<Infos, NoMemory>
+        ensures { IfOk result (AreInfos self.now e) }
+    {
+        lifetimes_fit();
+        inside_keeps_the_order();
+        let usable = self.used(alloc)?.into_vec();
+        let mut infos = Infos::new(alloc);
+        for c in self.assigned() {
+            if let Some(info) = info_of(usable.as_slice(), e, c) {
+                infos.push(info)?;
+            }
+        }
+        Ok(infos)
+    }
+
+    /// The lifetime in seconds as a default router; 0 is that of a router that is none.
+    fn lifetime(&self, alloc: Global) -> Result<u16, NoMemory>
+        ensures { IfOk result (IsLifetime self.now) }
+    {
+        let outside = self.outside(alloc)?;
+        Ok(if outside { LIFETIME } else { 0 })
+    }
+
+    /// The Router Advertisement on an endpoint at the router's moment, as the bytes of the ICMPv6 message (RFC 4861,
+    /// sections 4.2 and 4.6.2; RFC 7788, section 7). It has the flags M and O if and only if a node is elected for
+    /// capability H on the endpoint's Common Link; the router lifetime 1800 seconds if a reachable node with an
+    /// HNCP-Version has a connection to the outside, and else 0; and the prefix of each applied assignment of the endpoint
+    /// whose delegated prefix is used, in ascending order, with what is left of the lifetimes of the delegated prefix in
+    /// whole seconds, rounded down. An endpoint that is not attached is answered too.
+    ///
+    /// # Errors
+    ///
+    /// Out of memory.
+    pub fn advert(&self, alloc: Global, e: EpId) -> Result<Bytes, NoMemory>
+        ensures { IfOk result (IsAdvertBytes self.now e) }
+    {
+        let managed = self.elected(alloc, e, Letter::H)?.is_some();
+        let advert = Advert {
+            managed,
+            other: managed,
+            lifetime: self.lifetime(alloc)?,
+            infos: self.infos(alloc, e)?,
+        };
+        bytes(alloc, &advert)
+    }
+}

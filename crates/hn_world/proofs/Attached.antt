@@ -8,11 +8,12 @@ use Rattle.std.proofs.lemmas.List.Folds.{find_at}
 use Rattle.std.proofs.lemmas.List.Kept.{AllPairs-filter}
 use Rattle.std.proofs.lemmas.List.Quantifiers.{all_pairs_push}
 use Rattle.std.proofs.lemmas.Option.{same_Some}
-use Rattle.hn_base.proofs.AscendingLists.{Contains-head, Contains-tail, Contains-cases, nothing_in, Contains-map, Contains-from_map}
+use Rattle.hn_base.proofs.AscendingLists.{Contains-head, Contains-tail, Contains-cases, Contains-map, Contains-from_map}
 use Rattle.hn_base.proofs.Keys.{same_id}
 use Rattle.hn_base.specs.Name.{name_text}
 use Rattle.hn_base.specs.declared.ids.EpId.{EpId}
 use Rattle.hn_base.specs.declared.name.Name.{Name}
+use Rattle.hn_base.proofs.Elements.{in_filter, from_filter}
 use Rattle.hn_rules.specs.declared.done.Note.{Note}
 use Rattle.hn_router.specs.Act.{PlainEvent, Attach, Detach, is_refused}
 use Rattle.hn_router.specs.Laws.{endpoints_by, EndpointsFollow}
@@ -34,32 +35,6 @@ use Rattle.hn_world.proofs.Places.{got_set, place_kept}
 use Rattle.hn_world.proofs.Sounds.{all_at, replay_keeps}
 
 -- ---- lists
-
-contains_filter : {A : Type 0} (p : A → Bool) (xs : List A) (x : A) → Contains (filter p xs) x ↔ (Contains xs x × (p x ≡ true))
-contains_filter p [] x = (λ there. absurd (nothing_in x there), λ there. absurd (nothing_in x there.0))
-contains_filter {A} p (y ∷ xs) x = by_test (p y) refl (contains_filter p xs x)
-  where
-    differs : (b : Bool) → b ≡ false → b ≡ true → ⊥
-    differs b is not = absurd cc
-
-    by_test : (b : Bool) → p y ≡ b → Contains (filter p xs) x ↔ (Contains xs x × (p x ≡ true)) → Contains (cond b (y ∷ filter p xs) (filter p xs)) x ↔ (Contains (y ∷ xs) x × (p x ≡ true))
-    by_test true passes more = (
-      λ there. elim (Contains-cases y (filter p xs) x there) [
-        | inl same ↦ (subst (Contains (y ∷ xs)) same (Contains-head y xs), subst (λ (z : A). p z ≡ true) same passes)
-        | inr later ↦ (Contains-tail y xs x (more.0 later).0, (more.0 later).1)
-      ],
-      λ there. elim (Contains-cases y xs x there.0) [
-        | inl same ↦ subst (Contains (y ∷ filter p xs)) same (Contains-head y (filter p xs))
-        | inr later ↦ Contains-tail y (filter p xs) x (more.1 (later, there.1))
-      ],
-    )
-    by_test false fails more = (
-      λ there. (Contains-tail y xs x (more.0 there).0, (more.0 there).1),
-      λ there. elim (Contains-cases y xs x there.0) [
-        | inl same ↦ absurd (differs (p x) (subst (λ (z : A). p z ≡ false) same fails) there.1)
-        | inr later ↦ more.1 (later, there.1)
-      ],
-    )
 
 set_twice : {A : Type 0} (xs : List A) (i : ℕ) (y z : A) → slice_set (slice_set xs i y) i z ≡ slice_set xs i z
 set_twice [] i y z = refl
@@ -150,10 +125,10 @@ Same ends numbers = (e : EpId) → 0 < e.0 → Contains ends e ↔ Contains numb
 in_attached : (at : EpId) (ends : List EpId) (e : EpId) → Contains (endpoints_by (Attach at) ends) e ↔ (Contains ends e ⊎ (at ≡ e))
 in_attached at ends e = (
   λ there. elim (Contains-append_cases below (at ∷ above) e there) [
-    | inl front ↦ inl ((contains_filter (λ (x : EpId). nat_lt x.0 at.0) ends e).0 front).0
+    | inl front ↦ inl (from_filter (λ (x : EpId). nat_lt x.0 at.0) ends e front).0
     | inr back ↦ elim (Contains-cases at above e back) [
       | inl same ↦ inr same
-      | inr later ↦ inl ((contains_filter (λ (x : EpId). nat_lt at.0 x.0) ends e).0 later).0
+      | inr later ↦ inl (from_filter (λ (x : EpId). nat_lt at.0 x.0) ends e later).0
     ]
   ],
   λ there. elim there [
@@ -172,9 +147,9 @@ in_attached at ends e = (
     here = Contains-append_right below (at ∷ above) at (Contains-head at above)
 
     by_below : (b c : Bool) → nat_lt e.0 at.0 ≡ b → nat_lt at.0 e.0 ≡ c → Contains ends e → Contains (endpoints_by (Attach at) ends) e
-    by_below true c less more held = Contains-append_left below (at ∷ above) e ((contains_filter (λ (x : EpId). nat_lt x.0 at.0) ends e).1 (held, less))
+    by_below true c less more held = Contains-append_left below (at ∷ above) e (in_filter (λ (x : EpId). nat_lt x.0 at.0) ends e held less)
     by_below false true less more held =
-        Contains-append_right below (at ∷ above) e (Contains-tail at above e ((contains_filter (λ (x : EpId). nat_lt at.0 x.0) ends e).1 (held, more)))
+        Contains-append_right below (at ∷ above) e (Contains-tail at above e (in_filter (λ (x : EpId). nat_lt at.0 x.0) ends e held more))
     by_below false false less more held =
         let low = ltb-false e.0 at.0 less in
         let high = ltb-false at.0 e.0 more in
@@ -187,12 +162,12 @@ in_detached : (at : EpId) (attachments : List Attachment) (e : EpId)
 in_detached at attachments e = (
   λ there.
       let from = Contains-from_map (λ (a : Attachment). a.endpoint) (filter (λ (a : Attachment). not (is_of at a)) attachments) e there in
-      let held = (contains_filter (λ (a : Attachment). not (is_of at a)) attachments from.0).0 from.1 in
+      let held = from_filter (λ (a : Attachment). not (is_of at a)) attachments from.0 from.1 in
       (subst (Contains (numbers_of attachments)) from.2 (Contains-map (λ (a : Attachment). a.endpoint) attachments from.0 held.0), subst (λ (x : EpId). not (x.0 == at.0) ≡ true) from.2 held.1),
   λ there.
       let from = Contains-from_map (λ (a : Attachment). a.endpoint) attachments e there.0 in
       let other : not (is_of at from.0) ≡ true = subst (λ (x : EpId). not (x.0 == at.0) ≡ true) (sym from.2) there.1 in
-      let kept = (contains_filter (λ (a : Attachment). not (is_of at a)) attachments from.0).1 (from.1, other) in
+      let kept = in_filter (λ (a : Attachment). not (is_of at a)) attachments from.0 from.1 other in
       subst (Contains (numbers_of (filter (λ (a : Attachment). not (is_of at a)) attachments))) from.2
       (Contains-map (λ (a : Attachment). a.endpoint) (filter (λ (a : Attachment). not (is_of at a)) attachments) from.0 kept),
 )
@@ -233,8 +208,8 @@ same_refused at link ends attachments none same e some =
 same_detached : (at : EpId) (ends : List EpId) (attachments : List Attachment) → Same ends (numbers_of attachments)
     → Same (endpoints_by (Detach at) ends) (numbers_of (filter (λ (a : Attachment). not (is_of at a)) attachments))
 same_detached at ends attachments same e some = (
-  λ there. let held = (contains_filter (λ (x : EpId). not (x.0 == at.0)) ends e).0 there in (in_detached at attachments e).1 ((same e some).0 held.0, held.1),
-  λ there. let held = (in_detached at attachments e).0 there in (contains_filter (λ (x : EpId). not (x.0 == at.0)) ends e).1 ((same e some).1 held.0, held.1),
+  λ there. let held = from_filter (λ (x : EpId). not (x.0 == at.0)) ends e there in (in_detached at attachments e).1 ((same e some).0 held.0, held.1),
+  λ there. let held = (in_detached at attachments e).0 there in in_filter (λ (x : EpId). not (x.0 == at.0)) ends e ((same e some).1 held.0) held.1,
 )
 
 -- ---- the routers

@@ -64,6 +64,9 @@ fn add_on_link(
 ) -> Result<(), NoMemory>
     ensures { OnOk result (targets.new.items ≡ targets.old.items ++ on_link_at link place member.now) }
 {
+    if !member.has_link(link) {
+        return Ok(());
+    }
     let endpoints = member.router.endpoints(alloc)?;
     for endpoint in &endpoints {
         if member.is_on(link, *endpoint) {

@@ -42,11 +42,18 @@ impl Model for Members {
     ghost view = { λ m. m.items.items };
 }
 
+/// The text of a name.
+fn text_of(name: &Name) -> &[u8]
+    ensures { result.now ≡ name_text name.now }
+{
+    &name.bytes[..usize::from(name.len)]
+}
+
 /// Whether a router has that name.
 fn is_named(member: &Member, name: &Name) -> bool
     ensures { result ≡ is_named (name_text name.now) member.now }
 {
-    member.name.as_str() == name.as_str()
+    *text_of(&member.name) == *text_of(name)
 }
 
 impl Member {

@@ -8,6 +8,7 @@ use Rattle.std.specs.Str.Parse.{AllDigits, digits_value, digits_value_after}
 use Rattle.hex.specs.Hex.{IsBytes, encode_lower, encode_with, hex_digit_value, lower_digits}
 use Rattle.hex.proofs.HexLemmas.{IsDigits-lower_digits}
 use Rattle.hn_base.specs.HexText.{IsIdText, id_text}
+use Rattle.hn_base.proofs.BigEndian.{byte_small}
 use Rattle.hn_script.proofs.WordBytes.{IsWordByte, IsWord}
 
 digit_from_hex : (c d : ℕ) → hex_digit_value c ≡ Some d → digit_value c ≡ d
@@ -43,10 +44,6 @@ hex_digits (b ∷ bytes) h =
     let high = hex_digit (b / 16) (omega arith) in
     let low = hex_digit (b % 16) (omega arith) in
     (rw high (omega arith), (rw low (omega arith), hex_digits bytes (λ i. h (suc i))))
-
-byte_small : (k n : ℕ) → byte_at k n < 256
-byte_small zero n = omega arith
-byte_small (suc k) n = omega arith
 
 bytes_small : (k n : ℕ) → IsBytes (bytes_high_first k n)
 bytes_small zero n i = omega arith

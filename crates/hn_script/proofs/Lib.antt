@@ -9,5 +9,8 @@ pub mod PrefixWords
 pub mod Printed
 pub mod SameFields
 pub mod SameScripts
+pub mod SoakExists
+pub mod SoakScripts
+pub mod SoakTexts
 pub mod Values
 pub mod WordBytes

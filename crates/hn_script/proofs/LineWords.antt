@@ -13,7 +13,7 @@ use Rattle.hn_script.specs.Line.{spelling}
 use Rattle.hn_script.specs.declared.line.How.{How}
 use Rattle.hn_script.specs.declared.line.How.TheVariants.{Uni}
 use Rattle.hn_script.specs.declared.line.Line.{Line}
-use Rattle.hn_script.specs.declared.line.Line.TheVariants.{Router, Link, Attach, Detach, External, Withdraw, Caps, Stop, Start, Seed, Loss, Time, Tick, Run, Deliver, Drop, Flow, Inject, Show, Hash, Used, Prefixes, Elect, Compare, Mail}
+use Rattle.hn_script.specs.declared.line.Line.TheVariants.{Router, Link, Attach, Detach, External, Withdraw, Caps, Stop, Start, Seed, Loss, Time, Tick, Run, Deliver, Drop, Flow, Inject, Show, Hash, Used, Prefixes, Elect, Advert, Audit, Compare, Mail}
 use Rattle.hn_script.proofs.Families.{Family, same_text, same_first, a_name, a_node, an_endpoint, a_prefix, some_caps, same_caps_lines}
 use Rattle.hn_script.proofs.WordBytes.{is_letters}
 
@@ -339,6 +339,34 @@ elect_lines = record {
   injective = λ a b e. cc;
 }
 
+only_advert : (line : Line) → same_text (spelling line).first (codes "advert") ≡ true → (a : Name × EpId) × (line ≡ Advert a.0 a.1)
+only_advert (Advert a b) h = ((a, b), refl)
+only_advert _ h = absurd (false≢true h)
+
+pub advert_lines : Family (codes "advert") 2 (λ (a : Name × EpId). Advert a.0 a.1)
+advert_lines = record {
+  some = (a_name, an_endpoint);
+  first = λ _. refl;
+  counted = λ _. refl;
+  only = λ line e. only_advert line (same_first line (codes "advert") e);
+  kinds = λ a b. (tt, (tt, tt));
+  injective = λ a b e. cc;
+}
+
+only_audit : (line : Line) → same_text (spelling line).first (codes "audit") ≡ true → (a : Name) × (line ≡ Audit a)
+only_audit (Audit a) h = (a, refl)
+only_audit _ h = absurd (false≢true h)
+
+pub audit_lines : Family (codes "audit") 1 (λ (a : Name). Audit a)
+audit_lines = record {
+  some = a_name;
+  first = λ _. refl;
+  counted = λ _. refl;
+  only = λ line e. only_audit line (same_first line (codes "audit") e);
+  kinds = λ a b. (tt, tt);
+  injective = λ a b e. cc;
+}
+
 only_compare : (line : Line) → same_text (spelling line).first (codes "compare") ≡ true → (a : Name × Name) × (line ≡ Compare a.0 a.1)
 only_compare (Compare a b) h = ((a, b), refl)
 only_compare _ h = absurd (false≢true h)
@@ -392,34 +420,38 @@ pub unknown_word : (word : List ℕ)
     → word ≢ codes "used"
     → word ≢ codes "prefixes"
     → word ≢ codes "elect"
+    → word ≢ codes "advert"
+    → word ≢ codes "audit"
     → word ≢ codes "compare"
     → word ≢ codes "mail"
     → IsUnknown word
-unknown_word word absent _ _ _ _ _ _ _ _ _ _ _ _ _ _ _ _ _ _ _ _ _ _ _ _ (Router a b) e = absent (sym e)
-unknown_word word _ absent _ _ _ _ _ _ _ _ _ _ _ _ _ _ _ _ _ _ _ _ _ _ _ (Link a) e = absent (sym e)
-unknown_word word _ _ absent _ _ _ _ _ _ _ _ _ _ _ _ _ _ _ _ _ _ _ _ _ _ (Attach a b c) e = absent (sym e)
-unknown_word word _ _ _ absent _ _ _ _ _ _ _ _ _ _ _ _ _ _ _ _ _ _ _ _ _ (Detach a b) e = absent (sym e)
-unknown_word word _ _ _ _ absent _ _ _ _ _ _ _ _ _ _ _ _ _ _ _ _ _ _ _ _ (External a b c d) e = absent (sym e)
-unknown_word word _ _ _ _ _ absent _ _ _ _ _ _ _ _ _ _ _ _ _ _ _ _ _ _ _ (Withdraw a b) e = absent (sym e)
-unknown_word word _ _ _ _ _ _ absent _ _ _ _ _ _ _ _ _ _ _ _ _ _ _ _ _ _ (Caps a b) e = absent (sym e)
-unknown_word word _ _ _ _ _ _ _ absent _ _ _ _ _ _ _ _ _ _ _ _ _ _ _ _ _ (Stop a) e = absent (sym e)
-unknown_word word _ _ _ _ _ _ _ _ absent _ _ _ _ _ _ _ _ _ _ _ _ _ _ _ _ (Start a) e = absent (sym e)
-unknown_word word _ _ _ _ _ _ _ _ _ absent _ _ _ _ _ _ _ _ _ _ _ _ _ _ _ (Seed a) e = absent (sym e)
-unknown_word word _ _ _ _ _ _ _ _ _ _ absent _ _ _ _ _ _ _ _ _ _ _ _ _ _ (Loss a) e = absent (sym e)
-unknown_word word _ _ _ _ _ _ _ _ _ _ _ absent _ _ _ _ _ _ _ _ _ _ _ _ _ (Time a) e = absent (sym e)
-unknown_word word _ _ _ _ _ _ _ _ _ _ _ _ absent _ _ _ _ _ _ _ _ _ _ _ _ (Tick a) e = absent (sym e)
-unknown_word word _ _ _ _ _ _ _ _ _ _ _ _ _ absent _ _ _ _ _ _ _ _ _ _ _ (Run a b) e = absent (sym e)
-unknown_word word _ _ _ _ _ _ _ _ _ _ _ _ _ _ absent _ _ _ _ _ _ _ _ _ _ (Deliver a) e = absent (sym e)
-unknown_word word _ _ _ _ _ _ _ _ _ _ _ _ _ _ _ absent _ _ _ _ _ _ _ _ _ (Drop a) e = absent (sym e)
-unknown_word word _ _ _ _ _ _ _ _ _ _ _ _ _ _ _ _ absent _ _ _ _ _ _ _ _ Flow e = absent (sym e)
-unknown_word word _ _ _ _ _ _ _ _ _ _ _ _ _ _ _ _ _ absent _ _ _ _ _ _ _ (Inject a b c d) e = absent (sym e)
-unknown_word word _ _ _ _ _ _ _ _ _ _ _ _ _ _ _ _ _ _ absent _ _ _ _ _ _ (Show a) e = absent (sym e)
-unknown_word word _ _ _ _ _ _ _ _ _ _ _ _ _ _ _ _ _ _ _ absent _ _ _ _ _ (Hash a) e = absent (sym e)
-unknown_word word _ _ _ _ _ _ _ _ _ _ _ _ _ _ _ _ _ _ _ _ absent _ _ _ _ (Used a) e = absent (sym e)
-unknown_word word _ _ _ _ _ _ _ _ _ _ _ _ _ _ _ _ _ _ _ _ _ absent _ _ _ (Prefixes a) e = absent (sym e)
-unknown_word word _ _ _ _ _ _ _ _ _ _ _ _ _ _ _ _ _ _ _ _ _ _ absent _ _ (Elect a b c) e = absent (sym e)
-unknown_word word _ _ _ _ _ _ _ _ _ _ _ _ _ _ _ _ _ _ _ _ _ _ _ absent _ (Compare a b) e = absent (sym e)
-unknown_word word _ _ _ _ _ _ _ _ _ _ _ _ _ _ _ _ _ _ _ _ _ _ _ _ absent Mail e = absent (sym e)
+unknown_word word absent _ _ _ _ _ _ _ _ _ _ _ _ _ _ _ _ _ _ _ _ _ _ _ _ _ _ (Router a b) e = absent (sym e)
+unknown_word word _ absent _ _ _ _ _ _ _ _ _ _ _ _ _ _ _ _ _ _ _ _ _ _ _ _ _ (Link a) e = absent (sym e)
+unknown_word word _ _ absent _ _ _ _ _ _ _ _ _ _ _ _ _ _ _ _ _ _ _ _ _ _ _ _ (Attach a b c) e = absent (sym e)
+unknown_word word _ _ _ absent _ _ _ _ _ _ _ _ _ _ _ _ _ _ _ _ _ _ _ _ _ _ _ (Detach a b) e = absent (sym e)
+unknown_word word _ _ _ _ absent _ _ _ _ _ _ _ _ _ _ _ _ _ _ _ _ _ _ _ _ _ _ (External a b c d) e = absent (sym e)
+unknown_word word _ _ _ _ _ absent _ _ _ _ _ _ _ _ _ _ _ _ _ _ _ _ _ _ _ _ _ (Withdraw a b) e = absent (sym e)
+unknown_word word _ _ _ _ _ _ absent _ _ _ _ _ _ _ _ _ _ _ _ _ _ _ _ _ _ _ _ (Caps a b) e = absent (sym e)
+unknown_word word _ _ _ _ _ _ _ absent _ _ _ _ _ _ _ _ _ _ _ _ _ _ _ _ _ _ _ (Stop a) e = absent (sym e)
+unknown_word word _ _ _ _ _ _ _ _ absent _ _ _ _ _ _ _ _ _ _ _ _ _ _ _ _ _ _ (Start a) e = absent (sym e)
+unknown_word word _ _ _ _ _ _ _ _ _ absent _ _ _ _ _ _ _ _ _ _ _ _ _ _ _ _ _ (Seed a) e = absent (sym e)
+unknown_word word _ _ _ _ _ _ _ _ _ _ absent _ _ _ _ _ _ _ _ _ _ _ _ _ _ _ _ (Loss a) e = absent (sym e)
+unknown_word word _ _ _ _ _ _ _ _ _ _ _ absent _ _ _ _ _ _ _ _ _ _ _ _ _ _ _ (Time a) e = absent (sym e)
+unknown_word word _ _ _ _ _ _ _ _ _ _ _ _ absent _ _ _ _ _ _ _ _ _ _ _ _ _ _ (Tick a) e = absent (sym e)
+unknown_word word _ _ _ _ _ _ _ _ _ _ _ _ _ absent _ _ _ _ _ _ _ _ _ _ _ _ _ (Run a b) e = absent (sym e)
+unknown_word word _ _ _ _ _ _ _ _ _ _ _ _ _ _ absent _ _ _ _ _ _ _ _ _ _ _ _ (Deliver a) e = absent (sym e)
+unknown_word word _ _ _ _ _ _ _ _ _ _ _ _ _ _ _ absent _ _ _ _ _ _ _ _ _ _ _ (Drop a) e = absent (sym e)
+unknown_word word _ _ _ _ _ _ _ _ _ _ _ _ _ _ _ _ absent _ _ _ _ _ _ _ _ _ _ Flow e = absent (sym e)
+unknown_word word _ _ _ _ _ _ _ _ _ _ _ _ _ _ _ _ _ absent _ _ _ _ _ _ _ _ _ (Inject a b c d) e = absent (sym e)
+unknown_word word _ _ _ _ _ _ _ _ _ _ _ _ _ _ _ _ _ _ absent _ _ _ _ _ _ _ _ (Show a) e = absent (sym e)
+unknown_word word _ _ _ _ _ _ _ _ _ _ _ _ _ _ _ _ _ _ _ absent _ _ _ _ _ _ _ (Hash a) e = absent (sym e)
+unknown_word word _ _ _ _ _ _ _ _ _ _ _ _ _ _ _ _ _ _ _ _ absent _ _ _ _ _ _ (Used a) e = absent (sym e)
+unknown_word word _ _ _ _ _ _ _ _ _ _ _ _ _ _ _ _ _ _ _ _ _ absent _ _ _ _ _ (Prefixes a) e = absent (sym e)
+unknown_word word _ _ _ _ _ _ _ _ _ _ _ _ _ _ _ _ _ _ _ _ _ _ absent _ _ _ _ (Elect a b c) e = absent (sym e)
+unknown_word word _ _ _ _ _ _ _ _ _ _ _ _ _ _ _ _ _ _ _ _ _ _ _ absent _ _ _ (Advert a b) e = absent (sym e)
+unknown_word word _ _ _ _ _ _ _ _ _ _ _ _ _ _ _ _ _ _ _ _ _ _ _ _ absent _ _ (Audit a) e = absent (sym e)
+unknown_word word _ _ _ _ _ _ _ _ _ _ _ _ _ _ _ _ _ _ _ _ _ _ _ _ _ absent _ (Compare a b) e = absent (sym e)
+unknown_word word _ _ _ _ _ _ _ _ _ _ _ _ _ _ _ _ _ _ _ _ _ _ _ _ _ _ absent Mail e = absent (sym e)
 
 -- the first word of a line is of letters
 pub first_letters : (line : Line) → is_letters (spelling line).first ≡ true
@@ -446,5 +478,7 @@ first_letters (Hash a) = refl
 first_letters (Used a) = refl
 first_letters (Prefixes a) = refl
 first_letters (Elect a b c) = refl
+first_letters (Advert a b) = refl
+first_letters (Audit a) = refl
 first_letters (Compare a b) = refl
 first_letters Mail = refl

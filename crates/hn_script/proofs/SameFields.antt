@@ -14,9 +14,9 @@ use Rattle.hn_script.specs.Line.{spelling, Spells}
 use Rattle.hn_script.specs.declared.line.How.{How}
 use Rattle.hn_script.specs.declared.line.How.TheVariants.{Uni, Multi, Far}
 use Rattle.hn_script.specs.declared.line.Line.{Line}
-use Rattle.hn_script.specs.declared.line.Line.TheVariants.{Router, Link, Attach, Detach, External, Withdraw, Caps, Stop, Start, Seed, Loss, Time, Tick, Run, Deliver, Drop, Flow, Inject, Show, Hash, Used, Prefixes, Elect, Compare, Mail}
+use Rattle.hn_script.specs.declared.line.Line.TheVariants.{Router, Link, Attach, Detach, External, Withdraw, Caps, Stop, Start, Seed, Loss, Time, Tick, Run, Deliver, Drop, Flow, Inject, Show, Hash, Used, Prefixes, Elect, Advert, Audit, Compare, Mail}
 use Rattle.hn_script.proofs.Families.{Family, SameKind, without_range, same_text, same_text-refl}
-use Rattle.hn_script.proofs.LineWords.{router_lines, link_lines, attach_lines, detach_lines, external_lines, withdraw_lines, caps_lines, stop_lines, start_lines, seed_lines, loss_lines, time_lines, tick_lines, run_lines, deliver_lines, drop_lines, flow_lines, inject_lines, show_lines, hash_lines, used_lines, prefixes_lines, elect_lines, compare_lines, mail_lines}
+use Rattle.hn_script.proofs.LineWords.{router_lines, link_lines, attach_lines, detach_lines, external_lines, withdraw_lines, caps_lines, stop_lines, start_lines, seed_lines, loss_lines, time_lines, tick_lines, run_lines, deliver_lines, drop_lines, flow_lines, inject_lines, show_lines, hash_lines, used_lines, prefixes_lines, elect_lines, advert_lines, audit_lines, compare_lines, mail_lines}
 use Rattle.hn_script.proofs.PrefixWords.{WritesOnePrefix}
 use Rattle.hn_script.proofs.Values.{same_name}
 
@@ -117,5 +117,7 @@ same_line one (Hash a) = family_same (codes "hash") _ _ hash_lines one a
 same_line one (Used a) = family_same (codes "used") _ _ used_lines one a
 same_line one (Prefixes a) = family_same (codes "prefixes") _ _ prefixes_lines one a
 same_line one (Elect a b c) = family_same (codes "elect") _ _ elect_lines one (a, b, c)
+same_line one (Advert a b) = family_same (codes "advert") _ _ advert_lines one (a, b)
+same_line one (Audit a) = family_same (codes "audit") _ _ audit_lines one a
 same_line one (Compare a b) = family_same (codes "compare") _ _ compare_lines one (a, b)
 same_line one Mail = family_same (codes "mail") _ _ mail_lines one tt

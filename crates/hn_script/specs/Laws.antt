@@ -4,6 +4,7 @@ use Rattle.std.specs.List.{AllByRecursion}
 use Rattle.hn_script.specs.Field.{IsInRange}
 use Rattle.hn_script.specs.Line.{spelling, line_text}
 use Rattle.hn_script.specs.Script.{IsScript, IsFirstFault, most_bytes, script_text}
+use Rattle.hn_script.specs.Soak.{soak_text}
 use Rattle.hn_script.specs.declared.fault.ScriptFault.{ScriptFault}
 use Rattle.hn_script.specs.declared.line.Line.{Line}
 use Rattle.hn_script.specs.declared.line.Line.TheVariants.{Attach, Time, Run}
@@ -47,3 +48,7 @@ IsLimited _ = Unit {0}
 -- so it is in the lines of a script
 abbrev pub ScriptIsLimited : Type 0
 ScriptIsLimited = (script : Script) (bytes : List ℕ) → IsScript script bytes → AllByRecursion (λ line. IsLimited line.1) script.lines
+
+-- the text of each soak is a script
+abbrev pub SoakIsAScript : Type 0
+SoakIsAScript = (n seed : ℕ) → 2 ≤ n → n ≤ 32 → seed < 2 ^ 64 → (script : Script) × IsScript script (soak_text n seed)

@@ -5,4 +5,6 @@ pub mod Laws
 pub mod Line
 pub mod Reading
 pub mod Script
+pub mod Soak
+pub mod SoakLines
 pub mod Texts

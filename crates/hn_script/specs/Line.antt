@@ -4,7 +4,7 @@ use Rattle.std.specs.List.{AllZip, join_with_byte}
 use Rattle.hn_script.specs.Field.{Field, Named, Node, Endpoint, Number, Prefixed, Capability, Way, Hex, IsField, field_text}
 use Rattle.hn_script.specs.Texts.{space}
 use Rattle.hn_script.specs.declared.line.Line.{Line}
-use Rattle.hn_script.specs.declared.line.Line.TheVariants.{Router, Link, Attach, Detach, External, Withdraw, Caps, Stop, Start, Seed, Loss, Time, Tick, Run, Deliver, Drop, Flow, Inject, Show, Hash, Used, Prefixes, Elect, Compare, Mail}
+use Rattle.hn_script.specs.declared.line.Line.TheVariants.{Router, Link, Attach, Detach, External, Withdraw, Caps, Stop, Start, Seed, Loss, Time, Tick, Run, Deliver, Drop, Flow, Inject, Show, Hash, Used, Prefixes, Elect, Advert, Audit, Compare, Mail}
 
 -- a first word, and the values of the words after it
 pub record Spelling : Type 0 where
@@ -55,6 +55,8 @@ spelling (Hash name) = spelled (codes "hash") (Named name ∷ [])
 spelling (Used name) = spelled (codes "used") (Named name ∷ [])
 spelling (Prefixes name) = spelled (codes "prefixes") (Named name ∷ [])
 spelling (Elect name e letter) = spelled (codes "elect") (Named name ∷ Endpoint e ∷ Capability letter ∷ [])
+spelling (Advert name e) = spelled (codes "advert") (Named name ∷ Endpoint e ∷ [])
+spelling (Audit name) = spelled (codes "audit") (Named name ∷ [])
 spelling (Compare left right) = spelled (codes "compare") (Named left ∷ Named right ∷ [])
 spelling Mail = spelled (codes "mail") []
 

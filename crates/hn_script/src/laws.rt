@@ -1,6 +1,6 @@
 //! Laws: functions without work, whose clauses say what holds of the definitions.
 
-ghost use Rattle.hn_script.specs.Laws.{AtMostOneScript, AtMostOneFault, HasFaultOrScript, PrintedIsRead, ScriptIsLimited};
+ghost use Rattle.hn_script.specs.Laws.{AtMostOneScript, AtMostOneFault, HasFaultOrScript, PrintedIsRead, ScriptIsLimited, SoakIsAScript};
 
 use crate::script::first_fault;
 use hn_prefix::{read_form_is_of_one, written_form_is_read};
@@ -36,3 +36,10 @@ pub fn printed_is_read()
 pub fn script_is_limited()
     ensures { ScriptIsLimited }
 {}
+
+/// The text of each soak is a script.
+pub fn soak_is_a_script()
+    ensures { SoakIsAScript }
+{
+    printed_is_read();
+}

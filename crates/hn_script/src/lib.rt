@@ -15,6 +15,7 @@ mod line;
 mod reader;
 mod script;
 mod shapes;
+mod soak;
 #[cfg(test)]
 mod tests;
 mod texts;
@@ -24,7 +25,9 @@ mod words;
 pub use fault::{ParseFault, ScriptFault};
 pub use laws::{
     fault_is_unique, fault_or_script, printed_is_read, script_is_limited, script_is_unique,
+    soak_is_a_script,
 };
 pub use line::{How, Line, letter_text};
 pub use script::{Script, first_fault, parse, print};
+pub use soak::soak_script;
 pub use version::Version;

@@ -95,6 +95,10 @@ pub enum Line {
     Prefixes(Name),
     /// Who is elected for the capability on the link of the router's endpoint, from 1 on, is shown.
     Elect(Name, EpId, Letter),
+    /// The Router Advertisement on the router's endpoint, from 1 on, is shown.
+    Advert(Name, EpId),
+    /// Whether the router is settled, quiet and sound is shown.
+    Audit(Name),
     /// What the two routers have arrived at is compared.
     Compare(Name, Name),
     /// How many copies were made and wait is shown.
@@ -145,6 +149,8 @@ impl fmt::Display for Line {
                 let letter = letter_text(*letter);
                 write!(f, "elect {name} {e} {letter}")
             }
+            Line::Advert(name, EpId(e)) => write!(f, "advert {name} {e}"),
+            Line::Audit(name) => write!(f, "audit {name}"),
             Line::Compare(left, right) => write!(f, "compare {left} {right}"),
             Line::Mail => write!(f, "mail"),
         }

@@ -76,6 +76,11 @@ fn read_line(word: &str, rest: &[u8]) -> Result<Line, u8>
             let (name, endpoint, letter) = candidacy(rest)?;
             Ok(Line::Elect(name, endpoint, letter))
         }
+        "advert" => {
+            let (name, endpoint) = name_and_endpoint(rest)?;
+            Ok(Line::Advert(name, endpoint))
+        }
+        "audit" => Ok(Line::Audit(one_name(rest)?)),
         "compare" => {
             let (left, right) = two_names(rest)?;
             Ok(Line::Compare(left, right))

@@ -1,4 +1,4 @@
-use crate::{ParseFault, ScriptFault, first_fault, parse, print};
+use crate::{ParseFault, ScriptFault, first_fault, parse, print, soak_script};
 use hn_base::Bytes;
 use std::alloc::{AllocError, Global};
 use std::test::Fail;
@@ -83,6 +83,9 @@ fn reads_each_word(rt: HostRuntime) -> Result<(), Fail> {
         ("elect A 1 P", "elect A 1 P"),
         ("elect A 4294967295 H", "elect A 4294967295 H"),
         ("elect A 001 L", "elect A 1 L"),
+        ("advert A 1", "advert A 1"),
+        ("advert A 04294967295", "advert A 4294967295"),
+        ("audit A", "audit A"),
         ("compare A B", "compare A B"),
         ("mail", "mail"),
         ("   show   A   ", "show A"),
@@ -96,6 +99,20 @@ fn reads_each_word(rt: HostRuntime) -> Result<(), Fail> {
     Ok(())
 }
 
+/// A home of two routers with an uplink, as it is printed.
+const HOME_OF_TWO: &str = "hncp 1\n\
+    router A 00000001\n\
+    router B 00000002\n\
+    link L\n\
+    attach A 1 L\n\
+    attach B 1 L\n\
+    external A 2001:db8::/56 7200 3600\n\
+    run 20000 100\n\
+    audit A\n\
+    show A\n\
+    prefixes A\n\
+    prefixes B\n";
+
 #[test]
 fn numbers_lines(rt: HostRuntime) -> Result<(), Fail> {
     let text = b"hncp 1\n\nflow\n# a comment\n   \nmail\n  # another\nshow A";
@@ -108,6 +125,8 @@ fn numbers_lines(rt: HostRuntime) -> Result<(), Fail> {
     let printed = print(rt.alloc(), &script)?;
     assert!(rt; printed.as_slice() == b"hncp 1\nflow\nmail\nshow A\n".as_slice());
     assert!(rt; reprinted(rt.alloc(), b"hncp 1")?.as_slice() == b"hncp 1\n".as_slice());
+    let home = reprinted(rt.alloc(), HOME_OF_TWO.as_bytes())?;
+    assert!(rt; home.as_slice() == HOME_OF_TWO.as_bytes());
     let fault = first_fault(b"hncp 1\n# a comment\n\nfly").ok_or("a fault")?;
     let text = fault.to_string(rt.alloc())?;
     assert_eq!(rt; text.as_str(), "line 4 has a fault of code 2");
@@ -132,8 +151,6 @@ fn refuses(rt: HostRuntime) {
         ("hncp 1\nfly\n", 2, 2),
         ("hncp 1\nFlow\n", 2, 2),
         ("hncp 1\nflow#\n", 2, 2),
-        ("hncp 1\naudit A\n", 2, 2),
-        ("hncp 1\nadvert A 1\n", 2, 2),
         ("hncp 1\nsync A B\n", 2, 2),
         ("hncp 1\nhncp 1\n", 2, 2),
         // Too few and too many words.
@@ -153,13 +170,17 @@ fn refuses(rt: HostRuntime) {
         ("hncp 1\nwithdraw A\n", 2, 3),
         ("hncp 1\nused\n", 2, 3),
         ("hncp 1\nprefixes A B\n", 2, 3),
+        ("hncp 1\naudit\n", 2, 3),
         ("hncp 1\nelect A 1\n", 2, 3),
         ("hncp 1\nexternal A ::/0 1 1 1\n", 2, 3),
         ("hncp 1\nexternal A ::/129 1\n", 2, 3),
         ("hncp 1\nwithdraw A ::/0 1\n", 2, 3),
         ("hncp 1\nused A B\n", 2, 3),
+        ("hncp 1\naudit A B\n", 2, 3),
         ("hncp 1\nprefixes\n", 2, 3),
         ("hncp 1\nelect A 1 M P\n", 2, 3),
+        ("hncp 1\nadvert A\n", 2, 3),
+        ("hncp 1\nadvert A 1 1\n", 2, 3),
         // Malformed words, and numbers out of range.
         ("hncp 1\nlink 1l\n", 2, 4),
         ("hncp 1\nlink abcdefghijklmnopq\n", 2, 4),
@@ -194,6 +215,9 @@ fn refuses(rt: HostRuntime) {
         ("hncp 1\nelect A 1 X\n", 2, 4),
         ("hncp 1\nelect A 1 m\n", 2, 4),
         ("hncp 1\nelect A 1 MP\n", 2, 4),
+        ("hncp 1\nadvert A 0\n", 2, 4),
+        ("hncp 1\nadvert A 4294967296\n", 2, 4),
+        ("hncp 1\nadvert 1 A\n", 2, 4),
         ("hncp 1\nloss 101\n", 2, 4),
         ("hncp 1\ntime 281474976710657\n", 2, 4),
         ("hncp 1\nrun 0 0\n", 2, 4),
@@ -263,5 +287,53 @@ fn measures_scripts(rt: HostRuntime) -> Result<(), Fail> {
     let bytes = filled(rt.alloc(), "hncp 2\t", MOST_BYTES + 1, b'\n')?;
     let large = ScriptFault { line: 0, code: 15 };
     assert_eq!(rt; first_fault(bytes.as_slice()), Some(large));
+    Ok(())
+}
+
+/// The script of a soak of six routers with the seed 1.
+const SOAK_OF_SIX: &str = "hncp 1\n\
+    seed 1\n\
+    loss 10\n\
+    link l1\n\
+    link l2\n\
+    link l3\n\
+    link l4\n\
+    link l5\n\
+    link l6\n\
+    router r1 00000001\n\
+    attach r1 2 l1\n\
+    router r2 00000002\n\
+    attach r2 1 l1\n\
+    attach r2 2 l2\n\
+    router r3 00000003\n\
+    attach r3 1 l1\n\
+    attach r3 2 l3\n\
+    router r4 00000004\n\
+    attach r4 1 l2\n\
+    attach r4 2 l4\n\
+    router r5 00000005\n\
+    attach r5 1 l2\n\
+    attach r5 2 l5\n\
+    router r6 00000006\n\
+    attach r6 1 l3\n\
+    attach r6 2 l6\n\
+    external r1 2001:db8::/56 7200 3600\n\
+    run 60000 100\n\
+    compare r1 r6\n\
+    audit r1\n\
+    used r1\n\
+    prefixes r1\n\
+    prefixes r6\n\
+    mail\n\
+    show r1\n\
+    show r6\n";
+
+#[test]
+fn writes_a_soak(rt: HostRuntime) -> Result<(), Fail> {
+    let script = soak_script(rt.alloc(), 6, 1)?;
+    let printed = print(rt.alloc(), &script)?;
+    assert!(rt; printed.as_slice() == SOAK_OF_SIX.as_bytes());
+    let first = script.lines.as_slice().first().map(|line| line.0);
+    assert_eq!(rt; first, Some(2));
     Ok(())
 }

@@ -2,7 +2,7 @@
 use Rattle.std.proofs.Common.{codes, inl, refl}
 use Rattle.std.proofs.lemmas.Result.{err_from_is_err_and}
 use Rattle.hn_script.proofs.Families.{family_fault}
-use Rattle.hn_script.proofs.LineWords.{unknown_word, router_lines, link_lines, attach_lines, detach_lines, external_lines, withdraw_lines, caps_lines, stop_lines, start_lines, seed_lines, loss_lines, time_lines, tick_lines, run_lines, deliver_lines, drop_lines, flow_lines, show_lines, hash_lines, used_lines, prefixes_lines, elect_lines, compare_lines, mail_lines}
+use Rattle.hn_script.proofs.LineWords.{unknown_word, router_lines, link_lines, attach_lines, detach_lines, external_lines, withdraw_lines, caps_lines, stop_lines, start_lines, seed_lines, loss_lines, time_lines, tick_lines, run_lines, deliver_lines, drop_lines, flow_lines, show_lines, hash_lines, used_lines, prefixes_lines, elect_lines, advert_lines, audit_lines, compare_lines, mail_lines}
 use Rattle.hn_script.proofs.reader.read_line.Goals as goal
 
 pub returns-in_err-name-in-router : goal.returns-in_err-name-in-router
@@ -115,6 +115,16 @@ returns-in_err-name-in-elect c =
     let exit = err_from_is_err_and c.from_residual-in_err-name-in-elect.result c.from_residual-in_err-name-in-elect.ensures.1 in
     rw (exit.1, exit.2, c.in-elect.is) (family_fault (codes "elect") _ _ elect_lines _ _ c.in_err-name-in-elect.ensures)
 
+pub returns-in_err-name-in-advert : goal.returns-in_err-name-in-advert
+returns-in_err-name-in-advert c =
+    let exit = err_from_is_err_and c.from_residual-in_err-name-in-advert.result c.from_residual-in_err-name-in-advert.ensures.1 in
+    rw (exit.1, exit.2, c.in-advert.is) (family_fault (codes "advert") _ _ advert_lines _ _ c.in_err-name-in-advert.ensures)
+
+pub returns-in_err-one_name-in-audit : goal.returns-in_err-one_name-in-audit
+returns-in_err-one_name-in-audit c =
+    let exit = err_from_is_err_and c.from_residual-in_err-one_name-in-audit.result c.from_residual-in_err-one_name-in-audit.ensures.1 in
+    rw (exit.1, exit.2, c.in-audit.is) (family_fault (codes "audit") _ _ audit_lines _ _ c.in_err-one_name-in-audit.ensures)
+
 pub returns-in_err-left-in-compare : goal.returns-in_err-left-in-compare
 returns-in_err-left-in-compare c =
     let exit = err_from_is_err_and c.from_residual-in_err-left-in-compare.result c.from_residual-in_err-left-in-compare.ensures.1 in
@@ -127,4 +137,4 @@ returns-in_err-nothing-in-mail c =
 
 pub returns-in_default : goal.returns-in_default
 returns-in_default c =
-    inl (unknown_word c.args.word.now c.in_default.not-router c.in_default.not-link c.in_default.not-attach c.in_default.not-detach c.in_default.not-external c.in_default.not-withdraw c.in_default.not-caps c.in_default.not-stop c.in_default.not-start c.in_default.not-seed c.in_default.not-loss c.in_default.not-time c.in_default.not-tick c.in_default.not-run c.in_default.not-deliver c.in_default.not-drop c.in_default.not-flow c.requires c.in_default.not-show c.in_default.not-hash c.in_default.not-used c.in_default.not-prefixes c.in_default.not-elect c.in_default.not-compare c.in_default.not-mail, refl)
+    inl (unknown_word c.args.word.now c.in_default.not-router c.in_default.not-link c.in_default.not-attach c.in_default.not-detach c.in_default.not-external c.in_default.not-withdraw c.in_default.not-caps c.in_default.not-stop c.in_default.not-start c.in_default.not-seed c.in_default.not-loss c.in_default.not-time c.in_default.not-tick c.in_default.not-run c.in_default.not-deliver c.in_default.not-drop c.in_default.not-flow c.requires c.in_default.not-show c.in_default.not-hash c.in_default.not-used c.in_default.not-prefixes c.in_default.not-elect c.in_default.not-advert c.in_default.not-audit c.in_default.not-compare c.in_default.not-mail, refl)

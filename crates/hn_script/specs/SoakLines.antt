@@ -1,0 +1,17 @@
+-- Lines that are made for the script of a soak, and their texts.
+use Rattle.std.specs.Prelude.{◌≡◌, ℕ, List, ◌++◌}
+use Rattle.std.specs.List.{AllZip}
+use Rattle.hn_script.specs.Laws.{IsPrintable}
+use Rattle.hn_script.specs.Line.{line_text}
+use Rattle.hn_script.specs.declared.line.Line.{Line}
+
+-- the line can be printed, as this text
+pub record IsLineOf (line : Line) (text : List ℕ) : Type 0 where
+  pub printable : IsPrintable line
+  pub text_is : line_text line ≡ text
+
+-- lines of these texts are added
+pub record Adds (texts : List (List ℕ)) (before after : List Line) : Type 0 where
+  pub more : List Line
+  pub added : after ≡ before ++ more
+  pub lines : AllZip IsLineOf more texts

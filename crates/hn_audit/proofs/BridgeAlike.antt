@@ -1,0 +1,91 @@
+-- The routers of a settled set are sound alike.
+use Rattle.std.proofs.Common.{◌≡◌, ◌↔◌, ℕ, List, Contains, inl, inr, sym, subst}
+use Rattle.hn_base.specs.declared.ids.NodeId.{NodeId}
+use Rattle.hn_base.specs.declared.ids.EpId.{EpId}
+use Rattle.hn_prefix.specs.Prefix.{PlainPrefix}
+use Rattle.hn_data.specs.View.{PlainView}
+use Rattle.hn_deleg.specs.declared.delegated.Delegated.{Delegated}
+use Rattle.hn_deleg.specs.Used.{AreUsable, prefixes_of}
+use Rattle.hn_rules.specs.Seen.{seen_by}
+use Rattle.hn_world.specs.declared.member.Member.{Member}
+use Rattle.hn_world.specs.declared.parts.Parts.{Parts}
+use Rattle.hn_audit.specs.Reached.{IsReached}
+use Rattle.hn_audit.specs.Settled.{UseSame}
+use Rattle.hn_audit.specs.Sound.{Uses, IsThere, IsServed, IsWithout, IsHeldOn, IsSound}
+use Rattle.hn_audit.proofs.BridgeSets.{IsKnown, itself, reach_is}
+
+-- where one router uses what the other uses, it uses each prefix that the other uses
+uses_too : (unique : (view : PlainView) (a b : List Delegated) → AreUsable view a → AreUsable view b → a ≡ b) (r s : Member) (d : PlainPrefix)
+    → UseSame r.router s.router → Uses r.router d → Uses s.router d
+uses_too unique r s d same uses =
+    let one = subst (λ (list : List Delegated). Contains (prefixes_of list) d) (unique (seen_by r.router) uses.usable same.one uses.are_usable same.is_one) uses.there in
+    record { usable = same.other; are_usable = same.is_other; there = subst (λ (ps : List PlainPrefix). Contains ps d) same.same.prefixes one }
+
+-- of two routers that reach the same and use the same
+module _ (w : Parts) (r s : Member) (reach : s.router.reach ≡ r.router.reach)
+    (uses_to : (d : PlainPrefix) → Uses r.router d → Uses s.router d) (uses_from : (d : PlainPrefix) → Uses s.router d → Uses r.router d) where
+  reached_from : (m : Member) → IsReached w s m → IsReached w r m
+  reached_from m h = record { runs = h.runs; reached = subst (λ (ids : List NodeId). Contains ids m.router.id) reach h.reached }
+
+  reached_to : (m : Member) → IsReached w r m → IsReached w s m
+  reached_to m h = record { runs = h.runs; reached = subst (λ (ids : List NodeId). Contains ids m.router.id) (sym reach) h.reached }
+
+  there_from : (link : ℕ) (m : Member) (e : EpId) → IsThere w s link m e → IsThere w r link m e
+  there_from link m e h =
+      let set = h.of_set in
+      record { runs = h.runs; attached = h.attached; on_link = h.on_link; of_set = record { router = set.router; reached = reached_from set.router set.reached; endpoint = set.endpoint; on_link = set.on_link } }
+
+  there_to : (link : ℕ) (m : Member) (e : EpId) → IsThere w r link m e → IsThere w s link m e
+  there_to link m e h =
+      let set = h.of_set in
+      record { runs = h.runs; attached = h.attached; on_link = h.on_link; of_set = record { router = set.router; reached = reached_to set.router set.reached; endpoint = set.endpoint; on_link = set.on_link } }
+
+  served_to : (link : ℕ) (d : PlainPrefix) → IsServed w r link d → IsServed w s link d
+  served_to link d is = record {
+    every = λ m e there. is.every m e (there_from link m e there);
+    prefix = is.prefix;
+    one_prefix = λ m e c there has. is.one_prefix m e c (there_from link m e there) has;
+    publisher = is.publisher;
+    endpoint = is.endpoint;
+    there = there_to link is.publisher is.endpoint is.there;
+    assignment = is.assignment;
+    has = is.has;
+    published = is.published;
+    no_other = λ m e c there has some. is.no_other m e c (there_from link m e there) has some;
+  }
+
+  without_to : (link : ℕ) (d : PlainPrefix) → IsWithout w r link d → IsWithout w s link d
+  without_to link d is = record {
+    none = λ m e c there has. is.none m e c (there_from link m e there) has;
+    no_use = λ m e there. is.no_use m e (there_from link m e there);
+  }
+
+  held_from : (link : ℕ) (p : PlainPrefix) → IsHeldOn w s link p → IsHeldOn w r link p
+  held_from link p is = record {
+    router = is.router;
+    assignment = is.assignment;
+    there = there_from link is.router is.assignment.endpoint is.there;
+    held = is.held;
+    prefix = is.prefix;
+  }
+
+  sound_too : IsSound w r → IsSound w s
+  sound_too is = record {
+    inside = λ m c m_in held. let both = is.inside m c (reached_from m m_in) held in (uses_to c.delegated both.0, both.1);
+    each_link = λ link m e d there uses. elim (is.each_link link m e d (there_from link m e there) (uses_from d uses)) [
+      | inl served ↦ inl (served_to link d served)
+      | inr without ↦ inr (without_to link d without)
+    ];
+    links_apart = λ link other p q one two differ. is.links_apart link other p q (held_from link p one) (held_from other q two) differ;
+    one_elected = λ letter link m u e f one other. is.one_elected letter link m u e f (there_from link m e one) (there_from link u f other);
+  }
+
+pub sound_alike : (unique : (view : PlainView) (a b : List Delegated) → AreUsable view a → AreUsable view b → a ≡ b) (w : Parts) (r : Member) → IsKnown w r
+    → IsSound w r ↔ ((s : Member) → IsReached w r s → IsSound w s)
+sound_alike unique w r known = (
+  λ is s s_in.
+      let r_in = itself w r known in
+      sound_too w r s (reach_is w r known s s_in) (λ d. uses_too unique r s d (known.settled.used r s r_in s_in))
+      (λ d. uses_too unique s r d (known.settled.used s r s_in r_in)) is,
+  λ all. all r (itself w r known),
+)

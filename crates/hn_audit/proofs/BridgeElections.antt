@@ -1,0 +1,262 @@
+-- On one link the routers of a settled set elect the same.
+use Rattle.std.proofs.Common.{◌≡◌, ◌∙◌, ◌↔◌, ◌<◌, ◌==◌, ◌&&◌, nat_lt, ℕ, Bool, List, Option, Some, None, Contains, filter, inl, inr, refl, sym, ap, subst}
+use Rattle.std.specs.Cmp.{IsTotalOrder}
+use Rattle.std.specs.List.{list_any}
+use Rattle.std.specs.Option.{MatchOption}
+use Rattle.std.specs.Ordering.{on, nat_cmp}
+use Rattle.std.specs.declared.cmp.Ordering.{Ordering}
+use Rattle.std.specs.declared.cmp.Ordering.TheVariants.{Less}
+use Rattle.std.proofs.lemmas.Bool.{and_from, and_parts, eqb-true, eq-eqb, lt-ltb, ltb-true}
+use Rattle.std.proofs.lemmas.Cmp.{on_total, then_total, nat_cmp_total}
+use Rattle.std.proofs.lemmas.Option.{same_Some}
+use Rattle.hn_base.proofs.AscendingLists.{exact_nat, exact_then}
+use Rattle.hn_base.proofs.Keys.{same_node}
+use Rattle.hn_base.specs.Ascending.{IsExact}
+use Rattle.hn_base.specs.Caps.{PlainCaps, plain_caps}
+use Rattle.hn_base.specs.declared.ids.NodeId.{NodeId}
+use Rattle.hn_base.specs.declared.ids.EpId.{EpId}
+use Rattle.hn_base.specs.declared.letter.Letter.{Letter}
+use Rattle.hn_typed.specs.Item.{PlainItem}
+use Rattle.hn_data.specs.Items.{AreItems, Reads}
+use Rattle.hn_data.specs.Said.{version_of}
+use Rattle.hn_deleg.specs.declared.delegated.Delegated.{Delegated}
+use Rattle.hn_link.specs.CommonLink.{IsCommonLink, IsOnCommonLink, endpoint_cmp}
+use Rattle.hn_link.specs.Election.{IsServing, IsCandidate, IsElected, HasNoCandidate, priority_of, rank_of, rank_cmp}
+use Rattle.hn_rules.specs.Seen.{seen_by}
+use Rattle.hn_sound.specs.Home.{Home, Endpoint, common_link}
+use Rattle.hn_sound.specs.Members.{IsOnLinkOf}
+use Rattle.hn_world.specs.declared.member.Member.{Member}
+use Rattle.hn_world.specs.declared.parts.Parts.{Parts}
+use Rattle.hn_audit.specs.Reached.{IsReached}
+use Rattle.hn_audit.specs.Sound.{IsThere, ElectSame}
+use Rattle.hn_base.proofs.Elements.{in_filter, from_filter}
+use Rattle.hn_audit.proofs.BridgeLists.{any_of, any_from}
+use Rattle.hn_audit.proofs.BridgeOrders.{ascending_of, greatest_of}
+use Rattle.hn_audit.proofs.BridgeSets.{router_of, in_view, of_view}
+use Rattle.hn_audit.proofs.BridgeHomes.{home_of, set_of, in_set, of_set, IsEndOf}
+use Rattle.hn_audit.proofs.BridgePremises.{IsCase}
+use Rattle.hn_audit.proofs.BridgeSeen.{common_is_link}
+use Rattle.hn_audit.proofs.BridgeSounds.{end_on, reached_there, plugged_there}
+
+-- ---- orders
+
+endpoint_total : IsTotalOrder endpoint_cmp
+endpoint_total = then_total (on_total (λ (at : NodeId × EpId). at.0.0) nat_cmp_total) (on_total (λ (at : NodeId × EpId). at.1.0) nat_cmp_total)
+
+endpoint_exact : IsExact endpoint_cmp
+endpoint_exact =
+    exact_then {K = NodeId × EpId} (λ at. at.0.0) (λ at. at.1.0) nat_cmp nat_cmp exact_nat exact_nat
+    (λ x y node id. λ i. (record { 0 = node i }, record { 0 = id i }))
+
+rank_total : IsTotalOrder rank_cmp
+rank_total = then_total (on_total (λ x. x.priority) nat_cmp_total) (then_total (on_total (λ x. x.combined) nat_cmp_total) (on_total (λ x. x.node.0) nat_cmp_total))
+
+-- the capabilities of a router
+abbrev caps_of : Member → PlainCaps
+caps_of m = plain_caps m.router.own.items.caps
+
+-- routers in the order of their ranks
+abbrev member_cmp : Letter → Member → Member → Ordering
+member_cmp letter m n = rank_cmp (rank_of letter (caps_of m) m.router.id) (rank_of letter (caps_of n) n.router.id)
+
+member_total : (letter : Letter) → IsTotalOrder (member_cmp letter)
+member_total letter = on_total (λ (m : Member). rank_of letter (caps_of m) m.router.id) rank_total
+
+-- whether it stands for election on a Common Link
+abbrev is_at : Member → NodeId × EpId → Bool
+is_at m at = at.0.0 == m.router.id.0
+
+abbrev stands : Letter → List (NodeId × EpId) → Member → Bool
+stands letter common m = list_any (is_at m) common && nat_lt 0 (priority_of letter (caps_of m))
+
+module _ (w : Parts) (r : Member) (usable : List Delegated) (case : IsCase w r usable)
+    (one_items : (bytes : List ℕ) (a b : List PlainItem) → AreItems bytes a → AreItems bytes b → a ≡ b)
+    (links_exact : (h : Home) (e : Endpoint) (node : NodeId) (id : EpId) → Contains (common_link h e) (node, id) ↔ IsOnLinkOf h e node id) where
+  an_end : (link : ℕ) (s : Member) (e : EpId) → IsThere w r link s e → IsEndOf w r s (end_on s e link)
+  an_end link s e there = record { reached = reached_there w r case.known link s e there; of_node = refl; on_link = plugged_there w r case.known link s e there }
+
+  -- ---- the Common Link
+
+  -- an endpoint has a Common Link
+  has_common : (link : ℕ) (s : Member) (e : EpId) → IsThere w r link s e → (common : List (NodeId × EpId)) × IsCommonLink (seen_by s.router) e.0 common
+  has_common link s e there =
+      let x = end_on s e link in
+      let sorted = ascending_of endpoint_cmp endpoint_total endpoint_exact (common_link (home_of w r usable) x) in (
+        sorted.0,
+        record {
+          ascending = sorted.1;
+          exact = λ at.
+              let known = common_is_link w r usable case s (reached_there w r case.known link s e there) x (an_end link s e there) at.0 at.1 in (
+                λ h. known.1 ((links_exact (home_of w r usable) x at.0 at.1).0 ((sorted.2 at).0 h)),
+                λ h. (sorted.2 at).1 ((links_exact (home_of w r usable) x at.0 at.1).1 (known.0 h)),
+              );
+        },
+      )
+
+  -- that of each other endpoint on the link
+  on_both : (link : ℕ) (s u : Member) (e f : EpId) → IsThere w r link s e → IsThere w r link u f → (at : NodeId × EpId)
+      → IsOnCommonLink (seen_by s.router) e.0 at → IsOnCommonLink (seen_by u.router) f.0 at
+  on_both link s u e f one other at on =
+      let here : IsOnLinkOf (home_of w r usable) (end_on s e link) at.0 at.1 = (common_is_link w r usable case s (reached_there w r case.known link s e one) (end_on s e link) (an_end link s e one) at.0 at.1).0 on in
+      let there : IsOnLinkOf (home_of w r usable) (end_on u f link) at.0 at.1 =
+      record { endpoint = here.endpoint; there = here.there; on_link = here.on_link; of_node = here.of_node; of_id = here.of_id } in
+      (common_is_link w r usable case u (reached_there w r case.known link u f other) (end_on u f link) (an_end link u f other) at.0 at.1).1 there
+
+  common_too : (link : ℕ) (s u : Member) (e f : EpId) (common : List (NodeId × EpId)) → IsThere w r link s e → IsThere w r link u f
+      → IsCommonLink (seen_by s.router) e.0 common → IsCommonLink (seen_by u.router) f.0 common
+  common_too link s u e f common one other is = record {
+    ascending = is.ascending;
+    exact = λ at. (λ h. on_both link s u e f one other at ((is.exact at).0 h), λ h. (is.exact at).1 (on_both link u s f e other one at h));
+  }
+
+  -- ---- who stands for election
+
+  serving_too : (s u : Member) (letter : Letter) (id : NodeId) (caps : PlainCaps) → IsReached w r s → IsReached w r u
+      → IsServing (seen_by s.router) letter id caps → IsServing (seen_by u.router) letter id caps
+  serving_too s u letter id caps s_in u_in serves =
+      let who = of_view w r case.known s serves.node s_in serves.there in
+      let n = in_view w r case.known u who.0 u_in who.1 in
+      let body : serves.node.body ≡ n.0.body = who.2.body ∙ sym n.2.body in
+      record {
+        node = n.0;
+        there = n.1;
+        is_it = n.2.id ∙ (sym who.2.id ∙ serves.is_it);
+        version = subst (λ (bytes : List ℕ). Reads bytes (λ items. version_of items ≡ Some caps)) body serves.version;
+        offers = serves.offers;
+      }
+
+  candidate_too : (s u : Member) (common : List (NodeId × EpId)) (letter : Letter) (id : NodeId) (caps : PlainCaps) → IsReached w r s → IsReached w r u
+      → IsCandidate (seen_by s.router) common letter id caps → IsCandidate (seen_by u.router) common letter id caps
+  candidate_too s u common letter id caps s_in u_in candidate =
+      record { endpoint = candidate.endpoint; on_link = candidate.on_link; serves = serving_too s u letter id caps s_in u_in candidate.serves }
+
+  -- how an election comes out
+  abbrev Elects : Member → List (NodeId × EpId) → Letter → Option NodeId → Type 0
+  Elects s common letter who = MatchOption who (HasNoCandidate (seen_by s.router) common letter) (IsElected (seen_by s.router) common letter)
+
+  elects_too : (s u : Member) (common : List (NodeId × EpId)) (letter : Letter) (who : Option NodeId) → IsReached w r s → IsReached w r u
+      → Elects s common letter who → Elects u common letter who
+  elects_too s u common letter None s_in u_in none = λ id caps candidate. none id caps (candidate_too u s common letter id caps u_in s_in candidate)
+  elects_too s u common letter (Some id) s_in u_in is = record {
+    caps = is.caps;
+    candidate = candidate_too s u common letter id is.caps s_in u_in is.candidate;
+    greatest = λ other others candidate. is.greatest other others (candidate_too u s common letter other others u_in s_in candidate);
+  }
+
+  -- ---- and that it comes out
+
+  -- a router of the set that stands
+  record IsStanding (common : List (NodeId × EpId)) (letter : Letter) (m : Member) : Type 0 where
+    reached : IsReached w r m
+    endpoint : EpId
+    on_link : Contains common (m.router.id, endpoint)
+    offers : 0 < priority_of letter (caps_of m)
+
+  standing_list : List (NodeId × EpId) → Letter → List Member
+  standing_list common letter = filter (stands letter common) (set_of w r)
+
+  from_standing : (common : List (NodeId × EpId)) (letter : Letter) (m : Member) → Contains (standing_list common letter) m → IsStanding common letter m
+  unfolding standing_list
+  from_standing common letter m there =
+      let from = from_filter (stands letter common) (set_of w r) m there in
+      let parts = and_parts (list_any (is_at m) common) (nat_lt 0 (priority_of letter (caps_of m))) from.1 in
+      let at = any_of (is_at m) common parts.0 in
+      let node : at.0.0 ≡ m.router.id = same_node at.0.0 m.router.id (eqb-true at.0.0.0 m.router.id.0 at.2) in
+      record {
+        reached = of_set w r case.known m from.0;
+        endpoint = at.0.1;
+        on_link = subst (λ (id : NodeId). Contains common (id, at.0.1)) node at.1;
+        offers = ltb-true 0 (priority_of letter (caps_of m)) parts.1;
+      }
+
+  to_standing : (common : List (NodeId × EpId)) (letter : Letter) (m : Member) → IsStanding common letter m → Contains (standing_list common letter) m
+  unfolding standing_list
+  to_standing common letter m is =
+      in_filter (stands letter common) (set_of w r) m (in_set w r case.known m is.reached)
+      (and_from (list_any (is_at m) common) (nat_lt 0 (priority_of letter (caps_of m)))
+      (any_from (is_at m) common (m.router.id, is.endpoint) is.on_link (eq-eqb m.router.id.0 m.router.id.0 refl))
+      (lt-ltb 0 (priority_of letter (caps_of m)) is.offers))
+
+  -- it is a candidate
+  to_candidate : (s : Member) (common : List (NodeId × EpId)) (letter : Letter) (m : Member) → IsReached w r s → IsStanding common letter m
+      → IsCandidate (seen_by s.router) common letter m.router.id (caps_of m)
+  to_candidate s common letter m s_in is =
+      let n = in_view w r case.known s m s_in is.reached in
+      record {
+        endpoint = is.endpoint;
+        on_link = is.on_link;
+        serves = record {
+          node = n.0;
+          there = n.1;
+          is_it = n.2.id;
+          version = subst (λ (bytes : List ℕ). Reads bytes (λ items. version_of items ≡ Some (caps_of m))) (sym n.2.body) (case.versions m.router (router_of w r case.known m is.reached));
+          offers = is.offers;
+        };
+      }
+
+  -- and each candidate is one
+  record IsCandidateOf (common : List (NodeId × EpId)) (letter : Letter) (id : NodeId) (caps : PlainCaps) (m : Member) : Type 0 where
+    standing : IsStanding common letter m
+    of_node : m.router.id ≡ id
+    has_caps : caps_of m ≡ caps
+
+  of_candidate : (s : Member) (common : List (NodeId × EpId)) (letter : Letter) (id : NodeId) (caps : PlainCaps) → IsReached w r s
+      → IsCandidate (seen_by s.router) common letter id caps → (m : Member) × IsCandidateOf common letter id caps m
+  of_candidate s common letter id caps s_in candidate =
+      let serves = candidate.serves in
+      let who = of_view w r case.known s serves.node s_in serves.there in
+      let node : who.0.router.id ≡ id = sym who.2.id ∙ serves.is_it in
+      let own = case.versions who.0.router (router_of w r case.known who.0 who.1) in
+      let says : Reads who.0.router.own.body (λ items. version_of items ≡ Some caps) = subst (λ (bytes : List ℕ). Reads bytes (λ items. version_of items ≡ Some caps)) who.2.body serves.version in
+      let items : own.0 ≡ says.0 = one_items who.0.router.own.body own.0 says.0 own.1 says.1 in
+      let same : caps_of who.0 ≡ caps = same_Some (caps_of who.0) caps (sym own.2 ∙ (ap version_of items ∙ says.2)) in (
+        who.0,
+        record {
+          standing = record {
+            reached = who.1;
+            endpoint = candidate.endpoint;
+            on_link = subst (λ (n : NodeId). Contains common (n, candidate.endpoint)) (sym node) candidate.on_link;
+            offers = subst (λ (c : PlainCaps). 0 < priority_of letter c) (sym same) serves.offers;
+          };
+          of_node = node;
+          has_caps = same;
+        },
+      )
+
+  comes_out : (s : Member) (common : List (NodeId × EpId)) (letter : Letter) → IsReached w r s → (who : Option NodeId) × Elects s common letter who
+  comes_out s common letter s_in =
+      elim (greatest_of (member_cmp letter) (member_total letter) (standing_list common letter)) [
+        | inl found ↦ (
+          Some found.0.router.id,
+          record {
+            caps = caps_of found.0;
+            candidate = to_candidate s common letter found.0 s_in (from_standing common letter found.0 found.1.there);
+            greatest = λ other others candidate above.
+                let m = of_candidate s common letter other others s_in candidate in
+                let by_node = subst (λ (n : NodeId). rank_cmp (rank_of letter (caps_of found.0) found.0.router.id) (rank_of letter others n) ≡ Less) (sym m.1.of_node) above in
+                let by_caps = subst (λ (c : PlainCaps). rank_cmp (rank_of letter (caps_of found.0) found.0.router.id) (rank_of letter c m.0.router.id) ≡ Less) (sym m.1.has_caps) by_node in
+                found.1.greatest m.0 (to_standing common letter m.0 m.1.standing) by_caps;
+          },
+        )
+        | inr none ↦ (
+          None,
+          λ id caps candidate.
+              let m = of_candidate s common letter id caps s_in candidate in
+              none m.0 (to_standing common letter m.0 m.1.standing),
+        )
+      ]
+
+  pub one_elected : (letter : Letter) (link : ℕ) (s u : Member) (e f : EpId) → IsThere w r link s e → IsThere w r link u f → ElectSame s.router e u.router f letter
+  one_elected letter link s u e f one other =
+      let common = has_common link s e one in
+      let s_in = reached_there w r case.known link s e one in
+      let out = comes_out s common.0 letter s_in in
+      record {
+        who = out.0;
+        one = record { common = common.0; is_common = common.1; is_elected = out.1 };
+        other = record {
+          common = common.0;
+          is_common = common_too link s u e f common.0 one other common.1;
+          is_elected = elects_too s u common.0 letter out.0 s_in (reached_there w r case.known link u f other) out.1;
+        };
+      }

@@ -1,0 +1,119 @@
+-- The home of a settled and quiet set meets all that is asked of a home.
+use Rattle.std.proofs.Common.{◌≡◌, ◌∙◌, ◌≤◌, ℕ, List, Some, Contains, sym, subst, arith}
+use Rattle.std.proofs.lemmas.List.Elements.{All-contains}
+use Rattle.std.proofs.lemmas.Option.{same_Some}
+use Rattle.hn_prefix.specs.Prefix.{PlainPrefix, IsWithin, Overlaps}
+use Rattle.hn_assign.specs.declared.assigned.Assigned.{Assigned}
+use Rattle.hn_assign.specs.Facts.{IsInDelegated, HasOwnPriority}
+use Rattle.hn_assign.specs.Pair.{assigned_pair, pair_cmp}
+use Rattle.hn_data.specs.View.{PlainView}
+use Rattle.hn_deleg.specs.declared.delegated.Delegated.{Delegated}
+use Rattle.hn_deleg.specs.Used.{AreUsable, prefixes_of}
+use Rattle.hn_rules.specs.Laws.{AssignedIsPublished}
+use Rattle.hn_rules.specs.Seen.{seen_by}
+use Rattle.hn_sound.specs.Home.{Endpoint, HasAssignment, HasPublished}
+use Rattle.hn_sound.specs.Premises.{IsHome}
+use Rattle.hn_sound.specs.Premises.Premise.{OneLink, OnceOnLink, UsedApart, ForUsed, PublishedInside, OneEach, PriorityTwo}
+use Rattle.hn_world.specs.declared.member.Member.{Member}
+use Rattle.hn_world.specs.declared.parts.Parts.{Parts}
+use Rattle.hn_world.specs.Names.{link_of}
+use Rattle.hn_audit.specs.Reached.{IsReached}
+use Rattle.hn_audit.specs.Settled.{AreSame}
+use Rattle.hn_audit.specs.Quiet.{IsQuiet}
+use Rattle.hn_audit.specs.Sound as said
+use Rattle.hn_audit.proofs.BridgeLists.{one_of_ascending}
+use Rattle.hn_audit.proofs.BridgeSets.{IsKnown, OwnVersions, OwnPeers, router_of, itself, one_member}
+use Rattle.hn_audit.proofs.BridgeUsed.{pair_total, used_same}
+use Rattle.hn_audit.proofs.BridgeHomes.{home_of, IsEndOf, IsPlugged, of_end, of_has, one_on_link}
+
+-- a settled and quiet router of a replayed world, and the delegated prefixes that it uses
+pub record IsCase (w : Parts) (r : Member) (usable : List Delegated) : Type 0 where
+  pub known : IsKnown w r
+  pub quiet : IsQuiet w r
+  pub are_usable : AreUsable (seen_by r.router) usable
+  pub unique : (view : PlainView) (a b : List Delegated) → AreUsable view a → AreUsable view b → a ≡ b
+  pub apart : (view : PlainView) (list : List Delegated) (p q : PlainPrefix) → AreUsable view list → Contains (prefixes_of list) p → Contains (prefixes_of list) q → Overlaps p q → p ≡ q
+  pub published : AssignedIsPublished
+  pub versions : OwnVersions
+  pub peers : OwnPeers
+
+module _ (w : Parts) (r : Member) (usable : List Delegated) (case : IsCase w r usable) where
+  -- a router of the set uses what r uses
+  pub uses_same : (s : Member) (list : List Delegated) → IsReached w r s → AreUsable (seen_by s.router) list → AreSame list usable
+  uses_same s list s_in are =
+      used_same case.unique s.router r.router list usable (case.known.settled.used s r s_in (itself w r case.known)) are case.are_usable
+
+  pub for_used : (s : Member) (c : Assigned) → IsReached w r s → Contains s.router.held.assigned c → Contains (prefixes_of usable) c.delegated
+  for_used s c s_in there =
+      let rest = case.quiet s s_in in
+      subst (λ (ps : List PlainPrefix). Contains ps c.delegated) (uses_same s rest.usable s_in rest.are_usable).prefixes (rest.for_pairs c there).used
+
+  pub is_inside : (s : Member) (c : Assigned) → IsReached w r s → Contains s.router.held.assigned c → IsWithin c.prefix c.delegated
+  is_inside s c s_in there = All-contains IsInDelegated s.router.held.assigned c (router_of w r case.known s s_in).well.pairs.inside there
+
+  has_priority : (s : Member) (c : Assigned) (priority : ℕ) → IsReached w r s → Contains s.router.held.assigned c → c.published ≡ Some priority → priority ≡ 2
+  has_priority s c priority s_in there is =
+      All-contains HasOwnPriority s.router.held.assigned c (router_of w r case.known s s_in).well.pairs.priority there priority is
+
+  -- ---- endpoints
+
+  -- two endpoints of one node are of one router
+  pub one_router : (e f : Endpoint) (m n : Member) → IsEndOf w r m e → IsEndOf w r n f → e.node ≡ f.node → m ≡ n
+  one_router e f m n e_end f_end same = one_member w r case.known m n e_end.reached f_end.reached (sym e_end.of_node ∙ (same ∙ f_end.of_node))
+
+  one_link : (e f : Endpoint) → Contains (home_of w r usable).endpoints e → Contains (home_of w r usable).endpoints f → e.node ≡ f.node → e.id ≡ f.id → e.link ≡ f.link
+  one_link e f e_there f_there node id =
+      let a = of_end w r case.known usable e e_there in
+      let b = of_end w r case.known usable f f_there in
+      let same : a.0 ≡ b.0 = one_router e f a.0 b.0 a.1 b.1 node in
+      let moved : link_of e.id a.0 ≡ link_of f.id b.0 = λ i. link_of (id i) (same i) in
+      same_Some e.link f.link (sym a.1.on_link.1 ∙ (moved ∙ b.1.on_link.1))
+
+  pub once_on_link : (e f : Endpoint) → Contains (home_of w r usable).endpoints e → Contains (home_of w r usable).endpoints f → e.node ≡ f.node → e.link ≡ f.link → e.id ≡ f.id
+  once_on_link e f e_there f_there node link =
+      let a = of_end w r case.known usable e e_there in
+      let b = of_end w r case.known usable f f_there in
+      let same : a.0 ≡ b.0 = one_router e f a.0 b.0 a.1 b.1 node in
+      let e_on : IsPlugged f.link b.0 e.id = subst (λ (l : ℕ). IsPlugged l b.0 e.id) link (subst (λ (m : Member). IsPlugged e.link m e.id) same a.1.on_link) in
+      one_on_link b.0 e.id f.id f.link (case.known.attached b.0 b.1.reached.runs.there) e_on b.1.on_link
+
+  -- ---- assignments
+
+  -- the router whose endpoint has an assignment, and that assignment there
+  pub holder : (e : Endpoint) (d : PlainPrefix) (c : Assigned) → HasAssignment (home_of w r usable) e d c → (m : Member) × IsEndOf w r m e × said.HasAssignment m.router e.id d c
+  holder e d c has =
+      let a = of_end w r case.known usable e has.there in
+      (a.0, a.1, of_has w r case.known usable a.0 e d c a.1 has)
+
+  each_for_used : (e : Endpoint) (d : PlainPrefix) (c : Assigned) → HasAssignment (home_of w r usable) e d c → Contains (prefixes_of usable) d
+  each_for_used e d c has =
+      let by = holder e d c has in
+      subst (Contains (prefixes_of usable)) by.2.of_delegated (for_used by.0 c by.1.reached by.2.held)
+
+  published_inside : (e : Endpoint) (d : PlainPrefix) (c : Assigned) (priority : ℕ) → HasPublished (home_of w r usable) e d c priority → IsWithin c.prefix d
+  published_inside e d c priority says =
+      let by = holder e d c says.has in
+      subst (IsWithin c.prefix) by.2.of_delegated (is_inside by.0 c by.1.reached by.2.held)
+
+  one_each : (e : Endpoint) (d : PlainPrefix) (c other : Assigned) → HasAssignment (home_of w r usable) e d c → HasAssignment (home_of w r usable) e d other → c ≡ other
+  one_each e d c other has also =
+      let by = holder e d c has in
+      let too = of_has w r case.known usable by.0 e d other by.1 also in
+      let pairs : assigned_pair c ≡ assigned_pair other =
+      λ i. record { delegated = (by.2.of_delegated ∙ sym too.of_delegated) i; endpoint = (by.2.of_endpoint ∙ sym too.of_endpoint) i } in
+      one_of_ascending assigned_pair pair_cmp pair_total by.0.router.held.assigned (router_of w r case.known by.0 by.1.reached).well.pairs.assigned c other by.2.held too.held pairs
+
+  priority_two : (e : Endpoint) (d : PlainPrefix) (c : Assigned) (priority : ℕ) → HasPublished (home_of w r usable) e d c priority → 2 ≤ priority
+  priority_two e d c priority says =
+      let by = holder e d c says.has in
+      let is : priority ≡ 2 = has_priority by.0 c priority by.1.reached by.2.held says.published in
+      omega arith
+
+  pub is_home : IsHome (home_of w r usable)
+  is_home OneLink = one_link
+  is_home OnceOnLink = once_on_link
+  is_home UsedApart = λ d other there also. case.apart (seen_by r.router) usable d other case.are_usable there also
+  is_home ForUsed = each_for_used
+  is_home PublishedInside = published_inside
+  is_home OneEach = one_each
+  is_home PriorityTwo = priority_two

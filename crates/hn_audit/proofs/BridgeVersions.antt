@@ -1,0 +1,136 @@
+-- The node data of a router has one HNCP-Version, with its capabilities, and the peers of its endpoints.
+use Rattle.std.proofs.Common.{◌≡◌, ◌∙◌, ℕ, List, [], ◌∷◌, ◌++◌, Option, Some, Contains, map, inl, inr, refl, sym, ap, subst}
+use Rattle.std.specs.Prelude.{codes}
+use Rattle.std.specs.List.{filter_map}
+use Rattle.std.proofs.lemmas.List.{append-nil}
+use Rattle.std.proofs.lemmas.List.Elements.{filter_map-append}
+use Rattle.hn_base.proofs.AscendingLists.{Contains-head, Contains-cases, nothing_in, Contains-map, Contains-from_map}
+use Rattle.hn_base.specs.Caps.{PlainCaps, plain_caps}
+use Rattle.hn_typed.specs.Item.{PlainItem, Version}
+use Rattle.hn_data.specs.Items.{AreItems, Reads, first_of}
+use Rattle.hn_data.specs.Peers.{HasPeer, peer_of}
+use Rattle.hn_data.specs.Said.{caps_of, version_of}
+use Rattle.hn_data.specs.declared.said.AssignedPrefix.{AssignedPrefix}
+use Rattle.hn_data.specs.declared.said.PeerLink.{PeerLink}
+use Rattle.hn_own.specs.declared.own.OwnItems.{OwnItems}
+use Rattle.hn_own.specs.declared.own_prefixes.OwnPrefix.{OwnPrefix}
+use Rattle.hn_own.specs.Own.{links_at, link_at, links_of, peer_item, external_items, assigned_item, items_of}
+use Rattle.hn_dncp.specs.declared.port.Port.{Port}
+use Rattle.hn_own.specs.Ports.{endpoints_of}
+use Rattle.hn_rules.specs.declared.state.State.{State}
+use Rattle.hn_rules.specs.Router.{IsRouter}
+use Rattle.hn_base.proofs.Elements.{in_filter_map, from_filter_map}
+use Rattle.hn_audit.proofs.Lists.{from_flat_map}
+use Rattle.hn_audit.proofs.BridgeSets.{OwnVersions, OwnPeers}
+use Rattle.hn_rules.specs.Laws.{ItemsArePublished}
+
+-- ---- the version among own items
+
+none_of_links : (links : List PeerLink) → filter_map caps_of (map peer_item links) ≡ []
+none_of_links [] = refl
+none_of_links (link ∷ links) = none_of_links links
+
+none_of_external : (now : ℕ) (list : List OwnPrefix) → filter_map caps_of (external_items now list) ≡ []
+none_of_external now [] = refl
+none_of_external now (p ∷ ps) = refl
+
+none_of_assigned : (list : List AssignedPrefix) → filter_map caps_of (map assigned_item list) ≡ []
+none_of_assigned [] = refl
+none_of_assigned (a ∷ list) = none_of_assigned list
+
+abbrev others : ℕ → OwnItems → List PlainItem
+others now own = map peer_item own.links ++ external_items now own.delegated ++ map assigned_item own.assigned
+
+none_of_others : (now : ℕ) (own : OwnItems) → filter_map caps_of (others now own) ≡ []
+none_of_others now own =
+    let links = map peer_item own.links in
+    let external = external_items now own.delegated in
+    let assigned = map assigned_item own.assigned in
+    filter_map-append caps_of (links ++ external) assigned
+    ∙ rw (filter_map-append caps_of links external, none_of_links own.links, none_of_external now own.delegated) (none_of_assigned own.assigned)
+
+one_version : (now : ℕ) (own : OwnItems) → filter_map caps_of (items_of now own) ≡ plain_caps own.caps ∷ []
+one_version now own = ap (λ (rest : List PlainCaps). plain_caps own.caps ∷ rest) (none_of_others now own)
+
+-- the first of a list whose elements are all one
+first_is : (xs : List PlainCaps) (c : PlainCaps) → Contains xs c → ((y : PlainCaps) → Contains xs y → y ≡ c) → first_of xs ≡ Some c
+first_is [] c there all = absurd (nothing_in c there)
+first_is (x ∷ xs) c there all = ap Some (all x (Contains-head x xs))
+
+-- ---- the peers among own items
+
+all_of_links : (links : List PeerLink) → filter_map peer_of (map peer_item links) ≡ links
+all_of_links [] = refl
+all_of_links (link ∷ links) = ap (λ (rest : List PeerLink). link ∷ rest) (all_of_links links)
+
+no_peers_external : (now : ℕ) (list : List OwnPrefix) → filter_map peer_of (external_items now list) ≡ []
+no_peers_external now [] = refl
+no_peers_external now (p ∷ ps) = refl
+
+no_peers_assigned : (list : List AssignedPrefix) → filter_map peer_of (map assigned_item list) ≡ []
+no_peers_assigned [] = refl
+no_peers_assigned (a ∷ list) = no_peers_assigned list
+
+peers_among : (now : ℕ) (own : OwnItems) → filter_map peer_of (items_of now own) ≡ own.links
+peers_among now own =
+    let links = map peer_item own.links in
+    let external = external_items now own.delegated in
+    let assigned = map assigned_item own.assigned in
+    filter_map-append peer_of (links ++ external) assigned
+    ∙ rw (filter_map-append peer_of links external, all_of_links own.links, no_peers_external now own.delegated, no_peers_assigned own.assigned)
+    (append-nil (own.links ++ []) ∙ append-nil own.links)
+
+-- ---- and in own node data
+
+-- the laws of node data on which it rests
+pub record ReadLaws : Type 0 where
+  pub published : ItemsArePublished
+  pub one_items : (bytes : List ℕ) (a b : List PlainItem) → AreItems bytes a → AreItems bytes b → a ≡ b
+
+module _ (laws : ReadLaws) (s : State) (router : IsRouter s) where
+  abbrev read : List PlainItem
+  read = (laws.published s router).0
+
+  abbrev own_items_of : List PlainItem
+  own_items_of = items_of s.own.born s.own.items
+
+  -- what an item read says, one of the own items says
+  read_is_own : {A : Type 0} (h : PlainItem → Option A) (a : A) → Contains (filter_map h read) a → Contains (filter_map h own_items_of) a
+  read_is_own h a there =
+      let from = from_filter_map h read a there in
+      in_filter_map h own_items_of from.0 a (((laws.published s router).2 from.0).0 from.1) from.2
+
+  no_other : (y : PlainCaps) → Contains (filter_map caps_of read) y → y ≡ plain_caps s.own.items.caps
+  no_other y there =
+      let one : Contains (plain_caps s.own.items.caps ∷ []) y =
+      subst (λ (list : List PlainCaps). Contains list y) (one_version s.own.born s.own.items) (read_is_own caps_of y there) in
+      elim (Contains-cases (plain_caps s.own.items.caps) [] y one) [
+        | inl same ↦ sym same
+        | inr later ↦ absurd (nothing_in y later)
+      ]
+
+  version_read : Contains (filter_map caps_of read) (plain_caps s.own.items.caps)
+  version_read =
+      let version : PlainItem = Version (plain_caps s.own.items.caps) (codes "hncp") in
+      in_filter_map caps_of read version (plain_caps s.own.items.caps)
+      (((laws.published s router).2 version).1 (Contains-head version (others s.own.born s.own.items))) refl
+
+  pub own_version : Reads s.own.body (λ items. version_of items ≡ Some (plain_caps s.own.items.caps))
+  own_version = (read, (laws.published s router).1, first_is (filter_map caps_of read) (plain_caps s.own.items.caps) version_read no_other)
+
+  pub peer_from : (link : PeerLink) → HasPeer s.own.body link → Contains s.own.items.links link
+  peer_from link (other, are, there) =
+      let same : other ≡ read = laws.one_items s.own.body other read are (laws.published s router).1 in
+      subst (λ (list : List PeerLink). Contains list link) (peers_among s.own.born s.own.items)
+      (read_is_own peer_of link (subst (λ (items : List PlainItem). Contains (filter_map peer_of items) link) same there))
+
+pub own_versions : ReadLaws → OwnVersions
+own_versions laws s router = own_version laws s router
+
+pub own_peers : ReadLaws → OwnPeers
+own_peers laws s link router has =
+    let published : Contains (links_of s.ports) link =
+    subst (λ (own : OwnItems). Contains own.links link) (sym router.refreshed.published) (peer_from laws s router link has) in
+    let at = from_flat_map links_at s.ports link published in
+    let peer = Contains-from_map (link_at at.0) at.0.peers link at.2 in
+    subst (Contains (endpoints_of s.ports)) (ap (λ (l : PeerLink). l.endpoint) peer.2) (Contains-map (λ (p : Port). p.id) s.ports at.0 at.1)

@@ -1,0 +1,100 @@
+-- A running router of a replayed world that is settled and quiet is sound, and where it is settled its set is sound alike.
+use Rattle.std.proofs.Common.{◌≡◌, ◌↔◌, ℕ, List, [], Contains, sym, subst}
+use Rattle.std.proofs.lemmas.List.{append-nil}
+use Rattle.std.proofs.lemmas.List.Elements.{All-contains}
+use Rattle.hn_base.specs.declared.ids.NodeId.{NodeId}
+use Rattle.hn_base.specs.declared.ids.EpId.{EpId}
+use Rattle.hn_prefix.specs.Prefix.{PlainPrefix, Overlaps}
+use Rattle.hn_typed.specs.Item.{PlainItem}
+use Rattle.hn_assign.specs.declared.assigned.Advertised.{Advertised}
+use Rattle.hn_data.specs.Items.{AreItems}
+use Rattle.hn_data.specs.View.{PlainView}
+use Rattle.hn_deleg.specs.declared.delegated.Delegated.{Delegated}
+use Rattle.hn_deleg.specs.Used.{AreUsable, prefixes_of}
+use Rattle.hn_rules.specs.Laws.{AssignedIsPublished, ViewIsNetwork}
+use Rattle.hn_sound.specs.AtRest.{IsHomeAtRest}
+use Rattle.hn_sound.specs.Home.{Home, Endpoint, advertised, common_link}
+use Rattle.hn_sound.specs.Members.{IsAdvertised, IsOnLinkOf, IsSeenAtRest}
+use Rattle.hn_sound.specs.Premises.{IsHome}
+use Rattle.hn_sound.specs.Sound as home
+use Rattle.hn_world.specs.declared.event.Traced.{Traced}
+use Rattle.hn_world.specs.declared.event.Version.{Version}
+use Rattle.hn_world.specs.declared.member.Member.{Member}
+use Rattle.hn_world.specs.declared.parts.Parts.{Parts}
+use Rattle.hn_world.specs.Replay.{Replays, IsReplayed, Always, AreAttached, IsAttachedMember, IsSoundMember, IsSound as IsSoundWorld}
+use Rattle.hn_audit.specs.Laws.{SettledAndQuietIsSound, SetIsSoundAlike}
+use Rattle.hn_audit.specs.Reached.{IsRunning}
+use Rattle.hn_audit.specs.Settled.{IsSettled}
+use Rattle.hn_audit.specs.Sound.{IsSound}
+use Rattle.hn_audit.proofs.BridgeSets.{IsKnown, OwnVersions, OwnPeers, itself}
+use Rattle.hn_audit.proofs.BridgeHomes.{home_of}
+use Rattle.hn_audit.proofs.BridgePremises.{IsCase, is_home}
+use Rattle.hn_audit.proofs.BridgeRest.{rests_as_seen}
+use Rattle.hn_audit.proofs.BridgeSounds.{inside, each_link, links_apart}
+use Rattle.hn_audit.proofs.BridgeElections.{one_elected}
+use Rattle.hn_audit.proofs.BridgeAlike.{sound_alike}
+
+-- the laws of worlds and of their routers on which it rests
+pub record WorldLaws : Type 0 where
+  pub one_world : (version : Version) (ts : List Traced) (a b : Parts) → Replays version ts a → Replays version ts b → a ≡ b
+  pub sound : (w : Parts) → IsReplayed w → IsSoundWorld w
+  pub attached : (w : Parts) → IsReplayed w → Always AreAttached w
+  pub network : ViewIsNetwork
+
+-- and the other laws of the crates below
+pub record BridgeLaws : Type 0 where
+  pub worlds : WorldLaws
+  pub published : AssignedIsPublished
+  pub versions : OwnVersions
+  pub peers : OwnPeers
+  pub unique : (view : PlainView) (a b : List Delegated) → AreUsable view a → AreUsable view b → a ≡ b
+  pub apart : (view : PlainView) (list : List Delegated) (p q : PlainPrefix) → AreUsable view list → Contains (prefixes_of list) p → Contains (prefixes_of list) q → Overlaps p q → p ≡ q
+  pub one_items : (bytes : List ℕ) (a b : List PlainItem) → AreItems bytes a → AreItems bytes b → a ≡ b
+  pub advertised_exact : (h : Home) (a : Advertised) → Contains (advertised h) a ↔ IsAdvertised h a
+  pub links_exact : (h : Home) (e : Endpoint) (node : NodeId) (id : EpId) → Contains (common_link h e) (node, id) ↔ IsOnLinkOf h e node id
+  pub rests : (h : Home) → ((e : Endpoint) (d : PlainPrefix) → Contains h.endpoints e → Contains h.used d → IsSeenAtRest h e d) → IsHomeAtRest h
+  pub home_sound : (h : Home) → IsHome h → IsHomeAtRest h → home.IsSound h
+
+-- the routers of a replayed world have the endpoints that are attached
+attached_now : WorldLaws → (w : Parts) → IsReplayed w → AreAttached w
+attached_now laws w replayed =
+    let found = laws.attached w replayed w.trace [] (sym (append-nil w.trace)) in
+    subst AreAttached (laws.one_world w.version w.trace found.0 w found.1 replayed) found.2
+
+known_of : WorldLaws → (w : Parts) (r : Member) → IsReplayed w → IsRunning w r → IsSettled w r → IsKnown w r
+known_of laws w r replayed runs settled = record {
+  routers = λ m there. (All-contains (IsSoundMember w.moment) w.members m (laws.sound w replayed) there).router;
+  attached = λ m there. All-contains IsAttachedMember w.members m (attached_now laws w replayed) there;
+  network = laws.network;
+  runs = runs;
+  settled = settled;
+}
+
+sound_case : BridgeLaws → (w : Parts) (r : Member) (usable : List Delegated) → IsCase w r usable → IsSound w r
+sound_case laws w r usable case =
+    let is_sound : home.IsSound (home_of w r usable) =
+    laws.home_sound (home_of w r usable) (is_home w r usable case) (laws.rests (home_of w r usable) (rests_as_seen w r usable case)) in
+    record {
+      inside = inside w r usable case laws.advertised_exact is_sound;
+      each_link = each_link w r usable case laws.advertised_exact is_sound;
+      links_apart = links_apart w r usable case laws.advertised_exact is_sound;
+      one_elected = one_elected w r usable case laws.one_items laws.links_exact;
+    }
+
+pub sound_where_quiet : BridgeLaws → SettledAndQuietIsSound
+sound_where_quiet laws w r replayed runs settled quiet =
+    let known = known_of laws.worlds w r replayed runs settled in
+    let rest = quiet r (itself w r known) in
+    sound_case laws w r rest.usable (record {
+      known = known;
+      quiet = quiet;
+      are_usable = rest.are_usable;
+      unique = laws.unique;
+      apart = laws.apart;
+      published = laws.published;
+      versions = laws.versions;
+      peers = laws.peers;
+    })
+
+pub alike_where_settled : (unique : (view : PlainView) (a b : List Delegated) → AreUsable view a → AreUsable view b → a ≡ b) → WorldLaws → SetIsSoundAlike
+alike_where_settled unique laws w r replayed runs settled = sound_alike unique w r (known_of laws w r replayed runs settled)

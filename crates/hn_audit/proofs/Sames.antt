@@ -1,0 +1,105 @@
+-- Lists that are equal place by place, and routers that use the same.
+use Rattle.std.proofs.Common.{◌≡◌, ◌↔◌, ◌<◌, ℕ, suc, Bool, List, [], ◌∷◌, length, slice_get, All, Contains, Result, Ok, Err, IfOk, refl, sym, ◌∙◌, ap, subst, arith}
+use Rattle.std.specs.Prelude.{Decides, ◌==◌}
+use Rattle.std.specs.Borrow.{Bor}
+use Rattle.std.proofs.lemmas.Bool.{eqb-true, eq-eqb}
+use Rattle.std.proofs.lemmas.List.{length-map}
+use Rattle.std.proofs.lemmas.List.Elements.{All-contains}
+use Rattle.std.proofs.lemmas.Option.{same_Some, slice_get_within}
+use Rattle.hn_base.specs.declared.ids.NodeId.{NodeId}
+use Rattle.hn_base.specs.declared.memory.NoMemory.{NoMemory}
+use Rattle.hn_base.proofs.Keys.{same_node}
+use Rattle.hn_base.proofs.Elements.{all_of}
+use Rattle.hn_prefix.specs.Prefix.{PlainPrefix}
+use Rattle.hn_data.specs.View.{PlainView}
+use Rattle.hn_deleg.specs.declared.delegated.Delegated.{Delegated}
+use Rattle.hn_deleg.specs.Used.{AreUsable, prefixes_of}
+use Rattle.hn_rules.specs.declared.state.State.{State}
+use Rattle.hn_rules.specs.Seen.{seen_by}
+use Rattle.hn_world.specs.declared.member.Member.{Member}
+use Rattle.hn_audit.specs.Set.{AreSameAt}
+use Rattle.hn_audit.specs.Settled.{AreSame, UseSame}
+
+pub node_decides : (a b : NodeId) → Decides (a.0 == b.0) (a ≡ b)
+node_decides a b = (λ e. same_node a b (eqb-true a.0 b.0 e), λ e. eq-eqb a.0 b.0 (ap (λ (n : NodeId). n.0) e))
+
+-- ---- place by place
+
+by_place : (xs ys : List PlainPrefix) → length xs ≡ length ys → ((k : ℕ) → k < length xs → slice_get xs k ≡ slice_get ys k) → xs ≡ ys
+by_place [] [] same each = refl
+by_place [] (y ∷ ys) same each = absurd (omega (arith, same))
+by_place (x ∷ xs) [] same each = absurd (omega (arith, same))
+by_place (x ∷ xs) (y ∷ ys) same each =
+    let first : x ≡ y = same_Some x y (each 0 (omega arith)) in
+    let rest : xs ≡ ys = by_place xs ys (omega (arith, same)) (λ k within. each (suc k) (omega (arith, within))) in
+    ap (λ (z : PlainPrefix). z ∷ xs) first ∙ ap (λ (zs : List PlainPrefix). y ∷ zs) rest
+
+pub same_when : (a b : List Delegated) → length a ≡ length b → ((k : ℕ) → k < length a → AreSameAt a b k) → AreSame a b
+same_when a b same each = record {
+  prefixes =
+      by_place (prefixes_of a) (prefixes_of b) (length-map a (λ (u : Delegated). u.prefix) ∙ same ∙ sym (length-map b (λ (u : Delegated). u.prefix)))
+      (λ k within. (each k (subst (λ (n : ℕ). k < n) (length-map a (λ (u : Delegated). u.prefix)) within)).prefix);
+  wanted = λ k. (
+    λ h. (each k (slice_get_within a k h.deprecated h.at)).wanted.0 h,
+    λ h. (each k (subst (λ (n : ℕ). k < n) (sym same) (slice_get_within b k h.deprecated h.at))).wanted.1 h,
+  );
+}
+
+pub same_length : (a b : List Delegated) → AreSame a b → length a ≡ length b
+same_length a b same = sym (length-map a (λ (u : Delegated). u.prefix)) ∙ ap length same.prefixes ∙ length-map b (λ (u : Delegated). u.prefix)
+
+pub same_at : (a b : List Delegated) (k : ℕ) → AreSame a b → AreSameAt a b k
+same_at a b k same = record { prefix = ap (λ (ps : List PlainPrefix). slice_get ps k) same.prefixes; wanted = same.wanted k }
+
+-- ---- the routers of a set
+
+-- a view has one list
+abbrev pub IsOneList : Type 0
+IsOneList = (view : PlainView) (a b : List Delegated) → AreUsable view a → AreUsable view b → a ≡ b
+
+pub same_back : (a b : List Delegated) → AreSame a b → AreSame b a
+same_back a b same = record { prefixes = sym same.prefixes; wanted = λ k. ((same.wanted k).1, (same.wanted k).0) }
+
+pub same_on : (a b d : List Delegated) → AreSame a b → AreSame b d → AreSame a d
+same_on a b d one other = record {
+  prefixes = one.prefixes ∙ other.prefixes;
+  wanted = λ k. (λ h. (other.wanted k).0 ((one.wanted k).0 h), λ h. (one.wanted k).1 ((other.wanted k).1 h));
+}
+
+-- those that use the same as one use the same
+pub use_same_too : IsOneList → (r s u : State) → UseSame r s → UseSame r u → UseSame s u
+use_same_too once r s u one other =
+    let list : one.one ≡ other.one = once (seen_by r) one.one other.one one.is_one other.is_one in
+    record {
+      one = one.other;
+      is_one = one.is_other;
+      other = other.other;
+      is_other = other.is_other;
+      same = same_on one.other one.one other.other (same_back one.one one.other one.same) (subst (λ (a : List Delegated). AreSame a other.other) (sym list) other.same);
+    }
+
+pub use_these : IsOneList → (r s : State) (used other : List Delegated) → AreUsable (seen_by r) used → AreUsable (seen_by s) other → AreSame used other ↔ UseSame r s
+use_these once r s used other is_used is_other = (
+  λ same. record { one = used; is_one = is_used; other = other; is_other = is_other; same = same },
+  λ h. subst (λ (a : List Delegated). AreSame a other) (once (seen_by r) h.one used h.is_one is_used) (subst (λ (b : List Delegated). AreSame h.one b) (once (seen_by s) h.other other h.is_other is_other) h.same),
+)
+
+-- all of a set use the same if and only if each uses the same as one of them
+pub all_use_same : IsOneList → (set : List (Bor Member)) (r : Bor Member) → Contains set r
+    → All (λ s. UseSame r.now.router s.now.router) set ↔ All (λ s. All (λ u. UseSame s.now.router u.now.router) set) set
+all_use_same once set r there =
+    let as_r : Bor Member → Type 0 = λ s. UseSame r.now.router s.now.router in
+    let as_each : Bor Member → Type 0 = λ s. All (λ (u : Bor Member). UseSame s.now.router u.now.router) set in (
+      λ all. all_of as_each set (λ s one. all_of (λ (u : Bor Member). UseSame s.now.router u.now.router) set (λ u other. use_same_too once r.now.router s.now.router u.now.router (All-contains as_r set s all one) (All-contains as_r set u all other))),
+      λ all. All-contains as_each set r all there,
+    )
+
+-- what follows from the answer
+pub ok_weaker : (r : Result Bool NoMemory) (P Q : Bool → Type 0) → ((answer : Bool) → P answer → Q answer) → IfOk r P → IfOk r Q
+ok_weaker (Ok answer) P Q weaker h = weaker answer h
+ok_weaker (Err e) P Q weaker h = tt
+
+-- what follows from two facts of the answer
+pub ok_both : (r : Result Bool NoMemory) (P Q R : Bool → Type 0) → ((answer : Bool) → P answer → Q answer → R answer) → IfOk r P → IfOk r Q → IfOk r R
+ok_both (Ok answer) P Q R both p q = both answer p q
+ok_both (Err e) P Q R both p q = tt

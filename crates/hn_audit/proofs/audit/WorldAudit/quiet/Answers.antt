@@ -1,0 +1,50 @@
+use Rattle.std.proofs.Common.{◌≡◌, ◌↔◌, ◌∙◌, IsTrue, IfOk, Bool, Some, All, List, filter, subst}
+use Rattle.std.specs.Borrow.{Bor}
+use Rattle.hn_base.specs.Name.{name_text}
+use Rattle.std.proofs.lemmas.Option.{same_Some}
+use Rattle.hn_base.specs.declared.ids.NodeId.{NodeId}
+use Rattle.hn_world.specs.Names.{member_named}
+use Rattle.hn_world.specs.Replay.{IsSound}
+use Rattle.hn_world.specs.declared.member.Member.{Member}
+use Rattle.hn_audit.specs.Fixed.{ChangesNothing, HasRuns, IsUnmoved}
+use Rattle.hn_audit.specs.Quiet.{IsQuiet, IsRouterAtRest}
+use Rattle.hn_audit.specs.Set.{is_in_set, members_of}
+use Rattle.hn_audit.proofs.QuietSets.{quiet_is_fixed}
+use Rattle.hn_audit.proofs.Sames.{ok_both, ok_weaker}
+use Rattle.hn_audit.proofs.Settling.{IsSet, each_of_set}
+use Rattle.hn_audit.proofs.audit.WorldAudit.quiet.Goals as goal
+
+pub returns-clause-quiet : goal.returns-clause-quiet
+returns-clause-quiet c =
+    let w = c.args.self.now in
+    let r = c.in-Some.r.now in
+    let set : List (Bor Member) = c.in_ok-set.set.items in
+    let is : IsSet w r set = subst (λ (reach : List NodeId). members_of set ≡ filter (is_in_set reach) w.members) c.reach.ensures c.in_ok-set.ensures in
+    let P : Bool → Type 0 = λ answer. IsTrue answer ↔ All (λ (s : Bor Member). IsRouterAtRest s.now.router) set in
+    let Q : Bool → Type 0 = λ answer. (m : Member) → member_named (name_text c.args.name.now) w ≡ Some m → IsTrue answer ↔ IsQuiet w m in
+    let law = each_of_set w r set is (λ (m : Member). IsRouterAtRest m.router) in
+    let said : IfOk c.rest.result P = subst (λ (s : List (Bor Member)). IfOk c.rest.result (λ answer. IsTrue answer ↔ All (λ (m : Bor Member). IsRouterAtRest m.now.router) s)) c.as_slice.ensures.value c.rest.ensures.rest in
+    ok_weaker c.rest.result P Q
+    (λ answer h m named.
+    let same : r ≡ m = same_Some r m (c.in-Some.ensures ∙ named) in
+    subst (λ (n : Member). IsTrue answer ↔ IsQuiet w n) same (λ yes. law.0 (h.0 yes), λ quiet. h.1 (law.1 quiet)))
+    said
+
+pub returns-clause-fixed : goal.returns-clause-fixed
+returns-clause-fixed c =
+    let w = c.args.self.now in
+    let r = c.in-Some.r.now in
+    let set : List (Bor Member) = c.in_ok-set.set.items in
+    let is : IsSet w r set = subst (λ (reach : List NodeId). members_of set ≡ filter (is_in_set reach) w.members) c.reach.ensures c.in_ok-set.ensures in
+    let sound : IsSound w = c.always_sound.ensures.sound w c.is_replayed.ensures in
+    let P : Bool → Type 0 = λ answer. IsTrue answer ↔ All (λ (s : Bor Member). IsRouterAtRest s.now.router) set in
+    let Q : Bool → Type 0 = λ answer. All (λ (s : Bor Member). IsUnmoved s.now.router) set → IsTrue answer in
+    let R : Bool → Type 0 = λ answer. (m : Member) → member_named (name_text c.args.name.now) w ≡ Some m → HasRuns w m → IsTrue answer ↔ ChangesNothing w m in
+    let rests : IfOk c.rest.result P = subst (λ (s : List (Bor Member)). IfOk c.rest.result (λ answer. IsTrue answer ↔ All (λ (m : Bor Member). IsRouterAtRest m.now.router) s)) c.as_slice.ensures.value c.rest.ensures.rest in
+    let unmoved : IfOk c.rest.result Q = subst (λ (s : List (Bor Member)). IfOk c.rest.result (λ answer. All (λ (m : Bor Member). IsUnmoved m.now.router) s → IsTrue answer)) c.as_slice.ensures.value c.rest.ensures.unmoved in
+    ok_both c.rest.result P Q R
+    (λ answer rest moved m named.
+    let same : r ≡ m = same_Some r m (c.in-Some.ensures ∙ named) in
+    subst (λ (n : Member). HasRuns w n → IsTrue answer ↔ ChangesNothing w n) same (quiet_is_fixed c.rest_is_the_fixed_point.ensures.unchanged w r set is sound answer rest moved))
+    rests
+    unmoved

@@ -1,0 +1,27 @@
+use Rattle.hn_audit.proofs.BridgeVersions.{ReadLaws, own_versions, own_peers}
+use Rattle.hn_audit.proofs.BridgeWorlds.{WorldLaws, BridgeLaws, sound_where_quiet}
+use Rattle.hn_audit.proofs.laws.settled_and_quiet_is_sound.Goals as goal
+
+pub returns : goal.returns
+returns c =
+    let read : ReadLaws = record { published = c.items_are_published.ensures; one_items = c.items_are_unique.ensures } in
+    let worlds : WorldLaws = record {
+      one_world = c.at_most_one_world.ensures.one;
+      sound = c.always_sound.ensures.sound;
+      attached = c.always_attached.ensures;
+      network = c.view_is_a_network.ensures;
+    } in
+    let laws : BridgeLaws = record {
+      worlds = worlds;
+      published = c.assigned_is_published.ensures;
+      versions = own_versions read;
+      peers = own_peers read;
+      unique = c.usable_is_unique.ensures;
+      apart = c.usable_never_overlap.ensures;
+      one_items = c.items_are_unique.ensures;
+      advertised_exact = c.lists_are_exact.ensures.advertised;
+      links_exact = c.lists_are_exact.ensures.common_link;
+      rests = c.home_rests_as_seen.ensures;
+      home_sound = c.home_at_rest_is_sound.ensures;
+    } in
+    sound_where_quiet laws

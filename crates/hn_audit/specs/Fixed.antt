@@ -1,0 +1,56 @@
+-- The fixed point of the assignment subroutine: a router whose subroutine, run once more, would make, change and destroy
+-- no assignment. No backoff is waited for: each pair without an assignment has one that is due.
+use Rattle.std.specs.Prelude.{IsTrue, List}
+use Rattle.hn_base.specs.declared.ids.EpId.{EpId}
+use Rattle.hn_assign.specs.declared.assigned.Advertised.{Advertised}
+use Rattle.hn_assign.specs.declared.assigned.Wish.{Wish}
+use Rattle.hn_assign.specs.declared.backoff.Backoff.{Backoff}
+use Rattle.hn_assign.specs.declared.held.Ran.{Ran}
+use Rattle.hn_assign.specs.Advertised.{Link}
+use Rattle.hn_assign.specs.Fixed.{AreDue, IsUnchanged}
+use Rattle.hn_assign.specs.Gathered.{AreAdvertised}
+use Rattle.hn_assign.specs.Subroutine.{IsSubroutine}
+use Rattle.hn_deleg.specs.declared.delegated.Delegated.{Delegated}
+use Rattle.hn_deleg.specs.Used.{AreUsable}
+use Rattle.hn_link.specs.CommonLink.{IsCommonLink}
+use Rattle.hn_own.specs.Ports.{is_attached}
+use Rattle.hn_rules.specs.Assigning.{AreAsked}
+use Rattle.hn_rules.specs.declared.state.State.{State}
+use Rattle.hn_rules.specs.Router.{IsRouter}
+use Rattle.hn_rules.specs.Seen.{seen_by}
+use Rattle.hn_world.specs.declared.member.Member.{Member}
+use Rattle.hn_world.specs.declared.parts.Parts.{Parts}
+use Rattle.hn_audit.specs.Reached.{IsReached}
+
+-- what the subroutine comes to on a router whose backoffs are one for each pair without an assignment, due at its moment
+pub record IsRunAnew (s : State) (ran : Ran) : Type 0 where
+  pub usable : List Delegated
+  pub are_usable : AreUsable (seen_by s) usable
+  pub wishes : List Wish
+  pub are_asked : AreAsked (seen_by s) usable s.ports wishes
+  pub backoffs : List Backoff
+  pub are_due : AreDue wishes s.moment (record { assigned = s.held.assigned; backoffs = backoffs })
+  pub is_subroutine : IsSubroutine (seen_by s) wishes (record { assigned = s.held.assigned; backoffs = backoffs }) ran
+
+-- a router on which it comes to something that makes, changes and destroys no assignment
+pub record IsUnmoved (s : State) : Type 0 where
+  pub router : IsRouter s
+  pub ran : Ran
+  pub run : IsRunAnew s ran
+  pub unchanged : IsUnchanged s.held.assigned ran.held.assigned
+
+-- there are lists of the advertised prefixes, and of the Common Link of each attached endpoint
+pub record HasLists (s : State) : Type 0 where
+  pub advertised : List Advertised
+  pub are_advertised : AreAdvertised (seen_by s) s.held.assigned advertised
+  pub common : (e : EpId) → IsTrue (is_attached e s.ports) → (link : Link) × IsCommonLink (seen_by s) e.0 link
+
+-- it comes to something for each of the set of r
+abbrev pub HasRuns : Parts → Member → Type 0
+HasRuns w r = (s : Member) → IsReached w r s → (ran : Ran) × IsRunAnew s.router ran
+
+-- and whatever it comes to, with whatever random words, it makes, changes and destroys no assignment
+abbrev pub ChangesNothing : Parts → Member → Type 0
+ChangesNothing w r =
+    (s : Member) (ran : Ran) → IsReached w r s → IsRunAnew s.router ran
+    → IsUnchanged s.router.held.assigned ran.held.assigned

@@ -1,0 +1,51 @@
+-- Laws of settled and quiet routers.
+use Rattle.std.specs.Prelude.{◌≡◌, ◌↔◌, List, ◌++◌}
+use Rattle.hn_assign.specs.declared.held.Ran.{Ran}
+use Rattle.hn_assign.specs.Fixed.{IsUnchanged}
+use Rattle.hn_rules.specs.declared.state.State.{State}
+use Rattle.hn_rules.specs.Router.{IsRouter}
+use Rattle.hn_world.specs.declared.event.Traced.{Traced}
+use Rattle.hn_world.specs.declared.member.Member.{Member}
+use Rattle.hn_world.specs.declared.parts.Parts.{Parts}
+use Rattle.hn_world.specs.Replay.{Replays, IsReplayed, Always}
+use Rattle.hn_audit.specs.Reached.{IsRunning, IsReached}
+use Rattle.hn_audit.specs.Settled.{IsSettled}
+use Rattle.hn_audit.specs.Quiet.{IsQuiet, IsRouterAtRest}
+use Rattle.hn_audit.specs.Fixed.{HasLists, IsRunAnew}
+use Rattle.hn_audit.specs.Sound.{IsSound}
+
+-- In a replayed world a running router that is settled and quiet is sound.
+abbrev pub SettledAndQuietIsSound : Type 0
+SettledAndQuietIsSound = (w : Parts) (r : Member) → IsReplayed w → IsRunning w r → IsSettled w r → IsQuiet w r → IsSound w r
+
+-- In a replayed world a running router that is settled is sound if and only if each of its set is.
+abbrev pub SetIsSoundAlike : Type 0
+SetIsSoundAlike =
+    (w : Parts) (r : Member) → IsReplayed w → IsRunning w r → IsSettled w r
+    → IsSound w r ↔ ((s : Member) → IsReached w r s → IsSound w s)
+
+-- each running router that is settled and quiet is sound
+abbrev pub SettledAreSound : Parts → Type 0
+SettledAreSound w = (r : Member) → IsRunning w r → IsSettled w r → IsQuiet w r → IsSound w r
+
+-- At each moment of a replayed world's past each running router that is settled and quiet is sound.
+abbrev pub AlwaysSettledAreSound : Type 0
+AlwaysSettledAreSound = (w : Parts) → IsReplayed w → Always SettledAreSound w
+
+-- what held at each moment of a world's past held at each moment of the past of a world that a front of its trace leads to
+abbrev pub IsOfEachFront : (Parts → Type 0) → Type 0
+IsOfEachFront P =
+    (w v : Parts) (past future : List Traced) → w.trace ≡ past ++ future → Replays w.version past v
+    → Always P w → Always P v
+
+-- On a router at rest the assignment subroutine, run anew, makes, changes and destroys no assignment.
+abbrev pub RestChangesNothing : Type 0
+RestChangesNothing =
+    (s : State) (ran : Ran) → IsRouter s → IsRunAnew s ran → IsRouterAtRest s
+    → IsUnchanged s.held.assigned ran.held.assigned
+
+-- And a router on which it does not is at rest.
+abbrev pub UnchangedIsAtRest : Type 0
+UnchangedIsAtRest =
+    (s : State) (ran : Ran) → IsRouter s → IsRunAnew s ran → HasLists s
+    → IsUnchanged s.held.assigned ran.held.assigned → IsRouterAtRest s

@@ -1,0 +1,9 @@
+pub mod Reached
+pub mod Set
+pub mod Settled
+pub mod Case
+pub mod Quiet
+pub mod Resting
+pub mod Fixed
+pub mod Sound
+pub mod Laws

@@ -1,0 +1,99 @@
+ghost use Rattle.std.specs.Prelude.{◌≡◌, ◌↔◌, ℕ, IsTrue, IfOk, Some, All};
+ghost use Rattle.hn_base.specs.Name.{name_text};
+ghost use Rattle.hn_world.specs.declared.member.Member.{Member};
+ghost use Rattle.hn_world.specs.declared.parts.Parts.{Parts};
+ghost use Rattle.hn_world.specs.Names.{member_named};
+ghost use Rattle.hn_audit.specs.Reached.{runs, IsOfOne};
+ghost use Rattle.hn_audit.specs.Settled.{IsSettled};
+ghost use Rattle.hn_audit.specs.Fixed.{ChangesNothing, HasRuns, IsUnmoved};
+ghost use Rattle.hn_audit.specs.Quiet.{IsQuiet, IsRouterAtRest};
+
+use crate::knowing::know_each_other;
+use crate::laws::rest_is_the_fixed_point;
+use crate::reached::{are_known, member, set_of};
+use crate::resting::rests;
+use crate::spots::{are_on_their_links, spots_of};
+use hn_base::{Name, NoMemory};
+use hn_world::{Member, World, always_sound};
+use std::alloc::Global;
+
+/// What a world says of a running router and those that it reaches.
+pub trait Audit {
+    ghost parts: { Self → Parts };
+
+    /// Whether a running router is settled: those that it reaches know each other as they are.
+    ///
+    /// # Errors
+    ///
+    /// Out of memory.
+    fn settled(&self, alloc: Global, name: &Name) -> Result<bool, NoMemory>
+        requires { IsTrue (runs (name_text name.now) (parts self.now)) }
+        ensures { IfOk result (λ answer. (r : Member) → member_named (name_text name.now) (parts self.now) ≡ Some r
+            → IsTrue answer ↔ IsSettled (parts self.now) r) };
+
+    /// Whether a running router is quiet: it and those that it reaches would make, change and destroy no assignment. So it
+    /// is if and only if the assignment subroutine, run once more on each of them, changes nothing, whatever the random
+    /// words are (RFC 7695, section 4.1).
+    ///
+    /// # Errors
+    ///
+    /// Out of memory.
+    fn quiet(&self, alloc: Global, name: &Name) -> Result<bool, NoMemory>
+        requires { IsTrue (runs (name_text name.now) (parts self.now)) }
+        ensures quiet { IfOk result (λ answer. (r : Member) → member_named (name_text name.now) (parts self.now) ≡ Some r
+            → IsTrue answer ↔ IsQuiet (parts self.now) r) }
+        ensures fixed { IfOk result (λ answer. (r : Member) → member_named (name_text name.now) (parts self.now) ≡ Some r
+            → HasRuns (parts self.now) r → IsTrue answer ↔ ChangesNothing (parts self.now) r) };
+}
+
+/// Whether each router of a set is at rest.
+fn rest(alloc: Global, set: &[&Member]) -> Result<bool, NoMemory>
+    ensures rest { IfOk result (λ answer. IsTrue answer ↔ All (λ s. IsRouterAtRest s.now.router) set.now) }
+    ensures unmoved { IfOk result (λ answer. All (λ s. IsUnmoved s.now.router) set.now → IsTrue answer) }
+{
+    for s in set {
+        if !rests(alloc, &s.router)? {
+            return Ok(false);
+        }
+    }
+    Ok(true)
+}
+
+/// Whether a router whose nodes are known is settled.
+fn is_settled(alloc: Global, world: &World, r: &Member) -> Result<bool, NoMemory>
+    requires { All (IsOfOne world.now) r.now.router.reach }
+    ensures { IfOk result (λ answer. IsTrue answer ↔ IsSettled world.now r.now) }
+{
+    let reach = r.router.reach();
+    let set = set_of(alloc, world, reach)?;
+    if !know_each_other(alloc, set.as_slice(), reach)? {
+        return Ok(false);
+    }
+    let spots = spots_of(alloc, set.as_slice())?;
+    Ok(are_on_their_links(world, reach, set.as_slice(), spots.as_slice()))
+}
+
+impl Audit for World {
+    ghost parts = { λ w. w };
+
+    fn settled(&self, alloc: Global, name: &Name) -> Result<bool, NoMemory> {
+        let Some(r) = member(self, name) else {
+            unreachable!()
+        };
+        if !are_known(self, r.router.reach()) {
+            return Ok(false);
+        }
+        is_settled(alloc, self, r)
+    }
+
+    fn quiet(&self, alloc: Global, name: &Name) -> Result<bool, NoMemory> {
+        always_sound();
+        rest_is_the_fixed_point();
+        self.is_replayed();
+        let Some(r) = member(self, name) else {
+            unreachable!()
+        };
+        let set = set_of(alloc, self, r.router.reach())?;
+        rest(alloc, set.as_slice())
+    }
+}

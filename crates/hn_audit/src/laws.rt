@@ -1,0 +1,73 @@
+//! Laws of settled and quiet routers. Each is the contract of a function that does nothing.
+
+ghost use Rattle.hn_world.specs.Leaves.{EqualHashesAgree};
+ghost use Rattle.hn_audit.specs.Laws.{SettledAndQuietIsSound, SetIsSoundAlike, AlwaysSettledAreSound, IsOfEachFront, SettledAreSound, RestChangesNothing, UnchangedIsAtRest};
+
+use hn_assign::{rest_is_unchanged, subroutine_leaves};
+use hn_data::items_are_unique;
+use hn_deleg::{usable_is_unique, usable_never_overlap};
+use hn_link::common_link_is_unique;
+use hn_rules::{assigned_is_published, items_are_published, view_is_a_network};
+use hn_sound::{home_at_rest_is_sound, home_rests_as_seen, lists_are_exact};
+use hn_world::{always_attached, always_sound, at_most_one_world};
+
+/// In a replayed world a running router that is settled and quiet is sound: each link of those that it reaches is served
+/// with one prefix inside each used delegated prefix, unless none was free or wanted.
+pub fn settled_and_quiet_is_sound()
+    ensures { SettledAndQuietIsSound }
+{
+    at_most_one_world();
+    always_sound();
+    always_attached();
+    assigned_is_published();
+    view_is_a_network();
+    items_are_published();
+    items_are_unique();
+    usable_is_unique();
+    usable_never_overlap();
+    lists_are_exact();
+    home_rests_as_seen();
+    home_at_rest_is_sound();
+}
+
+/// In a replayed world a running router that is settled is sound if and only if each router that it reaches is.
+pub fn set_is_sound_alike()
+    ensures { SetIsSoundAlike }
+{
+    at_most_one_world();
+    always_sound();
+    always_attached();
+    view_is_a_network();
+    usable_is_unique();
+}
+
+/// At each moment of a replayed world's past each running router that is settled and quiet is sound.
+pub fn settled_are_always_sound()
+    ensures { AlwaysSettledAreSound }
+{
+    at_most_one_world();
+    always_sound();
+    settled_and_quiet_is_sound();
+}
+
+/// The headline of a trace is that of each of its fronts: what held at each moment of a world's past, held at each moment
+/// of the past of a world that a front of its trace leads to. So it is of both parts of the headline: that settled and
+/// quiet routers are sound, and that equal network state hashes are those of equal node data.
+pub fn headline_of_each_front()
+    ensures sound { IsOfEachFront SettledAreSound }
+    ensures agree { IsOfEachFront EqualHashesAgree }
+{
+    at_most_one_world();
+}
+
+/// A router is at rest if and only if the assignment subroutine, run once more with each backoff due, makes, changes and
+/// destroys no assignment, whatever the random words are (RFC 7695, section 4.1).
+pub fn rest_is_the_fixed_point()
+    ensures unchanged { RestChangesNothing }
+    ensures rests { UnchangedIsAtRest }
+{
+    common_link_is_unique();
+    rest_is_unchanged();
+    subroutine_leaves();
+    usable_is_unique();
+}

@@ -1,0 +1,22 @@
+//! Whether a router is settled and quiet, with those that it reaches, and why it is sound then.
+#![tactic(auto)]
+
+mod audit;
+mod knowing;
+mod laws;
+#[cfg(test)]
+mod quiet_tests;
+mod reached;
+mod rest;
+mod resting;
+#[cfg(test)]
+mod settled_tests;
+mod spots;
+#[cfg(test)]
+mod staging;
+
+pub use audit::Audit;
+pub use laws::{
+    headline_of_each_front, rest_is_the_fixed_point, set_is_sound_alike,
+    settled_and_quiet_is_sound, settled_are_always_sound,
+};

@@ -12,6 +12,8 @@ use Rattle.hn_world.specs.declared.event.WEvent.TheVariants as event
 use Rattle.hn_world.specs.declared.parts.Parts.{Parts}
 use Rattle.hn_world.specs.Receivers.{is_away, running_names}
 use Rattle.hn_world.specs.Step.{Step}
+use Rattle.hn_lab.specs.AdvertReports.{IsAdvertLine}
+use Rattle.hn_lab.specs.AuditReports.{IsAuditLine}
 use Rattle.hn_lab.specs.Stage.{Stage}
 use Rattle.hn_lab.specs.Process.{Process, Then, Times, Until}
 use Rattle.hn_lab.specs.Events.{Happens, EventEnds, CopyEnds, HasWaiting, Flow, TicksOf, Ticks, Passes, Round, Runs, treatment, drawn}
@@ -157,5 +159,7 @@ module _ (entered : EventsAreEntered) where
   grows_line (line.Used name) code lines p a h = grows_lines (unless_runs name p.world) (Tells name p.world (AreUsedLines name)) code lines p a h
   grows_line (line.Prefixes name) code lines p a h = grows_lines (unless_runs name p.world) (Tells name p.world (λ m told. told ≡ prefixes_lines name m)) code lines p a h
   grows_line (line.Elect name e letter) code lines p a h = grows_report (unless_elects name e p.world) (Tells name p.world (IsElectLine name e letter)) code lines p a h
+  grows_line (line.Advert name e) code lines p a h = grows_report (unless_elects name e p.world) (Tells name p.world (IsAdvertLine name e)) code lines p a h
+  grows_line (line.Audit name) code lines p a h = grows_report (unless_runs name p.world) (Tells name p.world (IsAuditLine name p.world)) code lines p a h
   grows_line (line.Compare left right) code lines p a h = grows_report (unless_both_run left right p.world) (Compares left right p.world) code lines p a h
   grows_line line.Mail code lines p a h = grows_report None (λ (l : List ℕ). l ≡ mail_report p.world) code lines p a h

@@ -1,5 +1,5 @@
 -- A line of a script has at most one end, with one text, and leads to at most one stage.
-use Rattle.std.proofs.Common.{◌≡◌, ◌∙◌, ◌↔◌, ℕ, Bool, true, false, List, [], ◌∷◌, map, Option, None, Some, refl, sym, ap, subst}
+use Rattle.std.proofs.Common.{◌≡◌, ◌∙◌, ◌↔◌, inl, inr, ℕ, Bool, true, false, List, [], ◌∷◌, map, Option, None, Some, refl, sym, ap, subst}
 use Rattle.std.specs.Option.{option_map_or}
 use Rattle.std.specs.Prelude.{IsTrue, MatchOption}
 use Rattle.std.proofs.lemmas.Option.{same_Some}
@@ -12,7 +12,9 @@ use Rattle.hn_deleg.specs.Used.{AreUsable}
 use Rattle.hn_deleg.specs.declared.delegated.Delegated.{Delegated}
 use Rattle.hn_link.specs.CommonLink.{IsCommonLink}
 use Rattle.hn_link.specs.Election.{IsElected, HasNoCandidate}
+use Rattle.hn_router.specs.Advertising.{IsAdvertBytes}
 use Rattle.hn_rules.specs.Seen.{seen_by}
+use Rattle.hn_rules.specs.declared.state.State.{State}
 use Rattle.hn_hash.specs.declared.agreement.Agreement.{Agreement}
 use Rattle.hn_hash.specs.declared.leaf.Leaf.{Leaf}
 use Rattle.hn_rules.specs.Nodes.{leaves_of}
@@ -25,6 +27,8 @@ use Rattle.hn_world.specs.declared.member.Member.{Member}
 use Rattle.hn_world.specs.declared.parts.Parts.{Parts}
 use Rattle.hn_world.specs.Leaves.{Agrees}
 use Rattle.hn_world.specs.Refusal.{refusal}
+use Rattle.hn_lab.specs.AdvertReports.{IsAdvertLine, advert_line}
+use Rattle.hn_lab.specs.AuditReports.{IsAudited, IsAuditLine, audit_line}
 use Rattle.hn_lab.specs.Stage.{Stage}
 use Rattle.hn_lab.specs.Process.{Process}
 use Rattle.hn_lab.specs.Events.{EventEnds, Flow, Runs}
@@ -43,6 +47,7 @@ pub record ReportLaws : Type 0 where
   pub usable : (view : PlainView) (a b : List Delegated) → AreUsable view a → AreUsable view b → a ≡ b
   pub common : (view : PlainView) (e : ℕ) (a b : List (NodeId × EpId)) → IsCommonLink view e a → IsCommonLink view e b → a ≡ b
   pub elected : (view : PlainView) (common : List (NodeId × EpId)) (letter : Letter) (a b : NodeId) → IsElected view common letter a → IsElected view common letter b → a ≡ b
+  pub adverts : (s : State) (e : EpId) (a b : List ℕ) → IsAdvertBytes s e a → IsAdvertBytes s e b → a ≡ b
 
 -- a line that ends in one way
 pub record IsSoleLine (process : LineProcess) : Type 0 where
@@ -122,6 +127,31 @@ one_elect reports name e letter m = record { one = once }
         let who = one_who reports (seen_by m.router) is.is_elected.common letter is.who other.who is.is_elected.is_elected elected in
         is.line_is ∙ ap (elect_line name e letter) who ∙ sym other.line_is
 
+one_advert : ReportLaws → (name : Name) (e : EpId) (m : Member) → IsOneReport (IsAdvertLine name e m)
+one_advert reports name e m = record {
+  one = λ l k is other. is.line_is ∙ ap (advert_line name e) (reports.adverts m.router e is.bytes other.bytes is.are_bytes other.are_bytes) ∙ sym other.line_is;
+}
+
+-- what an audit tells: its cases exclude each other
+one_audited : (w : Parts) (m : Member) → IsOneReport (IsAudited w m)
+one_audited w m = record { one = once }
+  where
+    once : (l k : List ℕ) → IsAudited w m l → IsAudited w m k → l ≡ k
+    once l k (inl is) (inl other) = is.1 ∙ sym other.1
+    once l k (inl is) (inr (inl other)) = absurd (is.0 other.0)
+    once l k (inl is) (inr (inr other)) = absurd (is.0 other.0)
+    once l k (inr (inl is)) (inl other) = absurd (other.0 is.0)
+    once l k (inr (inl is)) (inr (inl other)) = is.2 ∙ sym other.2
+    once l k (inr (inl is)) (inr (inr other)) = absurd (is.1 other.1)
+    once l k (inr (inr is)) (inl other) = absurd (other.0 is.0)
+    once l k (inr (inr is)) (inr (inl other)) = absurd (other.1 is.1)
+    once l k (inr (inr is)) (inr (inr other)) = is.2 ∙ sym other.2
+
+one_audit : (name : Name) (w : Parts) (m : Member) → IsOneReport (IsAuditLine name w m)
+one_audit name w m = record {
+  one = λ l k is other. is.line_is ∙ ap (audit_line name) ((one_audited w m).one is.told other.told is.is_audited other.is_audited) ∙ sym other.line_is;
+}
+
 one_of : (name : Name) (w : Parts) (report : Member → List ℕ) → IsOneReport (IsOf name w report)
 one_of name w report = record { one = λ l m h k. h.2 ∙ ap report (same_Some h.0 k.0 (sym h.1 ∙ k.1)) ∙ sym k.2 }
 
@@ -179,5 +209,7 @@ sole_line steps reports (line.Hash name) = record { one = λ c d s t p a b. repo
 sole_line steps reports (line.Used name) = record { one = λ c d s t p a b. lines_once (unless_runs name p.world) (Tells name p.world (AreUsedLines name)) (one_tells name p.world (AreUsedLines name) (one_used reports name)) c d s t p a b }
 sole_line steps reports (line.Prefixes name) = record { one = λ c d s t p a b. lines_once (unless_runs name p.world) (Tells name p.world (λ m told. told ≡ prefixes_lines name m)) (one_tells name p.world (λ m told. told ≡ prefixes_lines name m) (one_prefixes name)) c d s t p a b }
 sole_line steps reports (line.Elect name e letter) = record { one = λ c d s t p a b. reports_once (unless_elects name e p.world) (Tells name p.world (IsElectLine name e letter)) (one_tells name p.world (IsElectLine name e letter) (one_elect reports name e letter)) c d s t p a b }
+sole_line steps reports (line.Advert name e) = record { one = λ c d s t p a b. reports_once (unless_elects name e p.world) (Tells name p.world (IsAdvertLine name e)) (one_tells name p.world (IsAdvertLine name e) (one_advert reports name e)) c d s t p a b }
+sole_line steps reports (line.Audit name) = record { one = λ c d s t p a b. reports_once (unless_runs name p.world) (Tells name p.world (IsAuditLine name p.world)) (one_tells name p.world (IsAuditLine name p.world) (one_audit name p.world)) c d s t p a b }
 sole_line steps reports (line.Compare left right) = record { one = λ c d s t p a b. reports_once (unless_both_run left right p.world) (Compares left right p.world) (one_compare reports.agreements left right p.world) c d s t p a b }
 sole_line steps reports line.Mail = record { one = λ c d s t p a b. reports_once None (λ (l : List ℕ). l ≡ mail_report p.world) (one_mail p.world) c d s t p a b }

@@ -8,6 +8,8 @@ mod TextStreams
 mod PlayLines
 mod PlayScripts
 mod PrefixTexts
+mod AdvertTexts
+mod AuditTexts
 mod LawCuts
 mod LawGrows
 mod LawLines

@@ -1,6 +1,5 @@
 -- One read or write after another.
-use Rattle.std.specs.Prelude.{OnErr}
-use Rattle.std.proofs.Common.{◌∙◌, ℕ, List, ◌++◌, Option, None, Some, Result, Ok, Err, sym, ap, append_assoc}
+use Rattle.std.proofs.Common.{◌∙◌, ℕ, List, ◌++◌, Option, None, Some, sym, ap, append_assoc}
 use Rattle.std.specs.Io.KnownBytes.{Appends, Consumes}
 
 pub Consumes-more : (a b c : Option (List ℕ)) (xs ys : List ℕ) → Consumes a b xs → Consumes b c ys → Consumes a c (xs ++ ys)
@@ -14,8 +13,3 @@ Appends-more None b c xs ys p q = tt
 Appends-more (Some s) None c xs ys p q = absurd p
 Appends-more (Some s) (Some t) None xs ys p q = absurd q
 Appends-more (Some s) (Some t) (Some u) xs ys p q = q ∙ ap (λ zs. zs ++ ys) p ∙ append_assoc s xs ys
-
--- what holds after each answer holds after an error
-pub on_err : {T E : Type 0} (r : Result T E) (P : Type 0) → P → OnErr r P
-on_err (Ok x) P holds = tt
-on_err (Err e) P holds = holds

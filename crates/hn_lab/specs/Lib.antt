@@ -2,6 +2,8 @@ pub mod Input
 pub mod Told
 pub mod Reports
 pub mod PrefixReports
+pub mod AdvertReports
+pub mod AuditReports
 pub mod Stage
 pub mod Process
 pub mod Events

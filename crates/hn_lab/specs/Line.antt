@@ -22,6 +22,8 @@ use Rattle.hn_world.specs.Names.{member_named}
 use Rattle.hn_world.specs.Refusal.{refusal, of_router, unless_running, unless_attached, copy_at}
 use Rattle.hn_lab.specs.Stage.{Stage}
 use Rattle.hn_lab.specs.Process.{Process}
+use Rattle.hn_lab.specs.AdvertReports.{IsAdvertLine}
+use Rattle.hn_lab.specs.AuditReports.{IsAuditLine}
 use Rattle.hn_lab.specs.Events.{Happens, EventEnds, Flow, Runs}
 use Rattle.hn_lab.specs.PrefixReports.{AreUsedLines, prefixes_lines, IsElectLine}
 use Rattle.hn_lab.specs.Reports.{show_line, hash_line, IsCompareLine, mail_line, note_line}
@@ -131,5 +133,7 @@ LineEnds (line.Hash name) code lines before after = Reports (unless_runs name be
 LineEnds (line.Used name) code lines before after = ReportsLines (unless_runs name before.world) (Tells name before.world (AreUsedLines name)) code lines before after
 LineEnds (line.Prefixes name) code lines before after = ReportsLines (unless_runs name before.world) (Tells name before.world (λ m told. told ≡ prefixes_lines name m)) code lines before after
 LineEnds (line.Elect name e letter) code lines before after = Reports (unless_elects name e before.world) (Tells name before.world (IsElectLine name e letter)) code lines before after
+LineEnds (line.Advert name e) code lines before after = Reports (unless_elects name e before.world) (Tells name before.world (IsAdvertLine name e)) code lines before after
+LineEnds (line.Audit name) code lines before after = Reports (unless_runs name before.world) (Tells name before.world (IsAuditLine name before.world)) code lines before after
 LineEnds (line.Compare left right) code lines before after = Reports (unless_both_run left right before.world) (Compares left right before.world) code lines before after
 LineEnds line.Mail code lines before after = Reports None (λ line. line ≡ mail_report before.world) code lines before after

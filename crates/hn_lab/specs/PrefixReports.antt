@@ -1,5 +1,5 @@
 -- The reports on delegated prefixes, assigned prefixes and elections. docs/FORMATS.md has the table.
-use Rattle.std.specs.Prelude.{◌≡◌, ℕ, ◌-◌, ◌/◌, ◌^◌, ◌==◌, if◌then◌else◌, List, ◌∷◌, ◌++◌, [], map, length, codes, Option, None, Some}
+use Rattle.std.specs.Prelude.{◌≡◌, ℕ, List, ◌∷◌, ◌++◌, [], map, length, codes, Option, None, Some}
 use Rattle.std.specs.Fmt.{decimal}
 use Rattle.hn_base.specs.HexText.{id_text}
 use Rattle.hn_base.specs.Name.{name_text}
@@ -10,21 +10,17 @@ use Rattle.hn_base.specs.declared.name.Name.{Name}
 use Rattle.hn_prefix.specs.PrefixText.{prefix_text_of}
 use Rattle.hn_assign.specs.declared.assigned.Assigned.{Assigned}
 use Rattle.hn_deleg.specs.declared.delegated.Delegated.{Delegated}
-use Rattle.hn_deleg.specs.Used.{AreUsable}
+use Rattle.hn_deleg.specs.Used.{AreUsable, whole_seconds}
 use Rattle.hn_rules.specs.Seen.{seen_by, IsElectedAt}
 use Rattle.hn_script.specs.Field.{letter_text}
 use Rattle.hn_world.specs.declared.member.Member.{Member}
 use Rattle.hn_lab.specs.Reports.{yes_no}
 
--- a remaining lifetime in whole seconds, rounded down; 4294967295 for one that never ends
-abbrev pub seconds_of : ℕ → ℕ
-seconds_of ms = if ms == 2 ^ 64 - 1 then 4294967295 else ms / 1000
-
 -- a delegated prefix that a router uses
 abbrev pub use_line : Name → Delegated → List ℕ
 use_line name d =
-    codes "use " ++ name_text name ++ codes " " ++ prefix_text_of d.prefix ++ codes " valid=" ++ decimal (seconds_of d.valid)
-    ++ codes " preferred=" ++ decimal (seconds_of d.preferred) ++ 10 ∷ []
+    codes "use " ++ name_text name ++ codes " " ++ prefix_text_of d.prefix ++ codes " valid=" ++ decimal (whole_seconds d.valid)
+    ++ codes " preferred=" ++ decimal (whole_seconds d.preferred) ++ 10 ∷ []
 
 -- how many it uses, and each
 abbrev pub used_lines : Name → List Delegated → List (List ℕ)

@@ -1,6 +1,7 @@
 //! Laws of plays. Each is the contract of a function that does nothing.
 
-ghost use Rattle.std.specs.Prelude.{◌≡◌, ◌++◌, ℕ, List, length};
+ghost use Rattle.std.specs.Prelude.{◌≡◌, ◌++◌, ℕ, List, Option, length};
+ghost use Rattle.std.specs.Io.KnownBytes.{Appends};
 ghost use Rattle.hn_script.specs.declared.line.Line.{Line};
 ghost use Rattle.hn_world.specs.declared.parts.Parts.{Parts};
 ghost use Rattle.hn_lab.specs.declared.end.End.{End};
@@ -10,6 +11,7 @@ ghost use Rattle.hn_lab.specs.Told.{Told};
 
 use hn_deleg::usable_is_unique;
 use hn_link::{common_link_is_unique, elected_is_unique};
+use hn_router::router_has_one_advert;
 use hn_world::{agreement_is_unique, each_event_is_entered, step_is_unique};
 
 /// Lines have at most one play: one end, one text, and one world with the random words that are to come.
@@ -22,6 +24,7 @@ pub fn at_most_one_play()
     usable_is_unique();
     common_link_is_unique();
     elected_is_unique();
+    router_has_one_advert();
 }
 
 /// At each line of its text, a play is cut in one way: with one text up to there, and one world.
@@ -34,6 +37,7 @@ pub fn at_most_one_cut_play()
     usable_is_unique();
     common_link_is_unique();
     elected_is_unique();
+    router_has_one_advert();
     each_event_is_entered();
 }
 
@@ -47,4 +51,11 @@ pub fn cut_text_is_a_front()
     usable_is_unique();
     common_link_is_unique();
     elected_is_unique();
+    router_has_one_advert();
 }
+
+/// What is appended in two pieces is appended.
+pub fn pieces_append()
+    ensures { (before between after : Option (List ℕ)) (first second : List ℕ)
+        → Appends before between first → Appends between after second → Appends before after (first ++ second) }
+{}

@@ -1,6 +1,8 @@
 //! The laboratory: a script is played in a world of routers, and its transcript is written line by line.
 #![tactic(auto)]
 
+mod advert_report;
+mod audit_report;
 mod end;
 mod flow;
 mod input;
@@ -21,6 +23,6 @@ mod treated;
 
 pub use end::End;
 pub use input::{SOURCE_LIMIT, read_all};
-pub use law::{at_most_one_cut_play, at_most_one_play, cut_text_is_a_front};
+pub use law::{at_most_one_cut_play, at_most_one_play, cut_text_is_a_front, pieces_append};
 pub use output::{write_piece, write_refusal};
 pub use scripts::{DONE, NO_MEMORY, Played, REFUSED, SINK_FAILED, SOURCE_FAILED, lab, play};

@@ -183,6 +183,8 @@ impl Playing {
             Line::Used(name) => self.used(alloc, &name),
             Line::Prefixes(name) => self.prefixes(alloc, &name),
             Line::Elect(name, endpoint, letter) => self.elect(alloc, &name, endpoint, letter),
+            Line::Advert(name, endpoint) => self.advert(alloc, &name, endpoint),
+            Line::Audit(name) => self.audit(alloc, &name),
             Line::Compare(left, right) => self.compare(alloc, &left, &right),
             Line::Mail => self.mail(alloc),
         }

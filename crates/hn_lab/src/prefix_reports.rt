@@ -2,7 +2,7 @@
 
 ghost use Rattle.std.specs.Prelude.{◌≡◌, ◌++◌, map, IfOk, OnOk, string_bytes};
 ghost use Rattle.hn_lab.specs.Line.{unless_runs, unless_elects, Tells, Reports, ReportsLines};
-ghost use Rattle.hn_lab.specs.PrefixReports.{seconds_of, use_line, used_lines, AreUsedLines, published_text, prefix_line, prefixes_lines, elected_text, elect_line, IsElectLine};
+ghost use Rattle.hn_lab.specs.PrefixReports.{use_line, used_lines, AreUsedLines, published_text, prefix_line, prefixes_lines, elected_text, elect_line, IsElectLine};
 ghost use Rattle.hn_lab.specs.Stage.{stage_of};
 
 use crate::playing::Playing;
@@ -10,31 +10,20 @@ use crate::reports::yes_no;
 use crate::treated::{Lines, Treated};
 use hn_assign::Assigned;
 use hn_base::{EpId, Letter, Name, NoMemory, NodeId};
-use hn_deleg::Delegated;
+use hn_deleg::{Delegated, whole_seconds};
 use hn_script::letter_text;
 use std::alloc::{AllocError, Global};
 
 /// The code of an endpoint that is not attached.
 const DETACHED: u8 = 11;
 
-/// A remaining lifetime in whole seconds.
-fn seconds_of(ms: u64) -> u64
-    ensures { result ≡ seconds_of ms }
-{
-    if ms == u64::MAX {
-        4_294_967_295
-    } else {
-        ms / 1000
-    }
-}
-
 /// The line on a delegated prefix that a router uses.
 fn use_line(alloc: Global, name: &Name, d: &Delegated) -> Result<String, AllocError>
     ensures { IfOk result (λ line. string_bytes line ≡ use_line name.now d.now) }
 {
     let prefix = d.prefix.text();
-    let valid = seconds_of(d.valid);
-    let preferred = seconds_of(d.preferred);
+    let valid = whole_seconds(d.valid);
+    let preferred = whole_seconds(d.preferred);
     format!(in alloc; "use {name} {prefix} valid={valid} preferred={preferred}\n")
 }
 
@@ -149,8 +138,8 @@ impl Playing {
         Ok(Treated::told(lines))
     }
 
-    /// Why there is no report on an election: the router is unknown or stopped, or its endpoint is not attached.
-    fn unless_elects(&self, name: &Name, endpoint: EpId) -> Option<u8>
+    /// Why there is no report on an endpoint: the router is unknown or stopped, or the endpoint is not attached.
+    pub(crate) fn unless_elects(&self, name: &Name, endpoint: EpId) -> Option<u8>
         ensures { result ≡ unless_elects name.now endpoint self.now.world }
     {
         if let Some(code) = self.unless_runs(name) {

@@ -8,6 +8,7 @@ ghost use Rattle.hn_script.specs.declared.fault.ScriptFault.{ScriptFault as AFau
 ghost use Rattle.hn_script.specs.declared.script.Script.{Script as AScript};
 ghost use Rattle.hn_world.specs.Replay.{IsReplayed, Always};
 ghost use Rattle.hn_world.specs.Leaves.{EqualHashesAgree};
+ghost use Rattle.hn_audit.specs.Laws.{SettledAreSound};
 ghost use Rattle.hn_lab.specs.Lab.{play_status, Plays, IsLineWritten, IsLabOf, HasDonePlay, HasRefusal};
 ghost use Rattle.hn_lab.specs.Reports.{refused_line};
 
@@ -16,6 +17,7 @@ use crate::input::{SOURCE_LIMIT, read_all};
 use crate::law::at_most_one_play;
 use crate::output::write_refusal;
 use crate::playing::Playing;
+use hn_audit::settled_are_always_sound;
 use hn_io::{IoFault, Sink, Source};
 use hn_script::{
     ParseFault, Script, ScriptFault, fault_or_script, parse, script_is_limited, script_is_unique,
@@ -95,12 +97,14 @@ pub fn play<K: Sink>(alloc: Global, script: Script, out: &mut K) -> Played
     ensures refused { HasRefusal script.lines → result.status ≢ DONE }
     ensures replayed { IfSome result.world IsReplayed }
     ensures headline { IfSome result.world (Always EqualHashesAgree) }
+    ensures settled { IfSome result.world (Always SettledAreSound) }
     ensures statuses { Contains (DONE ∷ REFUSED ∷ SINK_FAILED ∷ NO_MEMORY ∷ []) result.status }
     ensures counts { Counts (result.status ≡ SINK_FAILED) (K.faults out.old) (K.faults out.new) }
     ensures reliable { IsReliable (result.status ≡ SINK_FAILED) (K.never_fails out.old) (K.never_fails out.new) }
 {
     at_most_one_play();
     equal_hashes_always_agree();
+    settled_are_always_sound();
     let mut playing = Playing::new(alloc);
     let end = playing.play(alloc, script.lines.into_vec(), out);
     let status = play_status(&end);
@@ -122,6 +126,7 @@ fn play_bytes<K: Sink>(alloc: Global, bytes: &[u8], out: &mut K) -> Played
     ensures no_script { (fault : AFault) → IsFirstFault fault bytes.now → result.status ≢ DONE }
     ensures replayed { IfSome result.world IsReplayed }
     ensures headline { IfSome result.world (Always EqualHashesAgree) }
+    ensures settled { IfSome result.world (Always SettledAreSound) }
     ensures statuses { Contains (DONE ∷ REFUSED ∷ SINK_FAILED ∷ NO_MEMORY ∷ []) result.status }
     ensures counts { Counts (result.status ≡ SINK_FAILED) (K.faults out.old) (K.faults out.new) }
     ensures reliable { IsReliable (result.status ≡ SINK_FAILED) (K.never_fails out.old) (K.never_fails out.new) }
@@ -145,6 +150,7 @@ pub fn lab<S: Source, K: Sink>(alloc: Global, src: &mut S, out: &mut K) -> Playe
     ensures no_script { IfSome (S.left src.old) (λ bytes. (fault : AFault) → IsFirstFault fault bytes → result.status ≢ DONE) }
     ensures replayed { IfSome result.world IsReplayed }
     ensures headline { IfSome result.world (Always EqualHashesAgree) }
+    ensures settled { IfSome result.world (Always SettledAreSound) }
     ensures statuses { Contains (DONE ∷ REFUSED ∷ SOURCE_FAILED ∷ SINK_FAILED ∷ NO_MEMORY ∷ []) result.status }
     ensures unwritten { result.status ≡ SOURCE_FAILED → out.new ≡ out.old }
     ensures source_counts { Counts (result.status ≡ SOURCE_FAILED) (S.faults src.old) (S.faults src.new) }

@@ -9,5 +9,6 @@ returns c =
       usable = c.usable_is_unique.ensures;
       common = c.common_link_is_unique.ensures;
       elected = c.elected_is_unique.ensures;
+      adverts = c.router_has_one_advert.ensures;
     } in
     one_cut c.step_is_unique.ensures reports c.each_event_is_entered.ensures.entered

@@ -9,5 +9,6 @@ returns c =
       usable = c.usable_is_unique.ensures;
       common = c.common_link_is_unique.ensures;
       elected = c.elected_is_unique.ensures;
+      adverts = c.router_has_one_advert.ensures;
     } in
     cut_front c.step_is_unique.ensures reports

@@ -7,7 +7,7 @@ use Rattle.hn_io.specs.declared.fault.IoFault.TheVariants.{Failed, NoMemory}
 use Rattle.hn_tlv.specs.Grammar.{PlainTlv, IsTlvList}
 use Rattle.hn_decode.specs.Nested.{first_line, IsTextTo, IsDecodeText}
 use Rattle.hncp.specs.Decode.{AppendsCut, written_status}
-use Rattle.hncp.proofs.Streams.{AppendsCut-more, Appends-none}
+use Rattle.hncp.proofs.Streams.{PiecesAppend, AppendsCut-more, Appends-none}
 
 -- the law that lines up to a place go on to a text
 abbrev pub LinesGoOn : Type 0
@@ -24,24 +24,24 @@ goes_on law bytes lines at count many so_far =
     (told.0, subst Told many.2 told.1)
 
 -- the writing was cut in the lines of the next TLV
-pub cut_among_lines : LinesGoOn → (bytes lines : List ℕ) (at count : ℕ) → AreSoMany bytes count → IsTextTo bytes at lines → (fault : IoFault) (a b c : Option (List ℕ)) → Appends a b (first_line count ++ lines)
+pub cut_among_lines : PiecesAppend → LinesGoOn → (bytes lines : List ℕ) (at count : ℕ) → AreSoMany bytes count → IsTextTo bytes at lines → (fault : IoFault) (a b c : Option (List ℕ)) → Appends a b (first_line count ++ lines)
     → (after : ℕ) × (more : List ℕ) × ((lines : List ℕ) → IsTextTo bytes at lines → IsTextTo bytes after (lines ++ more)) × AppendsCut fault b c more
     → (text : List ℕ) × IsDecodeText bytes text × AppendsCut fault a c text
-cut_among_lines law bytes lines at count many so_far fault a b c written cut =
+cut_among_lines append law bytes lines at count many so_far fault a b c written cut =
     let front = first_line count in
     let more = cut.1 in
     let told = goes_on law bytes (lines ++ more) cut.0 count many (cut.2 lines so_far) in
     let rest = told.0 in
     let parts : front ++ ((lines ++ more) ++ rest) ≡ (front ++ lines) ++ (more ++ rest) =
     ap (λ xs. front ++ xs) (append_assoc lines more rest) ∙ sym (append_assoc front lines (more ++ rest)) in
-    (front ++ ((lines ++ more) ++ rest), told.1, AppendsCut-more fault a b c (front ++ lines) more rest _ written cut.3 parts)
+    (front ++ ((lines ++ more) ++ rest), told.1, AppendsCut-more append fault a b c (front ++ lines) more rest _ written cut.3 parts)
 
 -- the writing was cut in the first line
-pub cut_in_first_line : LinesGoOn → (bytes : List ℕ) (count : ℕ) → AreSoMany bytes count → IsTextTo bytes 0 [] → (fault : IoFault) (a b : Option (List ℕ)) → AppendsCut fault a b (first_line count)
+pub cut_in_first_line : PiecesAppend → LinesGoOn → (bytes : List ℕ) (count : ℕ) → AreSoMany bytes count → IsTextTo bytes 0 [] → (fault : IoFault) (a b : Option (List ℕ)) → AppendsCut fault a b (first_line count)
     → (text : List ℕ) × IsDecodeText bytes text × AppendsCut fault a b text
-cut_in_first_line law bytes count many begins fault a b cut =
+cut_in_first_line append law bytes count many begins fault a b cut =
     let told = goes_on law bytes [] 0 count many begins in
-    (first_line count ++ told.0, told.1, AppendsCut-more fault a a b [] (first_line count) told.0 _ (Appends-none a) cut refl)
+    (first_line count ++ told.0, told.1, AppendsCut-more append fault a a b [] (first_line count) told.0 _ (Appends-none a) cut refl)
 
 -- what holds after a fault holds with its status
 pub broken_of_written : (written : Result (Unit {0}) IoFault) (whole : ℕ) (P : IoFault → Type 0) → whole < 3 → IfErr written P → written_status written whole ≡ 4 → P Failed

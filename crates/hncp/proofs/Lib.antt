@@ -1,4 +1,5 @@
 mod HexDigits
+mod Forms
 mod Streams
 mod Cut
 mod Decodes

@@ -7,11 +7,9 @@ use Rattle.hn_io.specs.declared.fault.IoFault.TheVariants.{Failed, NoMemory}
 use Rattle.hn_lab.specs.Output.{AppendsFront, AppendsPart}
 use Rattle.hncp.specs.Decode.{AppendsCut}
 
-pub Appends-more : (a b c : Option (List ℕ)) (xs ys : List ℕ) → Appends a b xs → Appends b c ys → Appends a c (xs ++ ys)
-Appends-more None b c xs ys p q = tt
-Appends-more (Some s) None c xs ys p q = absurd p
-Appends-more (Some s) (Some t) None xs ys p q = absurd q
-Appends-more (Some s) (Some t) (Some u) xs ys p q = q ∙ ap (λ zs. zs ++ ys) p ∙ append_assoc s xs ys
+-- what hn_lab says of two pieces
+abbrev pub PiecesAppend : Type 0
+PiecesAppend = (a b c : Option (List ℕ)) (xs ys : List ℕ) → Appends a b xs → Appends b c ys → Appends a c (xs ++ ys)
 
 pub Appends-none : (a : Option (List ℕ)) → Appends a a []
 Appends-none None = tt
@@ -23,29 +21,29 @@ two_fronts front part missing back piece whole split is =
     is ∙ ap (λ xs. front ++ (xs ++ back)) split ∙ ap (λ xs. front ++ xs) (append_assoc part missing back) ∙ sym (append_assoc front part (missing ++ back))
 
 -- a front of what comes after a front, of a text that goes on
-AppendsFront-more : (a b c : Option (List ℕ)) (front piece back whole : List ℕ) → Appends a b front → AppendsFront b c piece → whole ≡ front ++ (piece ++ back) → AppendsFront a c whole
-AppendsFront-more a b c front piece back whole before cut is =
+AppendsFront-more : PiecesAppend → (a b c : Option (List ℕ)) (front piece back whole : List ℕ) → Appends a b front → AppendsFront b c piece → whole ≡ front ++ (piece ++ back) → AppendsFront a c whole
+AppendsFront-more append a b c front piece back whole before cut is =
     let rest = cut.1 in
-    (front ++ cut.0, (rest.0 ++ back, two_fronts front cut.0 rest.0 back piece whole rest.1 is), Appends-more a b c front cut.0 before cut.2)
+    (front ++ cut.0, (rest.0 ++ back, two_fronts front cut.0 rest.0 back piece whole rest.1 is), append a b c front cut.0 before cut.2)
 
 -- nothing of a text
 pub AppendsFront-none : (a : Option (List ℕ)) (text : List ℕ) → AppendsFront a a text
 AppendsFront-none a text = ([], (text, refl), Appends-none a)
 
 -- a proper front of what comes after a front, of a text that goes on
-pub AppendsPart-more : (a b c : Option (List ℕ)) (front piece back whole : List ℕ) → Appends a b front → AppendsPart b c piece → whole ≡ front ++ (piece ++ back) → AppendsPart a c whole
-AppendsPart-more a b c front piece back whole before cut is =
+pub AppendsPart-more : PiecesAppend → (a b c : Option (List ℕ)) (front piece back whole : List ℕ) → Appends a b front → AppendsPart b c piece → whole ≡ front ++ (piece ++ back) → AppendsPart a c whole
+AppendsPart-more append a b c front piece back whole before cut is =
     let missing = cut.1.missing in
     let some = cut.1.some in (
       front ++ cut.0,
       record { missing = missing ++ back; some = omega (arith, length-append missing back); whole_is = two_fronts front cut.0 missing back piece whole cut.1.whole_is is },
-      Appends-more a b c front cut.0 before cut.2,
+      append a b c front cut.0 before cut.2,
     )
 
 -- after a fault
-pub AppendsCut-more : (fault : IoFault) (a b c : Option (List ℕ)) (front piece back whole : List ℕ) → Appends a b front → AppendsCut fault b c piece → whole ≡ front ++ (piece ++ back) → AppendsCut fault a c whole
-AppendsCut-more Failed a b c front piece back whole before cut is = AppendsPart-more a b c front piece back whole before cut is
-AppendsCut-more NoMemory a b c front piece back whole before cut is = AppendsFront-more a b c front piece back whole before cut is
+pub AppendsCut-more : PiecesAppend → (fault : IoFault) (a b c : Option (List ℕ)) (front piece back whole : List ℕ) → Appends a b front → AppendsCut fault b c piece → whole ≡ front ++ (piece ++ back) → AppendsCut fault a c whole
+AppendsCut-more append Failed a b c front piece back whole before cut is = AppendsPart-more append a b c front piece back whole before cut is
+AppendsCut-more append NoMemory a b c front piece back whole before cut is = AppendsFront-more append a b c front piece back whole before cut is
 
 -- a proper front is a front
 pub part_is_cut : (fault : IoFault) (a b : Option (List ℕ)) (text : List ℕ) → AppendsPart a b text → AppendsCut fault a b text
@@ -55,8 +53,3 @@ part_is_cut NoMemory a b text cut = (cut.0, (cut.1.missing, cut.1.whole_is), cut
 pub cut_on_err : {T : Type 0} (written : Result T IoFault) (a b : Option (List ℕ)) (text : List ℕ) → OnErr written (AppendsPart a b text) → IfErr written (λ fault. AppendsCut fault a b text)
 cut_on_err (Ok x) a b text cut = tt
 cut_on_err (Err fault) a b text cut = part_is_cut fault a b text cut
-
--- what holds after each answer holds after an error
-pub on_err : {T E : Type 0} (r : Result T E) (P : Type 0) → P → OnErr r P
-on_err (Ok x) P holds = tt
-on_err (Err e) P holds = holds

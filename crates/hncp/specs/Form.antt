@@ -1,12 +1,25 @@
-use Rattle.std.specs.Prelude.{◌≡◌, ℕ, List, [], ◌∷◌, codes}
+-- What the words of the command line ask for.
+use Rattle.std.specs.Prelude.{◌≡◌, ℕ, ◌-◌, ◌^◌, List, [], ◌∷◌, codes}
+use Rattle.hn_script.specs.Field.{IsNumberText}
 use Rattle.hncp.specs.declared.words.Form.{Form}
-use Rattle.hncp.specs.declared.words.Form.TheVariants.{Lab, Decode}
+use Rattle.hncp.specs.declared.words.Form.TheVariants.{Lab, Decode, Soak}
 
--- the word that a form is asked for by
-abbrev pub form_word : Form → List ℕ
-form_word Lab = codes "lab"
-form_word Decode = codes "decode"
+-- the word of a form without numbers
+abbrev pub IsPlainWord : Form → List ℕ → Type 0
+IsPlainWord Lab word = word ≡ codes "lab"
+IsPlainWord Decode word = word ≡ codes "decode"
+IsPlainWord (Soak n seed) word = ⊥
 
--- the words of the command line ask for a form: the program's name, and the form's word
+-- the word of a form with numbers, and these: 2 to 32 routers, and a seed below 2^64, each in one to twenty decimal digits
+abbrev pub AreCountedWords : Form → List ℕ → List ℕ → List ℕ → Type 0
+AreCountedWords (Soak n seed) word count_word seed_word =
+    (word ≡ codes "soak") × IsNumberText 2 32 count_word n × IsNumberText 0 (2 ^ 64 - 1) seed_word seed
+AreCountedWords _ word count_word seed_word = ⊥
+
+-- the words of the command line ask for a form: the program's name, and the words of the form
 abbrev pub IsFormOf : Form → List (List ℕ) → Type 0
-IsFormOf form words = (program : List ℕ) × (words ≡ program ∷ form_word form ∷ [])
+IsFormOf Lab words = (program : List ℕ) × (words ≡ program ∷ codes "lab" ∷ [])
+IsFormOf Decode words = (program : List ℕ) × (words ≡ program ∷ codes "decode" ∷ [])
+IsFormOf (Soak n seed) words =
+    (program count_word seed_word : List ℕ) × (words ≡ program ∷ codes "soak" ∷ count_word ∷ seed_word ∷ [])
+    × IsNumberText 2 32 count_word n × IsNumberText 0 (2 ^ 64 - 1) seed_word seed

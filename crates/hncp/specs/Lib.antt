@@ -1,3 +1,4 @@
 pub mod Form
 pub mod HexText
 pub mod Decode
+pub mod Soak

@@ -11,7 +11,7 @@ use crate::output::write_lines;
 use crate::report::malformed_line;
 use hn_decode::{decode_text_exists, first_line, lines_go_on, lines_make_the_text, push_next};
 use hn_io::{IoFault, Sink};
-use hn_lab::{SOURCE_LIMIT, write_piece, write_refusal};
+use hn_lab::{SOURCE_LIMIT, pieces_append, write_piece, write_refusal};
 use hn_tlv::{TlvFault, check, first_fault_is_unique, list_or_first_fault};
 use std::alloc::Global;
 
@@ -78,6 +78,7 @@ fn write_tlvs<K: Sink>(
 {
     lines_make_the_text();
     lines_go_on();
+    pieces_append();
     let Ok(mut text) = first_line(alloc, count) else {
         return Err(IoFault::NoMemory);
     };

@@ -1,4 +1,4 @@
-//! The program `hncp`: a laboratory of home routers, which runs a script and writes its transcript,
+//! The program `hncp`: a laboratory of home routers, which runs a script, or that of a soak, and writes its transcript,
 //! and a reader of datagrams.
 #![tactic(auto)]
 
@@ -8,6 +8,7 @@ mod outcome;
 mod output;
 mod report;
 mod run;
+mod soak;
 #[cfg(test)]
 mod tests;
 mod words;
@@ -33,7 +34,7 @@ fn words_of(rt: &(impl Env + AllocGlobal), alloc: Global) -> io::Result<Vec<Stri
 /// Why the program ends with this status, for people; nothing for status 0.
 fn reason(status: u8) -> &'static str {
     match status {
-        BAD_USAGE => "usage: hncp lab < SCRIPT, or hncp decode < HEXTEXT",
+        BAD_USAGE => "usage: hncp lab < SCRIPT, hncp decode < HEXTEXT, or hncp soak ROUTERS SEED",
         REFUSED => "hncp: the input was refused; the last line of the output says why",
         SOURCE_FAILED => "hncp: standard input failed",
         SINK_FAILED => "hncp: standard output failed",

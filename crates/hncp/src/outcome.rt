@@ -2,6 +2,7 @@ ghost use Rattle.std.specs.Prelude.{◌≡◌, None};
 ghost use Rattle.hncp.specs.Decode.{written_status};
 
 use hn_io::IoFault;
+use hn_lab::Played;
 pub use hn_lab::{DONE, NO_MEMORY, REFUSED, SINK_FAILED, SOURCE_FAILED};
 use hn_world::World;
 
@@ -18,6 +19,15 @@ pub struct Outcome {
 }
 
 impl Outcome {
+    /// What a script came to.
+    pub fn of(played: Played) -> Outcome
+        ensures status { result.status ≡ played.status }
+        ensures world { result.world ≡ played.world }
+    {
+        let Played { status, world } = played;
+        Outcome { status, world }
+    }
+
     /// A status with no world.
     pub fn without_world(status: u8) -> Outcome
         ensures status { result.status ≡ status }

@@ -4,7 +4,7 @@ ghost use Rattle.hn_io.specs.Faults.{Counts, IsReliable};
 ghost use Rattle.hn_lab.specs.Output.{AppendsPart};
 
 use hn_io::{IoFault, Sink};
-use hn_lab::write_piece;
+use hn_lab::{pieces_append, write_piece};
 use memchr::memchr;
 
 /// Hands a text that ends with LF to a sink line by line, each with its LF.
@@ -14,6 +14,7 @@ pub fn write_lines<K: Sink>(out: &mut K, text: &[u8]) -> Result<(), IoFault>
     ensures counts { Counts (result ≡ Err IoFault.Failed) (K.faults out.old) (K.faults out.new) }
     ensures reliable { IsReliable (result ≡ Err IoFault.Failed) (K.never_fails out.old) (K.never_fails out.new) }
 {
+    pieces_append();
     let mut rest = text;
     while let Some(end) = memchr(b'\n', rest) {
         let (line, after) = rest.split_at(end + 1);

@@ -2,17 +2,21 @@ ghost use Rattle.std.specs.Prelude.{◌≡◌, ◌≢◌, ◌+◌, ◌^◌, ◌�
 ghost use Rattle.std.specs.Io.KnownBytes.{Appends, Consumes};
 ghost use Rattle.hn_io.specs.Faults.{Counts, IsReliable};
 ghost use Rattle.hn_script.specs.Script.{IsScript, IsFirstFault};
+ghost use Rattle.hn_script.specs.Soak.{soak_text};
 ghost use Rattle.hn_script.specs.declared.fault.ScriptFault.{ScriptFault};
 ghost use Rattle.hn_script.specs.declared.script.Script.{Script};
 ghost use Rattle.hn_world.specs.Replay.{IsReplayed, Always};
 ghost use Rattle.hn_world.specs.Leaves.{EqualHashesAgree};
+ghost use Rattle.hn_audit.specs.Laws.{SettledAreSound};
 ghost use Rattle.hn_lab.specs.Lab.{IsLabOf, HasDonePlay, HasRefusal};
 ghost use Rattle.hncp.specs.Decode.{SpellsTlvs, WritesDecode, CutsDecode};
 ghost use Rattle.hncp.specs.Form.{IsFormOf};
+ghost use Rattle.hncp.specs.Soak.{IsSoakPlay};
 ghost use Rattle.hncp.specs.declared.words.Form.{Form};
 
 use crate::decode::{each_source_decodes, run_decode};
 use crate::outcome::{BAD_USAGE, DONE, NO_MEMORY, Outcome, REFUSED, SINK_FAILED, SOURCE_FAILED};
+use crate::soak::soak;
 use crate::words::Form;
 use hn_io::{IoFault, Sink, Source};
 use hn_lab::{lab, read_all};
@@ -42,8 +46,8 @@ fn decode<S: Source, K: Sink>(alloc: Global, src: &mut S, out: &mut K) -> u8
 }
 
 /// Runs the program: `words` are those of the command line, the program's name first. The forms are `lab`, which reads
-/// a script, plays it and writes its transcript, and `decode`, which reads hexadecimal text and writes what the datagram
-/// has.
+/// a script, plays it and writes its transcript; `decode`, which reads hexadecimal text and writes what the datagram
+/// has; and `soak`, which plays the script of a soak and writes its transcript.
 pub fn run<S: Source, K: Sink>(alloc: Global, words: &[String], src: &mut S, out: &mut K) -> Outcome
     ensures form { result.status ≡ BAD_USAGE → (form : Form) → IsFormOf form (map string_bytes words.now) → ⊥ }
     ensures bad_usage { ((form : Form) → IsFormOf form (map string_bytes words.now) → ⊥) → result.status ≡ BAD_USAGE }
@@ -63,6 +67,9 @@ pub fn run<S: Source, K: Sink>(alloc: Global, words: &[String], src: &mut S, out
     // At each moment of the world's past, two routers with equal hashes have equal leaves, or a collision exists.
     ensures headline { IfSome result.world (Always EqualHashesAgree) }
 
+    // At each moment of the world's past, a running router that is settled and quiet is sound.
+    ensures settled { IfSome result.world (Always SettledAreSound) }
+
     // `decode`: what is written is the text of the datagram that the source spells, or after a fault a front of it.
     ensures decode { IsFormOf Form.Decode (map string_bytes words.now) → (result.status ≡ DONE) ⊎ (result.status ≡ REFUSED)
         → IfSome (S.left src.old) (λ bytes. WritesDecode bytes result.status (K.held out.old) (K.held out.new)) }
@@ -74,6 +81,17 @@ pub fn run<S: Source, K: Sink>(alloc: Global, words: &[String], src: &mut S, out
         → IfSome (S.left src.old) (λ bytes. SpellsTlvs bytes → result.status ≢ REFUSED) }
     ensures no_world { IsFormOf Form.Decode (map string_bytes words.now) → result.world ≡ None }
 
+    // `soak`: status, world and what is written are those of the script of the soak; nothing is read.
+    ensures soak { (n seed : ℕ) → IsFormOf (Form.Soak n seed) (map string_bytes words.now) → (written : List ℕ)
+        × IsSoakPlay n seed result.status result.world written × Appends (K.held out.old) (K.held out.new) written }
+    ensures soak_done { (n seed : ℕ) → IsFormOf (Form.Soak n seed) (map string_bytes words.now) → (script : Script)
+        → IsScript script (soak_text n seed) → HasDonePlay script.lines → result.status ≢ REFUSED }
+    ensures soak_refused { (n seed : ℕ) → IsFormOf (Form.Soak n seed) (map string_bytes words.now) → (script : Script)
+        → IsScript script (soak_text n seed) → HasRefusal script.lines → result.status ≢ DONE }
+    ensures soak_statuses { (n seed : ℕ) → IsFormOf (Form.Soak n seed) (map string_bytes words.now)
+        → Contains (DONE ∷ REFUSED ∷ SINK_FAILED ∷ NO_MEMORY ∷ []) result.status }
+    ensures soak_reads_nothing { (n seed : ℕ) → IsFormOf (Form.Soak n seed) (map string_bytes words.now) → src.new ≡ src.old }
+
     // Where each status comes from. After 3 nothing was written. Reading ends after 2^24 + 1 bytes.
     ensures statuses { Contains (DONE ∷ BAD_USAGE ∷ REFUSED ∷ SOURCE_FAILED ∷ SINK_FAILED ∷ NO_MEMORY ∷ []) result.status }
     ensures source_counts { Counts (result.status ≡ SOURCE_FAILED) (S.faults src.old) (S.faults src.new) }
@@ -84,14 +102,9 @@ pub fn run<S: Source, K: Sink>(alloc: Global, words: &[String], src: &mut S, out
     ensures bounded { (read : List ℕ) × (length read ≤ 2 ^ 24 + 1) × Consumes (S.left src.old) (S.left src.new) read }
 {
     match Form::of(words) {
-        Some(Form::Lab) => {
-            let played = lab(alloc, src, out);
-            Outcome {
-                status: played.status,
-                world: played.world,
-            }
-        }
+        Some(Form::Lab) => Outcome::of(lab(alloc, src, out)),
         Some(Form::Decode) => Outcome::without_world(decode(alloc, src, out)),
+        Some(Form::Soak { n, seed }) => Outcome::of(soak(alloc, n, seed, out)),
         None => Outcome::without_world(BAD_USAGE),
     }
 }

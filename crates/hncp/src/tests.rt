@@ -1,5 +1,6 @@
 use crate::outcome::{BAD_USAGE, DONE, REFUSED, SINK_FAILED, SOURCE_FAILED};
 use crate::run::run;
+use crate::words::Form;
 use hn_io::{IoFault, MemSink, MemSource, Sink, Source};
 use std::alloc::{AllocError, Global};
 use std::process::Abort;
@@ -10,6 +11,69 @@ const TWO_ROUTERS: &str = "hncp 1\nrouter A 00000001\nrouter B 00000002\nshow A\
 
 const TWO_ROUTERS_TEXT: &str =
     "show A id=00000001 number=1 reach=1 held=0 running=yes\ncompare A B net=same ids=other\n";
+
+/// The script of a home of two that is settled, quiet and sound.
+const AUDITED_HOME: &str = "hncp 1\n\
+    router A 00000001\n\
+    router B 00000002\n\
+    link L\n\
+    attach A 1 L\n\
+    attach B 1 L\n\
+    external A 2001:db8::/56 7200 3600\n\
+    run 20000 100\n\
+    audit A\n\
+    show A\n\
+    prefixes A\n\
+    prefixes B\n";
+
+/// Its text.
+const AUDITED_HOME_TEXT: &str = "audit A settled=yes quiet=yes sound=yes\n\
+    show A id=00000001 number=5 reach=2 held=1 running=yes\n\
+    prefixes A 1\n\
+    prefix A ep=1 in=2001:db8::/56 is=2001:db8::/64 published=no applied=yes\n\
+    prefixes B 1\n\
+    prefix B ep=1 in=2001:db8::/56 is=2001:db8::/64 published=2 applied=yes\n";
+
+/// The same home, and a router that it does not know.
+const NEW_NEIGHBOR: &str = "hncp 1\n\
+    router A 00000001\n\
+    router B 00000002\n\
+    link L\n\
+    attach A 1 L\n\
+    attach B 1 L\n\
+    external A 2001:db8::/56 7200 3600\n\
+    run 20000 100\n\
+    audit A\n\
+    show A\n\
+    prefixes A\n\
+    prefixes B\n\
+    router C 00000003\n\
+    attach C 1 L\n\
+    audit A\n";
+
+/// Its text.
+const NEW_NEIGHBOR_TEXT: &str = "audit A settled=yes quiet=yes sound=yes\n\
+    show A id=00000001 number=5 reach=2 held=1 running=yes\n\
+    prefixes A 1\n\
+    prefix A ep=1 in=2001:db8::/56 is=2001:db8::/64 published=no applied=yes\n\
+    prefixes B 1\n\
+    prefix B ep=1 in=2001:db8::/56 is=2001:db8::/64 published=2 applied=yes\n\
+    audit A settled=no\n";
+
+/// A router's advertisement before its link has a prefix, and after.
+const ADVERTISED_LINK: &str = "hncp 1\n\
+    router A 00000001\n\
+    link L\n\
+    attach A 1 L\n\
+    advert A 1\n\
+    external A 2001:db8:0:1::/64 1800 900\n\
+    run 10200 100\n\
+    advert A 1\n";
+
+/// Its text.
+const ADVERTISED_LINK_TEXT: &str = "advert A 1 86000000400000000000000000000000\n\
+    advert A 1 86000000400007080000000000000000\
+    030440c0000006fe0000037a0000000020010db8000000010000000000000000\n";
 
 /// A source that gives, or a sink that takes, one byte at a time.
 #[derive(Drop)]
@@ -47,6 +111,19 @@ fn words(alloc: Global, texts: &[&str]) -> Result<Vec<String>, AllocError> {
     Ok(words)
 }
 
+/// Runs the program with these words: its status, and how many events the world has that it came to, if it has one.
+fn play<S: Source, K: Sink>(
+    alloc: Global,
+    texts: &[&str],
+    source: &mut S,
+    sink: &mut K,
+) -> Result<(u8, Option<usize>), AllocError> {
+    let words = words(alloc, texts)?;
+    let outcome = run(alloc, &words, source, sink);
+    let events = outcome.world.map(|world| world.trace().len());
+    Ok((outcome.status, events))
+}
+
 /// Runs a form of the program on an input, and asserts its status and its text.
 fn expect(
     rt: &(impl Abort + AllocGlobal),
@@ -56,11 +133,10 @@ fn expect(
     text: &str,
 ) -> Result<(), Fail> {
     let alloc = rt.alloc();
-    let words = words(alloc, &["hncp", form])?;
     let mut source = MemSource::new(input.as_bytes().to_vec(alloc)?, Vec::new(alloc));
     let mut sink = MemSink::new(alloc, Vec::new(alloc));
-    let outcome = run(alloc, &words, &mut source, &mut sink);
-    assert_eq!(rt; outcome.status, status, "{form} of {input:?}");
+    let (came_to, _) = play(alloc, &["hncp", form], &mut source, &mut sink)?;
+    assert_eq!(rt; came_to, status, "{form} of {input:?}");
     assert_eq!(rt; sink.held(), text.as_bytes(), "{form} of {input:?}");
     Ok(())
 }
@@ -69,6 +145,26 @@ fn expect(
 fn scripts_and_their_texts(rt: HostRuntime) -> Result<(), Fail> {
     let cases = [
         (TWO_ROUTERS, DONE, TWO_ROUTERS_TEXT),
+        (AUDITED_HOME, DONE, AUDITED_HOME_TEXT),
+        (NEW_NEIGHBOR, DONE, NEW_NEIGHBOR_TEXT),
+        (
+            "hncp 1\nrouter A 00000001\nstop A\naudit A\n",
+            REFUSED,
+            "refused 4 12\n",
+        ),
+        ("hncp 1\naudit Z\n", REFUSED, "refused 2 7\n"),
+        (ADVERTISED_LINK, DONE, ADVERTISED_LINK_TEXT),
+        ("hncp 1\nadvert Z 1\n", REFUSED, "refused 2 7\n"),
+        (
+            "hncp 1\nrouter A 00000001\nadvert A 1\n",
+            REFUSED,
+            "refused 3 11\n",
+        ),
+        (
+            "hncp 1\nrouter A 00000001\nstop A\nadvert A 1\n",
+            REFUSED,
+            "refused 4 12\n",
+        ),
         (
             "hncp 1\nrouter A 00000001\nrouter B 00000002\nshow A\nshow B\n",
             DONE,
@@ -150,12 +246,11 @@ fn datagrams_and_their_contents(rt: HostRuntime) -> Result<(), Fail> {
 fn a_source_that_is_too_long(rt: HostRuntime) -> Result<(), Fail> {
     let alloc = rt.alloc();
     for form in ["decode", "lab"] {
-        let words = words(alloc, &["hncp", form])?;
         let blanks = vec![in alloc; b' '; 16_777_217]?;
         let mut source = MemSource::new(blanks, Vec::new(alloc));
         let mut sink = MemSink::new(alloc, Vec::new(alloc));
-        let outcome = run(alloc, &words, &mut source, &mut sink);
-        assert_eq!(rt; outcome.status, REFUSED);
+        let (status, _) = play(alloc, &["hncp", form], &mut source, &mut sink)?;
+        assert_eq!(rt; status, REFUSED);
         assert_eq!(rt; sink.held(), b"refused 0 15\n".as_slice());
     }
     Ok(())
@@ -164,21 +259,31 @@ fn a_source_that_is_too_long(rt: HostRuntime) -> Result<(), Fail> {
 #[test]
 fn words_that_are_bad_usage(rt: HostRuntime) -> Result<(), Fail> {
     let alloc = rt.alloc();
-    let lists: [&[&str]; 6] = [
+    let lists: [&[&str]; 17] = [
         &[],
         &["hncp"],
         &["lab"],
         &["hncp", "-x"],
         &["hncp", "Lab"],
         &["hncp", "lab", "-x"],
+        &["soak", "6", "1"],
+        &["hncp", "soak"],
+        &["hncp", "soak", "2"],
+        &["hncp", "soak", "1", "1"],
+        &["hncp", "soak", "33", "1"],
+        &["hncp", "soak", "6", "18446744073709551616"],
+        &["hncp", "soak", "6", "000000000000000000001"],
+        &["hncp", "soak", "6", "-1"],
+        &["hncp", "soak", "", "1"],
+        &["hncp", "soak", "6", "1", "1"],
+        &["hncp", "lab", "6", "1"],
     ];
     for texts in lists {
-        let words = words(alloc, texts)?;
         let mut source = MemSource::new(b"hncp 1\n".to_vec(alloc)?, Vec::new(alloc));
         let mut sink = MemSink::new(alloc, Vec::new(alloc));
-        let outcome = run(alloc, &words, &mut source, &mut sink);
-        assert_eq!(rt; outcome.status, BAD_USAGE, "{texts:?}");
-        assert!(rt; outcome.world.is_none() && sink.held().is_empty());
+        let came_to = play(alloc, texts, &mut source, &mut sink)?;
+        assert_eq!(rt; came_to, (BAD_USAGE, None), "{texts:?}");
+        assert!(rt; sink.held().is_empty());
         assert_eq!(rt; source.read(&mut [0; 8]), Ok(7), "the source is as before");
     }
     Ok(())
@@ -188,6 +293,8 @@ fn words_that_are_bad_usage(rt: HostRuntime) -> Result<(), Fail> {
 fn each_read_and_write_fails_in_turn(rt: HostRuntime) -> Result<(), Fail> {
     let alloc = rt.alloc();
     let first_line = "show A id=00000001 number=1 reach=1 held=0 running=yes\n";
+    let two_lines = "audit A settled=yes quiet=yes sound=yes\n\
+        show A id=00000001 number=5 reach=2 held=1 running=yes\n";
     let hex = "007B000178000000";
     let contents = "tlvs 1\n0 123 1 other value=78\n";
     let nested = "0021000400210000";
@@ -199,6 +306,7 @@ fn each_read_and_write_fails_in_turn(rt: HostRuntime) -> Result<(), Fail> {
         ("lab", TWO_ROUTERS, 0, 1, SINK_FAILED, ""),
         ("lab", TWO_ROUTERS, 0, 2, SINK_FAILED, first_line),
         ("lab", TWO_ROUTERS, 0, 3, DONE, TWO_ROUTERS_TEXT),
+        ("lab", AUDITED_HOME, 0, 3, SINK_FAILED, two_lines),
         ("decode", hex, 1, 0, SOURCE_FAILED, ""),
         ("decode", hex, 2, 0, SOURCE_FAILED, ""),
         ("decode", hex, 0, 1, SINK_FAILED, ""),
@@ -216,16 +324,11 @@ fn each_read_and_write_fails_in_turn(rt: HostRuntime) -> Result<(), Fail> {
         ("decode", "000100", 0, 1, SINK_FAILED, ""),
     ];
     for (form, input, read, write, status, text) in cases {
-        let words = words(alloc, &["hncp", form])?;
         let bytes = input.as_bytes().to_vec(alloc)?;
         let mut source = MemSource::new(bytes, vec![in alloc; read]?);
         let mut sink = MemSink::new(alloc, vec![in alloc; write]?);
-        let outcome = run(alloc, &words, &mut source, &mut sink);
-        assert_eq!(rt;
-            outcome.status,
-            status,
-            "{form}, read {read}, write {write}"
-        );
+        let (came_to, _) = play(alloc, &["hncp", form], &mut source, &mut sink)?;
+        assert_eq!(rt; came_to, status, "{form}, read {read}, write {write}");
         assert_eq!(rt;
             sink.held(),
             text.as_bytes(),
@@ -241,20 +344,59 @@ fn one_byte_at_a_time(rt: HostRuntime) -> Result<(), Fail> {
     let hex = "0021000400210000\n";
     let contents = "tlvs 1\n0 33 4 external\n  4 33 0 external\n";
     for (form, input, text, events) in [
-        ("lab", TWO_ROUTERS, TWO_ROUTERS_TEXT, 2),
-        ("decode", hex, contents, 0),
+        ("lab", TWO_ROUTERS, TWO_ROUTERS_TEXT, Some(2)),
+        ("decode", hex, contents, None),
     ] {
-        let words = words(alloc, &["hncp", form])?;
         let bytes = input.as_bytes().to_vec(alloc)?;
         let mut source = OneByte(MemSource::new(bytes, Vec::new(alloc)));
         let mut sink = OneByte(MemSink::new(alloc, Vec::new(alloc)));
-        let outcome = run(alloc, &words, &mut source, &mut sink);
-        assert_eq!(rt; outcome.status, DONE);
+        let came_to = play(alloc, &["hncp", form], &mut source, &mut sink)?;
+        assert_eq!(rt; came_to, (DONE, events));
         assert_eq!(rt; sink.0.held(), text.as_bytes());
-        assert_eq!(rt;
-            outcome.world.map_or(0, |world| world.trace().len()),
-            events
-        );
     }
+    Ok(())
+}
+
+#[test]
+fn words_that_ask_for_a_soak(rt: HostRuntime) -> Result<(), Fail> {
+    let cases = [
+        ("2", "0", 2, 0),
+        ("6", "1", 6, 1),
+        ("32", "18446744073709551615", 32, u64::MAX),
+        ("00000000000000000006", "00000000000000000001", 6, 1),
+    ];
+    for (count, chance, n, seed) in cases {
+        let words = words(rt.alloc(), &["hncp", "soak", count, chance])?;
+        assert_eq!(rt; Form::of(&words), Some(Form::Soak { n, seed }));
+    }
+    Ok(())
+}
+
+#[test]
+fn a_soak_has_one_text(rt: HostRuntime) -> Result<(), Fail> {
+    let alloc = rt.alloc();
+    let words = ["hncp", "soak", "6", "1"];
+    let mut source = MemSource::new(b"unread".to_vec(alloc)?, Vec::new(alloc));
+    let mut sink = MemSink::new(alloc, Vec::new(alloc));
+    let mut again = MemSink::new(alloc, Vec::new(alloc));
+    let first = play(alloc, &words, &mut source, &mut sink)?;
+    let second = play(alloc, &words, &mut source, &mut again)?;
+    assert_eq!(rt; (first.0, first), (DONE, second));
+    assert_eq!(rt; sink.held(), again.held());
+    let text = str::from_utf8(sink.held()).map_err(|_| "text")?;
+    let last = text.lines().last().ok_or("a line")?;
+    assert!(rt; last.starts_with("show r6 id=00000006 number="), "{last}");
+    assert_eq!(rt; source.read(&mut [0; 8]), Ok(6), "the source is as before");
+    Ok(())
+}
+
+#[test]
+fn a_write_of_a_soak_fails(rt: HostRuntime) -> Result<(), Fail> {
+    let alloc = rt.alloc();
+    let mut source = MemSource::new(Vec::new(alloc), Vec::new(alloc));
+    let mut sink = MemSink::new(alloc, vec![in alloc; 1]?);
+    let (status, events) = play(alloc, &["hncp", "soak", "2", "1"], &mut source, &mut sink)?;
+    assert_eq!(rt; status, SINK_FAILED);
+    assert!(rt; events.is_some() && sink.held().is_empty());
     Ok(())
 }

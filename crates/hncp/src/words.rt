@@ -1,4 +1,8 @@
-ghost use Rattle.std.specs.Prelude.{◌≡◌, map, IfSome, IfNone, string_bytes};
+ghost use Rattle.std.specs.Prelude.{◌≡◌, ◌-◌, ◌^◌, ℕ, map, codes, IfSome, IfNone, string_bytes};
+ghost use Rattle.hn_script.specs.Field.{IsNumberText};
+
+/// The most digits of a number.
+const MOST_DIGITS: usize = 20;
 
 /// What the program is asked for.
 #[derive(Clone, Copy, Debug, PartialEq, Eq, Hash)]
@@ -7,21 +11,48 @@ pub enum Form {
     Lab,
     /// `decode`: the contents of a datagram.
     Decode,
+    /// `soak N SEED`: the transcript of the script of a soak of 2 to 32 routers, with this seed.
+    Soak { n: u32, seed: u64 },
+}
+
+/// The number that this word writes; `None` if and only if it writes none in this range. Never allocates.
+fn number(word: &str, lowest: u64, highest: u64) -> Option<u64>
+    ensures found { IfSome result (IsNumberText lowest highest word.now) }
+    ensures none { IfNone result ((n : ℕ) → IsNumberText lowest highest word.now n → ⊥) }
+{
+    let value = hn_base::number(word.as_bytes(), 10, MOST_DIGITS)?;
+    if value < u128::from(lowest) || value > u128::from(highest) {
+        return None;
+    }
+    Some(value as u64)
 }
 
 impl Form {
-    ghost use Rattle.hncp.specs.Form.{form_word, IsFormOf};
+    ghost use Rattle.hncp.specs.Form.{IsFormOf, IsPlainWord, AreCountedWords};
 
-    /// The form of this word.
+    /// The form without numbers of this word.
     fn named(word: &str) -> Option<Form>
-        ensures found { IfSome result (λ form. word.now ≡ form_word form) }
-        ensures none { IfNone result ((form : Form) → word.now ≡ form_word form → ⊥) }
+        ensures found { IfSome result (λ form. IsPlainWord form word.now) }
+        ensures none { IfNone result ((form : Form) → IsPlainWord form word.now → ⊥) }
     {
         match word {
             "lab" => Some(Form::Lab),
             "decode" => Some(Form::Decode),
             _ => None,
         }
+    }
+
+    /// The form with numbers of these words.
+    fn counted(word: &str, count: &str, seed: &str) -> Option<Form>
+        ensures found { IfSome result (λ form. AreCountedWords form word.now count.now seed.now) }
+        ensures none { IfNone result ((form : Form) → AreCountedWords form word.now count.now seed.now → ⊥) }
+    {
+        if word != "soak" {
+            return None;
+        }
+        let n = number(count, 2, 32)?;
+        let seed = number(seed, 0, u64::MAX)?;
+        Some(Form::Soak { n: n as u32, seed })
     }
 
     /// The form that the words of the command line ask for, the program's name among them; `None` if and only if they
@@ -32,6 +63,7 @@ impl Form {
     {
         match words {
             [_, form] => Form::named(form.as_str()),
+            [_, form, count, seed] => Form::counted(form.as_str(), count.as_str(), seed.as_str()),
             _ => None,
         }
     }

@@ -1,0 +1,55 @@
+-- The words of the command line ask for one form.
+use Rattle.std.proofs.Common.{◌≡◌, ℕ, ◌-◌, ◌^◌, ◌<◌, ◌≤◌, List, [], ◌∷◌, length, get_or, map, codes, Option, None, Some, sym, ap, subst, ◌∙◌, arith}
+use Rattle.std.specs.Prelude.{IfNone}
+use Rattle.std.proofs.lemmas.List.{get_or-map}
+use Rattle.hn_script.specs.Field.{IsNumberText}
+use Rattle.hncp.specs.Form.{IsPlainWord, AreCountedWords, IsFormOf}
+use Rattle.hncp.specs.declared.words.Form.{Form}
+use Rattle.hncp.specs.declared.words.Form.TheVariants.{Lab, Decode, Soak}
+
+-- the text of the word at a place
+pub word_at : {A : Type 0} (text : A → List ℕ) (words : List A) (i : ℕ) (word : A) (found : List ℕ) → i < length words → word ≡ get_or words i word → found ≡ text word → get_or (map text words) i [] ≡ found
+word_at text words i word found within is found_is = get_or-map text words i word [] within ∙ ap text (sym is) ∙ sym found_is
+
+plain_word : (form : Form) (words : List (List ℕ)) → length words < 3 → IsFormOf form words → IsPlainWord form (get_or words 1 [])
+plain_word Lab words few h = ap (λ (found : List (List ℕ)). get_or found 1 []) h.1
+plain_word Decode words few h = ap (λ (found : List (List ℕ)). get_or found 1 []) h.1
+plain_word (Soak n seed) words few h = absurd (omega (arith, ap length h.3))
+
+counted_words : (form : Form) (words : List (List ℕ)) → 4 ≤ length words → IsFormOf form words → AreCountedWords form (get_or words 1 []) (get_or words 2 []) (get_or words 3 [])
+counted_words Lab words many h = absurd (omega (arith, ap length h.1))
+counted_words Decode words many h = absurd (omega (arith, ap length h.1))
+counted_words (Soak n seed) words many h =
+    let at : (i : ℕ) → get_or words i [] ≡ get_or (h.0 ∷ codes "soak" ∷ h.1 ∷ h.2 ∷ []) i [] = λ i. ap (λ (found : List (List ℕ)). get_or found i []) h.3 in (
+      at 1,
+      subst (λ (word : List ℕ). IsNumberText 2 32 word n) (sym (at 2)) h.4,
+      subst (λ (word : List ℕ). IsNumberText 0 (2 ^ 64 - 1) word seed) (sym (at 3)) h.5,
+    )
+
+-- two words ask for no form if the second asks for none, and four if the further ones ask for none
+pub no_plain_form : (r : Option Form) (word : List ℕ) (words : List (List ℕ)) → length words < 3 → get_or words 1 [] ≡ word
+    → IfNone r ((form : Form) → IsPlainWord form word → ⊥) → IfNone r ((form : Form) → IsFormOf form words → ⊥)
+no_plain_form None word words few is none = λ form h. none form (subst (IsPlainWord form) is (plain_word form words few h))
+no_plain_form (Some found) word words few is none = tt
+
+pub no_counted_form : (r : Option Form) (word count chance : List ℕ) (words : List (List ℕ)) → 4 ≤ length words → get_or words 1 [] ≡ word → get_or words 2 [] ≡ count → get_or words 3 [] ≡ chance
+    → IfNone r ((form : Form) → AreCountedWords form word count chance → ⊥) → IfNone r ((form : Form) → IsFormOf form words → ⊥)
+no_counted_form None word count chance words many first second third none = λ form h.
+    let P : List ℕ → List ℕ → List ℕ → Type 0 = AreCountedWords form in
+    let asks = counted_words form words many h in
+    none form (subst (λ (w : List ℕ). P word count w) third (subst (λ (w : List ℕ). P word w (get_or words 3 [])) second (subst (λ (w : List ℕ). P w (get_or words 2 []) (get_or words 3 [])) first asks)))
+no_counted_form (Some found) word count chance words many first second third none = tt
+
+-- ---- the numbers of a soak
+
+one_number : (lowest highest : ℕ) (word : List ℕ) (m n : ℕ) → IsNumberText lowest highest word m → IsNumberText lowest highest word n → m ≡ n
+one_number lowest highest word m n h k = sym h.numeral.value ∙ k.numeral.value
+
+-- what holds of the numbers that were read holds of those that are asked for
+pub as_asked : (P : ℕ → ℕ → Type 0) (n seed m chance : ℕ) (words : List (List ℕ)) → IsFormOf (Soak n seed) words → IsFormOf (Soak m chance) words → P n seed → P m chance
+as_asked P n seed m chance words h k holds =
+    let first : k.1 ≡ h.1 = cc in
+    let second : k.2 ≡ h.2 = cc in
+    let count : n ≡ m = one_number 2 32 h.1 n m h.4 (subst (λ (word : List ℕ). IsNumberText 2 32 word m) first k.4) in
+    let same : seed ≡ chance = one_number 0 (2 ^ 64 - 1) h.2 seed chance h.5 (subst (λ (word : List ℕ). IsNumberText 0 (2 ^ 64 - 1) word chance) second k.5) in
+    subst (λ (x : ℕ). P x chance) count (subst (λ (x : ℕ). P n x) same holds)

@@ -1,28 +1,40 @@
--- A set is quiet if and only if the assignment subroutine, run anew, changes nothing on each of its routers.
-use Rattle.std.proofs.Common.{◌↔◌, Bool, IsTrue, List, All}
+-- A set is quiet if and only if the assignment subroutine, run anew, changes nothing on each of its routers. And the
+-- router of a name runs.
+use Rattle.std.proofs.Common.{◌≡◌, ◌↔◌, ℕ, Bool, false, IsTrue, List, Option, Some, All, subst}
+use Rattle.std.specs.Option.{option_map_or}
 use Rattle.std.specs.Borrow.{Bor}
 use Rattle.std.proofs.lemmas.List.Elements.{All-contains}
 use Rattle.hn_rules.specs.Router.{IsRouter}
 use Rattle.hn_world.specs.declared.member.Member.{Member}
 use Rattle.hn_world.specs.declared.parts.Parts.{Parts}
+use Rattle.hn_world.specs.Names.{is_named, member_named}
 use Rattle.hn_world.specs.Replay.{IsSound, IsSoundMember}
-use Rattle.hn_audit.specs.Fixed.{ChangesNothing, HasRuns, IsUnmoved}
+use Rattle.hn_audit.specs.Fixed.{ChangesNothing, MayChangeNothing, IsUnmoved}
 use Rattle.hn_audit.specs.Laws.{RestChangesNothing}
 use Rattle.hn_audit.specs.Quiet.{IsRouterAtRest}
-use Rattle.hn_audit.specs.Reached.{IsReached}
+use Rattle.hn_audit.specs.Reached.{runs, IsRunning, IsReached}
+use Rattle.hn_audit.proofs.BridgeLists.{found_passes}
 use Rattle.hn_audit.proofs.Settling.{IsSet, each_of_set}
 
-pub quiet_is_fixed : RestChangesNothing → (w : Parts) (r : Member) (set : List (Bor Member)) → IsSet w r set → IsSound w → (answer : Bool)
-    → IsTrue answer ↔ All (λ s. IsRouterAtRest s.now.router) set → (All (λ s. IsUnmoved s.now.router) set → IsTrue answer)
-    → HasRuns w r → IsTrue answer ↔ ChangesNothing w r
-quiet_is_fixed law w r set is sound answer rest moved runs = (
-  λ yes s ran reached run. law s.router ran (router_of s reached) run ((each_of_set w r set is (λ (m : Member). IsRouterAtRest m.router)).0 (rest.0 yes) s reached),
-  λ nothing. moved
+module _ (w : Parts) (r : Member) (set : List (Bor Member)) (is : IsSet w r set) (sound : IsSound w) (answer : Bool) where
+  router_of : (s : Member) → IsReached w r s → IsRouter s.router
+  router_of s reached = (All-contains (IsSoundMember w.moment) w.members s sound reached.runs.there).router
+
+  pub quiet_changes_nothing : RestChangesNothing → IsTrue answer ↔ All (λ s. IsRouterAtRest s.now.router) set → IsTrue answer → ChangesNothing w r
+  quiet_changes_nothing law rest quiet s ran reached run =
+      law s.router ran (router_of s reached) run ((each_of_set w r set is (λ (m : Member). IsRouterAtRest m.router)).0 (rest.0 quiet) s reached)
+
+  pub unchanged_is_quiet : (All (λ s. IsUnmoved s.now.router) set → IsTrue answer) → MayChangeNothing w r → IsTrue answer
+  unchanged_is_quiet moved may =
+      moved
       ((each_of_set w r set is (λ (m : Member). IsUnmoved m.router)).1
       (λ s reached.
-      let ran = runs s reached in
-      record { router = router_of s reached; ran = ran.0; run = ran.1; unchanged = nothing s ran.0 reached ran.1 })),
-)
-  where
-    router_of : (s : Member) → IsReached w r s → IsRouter s.router
-    router_of s reached = (All-contains (IsSoundMember w.moment) w.members s sound reached.runs.there).router
+      let found = may s reached in
+      record { router = router_of s reached; ran = found.0; run = found.1; unchanged = found.2 }))
+
+-- the router of a name, which runs
+pub named_runs : (name : List ℕ) (w : Parts) (r : Member) → IsTrue (runs name w) → member_named name w ≡ Some r → IsRunning w r
+named_runs name w r run named = record {
+  there = (found_passes (is_named name) w.members r named).0;
+  running = subst (λ (o : Option Member). IsTrue (option_map_or (λ m. m.running) o false)) named run;
+}

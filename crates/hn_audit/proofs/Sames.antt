@@ -98,8 +98,3 @@ all_use_same once set r there =
 pub ok_weaker : (r : Result Bool NoMemory) (P Q : Bool → Type 0) → ((answer : Bool) → P answer → Q answer) → IfOk r P → IfOk r Q
 ok_weaker (Ok answer) P Q weaker h = weaker answer h
 ok_weaker (Err e) P Q weaker h = tt
-
--- what follows from two facts of the answer
-pub ok_both : (r : Result Bool NoMemory) (P Q R : Bool → Type 0) → ((answer : Bool) → P answer → Q answer → R answer) → IfOk r P → IfOk r Q → IfOk r R
-ok_both (Ok answer) P Q R both p q = both answer p q
-ok_both (Err e) P Q R both p q = tt

@@ -45,12 +45,15 @@ pub record HasLists (s : State) : Type 0 where
   pub are_advertised : AreAdvertised (seen_by s) s.held.assigned advertised
   pub common : (e : EpId) → IsTrue (is_attached e s.ports) → (link : Link) × IsCommonLink (seen_by s) e.0 link
 
--- it comes to something for each of the set of r
-abbrev pub HasRuns : Parts → Member → Type 0
-HasRuns w r = (s : Member) → IsReached w r s → (ran : Ran) × IsRunAnew s.router ran
-
--- and whatever it comes to, with whatever random words, it makes, changes and destroys no assignment
+-- whatever it comes to on a router of the set of r, with whatever random words, it makes, changes and destroys no
+-- assignment
 abbrev pub ChangesNothing : Parts → Member → Type 0
 ChangesNothing w r =
     (s : Member) (ran : Ran) → IsReached w r s → IsRunAnew s.router ran
     → IsUnchanged s.router.held.assigned ran.held.assigned
+
+-- on each router of the set of r it comes to something, with some random words, that does so
+abbrev pub MayChangeNothing : Parts → Member → Type 0
+MayChangeNothing w r =
+    (s : Member) → IsReached w r s
+    → (ran : Ran) × IsRunAnew s.router ran × IsUnchanged s.router.held.assigned ran.held.assigned

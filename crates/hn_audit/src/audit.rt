@@ -5,11 +5,12 @@ ghost use Rattle.hn_world.specs.declared.parts.Parts.{Parts};
 ghost use Rattle.hn_world.specs.Names.{member_named};
 ghost use Rattle.hn_audit.specs.Reached.{runs, IsOfOne};
 ghost use Rattle.hn_audit.specs.Settled.{IsSettled};
-ghost use Rattle.hn_audit.specs.Fixed.{ChangesNothing, HasRuns, IsUnmoved};
+ghost use Rattle.hn_audit.specs.Fixed.{ChangesNothing, MayChangeNothing, IsUnmoved};
 ghost use Rattle.hn_audit.specs.Quiet.{IsQuiet, IsRouterAtRest};
+ghost use Rattle.hn_audit.specs.Sound.{IsSound};
 
 use crate::knowing::know_each_other;
-use crate::laws::rest_is_the_fixed_point;
+use crate::laws::{rest_is_the_fixed_point, settled_and_quiet_is_sound};
 use crate::reached::{are_known, member, set_of};
 use crate::resting::rests;
 use crate::spots::{are_on_their_links, spots_of};
@@ -33,7 +34,7 @@ pub trait Audit {
 
     /// Whether a running router is quiet: it and those that it reaches would make, change and destroy no assignment. So it
     /// is if and only if the assignment subroutine, run once more on each of them, changes nothing, whatever the random
-    /// words are (RFC 7695, section 4.1).
+    /// words are (RFC 7695, section 4.1). A router that is settled and quiet is sound.
     ///
     /// # Errors
     ///
@@ -42,8 +43,12 @@ pub trait Audit {
         requires { IsTrue (runs (name_text name.now) (parts self.now)) }
         ensures quiet { IfOk result (λ answer. (r : Member) → member_named (name_text name.now) (parts self.now) ≡ Some r
             → IsTrue answer ↔ IsQuiet (parts self.now) r) }
+        ensures unchanged { IfOk result (λ answer. (r : Member) → member_named (name_text name.now) (parts self.now) ≡ Some r
+            → IsTrue answer → ChangesNothing (parts self.now) r) }
         ensures fixed { IfOk result (λ answer. (r : Member) → member_named (name_text name.now) (parts self.now) ≡ Some r
-            → HasRuns (parts self.now) r → IsTrue answer ↔ ChangesNothing (parts self.now) r) };
+            → MayChangeNothing (parts self.now) r → IsTrue answer) }
+        ensures sound { IfOk result (λ answer. (r : Member) → member_named (name_text name.now) (parts self.now) ≡ Some r
+            → IsTrue answer → IsSettled (parts self.now) r → IsSound (parts self.now) r) };
 }
 
 /// Whether each router of a set is at rest.
@@ -89,6 +94,7 @@ impl Audit for World {
     fn quiet(&self, alloc: Global, name: &Name) -> Result<bool, NoMemory> {
         always_sound();
         rest_is_the_fixed_point();
+        settled_and_quiet_is_sound();
         self.is_replayed();
         let Some(r) = member(self, name) else {
             unreachable!()

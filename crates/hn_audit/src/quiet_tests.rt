@@ -21,6 +21,23 @@ fn a_backoff_is_no_rest(rt: HostRuntime) -> Result<(), Fail> {
     play(&rt, &[ONE_ON_A_LINK, &end])
 }
 
+/// With the random word 1 the backoff ends after a millisecond, and not before.
+#[test]
+fn a_backoff_that_waits_is_no_rest(rt: HostRuntime) -> Result<(), Fail> {
+    let end = [
+        Act::Delegate(b'A', WIDE, 7200, 7200),
+        Act::TickWithOne(b'A'),
+        Act::Says(b'A', RESTLESS),
+        Act::Tick(b'A'),
+        Act::Says(b'A', RESTLESS),
+        Act::AtRest(b'A', false),
+        Act::Pass(1),
+        Act::Tick(b'A'),
+        Act::Says(b'A', QUIET),
+    ];
+    play(&rt, &[ONE_ON_A_LINK, &end])
+}
+
 #[test]
 fn one_free_prefix_for_two_links(rt: HostRuntime) -> Result<(), Fail> {
     let end = [

@@ -1,5 +1,5 @@
 -- What the report on a Router Advertisement says of the router of a name.
-use Rattle.std.proofs.Common.{◌≡◌, ℕ, List, Option, Some, subst}
+use Rattle.std.proofs.Common.{◌≡◌, ℕ, List, Some, subst}
 use Rattle.std.specs.Option.{option_map}
 use Rattle.hn_base.specs.Name.{name_text}
 use Rattle.hn_base.specs.declared.ids.EpId.{EpId}

@@ -145,7 +145,7 @@ one_audited w m = record { one = once }
     once l k (inr (inl is)) (inr (inr other)) = absurd (is.1 other.1)
     once l k (inr (inr is)) (inl other) = absurd (other.0 is.0)
     once l k (inr (inr is)) (inr (inl other)) = absurd (other.1 is.1)
-    once l k (inr (inr is)) (inr (inr other)) = is.2 ∙ sym other.2
+    once l k (inr (inr is)) (inr (inr other)) = is.3 ∙ sym other.3
 
 one_audit : (name : Name) (w : Parts) (m : Member) → IsOneReport (IsAuditLine name w m)
 one_audit name w m = record {

@@ -1,8 +1,7 @@
 -- What a play of a script comes to, and what holds of the whole source.
-use Rattle.std.proofs.Common.{◌≡◌, ◌≢◌, ◌<◌, ◌≤◌, ◌^◌, ℕ, zero, suc, List, [], ◌∷◌, Option, None, Some, Result, Ok, Err, length, inl, inr, subst, sym, ap, refl, arith, lit<, length-append}
-use Rattle.std.specs.Prelude.{IfSome, IfOk, Contains}
-use Rattle.std.specs.Io.KnownBytes.{Appends, Consumes}
-use Rattle.std.proofs.lemmas.Bool.{cases_lt}
+use Rattle.std.proofs.Common.{◌≡◌, ◌≢◌, ◌<◌, ◌≤◌, ◌^◌, ℕ, zero, suc, List, [], ◌∷◌, Option, Result, Ok, Err, length, inl, inr, subst, refl, arith, lit<}
+use Rattle.std.specs.Prelude.{IfOk, Contains}
+use Rattle.std.specs.Io.KnownBytes.{Appends}
 use Rattle.hn_io.specs.declared.fault.IoFault.{IoFault}
 use Rattle.hn_io.specs.declared.fault.IoFault.TheVariants.{Failed, NoMemory}
 use Rattle.hn_script.specs.Script.{IsScript, IsFirstFault}
@@ -12,7 +11,6 @@ use Rattle.hn_script.specs.declared.script.Script.{Script}
 use Rattle.hn_world.specs.declared.parts.Parts.{Parts}
 use Rattle.hn_lab.specs.declared.end.End.{End}
 use Rattle.hn_lab.specs.declared.end.End.TheVariants.{Done, Refused}
-use Rattle.hn_lab.specs.Input.{IsWhole}
 use Rattle.hn_lab.specs.Lab.{play_status, HasDonePlay, HasRefusal, IsLabOf}
 use Rattle.hn_lab.specs.Play.{begun, IsPlay}
 use Rattle.hn_lab.specs.Stage.{Stage}

@@ -1,5 +1,5 @@
 -- What was read of a source, and the bytes that the source has.
-use Rattle.std.proofs.Common.{◌<◌, ◌≤◌, ◌^◌, ℕ, List, ◌++◌, Option, None, Some, length, inl, inr, subst, sym, ap, arith, length-append}
+use Rattle.std.proofs.Common.{◌<◌, ◌≤◌, ◌^◌, ℕ, List, Option, None, Some, length, inl, inr, subst, sym, ap, arith, length-append}
 use Rattle.std.specs.Prelude.{IfSome}
 use Rattle.std.specs.Io.KnownBytes.{Consumes}
 use Rattle.std.proofs.lemmas.Bool.{cases_lt}

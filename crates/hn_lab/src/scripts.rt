@@ -95,6 +95,7 @@ pub fn play<K: Sink>(alloc: Global, script: Script, out: &mut K) -> Played
     ensures plays { (written : List ℕ) × Plays script.lines result.status result.world written × Appends (K.held out.old) (K.held out.new) written }
     ensures done { HasDonePlay script.lines → result.status ≢ REFUSED }
     ensures refused { HasRefusal script.lines → result.status ≢ DONE }
+    ensures no_world { result.status ≡ NO_MEMORY → result.world ≡ None }
     ensures replayed { IfSome result.world IsReplayed }
     ensures headline { IfSome result.world (Always EqualHashesAgree) }
     ensures settled { IfSome result.world (Always SettledAreSound) }
@@ -124,6 +125,7 @@ fn play_bytes<K: Sink>(alloc: Global, bytes: &[u8], out: &mut K) -> Played
     ensures done { (script : AScript) → IsScript script bytes.now → HasDonePlay script.lines → result.status ≢ REFUSED }
     ensures refused { (script : AScript) → IsScript script bytes.now → HasRefusal script.lines → result.status ≢ DONE }
     ensures no_script { (fault : AFault) → IsFirstFault fault bytes.now → result.status ≢ DONE }
+    ensures no_world { result.status ≡ NO_MEMORY → result.world ≡ None }
     ensures replayed { IfSome result.world IsReplayed }
     ensures headline { IfSome result.world (Always EqualHashesAgree) }
     ensures settled { IfSome result.world (Always SettledAreSound) }
@@ -148,6 +150,7 @@ pub fn lab<S: Source, K: Sink>(alloc: Global, src: &mut S, out: &mut K) -> Playe
     ensures done { IfSome (S.left src.old) (λ bytes. (script : AScript) → IsScript script bytes → HasDonePlay script.lines → result.status ≢ REFUSED) }
     ensures refused { IfSome (S.left src.old) (λ bytes. (script : AScript) → IsScript script bytes → HasRefusal script.lines → result.status ≢ DONE) }
     ensures no_script { IfSome (S.left src.old) (λ bytes. (fault : AFault) → IsFirstFault fault bytes → result.status ≢ DONE) }
+    ensures no_world { (result.status ≡ SOURCE_FAILED) ⊎ (result.status ≡ NO_MEMORY) → result.world ≡ None }
     ensures replayed { IfSome result.world IsReplayed }
     ensures headline { IfSome result.world (Always EqualHashesAgree) }
     ensures settled { IfSome result.world (Always SettledAreSound) }

@@ -1,4 +1,4 @@
-use Rattle.std.proofs.Common.{◌≡◌, sym, ap, ◌∙◌, List, ℕ}
+use Rattle.std.proofs.Common.{◌≡◌, sym, ap, ◌∙◌}
 use Rattle.std.specs.Prelude.{string_bytes}
 use Rattle.hn_lab.specs.AdvertReports.{IsAdvertLine, advert_line}
 use Rattle.hn_lab.specs.Line.{unless_elects, Tells}

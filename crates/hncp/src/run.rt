@@ -79,6 +79,7 @@ pub fn run<S: Source, K: Sink>(alloc: Global, words: &[String], src: &mut S, out
         → IfSome (S.left src.old) (λ bytes. CutsDecode bytes IoFault.NoMemory (K.held out.old) (K.held out.new)) }
     ensures decode_complete { IsFormOf Form.Decode (map string_bytes words.now)
         → IfSome (S.left src.old) (λ bytes. SpellsTlvs bytes → result.status ≢ REFUSED) }
+
     ensures no_world { IsFormOf Form.Decode (map string_bytes words.now) → result.world ≡ None }
 
     // `soak`: status, world and what is written are those of the script of the soak; nothing is read.
@@ -94,6 +95,7 @@ pub fn run<S: Source, K: Sink>(alloc: Global, words: &[String], src: &mut S, out
 
     // Where each status comes from. After 3 nothing was written. Reading ends after 2^24 + 1 bytes.
     ensures statuses { Contains (DONE ∷ BAD_USAGE ∷ REFUSED ∷ SOURCE_FAILED ∷ SINK_FAILED ∷ NO_MEMORY ∷ []) result.status }
+    ensures without_world { (result.status ≡ BAD_USAGE) ⊎ ((result.status ≡ SOURCE_FAILED) ⊎ (result.status ≡ NO_MEMORY)) → result.world ≡ None }
     ensures source_counts { Counts (result.status ≡ SOURCE_FAILED) (S.faults src.old) (S.faults src.new) }
     ensures sink_counts { Counts (result.status ≡ SINK_FAILED) (K.faults out.old) (K.faults out.new) }
     ensures source_reliable { IsReliable (result.status ≡ SOURCE_FAILED) (S.never_fails src.old) (S.never_fails src.new) }

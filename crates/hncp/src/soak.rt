@@ -24,6 +24,7 @@ pub fn soak<K: Sink>(alloc: Global, n: u32, seed: u64, out: &mut K) -> Played
     ensures soak { (written : List ℕ) × IsSoakPlay n seed result.status result.world written × Appends (K.held out.old) (K.held out.new) written }
     ensures done { (script : Script) → IsScript script (soak_text n seed) → HasDonePlay script.lines → result.status ≢ REFUSED }
     ensures refused { (script : Script) → IsScript script (soak_text n seed) → HasRefusal script.lines → result.status ≢ DONE }
+    ensures no_world { result.status ≡ NO_MEMORY → result.world ≡ None }
     ensures replayed { IfSome result.world IsReplayed }
     ensures headline { IfSome result.world (Always EqualHashesAgree) }
     ensures settled { IfSome result.world (Always SettledAreSound) }

@@ -27,6 +27,10 @@ pub Contains-cases : {K : Type 0} (x : K) (xs : List K) (y : K) → Contains (x 
 Contains-cases x xs y (zero, lt, at) = inl at
 Contains-cases x xs y (suc k, lt, at) = inr (k, omega (arith, lt), at)
 
+pub Contains-one : {K : Type 0} (x y : K) → Contains (x ∷ []) y → x ≡ y
+Contains-one x y (zero, lt, at) = at
+Contains-one x y (suc k, lt, at) = absurd (omega (arith, lt))
+
 -- ---- tests by an exact order
 
 pub equal_from_is_eq : (o : Ordering) → is_eq o ≡ true → o ≡ Equal

@@ -1,7 +1,8 @@
 -- Which elements lists have, and lists that grow by what an element gives.
 use Rattle.std.proofs.Common.{◌≡◌, ℕ, ◌+◌, ◌<◌, Bool, true, false, cond, Option, Some, None, List, [], ◌∷◌, ◌++◌, length, get_or, take, All, Contains, refl, sym, ap, ◌∙◌, subst, inl, inr}
-use Rattle.std.specs.List.{filter, filter_map, cons_option}
+use Rattle.std.specs.List.{filter, filter_map, cons_option, list_any}
 use Rattle.std.proofs.lemmas.List.{take_more, append-nil}
+use Rattle.std.proofs.lemmas.List.Folds.{Any-from_list_any, list_any_at}
 use Rattle.std.proofs.lemmas.List.Elements.{All-contains_itself, filter_map-append}
 use Rattle.hn_base.proofs.AscendingLists.{nothing_in, Contains-head, Contains-tail, Contains-cases}
 
@@ -70,6 +71,14 @@ from_filter_map {X} {Y} h (x ∷ xs) y k = go (h x) refl k (from_filter_map h xs
           | inl same ↦ (x, Contains-head x xs, e ∙ ap Some same)
           | inr later ↦ let found = rest later in (found.0, Contains-tail x xs found.0 found.1, found.2)
         ]
+
+-- ---- list_any
+
+pub any_of : {X : Type 0} (test : X → Bool) (xs : List X) → list_any test xs ≡ true → (x : X) × Contains xs x × (test x ≡ true)
+any_of test xs is = let found = Any-from_list_any test xs is in (found.1, (found.0, found.2, found.3), found.4)
+
+pub any_from : {X : Type 0} (test : X → Bool) (xs : List X) (x : X) → Contains xs x → test x ≡ true → list_any test xs ≡ true
+any_from {X} test xs x (k, lt, at) passes = list_any_at test xs k x lt (subst (λ (y : X). test y ≡ true) (sym at) passes)
 
 -- ---- what an element gives, as a `for` goes over a slice
 

@@ -1,5 +1,5 @@
 -- The first words of a stream.
-use Rattle.std.proofs.Common.{◌≡◌, ℕ, List, ◌++◌, length, arith, length-append}
+use Rattle.std.proofs.Common.{◌≡◌, ℕ, List, ◌++◌, arith, length-append}
 use Rattle.std.specs.Prelude.{slice_index, EachIndex}
 use Rattle.std.proofs.lemmas.Grind.{common_steps}
 

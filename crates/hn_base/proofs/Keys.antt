@@ -1,7 +1,9 @@
 -- Identifiers and keys are known by their fields, and keys that are equal in their order are one.
-use Rattle.std.proofs.Common.{◌≡◌, ℕ}
+use Rattle.std.proofs.Common.{◌≡◌, ℕ, Decides, ap}
+use Rattle.std.specs.Prelude.{◌==◌}
 use Rattle.std.specs.Cmp.{IsTotalOrder}
 use Rattle.std.specs.Ordering.{on, then_cmp, nat_cmp}
+use Rattle.std.proofs.lemmas.Bool.{eqb-true, eq-eqb}
 use Rattle.std.proofs.lemmas.Cmp.{on_total, then_total, nat_cmp_total}
 use Rattle.hn_base.specs.declared.ids.NodeId.{NodeId}
 use Rattle.hn_base.specs.declared.ids.EpId.{EpId}
@@ -15,6 +17,9 @@ same_node a b e = λ i. record { 0 = e i }
 
 pub same_id : (a b : EpId) → a.0 ≡ b.0 → a ≡ b
 same_id a b e = λ i. record { 0 = e i }
+
+pub node_decided : (a b : NodeId) → Decides (a.0 == b.0) (a ≡ b)
+node_decided a b = (λ e. same_node a b (eqb-true a.0 b.0 e), λ e. eq-eqb a.0 b.0 (ap (λ (n : NodeId). n.0) e))
 
 pub key_total : IsTotalOrder key_cmp
 key_total = then_total (on_total (λ (k : Key). k.priority) nat_cmp_total) (then_total (on_total (λ (k : Key). k.node.0) nat_cmp_total) (on_total (λ (k : Key). k.endpoint.0) nat_cmp_total))

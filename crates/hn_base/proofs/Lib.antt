@@ -1,8 +1,10 @@
 pub mod AscendingLists
 pub mod AscendingNumbers
+pub mod Around
 pub mod BigEndian
 pub mod Decisions
 pub mod Elements
+pub mod Fields
 pub mod FirstWords
 pub mod Firsts
 pub mod Fronts

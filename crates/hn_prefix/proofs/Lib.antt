@@ -4,6 +4,7 @@ mod Jumps
 mod Masks
 mod OneRead
 mod Places
+pub mod Prefixes
 mod ReadLemmas
 mod Rounds
 mod WriteLemmas

@@ -1,9 +1,9 @@
 -- What one more item adds to what is kept.
-use Rattle.std.proofs.Common.{◌≡◌, ◌↔◌, ℕ, ◌⊎◌, inl, inr, ⊎_elim, Bool, IsTrue, true, false, ◌||◌, List, [], ◌∷◌, ◌++◌, Option, Some, None, option_to_list, Contains, refl, sym, ap, subst, ◌∙◌, arith}
+use Rattle.std.proofs.Common.{◌≡◌, ◌↔◌, ℕ, ◌⊎◌, inl, inr, ⊎_elim, Bool, IsTrue, true, false, ◌||◌, List, [], ◌∷◌, ◌++◌, Option, Some, None, option_to_list, Contains, refl, sym, ap, subst, ◌∙◌}
 use Rattle.std.specs.Option.{option_map, option_or}
 use Rattle.std.specs.List.{filter_map}
 use Rattle.std.proofs.lemmas.List.Elements.{Contains-append_left, Contains-append_right, Contains-append_cases}
-use Rattle.hn_base.proofs.AscendingLists.{Contains-head, Contains-cases}
+use Rattle.hn_base.proofs.AscendingLists.{Contains-head}
 use Rattle.hn_base.proofs.Parts.{filter_map-push}
 use Rattle.hn_tlv.specs.Grammar.{PlainTlv}
 use Rattle.hn_typed.specs.Item.{PlainItem, PlainCaps, External}
@@ -14,6 +14,7 @@ use Rattle.hn_data.specs.Said.{caps_of, version_of}
 use Rattle.hn_data.specs.Delegations.{delegation_of, IsDelegatedIn, IsConnected}
 use Rattle.hn_data.specs.declared.said.Delegation.{Delegation}
 use Rattle.hn_data.proofs.Readings.{HasOneReading}
+use Rattle.hn_base.proofs.AscendingLists.{Contains-one}
 
 -- ---- readings
 
@@ -110,9 +111,6 @@ delegations_more items item old new was more d =
       λ h. (more d).1 (⊎_elim (λ g. inl ((was d).1 g)) (λ g. inr g) (parts.0 h)),
     )
 
-only : {A : Type 0} (x y : A) → Contains (x ∷ []) y → x ≡ y
-only x y h = ⊎_elim (λ e. e) (λ (k, lt, at). absurd (grind arith)) (Contains-cases x [] y h)
-
 same_subs : (a b : List ℕ) → External a ≡ External b → a ≡ b
 same_subs a b e = cc
 
@@ -121,7 +119,7 @@ delegates_inner : (subs : List ℕ) (inner : List PlainItem) (d : Delegation)
     → HasOneReading subs → AreItems subs inner → Contains (filter_map delegation_of inner) d ↔ IsDelegatedIn (External subs ∷ []) d
 delegates_inner subs inner d one are = (
   λ h. record { subs = subs; external = Contains-head (External subs) []; inside = (inner, are, h) },
-  λ h. let same : subs ≡ h.subs = same_subs subs h.subs (only (External subs) (External h.subs) h.external) in
+  λ h. let same : subs ≡ h.subs = same_subs subs h.subs (Contains-one (External subs) (External h.subs) h.external) in
       let are' : AreItems subs h.inside.0 = subst (λ (b : List ℕ). AreItems b h.inside.0) (sym same) h.inside.1 in
       subst (λ (xs : List PlainItem). Contains (filter_map delegation_of xs) d) (one h.inside.0 inner are' are) h.inside.2,
 )

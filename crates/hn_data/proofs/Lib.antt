@@ -2,7 +2,6 @@ pub mod Places
 pub mod Readings
 pub mod Adding
 pub mod Walking
-pub mod Faults
 pub mod AskedLemmas
 pub mod Pieces
 pub mod Written

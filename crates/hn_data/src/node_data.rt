@@ -19,7 +19,7 @@ use crate::reading::read_kept;
 use crate::said::{AssignedPrefix, Delegation, PeerLink};
 use crate::walk::tlv_at;
 use hn_base::{Bytes, NoMemory};
-use hn_tlv::{check, first_fault_is_unique, list_grows, spelling_is_prefix_free, tlv_is_unique};
+use hn_tlv::{check, list_grows, spelling_is_prefix_free, tlv_is_unique};
 use hn_typed::{Item, ItemFault, item_is_unique, read, written_is_read};
 use std::alloc::Global;
 use std::marker::Model;
@@ -74,7 +74,6 @@ impl NodeData {
         ensures refused { (place why : ℕ)
             → (result ≡ Err (Tlv (record { place = place; why = why }))) ↔ FirstFault bytes.now place why }
     {
-        first_fault_is_unique();
         check(bytes)?;
         let copy = Bytes::copy_of(alloc, bytes)?;
         Ok(read_data(alloc, copy)?)

@@ -8,7 +8,7 @@ use crate::laws::lines_make_the_text;
 use crate::line::DEEPEST;
 use crate::nested::{push_tlv, tlv_at};
 use hn_base::NoMemory;
-use hn_tlv::{check, first_fault_is_unique, list_continues};
+use hn_tlv::{check, list_continues};
 use std::alloc::Global;
 
 /// The first line of the text of a datagram: `tlvs C` with the number of its TLVs, and LF.
@@ -52,7 +52,6 @@ pub fn decode(alloc: Global, bytes: &[u8]) -> Result<String, DecodeFault>
     ensures malformed { (place why : ℕ)
         → (result ≡ Err (Malformed (record { place = place; why = why }))) ↔ FirstFault bytes.now place why }
 {
-    first_fault_is_unique();
     lines_make_the_text();
     let count = check(bytes)?;
     let mut out = first_line(alloc, count)?;

@@ -8,7 +8,6 @@ use Rattle.std.proofs.lemmas.List.Elements.{All-push, filter_map-append, Contain
 use Rattle.hn_prefix.specs.Prefix.{IsPrefix}
 use Rattle.std.proofs.lemmas.List.{append-nil}
 use Rattle.hn_base.proofs.AscendingLists.{nothing_in}
-use Rattle.hn_base.proofs.Decisions.{both_true}
 use Rattle.hn_base.proofs.Elements.{in_filter_map, from_filter_map}
 use Rattle.hn_data.specs.Said.{HasVersion}
 use Rattle.hn_data.specs.Delegations.{HasDelegation}
@@ -18,6 +17,7 @@ use Rattle.hn_deleg.proofs.Lists.{take_at}
 use Rattle.hn_deleg.specs.Live.{remaining}
 use Rattle.hn_deleg.specs.Steps.{live_of, HasPrefixes, IsLiveAt, IsLiveIn}
 use Rattle.hn_deleg.specs.declared.delegated.Delegated.{Delegated}
+use Rattle.std.proofs.lemmas.Bool.{and_parts}
 
 -- ---- the delegations of a node
 
@@ -128,7 +128,7 @@ left_of age d = record { prefix = d.prefix; valid = remaining age d.valid; prefe
 pub leaves : (age : ℕ) (d : Delegation) (u : Delegated) → live_of age d ≡ Some u → Leaves age d u
 leaves age d u h =
     let split = of_test (nat_le d.prefix.len 64 && nat_lt 0 (remaining age d.valid)) (left_of age d) u h in
-    let tests = both_true (nat_le d.prefix.len 64) (nat_lt 0 (remaining age d.valid)) split.0 in
+    let tests = and_parts (nat_le d.prefix.len 64) (nat_lt 0 (remaining age d.valid)) split.0 in
     record {
       short = le_from_test d.prefix.len 64 tests.0;
       live = lt_from_test 0 (remaining age d.valid) tests.1;

@@ -1,14 +1,15 @@
 -- Prefixes: when two are one, and their order.
-use Rattle.std.proofs.Common.{◌≡◌, ◌≢◌, ◌⊎◌, ◌↔◌, ℕ, ◌-◌, ◌^◌, ◌<◌, ◌≤◌, Ordering, true, false, eqb, refl, sym, ap, inl, inr, ⊎_elim, arith}
+use Rattle.std.proofs.Common.{◌≡◌, ◌≢◌, ◌⊎◌, ◌↔◌, ◌-◌, ◌^◌, ◌<◌, ◌≤◌, Ordering, true, false, eqb, refl, sym, ap, inl, inr, ⊎_elim, arith}
 use Rattle.std.specs.Prelude.{◌&&◌}
 use Rattle.std.specs.declared.cmp.Ordering.TheVariants.{Less, Equal, Greater}
-use Rattle.std.specs.Cmp.{IsTotalOrder, nat_cmp_is}
+use Rattle.std.specs.Cmp.{nat_cmp_is}
 use Rattle.std.specs.Ordering.{nat_cmp, ordering_then}
-use Rattle.std.proofs.lemmas.Bool.Decides.{nat_tests}
-use Rattle.std.proofs.lemmas.Cmp.{on_total, then_total, nat_cmp_total, ranked, by_ranked}
+use Rattle.std.proofs.lemmas.Bool.Decides.{not_from_Decides}
 use Rattle.std.proofs.lemmas.Nat.{pow_pos, pow_below}
 use Rattle.hn_base.proofs.AscendingLists.{exact_nat}
 use Rattle.hn_prefix.specs.Prefix.{PlainPrefix, IsPrefix, IsWithin, Overlaps, last_address, prefix_cmp}
+use Rattle.hn_base.proofs.AscendingNumbers.{lt_from_less}
+use Rattle.hn_prefix.proofs.Prefixes.{is_one_prefix, prefix_decided}
 
 -- the laws of hn_prefix: a prefix is within another where its range of addresses is
 abbrev pub WithinIsRange : Type 0
@@ -22,37 +23,22 @@ OverlapIsRange = (p q : PlainPrefix) → IsPrefix p → IsPrefix q → Overlaps 
 abbrev pub OverlapIsNesting : Type 0
 OverlapIsNesting = (p q : PlainPrefix) → Overlaps p q ↔ (IsWithin p q ⊎ IsWithin q p)
 
-same_prefix : (p q : PlainPrefix) → p.bits ≡ q.bits → p.len ≡ q.len → p ≡ q
-same_prefix p q bits len = λ i. record { bits = bits i; len = len i }
-
 -- what a comparison of two prefixes tells
 pub prefix_from_test : (p q : PlainPrefix) → true ≡ (eqb p.bits q.bits && eqb p.len q.len) → p ≡ q
-prefix_from_test p q h =
-    let bits : p.bits ≡ q.bits = grind (arith, nat_tests) in
-    let len : p.len ≡ q.len = grind (arith, nat_tests) in
-    same_prefix p q bits len
+prefix_from_test p q h = (prefix_decided p q).0 (sym h)
 
 pub other_from_test : (p q : PlainPrefix) → false ≡ (eqb p.bits q.bits && eqb p.len q.len) → p ≢ q
-other_from_test p q h same =
-    let bits : p.bits ≡ q.bits = ap (λ x. x.bits) same in
-    let len : p.len ≡ q.len = ap (λ x. x.len) same in
-    grind (arith, nat_tests)
-
-pub prefix_total : IsTotalOrder prefix_cmp
-prefix_total = then_total (on_total (λ p. p.bits) nat_cmp_total) (on_total (λ p. p.len) nat_cmp_total)
+other_from_test p q h = not_from_Decides (is_one_prefix p q) (prefix_decided p q) (sym h)
 
 then_less : (a b : Ordering) → ordering_then a b ≡ Less → (a ≡ Less) ⊎ ((a ≡ Equal) × (b ≡ Less))
 then_less Less b h = inl refl
 then_less Equal b h = inr (refl, h)
 then_less Greater b h = absurd (cc)
 
-below : (x y : ℕ) → nat_cmp x y ≡ Less → x < y
-below x y h = by_ranked (x < y) (x ≡ y) (y < x) (nat_cmp x y) (ranked x y (nat_cmp x y) refl) (λ _ less. less) (λ e _. absurd (cc)) (λ e _. absurd (cc))
-
 less_cases : (p q : PlainPrefix) → prefix_cmp p q ≡ Less → (p.bits < q.bits) ⊎ ((p.bits ≡ q.bits) × (p.len < q.len))
 less_cases p q h =
-    ⊎_elim (λ (less : nat_cmp p.bits q.bits ≡ Less). inl (below p.bits q.bits less))
-    (λ (tie : (nat_cmp p.bits q.bits ≡ Equal) × (nat_cmp p.len q.len ≡ Less)). inr (exact_nat p.bits q.bits tie.0, below p.len q.len tie.1))
+    ⊎_elim (λ (less : nat_cmp p.bits q.bits ≡ Less). inl (lt_from_less p.bits q.bits less))
+    (λ (tie : (nat_cmp p.bits q.bits ≡ Equal) × (nat_cmp p.len q.len ≡ Less)). inr (exact_nat p.bits q.bits tie.0, lt_from_less p.len q.len tie.1))
     (then_less (nat_cmp p.bits q.bits) (nat_cmp p.len q.len) h)
 
 pub less_bits : (p q : PlainPrefix) → prefix_cmp p q ≡ Less → p.bits ≤ q.bits

@@ -12,7 +12,8 @@ use Rattle.hn_deleg.specs.declared.delegated.Delegated.{Delegated}
 use Rattle.hn_deleg.specs.Live.{IsGreatest}
 use Rattle.hn_deleg.specs.Used.{prefixes_of, IsOutermost, HasLifetimes, AreUsable}
 use Rattle.hn_deleg.proofs.Lists.{no_longer}
-use Rattle.hn_deleg.proofs.Prefixes.{OverlapIsNesting, prefix_total}
+use Rattle.hn_deleg.proofs.Prefixes.{OverlapIsNesting}
+use Rattle.hn_prefix.proofs.Prefixes.{prefix_total}
 
 pub outermost_of : (view : PlainView) (list : List Delegated) (p : PlainPrefix) → AreUsable view list → Contains (prefixes_of list) p → IsOutermost view p
 outermost_of view list p are h =

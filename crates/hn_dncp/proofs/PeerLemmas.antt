@@ -4,7 +4,7 @@ use Rattle.std.proofs.Math.ListN.{get_or-map}
 use Rattle.std.proofs.Math.Seq.{map-set_same}
 use Rattle.std.specs.Prelude.{slice_set, position, if◌then◌else◌, ◌==◌, ◌&&◌}
 use Rattle.std.specs.List.{AllPairs, list_any}
-use Rattle.std.proofs.lemmas.Bool.{cases_lt, eqb-true}
+use Rattle.std.proofs.lemmas.Bool.{and_parts, cases_lt, eqb-true}
 use Rattle.std.proofs.lemmas.Bool.Decides.{nat_tests}
 use Rattle.std.proofs.lemmas.List.Folds.{list_any_at}
 use Rattle.std.proofs.lemmas.List.Quantifiers.{position-Some, all_pairs_push}
@@ -21,13 +21,9 @@ key peer = (peer.node.0, peer.endpoint.0)
 abbrev is_key : ℕ × ℕ → ℕ × ℕ → Bool
 is_key k other = other.0 == k.0 && other.1 == k.1
 
-both : (a b : Bool) → (a && b) ≡ true → (a ≡ true) × (b ≡ true)
-both true b is = (refl, is)
-both false b is = absurd cc
-
 same_key : (k other : ℕ × ℕ) → is_key k other ≡ true → other ≡ k
 same_key k other is =
-    let is_both = both (other.0 == k.0) (other.1 == k.1) is in
+    let is_both = and_parts (other.0 == k.0) (other.1 == k.1) is in
     let first : other.0 ≡ k.0 = eqb-true _ _ is_both.0 in
     let second : other.1 ≡ k.1 = eqb-true _ _ is_both.1 in
     ap (λ (n : ℕ). let l : ℕ × ℕ = (n, other.1) in l) first ∙ ap (λ (n : ℕ). let l : ℕ × ℕ = (k.0, n) in l) second

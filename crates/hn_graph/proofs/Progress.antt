@@ -7,7 +7,7 @@ use Rattle.std.proofs.lemmas.List.{length-replicate, get_or-replicate, get_or_pa
 use Rattle.std.proofs.lemmas.List.Elements.{Contains-get_or, Contains-push, Contains-push_cases, Contains-append_left}
 use Rattle.std.proofs.lemmas.Option.{same_Some, slice_get_within, slice_get_read}
 use Rattle.hn_base.specs.declared.ids.NodeId.{NodeId}
-use Rattle.hn_base.proofs.AscendingLists.{nothing_in}
+use Rattle.hn_base.proofs.AscendingLists.{Contains-one, nothing_in}
 use Rattle.hn_base.proofs.Parts.{part_stands, part_is, one_place, contains_at}
 use Rattle.hn_data.specs.View.{ids_of}
 use Rattle.hn_data.specs.declared.view.Entry.{Entry}
@@ -31,20 +31,17 @@ none_yet n k h =
     (λ (rest : n ≤ k). absurd (let is = get_or_past (replicate n false) k false (let long = length-replicate n false in omega arith) in cc))
     (cases_lt k n)
 
-one_in : (x k : ℕ) → Contains (x ∷ []) k → x ≡ k
-one_in x k h = ⊎_elim (λ (old : Contains {X = ℕ} [] k). absurd (nothing_in k old)) (λ (e : x ≡ k). e) (Contains-push_cases [] x k h)
-
 -- the beginning: the own node is marked
 pub begin : (own : ℕ) (nodes : List Entry) (start : ℕ) (found : List Bool) (visits : List ℕ) → IsStrictlySortedBy nat_cmp (ids_of nodes)
     → start < length nodes → slice_get (ids_of nodes) start ≡ Some own → HasMarked (start ∷ []) (replicate (length nodes) false) [] found visits → IsUnderway own nodes found visits
 begin own nodes start found visits up lt is m = record {
   same_length = m.same_length ∙ length-replicate (length nodes) false;
-  visits_nodes = λ k h. ⊎_elim (λ (old : Contains [] k). absurd (nothing_in k old)) (λ (new : Contains (start ∷ []) k). subst (λ (j : ℕ). j < length nodes) (one_in start k new) lt) (m.visits_only k h);
+  visits_nodes = λ k h. ⊎_elim (λ (old : Contains [] k). absurd (nothing_in k old)) (λ (new : Contains (start ∷ []) k). subst (λ (j : ℕ). j < length nodes) (Contains-one start k new) lt) (m.visits_only k h);
   visits_found = λ k h. ⊎_elim (λ (old : Contains [] k). absurd (nothing_in k old)) (m.marks_given k) (m.visits_only k h);
   own_found = λ k x at own_is. let same : k ≡ start = one_place (ids_of nodes) up k start own (part_stands (λ n. n.id.0) nodes k x at ∙ ap Some own_is) is in
       m.marks_given k (subst (Contains (start ∷ [])) (sym same) (Contains-get_or (start ∷ []) 0 0 (omega arith)));
   sound = λ k x at h. ⊎_elim (λ (old : IsFound (replicate (length nodes) false) k). absurd (none_yet (length nodes) k old))
-      (λ (new : Contains (start ∷ []) k × Contains visits k). way_to_own own nodes x (contains_at nodes k x at) (part_is (λ n. n.id.0) nodes k own x at (subst (λ (j : ℕ). slice_get (ids_of nodes) j ≡ Some own) (one_in start k new.0) is)))
+      (λ (new : Contains (start ∷ []) k × Contains visits k). way_to_own own nodes x (contains_at nodes k x at) (part_is (λ n. n.id.0) nodes k own x at (subst (λ (j : ℕ). slice_get (ids_of nodes) j ≡ Some own) (Contains-one start k new.0) is)))
       (m.marks_only k h);
   closed = λ k x j at h next. ⊎_elim (λ (old : IsFound (replicate (length nodes) false) k). absurd (none_yet (length nodes) k old)) (λ (new : Contains (start ∷ []) k × Contains visits k). inl new.1) (m.marks_only k h);
 }

@@ -1,9 +1,8 @@
 -- Equal network hashes are those of equal leaves, or show a collision.
-use Rattle.std.proofs.Common.{◌≡◌, ◌≢◌, ℕ, suc, ◌^◌, ◌<◌, Bool, false, not, List, [], ◌∷◌, refl, sym, ap, ◌∙◌, inl, inr, ◌⊎◌, arith}
+use Rattle.std.proofs.Common.{◌≡◌, ℕ, suc, ◌^◌, ◌<◌, Bool, false, not, List, [], ◌∷◌, refl, sym, ap, ◌∙◌, inl, inr, ◌⊎◌, arith}
 use Rattle.std.specs.List.{AllByRecursion}
 use Rattle.std.specs.Str.{bytes_eq}
-use Rattle.std.proofs.lemmas.Bool.{cases_Bool, not-false}
-use Rattle.std.proofs.lemmas.Bool.Decides.{not_from_Decides}
+use Rattle.std.proofs.lemmas.Bool.{not-false}
 use Rattle.std.proofs.lemmas.List.Elements.{recursion_from_All}
 use Rattle.std.proofs.lemmas.Slice.Eq.{bytes_eq-Decides}
 use Rattle.hn_hash.specs.Hash.{Collides}
@@ -12,14 +11,7 @@ use Rattle.hn_hash.specs.Agreement.{body_at, CollidesInPlace, IsFirstDifference,
 use Rattle.hn_hash.specs.declared.leaf.Leaf.{Leaf}
 use Rattle.hn_base.proofs.BigEndian.{same_words}
 use Rattle.hn_hash.proofs.Leaves.{IsAlike, IsAlike-from_texts, IsAlike-tail, IsAlike-head, same_hash_at}
-
--- texts are equal or not
-pub cases_texts : (p q : List ℕ) → (p ≡ q) ⊎ (p ≢ q)
-cases_texts p q =
-    elim (cases_Bool (bytes_eq p q)) [
-      | inl same ↦ inl ((bytes_eq-Decides p q).0 same)
-      | inr other ↦ inr (not_from_Decides (bytes_eq p q) (bytes_eq-Decides p q) other)
-    ]
+use Rattle.hn_base.proofs.Decisions.{texts_cases}
 
 abbrev HasNumber : Leaf → Type 0
 HasNumber leaf = leaf.number < 2 ^ 32
@@ -38,7 +30,7 @@ same_or_collide (x ∷ xs) [] alike a_fits b_fits = absurd (omega (arith, alike.
 same_or_collide (x ∷ xs) (y ∷ ys) alike a_fits b_fits =
     let first = IsAlike-head x y xs ys alike in
     let number_is = same_words x.number y.number a_fits.0 b_fits.0 first.0 in
-    elim (cases_texts x.body y.body) [
+    elim (texts_cases x.body y.body) [
       | inr differ ↦ inr (0, omega arith, record { differ = differ; one_hash = first.1 })
       | inl body_is ↦
           let leaf_is = same_leaf x y number_is body_is in
@@ -50,7 +42,7 @@ same_or_collide (x ∷ xs) (y ∷ ys) alike a_fits b_fits =
 
 pub agree_or_collide : EqualHashesAgreeOrCollide
 agree_or_collide a b a_fits b_fits one_hash =
-    elim (cases_texts (leaf_text a) (leaf_text b)) [
+    elim (texts_cases (leaf_text a) (leaf_text b)) [
       | inr differ ↦ inr (inl (record { differ = differ; one_hash = one_hash }))
       | inl texts_are ↦
           elim (same_or_collide a b (IsAlike-from_texts a b texts_are) (recursion_from_All HasNumber a a_fits) (recursion_from_All HasNumber b b_fits)) [

@@ -1,10 +1,8 @@
 -- Whether bytes are a list of TLVs, and whether a hash is theirs.
-use Rattle.std.proofs.Common.{◌≡◌, ◌≢◌, ◌<◌, ◌≤◌, ◌⊎◌, ◌^◌, ℕ, inl, inr, Bool, true, false, List, [], ◌∷◌, ◌++◌, length, replicate, refl, arith}
+use Rattle.std.proofs.Common.{◌<◌, ◌≤◌, ◌⊎◌, ◌^◌, ℕ, inl, inr, List, [], ◌∷◌, ◌++◌, length, replicate, arith}
 use Rattle.std.specs.Prelude.{All}
 use Rattle.std.specs.Int.{w16, to_be_bytes}
-use Rattle.std.specs.Str.{bytes_eq}
 use Rattle.std.proofs.lemmas.Bool.{cases_lt}
-use Rattle.std.proofs.lemmas.Slice.Eq.{bytes_eq-Decides}
 use Rattle.std.proofs.lemmas.List.Elements.{All-append, All-nil, All-cons, All-head, All-tail, All-replicate, All-same, All-from_recursion}
 use Rattle.hn_tlv.specs.Grammar.{PlainTlv, IsTlv, padding, header, unpadded, spelling, IsTlvList, HasTlvs, FirstFault}
 
@@ -12,14 +10,6 @@ use Rattle.hn_tlv.specs.Grammar.{PlainTlv, IsTlv, padding, header, unpadded, spe
 pub not_not : (P : Type 0) → P ⊎ (¬ P) → ¬ (¬ P) → P
 not_not P (inl holds) fails = holds
 not_not P (inr not) fails = absurd (fails not)
-
--- two lists of numbers are the same or not
-pub same_or_not : (xs ys : List ℕ) → (xs ≡ ys) ⊎ (xs ≢ ys)
-same_or_not xs ys = by_test (bytes_eq xs ys) refl
-  where
-    by_test : (b : Bool) → bytes_eq xs ys ≡ b → (xs ≡ ys) ⊎ (xs ≢ ys)
-    by_test true is = inl ((bytes_eq-Decides xs ys).0 is)
-    by_test false is = inr (λ same. let yes = (bytes_eq-Decides xs ys).1 same in absurd cc)
 
 -- a byte
 abbrev IsByte : ℕ → Type 0

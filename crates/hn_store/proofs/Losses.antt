@@ -1,12 +1,12 @@
 -- Who is among the reachable nodes, and what a mark changes.
-use Rattle.std.proofs.Common.{◌≡◌, ◌<◌, ◌≤◌, ℕ, ◌+◌, inl, inr, Bool, true, false, cond, not, ◌||◌, List, [], ◌∷◌, ◌++◌, length, map, filter, take, drop, get_or, subst, Result, Ok, Err, is_ok, Option, Some, None, refl, sym, ap, arith}
+use Rattle.std.proofs.Common.{◌≡◌, ◌<◌, ◌≤◌, ℕ, ◌+◌, inl, inr, Bool, true, false, cond, not, List, [], ◌∷◌, ◌++◌, length, map, filter, take, drop, get_or, subst, Result, Ok, Err, is_ok, Option, Some, None, refl, sym, ap, arith}
 use Rattle.std.specs.Prelude.{is_some, is_none, ◌==◌, count_by, IsTrue}
 use Rattle.std.specs.List.{list_any, AllAdjacentBelow, IsAllAdjacentAnswer}
 use Rattle.std.specs.List.Sorted.{IsNonDecreasingBy, IsStrictlySortedBy, IsSearchInRange, IsBinarySearchResult}
 use Rattle.std.specs.declared.cmp.Ordering.TheVariants.{Less, Equal, Greater}
 use Rattle.std.specs.Ordering.{nat_cmp, is_le, ordering_index}
 use Rattle.std.specs.Cmp.{ranked}
-use Rattle.std.proofs.lemmas.Bool.{eq-eqb, ne_eqb, cases_lt}
+use Rattle.std.proofs.lemmas.Bool.{eq-eqb, ne_eqb, cases_lt, or_parts}
 use Rattle.std.proofs.lemmas.Bool.Decides.{nat_tests}
 use Rattle.std.proofs.lemmas.Map.Keys.{le_from_is_le}
 use Rattle.std.proofs.lemmas.List.Sorted.{IsNonDecreasingBy-from_all_adjacent}
@@ -59,14 +59,10 @@ same_node : (reach : List NodeId) (now : ℕ) (node : HeldNode) → is_to_mark r
 same_node reach now node unneeded =
     ap (λ (lost : Option ℕ). record node { stored = record node.stored { lost = lost } }) (same_lost (is_among reach node.id.0) now node.stored.lost unneeded)
 
-first_false : (a b : Bool) → (a || b) ≡ false → (a ≡ false) × (b ≡ false)
-first_false true b h = absurd (cc)
-first_false false b h = (refl, h)
-
 pub marked-unneeded : (reach : List NodeId) (now : ℕ) (nodes : List HeldNode) → list_any (is_to_mark reach) nodes ≡ false → map (marked_node reach now) nodes ≡ nodes
 marked-unneeded reach now [] unneeded = refl
 marked-unneeded reach now (node ∷ nodes) unneeded =
-    let both = first_false (is_to_mark reach node) (list_any (is_to_mark reach) nodes) unneeded in
+    let both = or_parts (is_to_mark reach node) (list_any (is_to_mark reach) nodes) unneeded in
     let this = same_node reach now node both.0 in
     let others = marked-unneeded reach now nodes both.1 in
     cc
@@ -74,7 +70,7 @@ marked-unneeded reach now (node ∷ nodes) unneeded =
 pub remembered-unneeded : (now : ℕ) (nodes : List HeldNode) → list_any (is_forgotten now) nodes ≡ false → filter (λ node. not (is_forgotten now node)) nodes ≡ nodes
 remembered-unneeded now [] unneeded = refl
 remembered-unneeded now (node ∷ nodes) unneeded =
-    let both = first_false (is_forgotten now node) (list_any (is_forgotten now) nodes) unneeded in
+    let both = or_parts (is_forgotten now node) (list_any (is_forgotten now) nodes) unneeded in
     rw (both.0) (ap (λ others. node ∷ others) (remembered-unneeded now nodes both.1))
 
 -- a mark changes nothing but the moment of loss

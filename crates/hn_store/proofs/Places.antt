@@ -1,6 +1,6 @@
 -- What the place of a node says of the map.
-use Rattle.std.proofs.Common.{◌≡◌, ◌<◌, ◌≤◌, ℕ, zero, suc, Bool, true, false, List, [], ◌∷◌, length, filter, take, drop, get_or, set, Some, None, Result, Ok, Err, refl, sym, ap, inl, inr, arith}
-use Rattle.std.specs.Prelude.{find, insert, IfOk, IfErr, ◌==◌, nat_lt}
+use Rattle.std.proofs.Common.{◌≡◌, ◌<◌, ◌≤◌, ℕ, suc, false, List, length, filter, take, drop, get_or, set, Some, None, Result, Ok, Err, sym, ap, inl, inr, arith}
+use Rattle.std.specs.Prelude.{insert, IfOk, IfErr, ◌==◌, nat_lt}
 use Rattle.std.specs.Option.{option_map}
 use Rattle.std.specs.List.{HoldsAt}
 use Rattle.std.specs.List.Sorted.{IsStrictlySortedBy, IsSearchInRange, IsBinarySearchResult, IsNonDecreasingBy}
@@ -10,7 +10,6 @@ use Rattle.std.proofs.lemmas.Bool.{lt-ltb, le-ltb, eq-eqb, ne_eqb, cases_lt}
 use Rattle.std.specs.Cmp.{ranked}
 use Rattle.std.specs.Ordering.{ordering_index}
 use Rattle.std.specs.declared.cmp.Ordering.TheVariants.{Less, Equal, Greater}
-use Rattle.std.proofs.Math.Seq.{take-nil, drop-nil}
 use Rattle.std.proofs.lemmas.List.{get_or-map, length-map, set_split}
 use Rattle.std.proofs.lemmas.Map.Keys.{below_from_sorted}
 use Rattle.hn_base.proofs.Fronts.{filter-front, filter-back, find-at, find-none}

@@ -19,7 +19,8 @@ use Rattle.hn_store.specs.Laws.{HeldIsOfAnEntry, AcceptanceKeepsTable}
 use Rattle.hn_store.proofs.Answering.{known_of-other}
 use Rattle.hn_base.proofs.AscendingNumbers.{around-few, around-fewer}
 use Rattle.hn_store.proofs.Maps.{are_put, SoundNode}
-use Rattle.hn_store.proofs.Listed.{not_not, same_or_not}
+use Rattle.hn_base.proofs.Decisions.{texts_cases}
+use Rattle.hn_store.proofs.Listed.{not_not}
 
 -- ---- how many nodes there are after one was put
 
@@ -76,7 +77,7 @@ kept_table : (nodes : Nodes) (own : OwnLeaf) (s : PlainState) (now : ℕ) → (H
     → ¬ (IsFull nodes (known_of nodes.entries own s.node)) → ¬ (60000 < length s.body) → ¬ (HasWrongHash s) → s.node ≢ own.id.0
     → ¬ (CarriesData s × ¬ (HasTlvs s.body)) → CarriesData s → After nodes s now Kept
 kept_table nodes own s now reading are room short right other listed carries =
-    let hash_is : hash_of s.body ≡ s.hash = not_not (hash_of s.body ≡ s.hash) (same_or_not (hash_of s.body) s.hash) (λ wrong. right (carries, wrong)) in
+    let hash_is : hash_of s.body ≡ s.hash = not_not (hash_of s.body ≡ s.hash) (texts_cases (hash_of s.body) s.hash) (λ wrong. right (carries, wrong)) in
     let list : HasTlvs s.body = not_not (HasTlvs s.body) reading (λ none. listed (carries, none)) in
     let few : length s.body ≤ 60000 = elim (cases_lt 60000 (length s.body)) [ inl long ↦ absurd (short long) | inr le ↦ le ] in
     let one : IsSound (kept s now (held nodes.entries s.node)) = record { short = few; listed = list; hashed = sym hash_is } in

@@ -12,7 +12,7 @@ use Rattle.hn_script.specs.Line.{spelling}
 use Rattle.hn_script.specs.Reading.{ReadsFields}
 use Rattle.hn_script.specs.declared.line.Line.{Line}
 use Rattle.hn_script.specs.declared.line.Line.TheVariants.{Caps as CapsLine}
-use Rattle.hn_script.proofs.Values.{same_caps}
+use Rattle.hn_base.proofs.Fields.{same_caps}
 
 -- whether two texts are the same, which computes
 abbrev pub same_text : List ℕ → List ℕ → Bool

@@ -5,8 +5,6 @@ use Rattle.std.specs.List.{AllZip}
 use Rattle.hex.specs.Hex.{decode_of}
 use Rattle.hex.proofs.HexLemmas.{decode_of-ok, decode_of-same}
 use Rattle.hn_base.proofs.NumeralLemmas.{same_number}
-use Rattle.hn_base.specs.declared.ids.EpId.{EpId}
-use Rattle.hn_base.specs.declared.ids.NodeId.{NodeId}
 use Rattle.hn_base.specs.declared.letter.Letter.{Letter}
 use Rattle.hn_base.specs.declared.letter.Letter.TheVariants.{M, P, H, L}
 use Rattle.hn_script.specs.Field.{Field, Named, Node, Endpoint, Number, Prefixed, Capability, Way, Hex, IsField, IsHexWord, letter_text, way_text}
@@ -19,6 +17,7 @@ use Rattle.hn_script.proofs.Families.{Family, SameKind, without_range, same_text
 use Rattle.hn_script.proofs.LineWords.{router_lines, link_lines, attach_lines, detach_lines, external_lines, withdraw_lines, caps_lines, stop_lines, start_lines, seed_lines, loss_lines, time_lines, tick_lines, run_lines, deliver_lines, drop_lines, flow_lines, inject_lines, show_lines, hash_lines, used_lines, prefixes_lines, elect_lines, advert_lines, audit_lines, compare_lines, mail_lines}
 use Rattle.hn_script.proofs.PrefixWords.{WritesOnePrefix}
 use Rattle.hn_script.proofs.Values.{same_name}
+use Rattle.hn_base.proofs.Keys.{same_id, same_node}
 
 apart : (a b : List ℕ) → a ≡ b → same_text a b ≡ false → ⊥
 apart a b e differ = false≢true (sym differ ∙ subst (λ t. same_text a t ≡ true) e (same_text-refl a))
@@ -56,17 +55,11 @@ same_bytes [] (c ∷ b) word h k = absurd (odd_dash (c ∷ b) (subst (λ w. deco
 same_bytes (c ∷ a) [] word h k = absurd (odd_dash (c ∷ a) (subst (λ w. decode_of w ≡ Ok (c ∷ a)) k h))
 same_bytes (c ∷ a) (d ∷ b) word h k = decode_of-same word (c ∷ a) (d ∷ b) h k
 
-same_node : (a b : NodeId) → a.0 ≡ b.0 → a ≡ b
-same_node a b e = ap (λ n. record { 0 = n }) e
-
-same_endpoint : (a b : EpId) → a.0 ≡ b.0 → a ≡ b
-same_endpoint a b e = ap (λ n. record { 0 = n }) e
-
 -- a word writes one value of a kind, whatever the range of a number is
 same_field : WritesOnePrefix → (f g : Field) (word : List ℕ) → SameKind f g → IsField f word → IsField g word → without_range f ≡ without_range g
 same_field one (Named a) (Named b) word kind h k = ap Named (same_name a b (sym h.text ∙ k.text) h.room k.room)
 same_field one (Node a) (Node b) word kind h k = ap Node (same_node a b (same_number 16 8 word a.0 b.0 h.numeral k.numeral))
-same_field one (Endpoint a) (Endpoint b) word kind h k = ap Endpoint (same_endpoint a b (same_number 10 20 word a.0 b.0 h.numeral k.numeral))
+same_field one (Endpoint a) (Endpoint b) word kind h k = ap Endpoint (same_id a b (same_number 10 20 word a.0 b.0 h.numeral k.numeral))
 same_field one (Number l u n) (Number l' u' m) word kind h k = ap (λ value. Number 0 0 value) (same_number 10 20 word n m h.numeral k.numeral)
 same_field one (Prefixed a) (Prefixed b) word kind h k = ap Prefixed (one word a b h k)
 same_field one (Capability a) (Capability b) word kind h k = ap Capability (same_letter a b (sym h ∙ k))

@@ -1,10 +1,10 @@
 //! The words of a line after its first.
 
-ghost use Rattle.std.specs.Prelude.{◌≡◌, ◌≢◌, ◌<◌, ℕ, List, length, Ok, MatchBool, IfOk, IfErr};
+ghost use Rattle.std.specs.Prelude.{◌≡◌, ◌≢◌, ◌<◌, ℕ, List, length, Ok, MatchBool, IfOk, IfErr, IfSome, IfNone};
 ghost use Rattle.std.specs.Char.{is_ascii_hexdigit};
 ghost use Rattle.std.specs.List.{list_all};
 ghost use Rattle.hex.specs.Hex.{decode_of};
-ghost use Rattle.hn_script.specs.Field.{Named, Node, Endpoint, Number, Prefixed, Capability, Way, IsHexWord};
+ghost use Rattle.hn_script.specs.Field.{Named, Node, Endpoint, Number, Prefixed, Capability, Way, IsHexWord, IsNumberText};
 ghost use Rattle.hn_script.specs.Line.{priority as priority_field};
 ghost use Rattle.hn_script.specs.Reading.{ReadsField};
 
@@ -30,17 +30,23 @@ pub(crate) fn node(word: &[u8]) -> Result<NodeId, u8>
     NodeId::parse(word).ok_or(MALFORMED)
 }
 
+/// The number that a word writes in decimal; `None` if and only if it writes none in this range. Never allocates.
+pub fn number_in(word: &[u8], lowest: u64, highest: u64) -> Option<u64>
+    ensures found { IfSome result (IsNumberText lowest highest word.now) }
+    ensures none { IfNone result ((n : ℕ) → IsNumberText lowest highest word.now n → ⊥) }
+{
+    let value = hn_base::number(word, 10, MOST_DIGITS)?;
+    if value < u128::from(lowest) || value > u128::from(highest) {
+        return None;
+    }
+    Some(value as u64)
+}
+
 /// The number that this word writes, in this range.
 pub(crate) fn number(word: &[u8], lowest: u64, highest: u64) -> Result<u64, u8>
     ensures { ReadsField (Number lowest highest) word.now result }
 {
-    let Some(value) = hn_base::number(word, 10, MOST_DIGITS) else {
-        return Err(MALFORMED);
-    };
-    if value < u128::from(lowest) || value > u128::from(highest) {
-        return Err(MALFORMED);
-    }
-    Ok(value as u64)
+    number_in(word, lowest, highest).ok_or(MALFORMED)
 }
 
 /// The endpoint that this word writes.

@@ -23,6 +23,7 @@ mod version;
 mod words;
 
 pub use fault::{ParseFault, ScriptFault};
+pub use fields::number_in;
 pub use laws::{
     fault_is_unique, fault_or_script, printed_is_read, script_is_limited, script_is_unique,
     soak_is_a_script,

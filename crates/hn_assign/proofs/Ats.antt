@@ -5,7 +5,7 @@ use Rattle.std.specs.Ordering.{on, ordering_reverse}
 use Rattle.std.proofs.lemmas.Cmp.{on_total}
 use Rattle.std.proofs.lemmas.List.Elements.{All-contains, All-from_recursion}
 use Rattle.std.proofs.lemmas.Map.Keys.{sorted_head, sorted_tail}
-use Rattle.hn_base.proofs.AscendingLists.{not_below_itself, nothing_in, Contains-cases, ascending_unique}
+use Rattle.hn_base.proofs.AscendingLists.{not_below_itself, nothing_in, Contains-head, Contains-tail, Contains-cases, ascending_unique}
 use Rattle.hn_assign.specs.declared.assigned.Wish.{Wish}
 use Rattle.hn_assign.specs.declared.pair.Pair.{Pair}
 use Rattle.hn_assign.specs.Pair.{pair_cmp, IsAscending, HasAt, Updates, KeepsWished}
@@ -32,6 +32,16 @@ module _ {A : Type 0} (key : A → Pair) where
       (λ (zx : z ≡ x). ⊎_elim (λ (zy : z ≡ y). sym zx ∙ zy) (λ (ty : Contains xs y). absurd (below z xs y up ty (ap key zx ∙ same))) (Contains-cases z xs y hy))
       (λ (tx : Contains xs x). ⊎_elim (λ (zy : z ≡ y). absurd (below z xs x up tx (ap key zy ∙ sym same))) (λ (ty : Contains xs y). one_of xs x y (sorted_tail (on key pair_cmp) z xs up) tx ty same) (Contains-cases z xs y hy))
       (Contains-cases z xs x hx)
+
+  -- a list has an element for a pair, or none
+  pub has_some : (pair : Pair) (xs : List A) → (o : Option A) × HasAt key pair o xs
+  has_some pair [] = (None, λ x there is. nothing_in x there)
+  has_some pair (y ∷ xs) = by_cases (pair_cases (key y) pair) (has_some pair xs)
+    where
+      by_cases : (key y ≡ pair) ⊎ (¬ (key y ≡ pair)) → (o : Option A) × HasAt key pair o xs → (o : Option A) × HasAt key pair o (y ∷ xs)
+      by_cases (inl is) rest = (Some y, (Contains-head y xs, is))
+      by_cases (inr not) (Some x, has) = (Some x, (Contains-tail y xs x has.0, has.1))
+      by_cases (inr not) (None, none) = (None, λ x there is. ⊎_elim (λ (here : y ≡ x). not (ap key here ∙ is)) (λ (later : Contains xs x). none x later is) (Contains-cases y xs x there))
 
   -- what a list has for a pair is one
   pub has_one : (pair : Pair) (xs : List A) (a b : Option A) → IsAscending key xs → HasAt key pair a xs → HasAt key pair b xs → a ≡ b

@@ -11,6 +11,7 @@ pub mod Keeps
 pub mod Leaves
 pub mod Marking
 pub mod Orders
+pub mod RestRuns
 pub mod Rests
 pub mod Sames
 pub mod Soles

@@ -13,15 +13,13 @@ use Rattle.hn_assign.specs.declared.assigned.Advertised.{Advertised}
 use Rattle.hn_assign.specs.declared.pair.Pair.{Pair}
 use Rattle.hn_assign.specs.Advertised.{advertised_cmp}
 use Rattle.hn_assign.specs.Pair.{pair_cmp}
+use Rattle.hn_prefix.proofs.Prefixes.{exact_prefix}
 
 pub advertised_total : IsTotalOrder advertised_cmp
 advertised_total = then_total (on_total (λ (a : Advertised). a.key) key_total) (search (comparing, rules))
 
 pub pair_total : IsTotalOrder pair_cmp
 pair_total = search (comparing, rules)
-
-exact_prefix : IsExact prefix_cmp
-exact_prefix = exact_then (λ p. p.bits) (λ p. p.len) nat_cmp nat_cmp exact_nat exact_nat (λ p q bits len. λ i. record { bits = bits i; len = len i })
 
 pub same_pair : (x y : Pair) → x.delegated ≡ y.delegated → x.endpoint.0 ≡ y.endpoint.0 → x ≡ y
 same_pair x y delegated endpoint = λ i. record { delegated = delegated i; endpoint = record { 0 = endpoint i } }

@@ -26,7 +26,9 @@ use Rattle.hn_assign.specs.Step.{IsStep}
 use Rattle.hn_assign.specs.Subroutine.{AreSteps, IsSubroutine}
 use Rattle.hn_assign.proofs.Ats.{is_had, same_list, updates_none}
 use Rattle.hn_assign.proofs.Marking.{marked_is}
-use Rattle.hn_assign.proofs.Sames.{Same, same_advertised, best_in, best_one, valid_in, none_in}
+use Rattle.hn_base.specs.Ascending.{HaveSame}
+use Rattle.hn_assign.proofs.Sames.{same_advertised, best_in, best_one, valid_in, none_in}
+use Rattle.std.proofs.lemmas.Option.{same_Some}
 
 -- ---- one turn
 
@@ -36,13 +38,13 @@ idle_and_free adv wish (inl not) wanted p free = not wanted
 idle_and_free adv wish (inr none) wanted p free = none p free
 
 -- at rest by one list of advertised prefixes is at rest by another one of the same
-idle_in : (a b : List Advertised) (own : ℕ) (wish : Wish) → Same a b → IsIdle a own wish → IsIdle b own wish
+idle_in : (a b : List Advertised) (own : ℕ) (wish : Wish) → HaveSame a b → IsIdle a own wish → IsIdle b own wish
 idle_in a b own wish same h = record {
   no_best = best_in a b own wish.common wish.delegated None same h.no_best;
   nothing_to_do = ⊎_elim (λ not. inl not) (λ none. inr (none_in a b wish.delegated wish.length same none)) h.nothing_to_do;
 }
 
-pub rest_in : (a b : List Advertised) (own : ℕ) (wish : Wish) (c : Option Assigned) → Same a b → IsAtRest a own wish c → IsAtRest b own wish c
+pub rest_in : (a b : List Advertised) (own : ℕ) (wish : Wish) (c : Option Assigned) → HaveSame a b → IsAtRest a own wish c → IsAtRest b own wish c
 rest_in a b own wish None same h = idle_in a b own wish same h
 rest_in a b own wish (Some c) same (inl h) = inl (record { no_best = best_in a b own wish.common wish.delegated None same h.no_best; published = h.published; valid = valid_in a b own wish.common c same h.valid })
 rest_in a b own wish (Some c) same (inr (inl h)) = inr (inl (record { best = h.best; is_best = best_in a b own wish.common wish.delegated (Some h.best) same h.is_best; priority = h.priority; published = h.published; above = h.above; valid = valid_in a b own wish.common c same h.valid }))
@@ -56,12 +58,9 @@ module _ (view : PlainView) (wish : Wish) (adv : List Advertised) where
   kept_same c before after (inl h) valid = ap (λ (s : Slot). s.assigned) h.1
   kept_same c before after (inr h) valid = absurd (valid h.0)
 
-  the_same : (x y : Advertised) → ◌≡◌ {A = Option Advertised} (Some x) (Some y) → x ≡ y
-  the_same x y same = cc
-
   is_ahead : (b : Advertised) (c : Assigned) → IsBestFor at (Some b) → IsAheadOfBest adv view.own wish c → IsAhead at b c
   is_ahead b c is h =
-      let same = the_same h.best b (best_one adv view.own wish.common wish.delegated (Some h.best) (Some b) h.is_best is) in
+      let same = same_Some h.best b (best_one adv view.own wish.common wish.delegated (Some h.best) (Some b) h.is_best is) in
       record { priority = h.priority; published = h.published; above = subst (λ (x : Advertised). IsAbove (key_of h.priority view.own wish.endpoint.0) x.key) same h.above }
 
   -- a pair at rest keeps its assignment
@@ -84,7 +83,7 @@ module _ (view : PlainView) (wish : Wish) (adv : List Advertised) where
       ap (λ (s : Slot). s.assigned) yielded.gives ∙ ap (λ (p : Option ℕ). Some (record c { published = p })) (sym follows.unpublished) ∙ sym had
   rest_line (Some b) (Some c) before after words is (inr (inr follows)) (inr (inr replaced), _) had =
       let same : ◌≡◌ {A = Option Advertised} (Some follows.best) (Some b) = best_one adv view.own wish.common wish.delegated (Some follows.best) (Some b) follows.is_best is in
-      absurd (replaced.other (follows.same ∙ ap (λ (x : Advertised). x.prefix) (the_same follows.best b same)))
+      absurd (replaced.other (follows.same ∙ ap (λ (x : Advertised). x.prefix) (same_Some follows.best b same)))
 
 -- ---- each pair at rest: nothing changes
 

@@ -19,7 +19,8 @@ use Rattle.hn_assign.specs.Unassigned.{IsUnassigned, backoff_after}
 use Rattle.hn_assign.proofs.Ats.{has_one, updates_one, keeps_one}
 use Rattle.hn_base.proofs.FirstWords.{begins_front}
 use Rattle.hn_assign.proofs.Begins.{same_word}
-use Rattle.hn_assign.proofs.Sames.{Same, same_back, same_advertised, best_in, best_one, valid_in, free_in, first_one}
+use Rattle.hn_base.specs.Ascending.{HaveSame}
+use Rattle.hn_assign.proofs.Sames.{same_back, same_advertised, best_in, best_one, valid_in, free_in, first_one}
 
 -- what comes of a turn: what the pair has, and the words
 abbrev pub Turned : Type 0
@@ -30,7 +31,7 @@ turned a b v w slots words = ap (λ (s : Slot). let t : Turned = (s, v) in t) sl
 
 -- ---- one line, by two lists of what is advertised
 
-module _ (view : PlainView) (wish : Wish) (adv bdv : List Advertised) (same : Same adv bdv) where
+module _ (view : PlainView) (wish : Wish) (adv bdv : List Advertised) (same : HaveSame adv bdv) where
   abbrev A : PlainScene
   A = scene_of view wish adv
 

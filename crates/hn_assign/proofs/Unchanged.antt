@@ -27,7 +27,7 @@ use Rattle.hn_assign.proofs.Sames.{same_advertised}
 use Rattle.hn_assign.proofs.Soles.{IsInOrder, step_in_order}
 
 -- the backoff of a wish that is due at a moment
-abbrev due_backoff : Wish → ℕ → Backoff
+abbrev pub due_backoff : Wish → ℕ → Backoff
 due_backoff wish now = record { delegated = wish.delegated; endpoint = wish.endpoint; due = now }
 
 -- wished pairs without an assignment have a backoff that is due
@@ -35,7 +35,7 @@ abbrev DueIn : List Wish → List Assigned → ℕ → List Backoff → Type 0
 DueIn wishes xs now backoffs = (wish : Wish) → Contains wishes wish → HasAt assigned_pair (wish_pair wish) None xs → HasAt backoff_pair (wish_pair wish) (Some (due_backoff wish now)) backoffs
 
 -- a later wish is for another pair
-later_other : (wish : Wish) (wishes : List Wish) (w : Wish) → IsAscending wish_pair (wish ∷ wishes) → Contains wishes w → ¬ (wish_pair wish ≡ wish_pair w)
+pub later_other : (wish : Wish) (wishes : List Wish) (w : Wish) → IsAscending wish_pair (wish ∷ wishes) → Contains wishes w → ¬ (wish_pair wish ≡ wish_pair w)
 later_other wish wishes w up h same =
     not_below_itself pair_cmp pair_total (wish_pair wish) (wish_pair w) same (All-contains (λ z. pair_cmp (wish_pair wish) (wish_pair z) ≡ Less) wishes w (All-from_recursion (λ z. pair_cmp (wish_pair wish) (wish_pair z) ≡ Less) wishes (sorted_head (on wish_pair pair_cmp) wish wishes up)) h)
 

@@ -1,12 +1,15 @@
 -- When the assignment subroutine leaves all assignments as they are.
 use Rattle.std.specs.Prelude.{◌≡◌, ◌↔◌, ℕ, false, List, Option, None, Contains, map}
+use Rattle.hn_data.specs.View.{PlainView}
 use Rattle.hn_assign.specs.declared.assigned.Advertised.{Advertised}
 use Rattle.hn_assign.specs.declared.assigned.Assigned.{Assigned}
 use Rattle.hn_assign.specs.declared.assigned.Wish.{Wish}
 use Rattle.hn_assign.specs.declared.backoff.Backoff.{Backoff}
 use Rattle.hn_assign.specs.declared.held.Held.{Held}
+use Rattle.hn_assign.specs.declared.held.Ran.{Ran}
 use Rattle.hn_assign.specs.Pair.{assigned_pair, wish_pair, HasAt}
 use Rattle.hn_assign.specs.Rest.{IsAtRest}
+use Rattle.hn_assign.specs.Subroutine.{IsSubroutine}
 
 -- an assignment apart from its mark of application
 abbrev pub unmarked : Assigned → Assigned
@@ -26,3 +29,10 @@ AreDue wishes now held = (b : Backoff) → Contains held.backoffs b ↔ ((wish :
 abbrev pub AreAtRest : List Advertised → ℕ → List Wish → List Assigned → Type 0
 AreAtRest advertised own wishes assigned = (wish : Wish) → Contains wishes wish
     → (c : Option Assigned) → HasAt assigned_pair (wish_pair wish) c assigned → IsAtRest advertised own wish c
+
+-- what the subroutine comes to where each wished pair without an assignment has a backoff that is due at the moment of the
+-- view
+pub record IsDueRun (view : PlainView) (wishes : List Wish) (assigned : List Assigned) (ran : Ran) : Type 0 where
+  pub backoffs : List Backoff
+  pub are_due : AreDue wishes view.now (record { assigned = assigned; backoffs = backoffs })
+  pub is_subroutine : IsSubroutine view wishes (record { assigned = assigned; backoffs = backoffs }) ran

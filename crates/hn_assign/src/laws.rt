@@ -2,7 +2,7 @@
 //!
 //! Each is the contract of a function that does nothing: call it to know its law.
 
-ghost use Rattle.std.specs.Prelude.{◌≡◌, ◌≤◌, ◌↔◌, ℕ, List, Option, Some, All};
+ghost use Rattle.std.specs.Prelude.{◌≡◌, ◌≤◌, ◌↔◌, ℕ, List, [], Option, Some, All};
 ghost use Rattle.hn_io.specs.Words.{Begins};
 ghost use Rattle.hn_data.specs.View.{PlainView};
 ghost use Rattle.hn_assign.specs.declared.assigned.Advertised.{Advertised};
@@ -12,7 +12,7 @@ ghost use Rattle.hn_assign.specs.declared.held.Held.{Held};
 ghost use Rattle.hn_assign.specs.declared.held.Ran.{Ran};
 ghost use Rattle.hn_assign.specs.declared.slot.Slot.{Slot};
 ghost use Rattle.hn_assign.specs.Facts.{IsInDelegated, IsPast, HasOwnPriority};
-ghost use Rattle.hn_assign.specs.Fixed.{IsUnchanged, AreDue, AreAtRest};
+ghost use Rattle.hn_assign.specs.Fixed.{IsUnchanged, AreDue, AreAtRest, IsDueRun};
 ghost use Rattle.hn_assign.specs.Gathered.{AreAdvertised};
 ghost use Rattle.hn_assign.specs.Lines.{IsKept, IsAdopted, IsKeptAhead, IsYielded, IsReplaced};
 ghost use Rattle.hn_assign.specs.Pair.{IsAscending, IsWished, assigned_pair, backoff_pair, wish_pair};
@@ -75,4 +75,15 @@ pub fn rest_is_unchanged()
         → AreAdvertised view held.assigned advertised
         → IsSubroutine view wishes held ran
         → IsUnchanged held.assigned ran.held.assigned ↔ AreAtRest advertised view.own wishes held.assigned }
+{}
+
+/// Where each pair is at rest, the subroutine comes to a result with each backoff due: it takes no random word, and
+/// leaves all assignments as they are, marks of application aside.
+pub fn rest_has_a_run()
+    ensures { (view : PlainView) (wishes : List Wish) (assigned : List Assigned) (advertised : List Advertised)
+        → IsAscending wish_pair wishes → IsAscending assigned_pair assigned
+        → All (λ c. IsWished wishes (assigned_pair c)) assigned
+        → AreAdvertised view assigned advertised
+        → AreAtRest advertised view.own wishes assigned
+        → (ran : Ran) × IsDueRun view wishes assigned ran × IsUnchanged assigned ran.held.assigned × (ran.words ≡ []) }
 {}

@@ -14,22 +14,24 @@ use Rattle.hn_sound.specs.Home.{Home, Endpoint, Held, HasAssignment, advertised,
 use Rattle.hn_sound.specs.Premises.{Premise, Meets, IsHome, IsHomeBut}
 use Rattle.hn_sound.specs.Premises.Premise.{OneLink, OnceOnLink, UsedApart, ForUsed, PublishedInside, OneEach, PriorityTwo}
 use Rattle.hn_base.proofs.Elements.{in_filter, from_filter}
-use Rattle.hn_sound.proofs.Tests.{implies, then_true, each_passes, one_passes, prefix_is, from_prefix_is, to_prefix_is, is_within, within_from, may_overlap, to_may_overlap}
+use Rattle.hn_prefix.proofs.Prefixes.{is_one_prefix, prefix_decided}
+use Rattle.hn_base.proofs.Elements.{any_of}
+use Rattle.hn_sound.proofs.Tests.{implies, then_true, each_passes, is_within, within_from, may_overlap, to_may_overlap}
 
 -- ---- the assignments of a pair
 
 -- whether the assignment is of the endpoint, for the delegated prefix
 abbrev pub is_of : Endpoint → PlainPrefix → Held → Bool
-is_of e d h = ((h.node.0 == e.node.0) && (h.assigned.endpoint.0 == e.id.0)) && prefix_is h.assigned.delegated d
+is_of e d h = ((h.node.0 == e.node.0) && (h.assigned.endpoint.0 == e.id.0)) && is_one_prefix h.assigned.delegated d
 
 abbrev pub assignments_of : Home → Endpoint → PlainPrefix → List Held
 assignments_of home e d = filter (is_of e d) home.assignments
 
 to_is_of : (e : Endpoint) (d : PlainPrefix) (c : Assigned) → c.endpoint ≡ e.id → c.delegated ≡ d → is_of e d (record { node = e.node; assigned = c }) ≡ true
 to_is_of e d c id is =
-    and_from ((e.node.0 == e.node.0) && (c.endpoint.0 == e.id.0)) (prefix_is c.delegated d)
+    and_from ((e.node.0 == e.node.0) && (c.endpoint.0 == e.id.0)) (is_one_prefix c.delegated d)
     (and_from (e.node.0 == e.node.0) (c.endpoint.0 == e.id.0) (eq-eqb e.node.0 e.node.0 refl) (eq-eqb c.endpoint.0 e.id.0 (ap (λ (i : _). i.0) id)))
-    (to_prefix_is c.delegated d is)
+    ((prefix_decided c.delegated d).1 is)
 
 pub to_assignments_of : (home : Home) (e : Endpoint) (d : PlainPrefix) (c : Assigned) → HasAssignment home e d c → Contains (assignments_of home e d) (record { node = e.node; assigned = c })
 to_assignments_of home e d c has =
@@ -38,7 +40,7 @@ to_assignments_of home e d c has =
 from_assignments_of : (home : Home) (e : Endpoint) (d : PlainPrefix) (h : Held) → Contains home.endpoints e → Contains (assignments_of home e d) h → HasAssignment home e d h.assigned
 from_assignments_of home e d h e_there contained =
     let found = from_filter (is_of e d) home.assignments h contained in
-    let parts = and_parts ((h.node.0 == e.node.0) && (h.assigned.endpoint.0 == e.id.0)) (prefix_is h.assigned.delegated d) found.1 in
+    let parts = and_parts ((h.node.0 == e.node.0) && (h.assigned.endpoint.0 == e.id.0)) (is_one_prefix h.assigned.delegated d) found.1 in
     let ids = and_parts (h.node.0 == e.node.0) (h.assigned.endpoint.0 == e.id.0) parts.0 in
     let node = same_node h.node e.node (eqb-true h.node.0 e.node.0 ids.0) in
     let is : h ≡ record { node = e.node; assigned = h.assigned } = λ i. record { node = node i; assigned = h.assigned } in
@@ -46,7 +48,7 @@ from_assignments_of home e d h e_there contained =
       there = e_there;
       held = subst (Contains home.assignments) is found.0;
       of_endpoint = same_id h.assigned.endpoint e.id (eqb-true h.assigned.endpoint.0 e.id.0 ids.1);
-      of_delegated = from_prefix_is h.assigned.delegated d parts.1;
+      of_delegated = (prefix_decided h.assigned.delegated d).0 parts.1;
     }
 
 abbrev pub first_of_list : List Held → Option Assigned
@@ -106,7 +108,7 @@ abbrev pub is_once_on_link : Endpoint → Endpoint → Bool
 is_once_on_link e f = implies ((e.node.0 == f.node.0) && (e.link == f.link)) (e.id.0 == f.id.0)
 
 abbrev pub is_apart : PlainPrefix → PlainPrefix → Bool
-is_apart d other = implies (may_overlap d other) (prefix_is d other)
+is_apart d other = implies (may_overlap d other) (is_one_prefix d other)
 
 abbrev pub has_at_most_one : List Held → Bool
 has_at_most_one [] = true
@@ -125,7 +127,7 @@ abbrev pub meets : Home → Premise → Bool
 meets home OneLink = each_two is_on_one_link home
 meets home OnceOnLink = each_two is_once_on_link home
 meets home UsedApart = list_all (λ d. list_all (is_apart d) home.used) home.used
-meets home ForUsed = each_assignment (λ (h : Held). list_any (prefix_is h.assigned.delegated) home.used) home
+meets home ForUsed = each_assignment (λ (h : Held). list_any (is_one_prefix h.assigned.delegated) home.used) home
 meets home PublishedInside = each_assignment (λ (h : Held). is_inside_where_published h.assigned.published h.assigned.prefix h.assigned.delegated) home
 meets home OneEach = list_all (λ (e : Endpoint). list_all (λ (h : Held). has_at_most_one (assignments_of home e h.assigned.delegated)) home.assignments) home.endpoints
 meets home PriorityTwo = each_assignment (λ (h : Held). is_two_where_published h.assigned.published) home
@@ -160,11 +162,11 @@ meets_from home OnceOnLink h = λ e f e_there f_there node link.
 meets_from home UsedApart h = λ d other d_used other_used overlap.
     let of_d = each_passes (λ x. list_all (is_apart x) home.used) home.used d h d_used in
     let of_both = each_passes (is_apart d) home.used other of_d other_used in
-    from_prefix_is d other (then_true (may_overlap d other) (prefix_is d other) of_both (to_may_overlap d other overlap))
+    (prefix_decided d other).0 (then_true (may_overlap d other) (is_one_prefix d other) of_both (to_may_overlap d other overlap))
 meets_from home ForUsed h = λ e d c has.
-    let passes = assignment_passes (λ (k : Held). list_any (prefix_is k.assigned.delegated) home.used) home e d c h has in
-    let found = one_passes (prefix_is c.delegated) home.used passes in
-    subst (Contains home.used) (sym (from_prefix_is c.delegated found.0 found.2) ∙ has.of_delegated) found.1
+    let passes = assignment_passes (λ (k : Held). list_any (is_one_prefix k.assigned.delegated) home.used) home e d c h has in
+    let found = any_of (is_one_prefix c.delegated) home.used passes in
+    subst (Contains home.used) (sym ((prefix_decided c.delegated found.0).0 found.2) ∙ has.of_delegated) found.1
 meets_from home PublishedInside h = λ e d c priority published.
     let passes = assignment_passes (λ (k : Held). is_inside_where_published k.assigned.published k.assigned.prefix k.assigned.delegated) home e d c h published.has in
     subst (IsWithin c.prefix) published.has.of_delegated (inside_from c.published c.prefix c.delegated priority passes published.published)

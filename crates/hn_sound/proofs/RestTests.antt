@@ -19,7 +19,10 @@ use Rattle.hn_assign.specs.Best.{IsCandidate, IsBest, HasNoBest, IsValid, HasNoF
 use Rattle.hn_assign.specs.Rest.{IsAtRest, IsIdle, IsAlone, IsAheadOfBest, IsFollowing}
 use Rattle.hn_sound.specs.Conditions.{Condition, MeetsRest, IsAtRestBut}
 use Rattle.hn_sound.specs.Conditions.Condition.{NothingToDo, Published, Valid, GreaterKey, Unpublished, BestPrefix}
-use Rattle.hn_sound.proofs.Tests.{implies, then_true, each_passes, one_passes, any_from, prefix_is, from_prefix_is, begins_with, to_begins_with, is_within, within_from, may_overlap, to_may_overlap}
+use Rattle.hn_prefix.proofs.Prefixes.{is_one_prefix, prefix_decided}
+use Rattle.hn_base.proofs.Elements.{any_of, any_from}
+use Rattle.hn_sound.proofs.Tests.{implies, then_true, each_passes, begins_with, to_begins_with, is_within, within_from, may_overlap, to_may_overlap}
+use Rattle.hn_base.proofs.Decisions.{from_is_none}
 
 not_less : (r : Ordering) → not (is_lt r) ≡ true → ¬ (r ≡ Less)
 not_less r h e = let less : is_lt r ≡ true = ap is_lt e in let no : is_lt r ≡ false = not-true (is_lt r) h in absurd (cc)
@@ -36,7 +39,7 @@ is_on_link common a = list_any (λ (m : NodeId × EpId). (m.0.0 == a.key.node.0)
 
 from_is_on_link : (common : Link) (a : Advertised) → is_on_link common a ≡ true → IsOnLink common a
 from_is_on_link common a h =
-    let found = one_passes (λ (m : NodeId × EpId). (m.0.0 == a.key.node.0) && (m.1.0 == a.key.endpoint.0)) common h in
+    let found = any_of (λ (m : NodeId × EpId). (m.0.0 == a.key.node.0) && (m.1.0 == a.key.endpoint.0)) common h in
     let parts = and_parts (found.0.0.0 == a.key.node.0) (found.0.1.0 == a.key.endpoint.0) found.2 in
     let node = same_node found.0.0 a.key.node (eqb-true found.0.0.0 a.key.node.0 parts.0) in
     let id = same_id found.0.1 a.key.endpoint (eqb-true found.0.1.0 a.key.endpoint.0 parts.1) in
@@ -115,7 +118,7 @@ is_taken adv d = list_any (λ (a : Advertised). is_within d a.prefix) adv
 
 from_is_taken : (adv : List Advertised) (d : PlainPrefix) (len : ℕ) → is_taken adv d ≡ true → HasNoFree adv d len
 from_is_taken adv d len h p free =
-    let found = one_passes (λ (a : Advertised). is_within d a.prefix) adv h in
+    let found = any_of (λ (a : Advertised). is_within d a.prefix) adv h in
     let inside = within_from d found.0.prefix found.2 in
     free.free found.0 found.1 (p.bits, inside p.bits (free.inside.within p.bits refl), refl)
 
@@ -138,7 +141,7 @@ is_ahead adv own wish c b =
 
 abbrev pub is_following : List Advertised → ℕ → Wish → Assigned → Advertised → Bool
 is_following adv own wish c b =
-    is_best adv own wish.common wish.delegated b && (is_none c.published && prefix_is c.prefix b.prefix)
+    is_best adv own wish.common wish.delegated b && (is_none c.published && is_one_prefix c.prefix b.prefix)
 
 abbrev pub is_at_rest : List Advertised → ℕ → Wish → Option Assigned → Bool
 is_at_rest adv own wish None = is_idle adv own wish
@@ -148,10 +151,6 @@ is_at_rest adv own wish (Some c) =
 pub from_is_some : (o : Option ℕ) → is_some o ≡ true → (priority : ℕ) × (o ≡ Some priority)
 from_is_some None h = absurd (cc)
 from_is_some (Some priority) h = (priority, refl)
-
-pub from_is_none : (o : Option ℕ) → is_none o ≡ true → o ≡ None
-from_is_none None h = refl
-from_is_none (Some priority) h = absurd (cc)
 
 from_idle : (adv : List Advertised) (own : ℕ) (wish : Wish) → is_idle adv own wish ≡ true → IsIdle adv own wish
 from_idle adv own wish h =
@@ -194,13 +193,13 @@ from_ahead adv own wish c b there h =
 
 from_following : (adv : List Advertised) (own : ℕ) (wish : Wish) (c : Assigned) (b : Advertised) → Contains adv b → is_following adv own wish c b ≡ true → IsFollowing adv own wish c
 from_following adv own wish c b there h =
-    let parts = and_parts (is_best adv own wish.common wish.delegated b) (is_none c.published && prefix_is c.prefix b.prefix) h in
-    let rest = and_parts (is_none c.published) (prefix_is c.prefix b.prefix) parts.1 in
+    let parts = and_parts (is_best adv own wish.common wish.delegated b) (is_none c.published && is_one_prefix c.prefix b.prefix) h in
+    let rest = and_parts (is_none c.published) (is_one_prefix c.prefix b.prefix) parts.1 in
     record {
       best = b;
       is_best = from_is_best adv own wish.common wish.delegated b there parts.0;
       unpublished = from_is_none c.published rest.0;
-      same = from_prefix_is c.prefix b.prefix rest.1;
+      same = (prefix_decided c.prefix b.prefix).0 rest.1;
     }
 
 pub at_rest_from : (adv : List Advertised) (own : ℕ) (wish : Wish) (o : Option Assigned) → is_at_rest adv own wish o ≡ true → IsAtRest adv own wish o
@@ -209,7 +208,7 @@ at_rest_from adv own wish (Some c) h =
     elim (or_cases (is_alone adv own wish c) (list_any (λ b. is_ahead adv own wish c b || is_following adv own wish c b) adv) h) [
       | inl alone ↦ inl (from_alone adv own wish c alone)
       | inr beside ↦
-          let found = one_passes (λ b. is_ahead adv own wish c b || is_following adv own wish c b) adv beside in
+          let found = any_of (λ b. is_ahead adv own wish c b || is_following adv own wish c b) adv beside in
           elim (or_cases (is_ahead adv own wish c found.0) (is_following adv own wish c found.0) found.2) [
             | inl ahead ↦ inr (inl (from_ahead adv own wish c found.0 found.1 ahead))
             | inr following ↦ inr (inr (from_following adv own wish c found.0 found.1 following))
@@ -226,7 +225,7 @@ meets_rest Valid adv own wish (Some c) = has_no_best adv own wish.common wish.de
 meets_rest GreaterKey adv own wish (Some c) =
     list_any (is_best adv own wish.common wish.delegated) adv && (is_some c.published && is_valid adv own wish.common c)
 meets_rest Unpublished adv own wish (Some c) =
-    list_any (λ b. is_best adv own wish.common wish.delegated b && prefix_is c.prefix b.prefix) adv
+    list_any (λ b. is_best adv own wish.common wish.delegated b && is_one_prefix c.prefix b.prefix) adv
 meets_rest BestPrefix adv own wish (Some c) =
     list_any (is_best adv own wish.common wish.delegated) adv && is_none c.published
 meets_rest _ adv own wish _ = false
@@ -247,18 +246,18 @@ meets_rest_from GreaterKey adv own wish None h = absurd (cc)
 meets_rest_from GreaterKey adv own wish (Some c) h =
     let parts = and_parts (list_any (is_best adv own wish.common wish.delegated) adv) (is_some c.published && is_valid adv own wish.common c) h in
     let rest = and_parts (is_some c.published) (is_valid adv own wish.common c) parts.1 in
-    let found = one_passes (is_best adv own wish.common wish.delegated) adv parts.0 in
+    let found = any_of (is_best adv own wish.common wish.delegated) adv parts.0 in
     let priority = from_is_some c.published rest.0 in
     (c, found.0, priority.0, refl, from_is_best adv own wish.common wish.delegated found.0 found.1 found.2, priority.1, from_is_valid adv own wish.common c rest.1)
 meets_rest_from Unpublished adv own wish None h = absurd (cc)
 meets_rest_from Unpublished adv own wish (Some c) h =
-    let found = one_passes (λ b. is_best adv own wish.common wish.delegated b && prefix_is c.prefix b.prefix) adv h in
-    let parts = and_parts (is_best adv own wish.common wish.delegated found.0) (prefix_is c.prefix found.0.prefix) found.2 in
-    (c, found.0, refl, from_is_best adv own wish.common wish.delegated found.0 found.1 parts.0, from_prefix_is c.prefix found.0.prefix parts.1)
+    let found = any_of (λ b. is_best adv own wish.common wish.delegated b && is_one_prefix c.prefix b.prefix) adv h in
+    let parts = and_parts (is_best adv own wish.common wish.delegated found.0) (is_one_prefix c.prefix found.0.prefix) found.2 in
+    (c, found.0, refl, from_is_best adv own wish.common wish.delegated found.0 found.1 parts.0, (prefix_decided c.prefix found.0.prefix).0 parts.1)
 meets_rest_from BestPrefix adv own wish None h = absurd (cc)
 meets_rest_from BestPrefix adv own wish (Some c) h =
     let parts = and_parts (list_any (is_best adv own wish.common wish.delegated) adv) (is_none c.published) h in
-    let found = one_passes (is_best adv own wish.common wish.delegated) adv parts.0 in
+    let found = any_of (is_best adv own wish.common wish.delegated) adv parts.0 in
     (c, found.0, refl, from_is_best adv own wish.common wish.delegated found.0 found.1 found.2, from_is_none c.published parts.1)
 
 abbrev pub is_at_rest_but : Condition → List Advertised → ℕ → Wish → Option Assigned → Bool

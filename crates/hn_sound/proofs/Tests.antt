@@ -1,14 +1,12 @@
 -- Tests that compute whether a written-out home is one, and whether it is at rest.
-use Rattle.std.proofs.Common.{◌≡◌, ℕ, ◌/◌, ◌-◌, ◌^◌, inl, inr, Bool, true, false, not, ◌&&◌, ◌||◌, List, [], ◌∷◌, sym, ap, ◌∙◌, arith}
+use Rattle.std.proofs.Common.{◌≡◌, ℕ, ◌/◌, ◌-◌, ◌^◌, inl, inr, Bool, true, false, not, ◌&&◌, ◌||◌, List, sym, ◌∙◌, arith}
 use Rattle.std.specs.Prelude.{◌==◌, nat_le, Contains}
-use Rattle.std.specs.List.{list_all, list_any}
-use Rattle.std.proofs.lemmas.Bool.{cases_lt, eqb-true, eq-eqb, leb-true, and_parts, and_from, or_cases, or_left, or_right}
+use Rattle.std.specs.List.{list_all}
+use Rattle.std.proofs.lemmas.Bool.{cases_lt, eqb-true, eq-eqb, leb-true, and_parts, or_left, or_right}
 use Rattle.std.proofs.lemmas.List.Elements.{All-contains}
 use Rattle.std.proofs.lemmas.List.Sums.{AllPass-from_list_all}
 use Rattle.hn_base.proofs.LeadingBits.{alike_in_shorter}
-use Rattle.hn_base.proofs.AscendingLists.{Contains-head, Contains-tail, Contains-cases, nothing_in}
 use Rattle.hn_prefix.specs.Prefix.{PlainPrefix, IsInside, IsWithin, Overlaps}
-use Rattle.hn_sound.proofs.Endpoints.{same_prefix}
 
 -- ---- words
 
@@ -22,35 +20,7 @@ then_true false b h is = absurd (cc)
 pub each_passes : {X : Type 0} (p : X → Bool) (xs : List X) (x : X) → list_all p xs ≡ true → Contains xs x → p x ≡ true
 each_passes p xs x h there = All-contains (λ y. p y ≡ true) xs x (AllPass-from_list_all p xs h) there
 
-pub one_passes : {X : Type 0} (p : X → Bool) (xs : List X) → list_any p xs ≡ true → (x : X) × Contains xs x × (p x ≡ true)
-one_passes p [] h = absurd (cc)
-one_passes p (x ∷ xs) h =
-    elim (or_cases (p x) (list_any p xs) h) [
-      | inl first ↦ (x, Contains-head x xs, first)
-      | inr later ↦ let found = one_passes p xs later in (found.0, Contains-tail x xs found.0 found.1, found.2)
-    ]
-
-pub any_from : {X : Type 0} (p : X → Bool) (xs : List X) (x : X) → Contains xs x → p x ≡ true → list_any p xs ≡ true
-any_from p [] x h is = absurd (nothing_in x h)
-any_from p (y ∷ xs) x h is =
-    elim (Contains-cases y xs x h) [
-      | inl same ↦ or_left (p y) (list_any p xs) (ap p same ∙ is)
-      | inr later ↦ or_right (p y) (list_any p xs) (any_from p xs x later is)
-    ]
-
 -- ---- prefixes
-
-abbrev pub prefix_is : PlainPrefix → PlainPrefix → Bool
-prefix_is p q = (p.bits == q.bits) && (p.len == q.len)
-
-pub from_prefix_is : (p q : PlainPrefix) → prefix_is p q ≡ true → p ≡ q
-from_prefix_is p q h =
-    let parts = and_parts (p.bits == q.bits) (p.len == q.len) h in
-    same_prefix p q (eqb-true p.bits q.bits parts.0) (eqb-true p.len q.len parts.1)
-
-pub to_prefix_is : (p q : PlainPrefix) → p ≡ q → prefix_is p q ≡ true
-to_prefix_is p q e =
-    and_from (p.bits == q.bits) (p.len == q.len) (eq-eqb p.bits q.bits (ap (λ (r : PlainPrefix). r.bits) e)) (eq-eqb p.len q.len (ap (λ (r : PlainPrefix). r.len) e))
 
 abbrev pub begins_with : ℕ → PlainPrefix → Bool
 begins_with address p = (address / 2 ^ (128 - p.len)) == (p.bits / 2 ^ (128 - p.len))

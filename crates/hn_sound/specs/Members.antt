@@ -27,10 +27,6 @@ pub record IsOnLinkOf (home : Home) (e : Endpoint) (node : NodeId) (id : EpId) :
   pub of_node : endpoint.node ≡ node
   pub of_id : endpoint.id ≡ id
 
--- the lists have the same elements
-abbrev pub HaveSame : {X : Type 0} → List X → List X → Type 0
-HaveSame {X} xs ys = (x : X) → Contains xs x ↔ Contains ys x
-
 -- a pair is at rest as its router sees it, in lists of its own
 pub record IsSeenAtRest (home : Home) (e : Endpoint) (d : PlainPrefix) : Type 0 where
   pub adv : List Advertised

@@ -1,3 +1,4 @@
+pub mod ItemLists
 mod OwnPieces
 mod OwnSame
 mod OwnSizes

@@ -1,6 +1,5 @@
 -- When two routers' own items are the same.
-use Rattle.std.proofs.Common.{◌≡◌, ◌≤◌, ◌∙◌, ℕ, Bool, true, false, List, Option, Decides, sym, ap, subst}
-use Rattle.std.proofs.Props.{props}
+use Rattle.std.proofs.Common.{◌≡◌, ◌∙◌, ℕ, Bool, true, false, List, Option, Decides, sym, ap}
 use Rattle.std.specs.Prelude.{◌==◌, ◌&&◌, nat_eq}
 use Rattle.std.specs.Cmp.Lexicographic.{pointwise}
 use Rattle.std.specs.Option.{option_eq}
@@ -8,7 +7,9 @@ use Rattle.std.proofs.lemmas.Bool.{false≢true}
 use Rattle.std.proofs.lemmas.Bool.Decides.{Decides-and, Decides-like, Decides-eqb}
 use Rattle.std.proofs.lemmas.Slice.Eq.{slice_eq-Decides}
 use Rattle.hn_base.specs.declared.caps.Caps.{Caps}
-use Rattle.hn_base.proofs.Decisions.{numbers_decide, option_decided}
+use Rattle.hn_base.proofs.Decisions.{option_decided}
+use Rattle.hn_base.proofs.Fields.{same_caps}
+use Rattle.hn_prefix.proofs.Prefixes.{prefix_decided}
 use Rattle.hn_prefix.specs.Prefix.{PlainPrefix}
 use Rattle.hn_data.specs.declared.said.PeerLink.{PeerLink}
 use Rattle.hn_data.specs.declared.said.AssignedPrefix.{AssignedPrefix}
@@ -16,31 +17,6 @@ use Rattle.hn_own.specs.declared.own.OwnItems.{OwnItems}
 use Rattle.hn_own.specs.declared.own_prefixes.OwnPrefix.{OwnPrefix}
 
 -- ---- capabilities
-
-abbrev InRange : ℕ → ℕ → ℕ → ℕ → Type 0
-InRange m p h l = (m ≤ 15) × (p ≤ 15) × (h ≤ 15) × (l ≤ 15)
-
-abbrev caps_with : (m p h l : ℕ) → InRange m p h l → Caps
-caps_with m p h l range = record { m = m; p = p; h = h; l = l; m_in_range = range.0; p_in_range = range.1; h_in_range = range.2; l_in_range = range.3 }
-
-in_range_once : (m p h l : ℕ) → IsProp (InRange m p h l)
-in_range_once m p h l = hlevel props
-
-abbrev ranges : (caps : Caps) → InRange caps.m caps.p caps.h caps.l
-ranges caps = (caps.m_in_range, caps.p_in_range, caps.h_in_range, caps.l_in_range)
-
--- capabilities with the same numbers are the same
-same_ranges : (m p h l : ℕ) (x y : InRange m p h l) → caps_with m p h l x ≡ caps_with m p h l y
-same_ranges m p h l x y = ap (caps_with m p h l) (in_range_once m p h l x y)
-
-same_caps : (a b : Caps) → a.m ≡ b.m → a.p ≡ b.p → a.h ≡ b.h → a.l ≡ b.l → a ≡ b
-same_caps a b same_m same_p same_h same_l =
-    subst (λ (m : ℕ). (range : InRange m b.p b.h b.l) → a ≡ caps_with m b.p b.h b.l range) same_m
-    (subst (λ (p : ℕ). (range : InRange a.m p b.h b.l) → a ≡ caps_with a.m p b.h b.l range) same_p
-    (subst (λ (h : ℕ). (range : InRange a.m a.p h b.l) → a ≡ caps_with a.m a.p h b.l range) same_h
-    (subst (λ (l : ℕ). (range : InRange a.m a.p a.h l) → a ≡ caps_with a.m a.p a.h l range) same_l
-    (same_ranges a.m a.p a.h a.l (ranges a)))))
-    (ranges b)
 
 pub caps_decided : (a b : Caps) → Decides (a.m == b.m && (a.p == b.p && (a.h == b.h && a.l == b.l))) (a ≡ b)
 caps_decided a b =
@@ -68,9 +44,6 @@ link_decided a b =
     numbers
 
 -- ---- prefixes
-
-prefix_decided : (a b : PlainPrefix) → Decides (a.bits == b.bits && a.len == b.len) (a ≡ b)
-prefix_decided = numbers_decide (λ p. p.bits) (λ p. p.len) (λ a b bits len. λ i. record { bits = bits i; len = len i })
 
 abbrev own_with : PlainPrefix → Option ℕ → Option ℕ → OwnPrefix
 own_with prefix valid preferred = record { prefix = prefix; valid_until = valid; preferred_until = preferred }

@@ -2,11 +2,9 @@
 use Rattle.std.proofs.Common.{◌≡◌, ◌≢◌, ◌<◌, ◌≤◌, ◌+◌, ◌-◌, ◌∙◌, ℕ, zero, suc, Bool, true, false, List, [], ◌∷◌, length, map, filter, take, drop, set, get_or, refl, sym, subst, arith, Some, inl, inr, length-set}
 use Rattle.std.specs.Prelude.{insert, position, nat_lt}
 use Rattle.std.specs.Ordering.{nat_cmp}
-use Rattle.std.specs.declared.cmp.Ordering.TheVariants.{Less}
-use Rattle.std.specs.List.{AllByRecursion}
 use Rattle.std.specs.List.Sorted.{IsStrictlySortedBy, IsPartitionPoint, IsPartitionedBy, IsNonDecreasingBy}
 use Rattle.std.proofs.Math.Seq.{map-set_same}
-use Rattle.std.proofs.lemmas.Bool.{cond_both, cases_lt, lt-ltb, le-ltb, ltb-true, ltb-false, ne_eqb, eqb-true, eqb-false}
+use Rattle.std.proofs.lemmas.Bool.{cases_lt, lt-ltb, le-ltb, ltb-true, ltb-false, ne_eqb, eqb-true, eqb-false}
 use Rattle.std.proofs.lemmas.List.{get_or-map, length-map, map-append, take-map, drop-map}
 use Rattle.std.proofs.lemmas.List.Edits.{length-insert, get_or-insert_below, get_or-insert_at, get_or-insert_above}
 use Rattle.std.proofs.lemmas.List.Elements.{All-append, All-cons, All-filter, All-nil, All-set, All-take, All-drop}
@@ -16,6 +14,7 @@ use Rattle.std.proofs.lemmas.List.Sums.{length-filter, count_by-le-length}
 use Rattle.std.proofs.lemmas.Map.Keys.{below_from_sorted, sorted_from_strictly_increasing}
 use Rattle.hn_base.specs.declared.ids.EpId.{EpId}
 use Rattle.hn_dncp.specs.declared.port.Port.{Port}
+use Rattle.hn_base.proofs.AscendingNumbers.{ascending-filter}
 use Rattle.hn_base.proofs.Passing.{map-one}
 use Rattle.hn_base.proofs.Fronts.{filter-front, filter-back}
 use Rattle.hn_own.specs.Ports.{ArePorts, is_port, is_attached, put_port, attached}
@@ -169,20 +168,9 @@ pub ArePorts-none : ArePorts []
 unfolding IsStrictlySortedBy
 ArePorts-none = record { ascending = tt; few = omega arith; numbered = All-nil (λ (p : Port). 0 < p.id.0) }
 
-above-filter : (q : Port → Bool) (m : ℕ) (ports : List Port) → AllByRecursion (λ k. nat_cmp m k ≡ Less) (numbers ports) → AllByRecursion (λ k. nat_cmp m k ≡ Less) (numbers (filter q ports))
-above-filter q m [] above = tt
-above-filter q m (p ∷ ports) above =
-    cond_both (q p) (p ∷ filter q ports) (filter q ports) (λ kept. AllByRecursion (λ k. nat_cmp m k ≡ Less) (numbers kept)) (λ _. (above.0, above-filter q m ports above.1)) (λ _. above-filter q m ports above.1)
-
-ascending-filter : (q : Port → Bool) (ports : List Port) → IsStrictlySortedBy nat_cmp (numbers ports) → IsStrictlySortedBy nat_cmp (numbers (filter q ports))
-unfolding IsStrictlySortedBy
-ascending-filter q [] up = tt
-ascending-filter q (p ∷ ports) up =
-    cond_both (q p) (p ∷ filter q ports) (filter q ports) (λ kept. IsStrictlySortedBy nat_cmp (numbers kept)) (λ _. (above-filter q p.id.0 ports up.0, ascending-filter q ports up.1)) (λ _. ascending-filter q ports up.1)
-
 pub ArePorts-filter : (q : Port → Bool) (ports : List Port) → ArePorts ports → ArePorts (filter q ports)
 ArePorts-filter q ports are = record {
-  ascending = ascending-filter q ports are.ascending;
+  ascending = ascending-filter number q ports are.ascending;
   few = let few = are.few in omega (arith, length-filter q ports, count_by-le-length q ports);
   numbered = All-filter q (λ (p : Port). 0 < p.id.0) ports are.numbered;
 }

@@ -7,9 +7,8 @@ use Rattle.std.specs.Option.{option_eq}
 use Rattle.std.proofs.Math.Bool.{beq}
 use Rattle.std.proofs.lemmas.Bool.Decides.{Decides-and, Decides-like, Decides-eqb}
 use Rattle.std.proofs.lemmas.Slice.Eq.{slice_eq-Decides}
-use Rattle.hn_base.proofs.Decisions.{numbers_decide, option_decided}
+use Rattle.hn_base.proofs.Decisions.{option_decided}
 use Rattle.hn_io.specs.Words.{Drew, Took}
-use Rattle.hn_prefix.specs.Prefix.{PlainPrefix}
 use Rattle.hn_assign.specs.declared.assigned.Assigned.{Assigned}
 use Rattle.hn_assign.specs.declared.held.Held.{Held}
 use Rattle.hn_assign.specs.declared.held.Ran.{Ran as Left}
@@ -18,14 +17,9 @@ use Rattle.hn_rules.specs.declared.state.State.{State}
 use Rattle.hn_rules.specs.Assigning.{IsAssigned, IsAssigning}
 use Rattle.hn_rules.specs.Rules.{Ran, with_words}
 use Rattle.hn_rules.specs.Router.{IsRefreshed}
+use Rattle.hn_prefix.proofs.Prefixes.{is_one_prefix, prefix_decided}
 
 -- ---- when assignments are the same
-
-abbrev same_prefix : PlainPrefix → PlainPrefix → Bool
-same_prefix p q = p.bits == q.bits && p.len == q.len
-
-prefix_decided : (p q : PlainPrefix) → Decides (same_prefix p q) (p ≡ q)
-prefix_decided = numbers_decide (λ p. p.bits) (λ p. p.len) (λ p q bits len. λ i. record { bits = bits i; len = len i })
 
 abbrev SameParts : Assigned → Assigned → Type 0
 SameParts a b =
@@ -33,7 +27,7 @@ SameParts a b =
 
 abbrev same_test : Assigned → Assigned → Bool
 same_test a b =
-    same_prefix a.delegated b.delegated && (a.endpoint.0 == b.endpoint.0 && (same_prefix a.prefix b.prefix && (option_eq nat_eq a.published b.published && (a.since == b.since && beq a.applied b.applied))))
+    is_one_prefix a.delegated b.delegated && (a.endpoint.0 == b.endpoint.0 && (is_one_prefix a.prefix b.prefix && (option_eq nat_eq a.published b.published && (a.since == b.since && beq a.applied b.applied))))
 
 assigned_decided : (a b : Assigned) → Decides (same_test a b) (a ≡ b)
 assigned_decided a b =

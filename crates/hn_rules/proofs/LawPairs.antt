@@ -1,20 +1,17 @@
 -- Pairs of a delegated prefix and an endpoint, and those for which a router has a wish.
-use Rattle.std.proofs.Common.{◌≡◌, ◌≤◌, ◌*◌, ◌∙◌, ℕ, Bool, true, false, cond, List, [], ◌∷◌, length, map, Some, Decides, ⊎_elim, rules, refl, sym, ap, subst, arith, length-append}
-use Rattle.std.specs.Prelude.{Contains, find, is_some, flat_map, slice_get}
+use Rattle.std.proofs.Common.{◌≡◌, ◌≤◌, ◌*◌, ◌∙◌, Bool, true, false, cond, List, [], ◌∷◌, length, map, Some, Decides, ⊎_elim, refl, sym, ap, subst, arith, length-append}
+use Rattle.std.specs.Prelude.{Contains, find, is_some, flat_map}
 use Rattle.std.specs.declared.cmp.Ordering.TheVariants.{Equal}
-use Rattle.std.specs.Cmp.{IsTotalOrder, eq_by_cmp_equiv}
-use Rattle.std.specs.Cmp.Rules.{comparing}
-use Rattle.std.specs.Ordering.{eq_by_cmp, is_eq, nat_cmp}
+use Rattle.std.specs.Cmp.{eq_by_cmp_equiv}
+use Rattle.std.specs.Ordering.{eq_by_cmp, is_eq}
 use Rattle.std.proofs.lemmas.Bool.{eqb-true}
 use Rattle.std.proofs.lemmas.Cmp.{tied_itself}
 use Rattle.std.proofs.lemmas.List.{length-map}
 use Rattle.std.proofs.lemmas.List.Elements.{Contains-append_left, Contains-append_right}
 use Rattle.std.proofs.lemmas.Map.Keys.{IsDistinct-from_sorted}
-use Rattle.std.proofs.lemmas.Option.{slice_get_within, get_or_from_slice_get}
-use Rattle.hn_base.specs.Ascending.{IsExact}
-use Rattle.hn_base.proofs.AscendingLists.{Contains-head, Contains-tail, Contains-cases, Contains-map, Contains-from_map, nothing_in, equal_from_is_eq, exact_nat, exact_then, sorted_parts}
+use Rattle.hn_base.proofs.AscendingLists.{Contains-head, Contains-tail, Contains-cases, Contains-map, Contains-from_map, nothing_in, equal_from_is_eq, sorted_parts}
 use Rattle.hn_base.proofs.Keys.{same_id}
-use Rattle.hn_prefix.specs.Prefix.{PlainPrefix, prefix_cmp}
+use Rattle.hn_prefix.specs.Prefix.{PlainPrefix}
 use Rattle.hn_data.specs.View.{PlainView}
 use Rattle.hn_deleg.specs.declared.delegated.Delegated.{Delegated}
 use Rattle.hn_dncp.specs.declared.port.Port.{Port}
@@ -24,20 +21,10 @@ use Rattle.hn_assign.specs.Pair.{pair_cmp, wish_pair, IsWished, IsAscending}
 use Rattle.hn_own.specs.Ports.{is_port}
 use Rattle.hn_rules.proofs.Pigeonhole.{length-le_from_Contains}
 use Rattle.hn_rules.specs.Assigning.{AreAsked}
+use Rattle.hn_assign.proofs.Orders.{pair_exact, pair_total}
+use Rattle.hn_base.proofs.Parts.{contains_at}
 
 -- ---- their order
-
-pub pair_total : IsTotalOrder pair_cmp
-pair_total = search (comparing, rules)
-
-exact_prefix : IsExact prefix_cmp
-exact_prefix = exact_then (λ p. p.bits) (λ p. p.len) nat_cmp nat_cmp exact_nat exact_nat (λ p q bits len. λ i. record { bits = bits i; len = len i })
-
-same_pair : (x y : Pair) → x.delegated ≡ y.delegated → x.endpoint.0 ≡ y.endpoint.0 → x ≡ y
-same_pair x y delegated endpoint = λ i. record { delegated = delegated i; endpoint = record { 0 = endpoint i } }
-
-pub pair_exact : IsExact pair_cmp
-pair_exact = exact_then (λ p. p.delegated) (λ p. p.endpoint.0) prefix_cmp nat_cmp exact_prefix exact_nat same_pair
 
 pair_decides : (a b : Pair) → Decides (eq_by_cmp pair_cmp a b) (a ≡ b)
 pair_decides a b = (
@@ -80,9 +67,6 @@ found_there {A} p (x ∷ xs) is = by_test (p x) refl is (found_there p xs)
     by_test : (b : Bool) → p x ≡ b → is_some (cond b (Some x) (find p xs)) ≡ true → (is_some (find p xs) ≡ true → (y : A) × Contains xs y × (p y ≡ true)) → (y : A) × Contains (x ∷ xs) y × (p y ≡ true)
     by_test true passes is more = (x, Contains-head x xs, passes)
     by_test false passes is more = let found = more is in (found.0, Contains-tail x xs found.0 found.1, found.2)
-
-pub contains_at : {A : Type 0} (xs : List A) (k : ℕ) (x : A) → slice_get xs k ≡ Some x → Contains xs x
-contains_at xs k x is = (k, slice_get_within xs k x is, get_or_from_slice_get xs k x x is)
 
 module _ (view : PlainView) (usable : List Delegated) (ports : List Port) (wishes : List Wish) (are : AreAsked view usable ports wishes) where
   wished_there : (pair : Pair) → IsWished wishes pair → Contains (pairs_of usable ports) pair

@@ -1,8 +1,8 @@
 -- The Assigned-Prefixes of a router's node data are those of the assignments that it publishes.
-use Rattle.std.proofs.Common.{◌≡◌, ◌↔◌, ◌∙◌, ℕ, List, [], ◌∷◌, ◌++◌, map, refl, sym, ap, subst}
+use Rattle.std.proofs.Common.{◌≡◌, ◌↔◌, ◌∙◌, ℕ, List, ◌++◌, map, refl, sym, ap, subst}
 use Rattle.std.specs.Prelude.{Contains}
 use Rattle.std.specs.List.{filter_map}
-use Rattle.std.proofs.lemmas.List.Elements.{All-contains, All-contains_itself, All-weaker, Contains-append_right, filter_map-append}
+use Rattle.std.proofs.lemmas.List.Elements.{All-contains, All-contains_itself, All-weaker, Contains-append_right}
 use Rattle.hn_base.proofs.AscendingLists.{Contains-tail, Contains-map, Contains-from_map}
 use Rattle.hn_tlv.specs.Grammar.{PlainTlv, IsTlv, IsTlvList, spelling}
 use Rattle.hn_typed.specs.Item.{PlainItem}
@@ -11,35 +11,20 @@ use Rattle.hn_typed.specs.Written.{tlv_of, IsWritable}
 use Rattle.hn_data.specs.Items.{AreItems}
 use Rattle.hn_data.specs.Said.{assigned_of, HasAssigned}
 use Rattle.hn_data.specs.declared.said.AssignedPrefix.{AssignedPrefix}
-use Rattle.hn_data.specs.declared.said.PeerLink.{PeerLink}
 use Rattle.hn_own.specs.declared.own.OwnItems.{OwnItems}
-use Rattle.hn_own.specs.declared.own_prefixes.OwnPrefix.{OwnPrefix}
 use Rattle.hn_own.specs.Own.{PlainData, IsOwnData, peer_item, external_items, assigned_item, items_of}
 use Rattle.hn_rules.specs.Laws.{AssignedIsPublished, ItemsArePublished}
 use Rattle.hn_base.proofs.Elements.{in_filter_map, from_filter_map}
 use Rattle.hn_rules.proofs.LawSpelled.{AreRead, encoding, own_fit, are_read, same_encoded}
+use Rattle.hn_own.proofs.ItemLists.{all_given, by_parts, none_external, none_given}
 
 -- ---- the Assigned-Prefixes among own items
 
-none_of_links : (links : List PeerLink) → filter_map assigned_of (map peer_item links) ≡ []
-none_of_links [] = refl
-none_of_links (link ∷ links) = none_of_links links
-
-none_of_external : (now : ℕ) (list : List OwnPrefix) → filter_map assigned_of (external_items now list) ≡ []
-none_of_external now [] = refl
-none_of_external now (p ∷ ps) = refl
-
-all_of_assigned : (list : List AssignedPrefix) → filter_map assigned_of (map assigned_item list) ≡ list
-all_of_assigned [] = refl
-all_of_assigned (a ∷ list) = ap (λ (rest : List AssignedPrefix). a ∷ rest) (all_of_assigned list)
-
 assigned_among : (now : ℕ) (own : OwnItems) → filter_map assigned_of (items_of now own) ≡ own.assigned
 assigned_among now own =
-    let links = map peer_item own.links in
-    let external = external_items now own.delegated in
-    let assigned = map assigned_item own.assigned in
-    filter_map-append assigned_of (links ++ external) assigned
-    ∙ rw (filter_map-append assigned_of links external, none_of_links own.links, none_of_external now own.delegated) (all_of_assigned own.assigned)
+    let links = none_given assigned_of peer_item (λ _. refl) own.links in
+    let external = none_external assigned_of (λ _. refl) now own.delegated in
+    by_parts assigned_of now own ∙ rw (links, external) (all_given assigned_of assigned_item (λ _. refl) own.assigned)
 
 assigned_there : (now : ℕ) (own : OwnItems) (a : AssignedPrefix) → Contains own.assigned a → Contains (items_of now own) (assigned_item a)
 assigned_there now own a there =

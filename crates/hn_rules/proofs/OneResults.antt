@@ -58,13 +58,14 @@ use Rattle.hn_rules.specs.Assigning.{AreAsked, IsAssigned, IsAssigning}
 use Rattle.hn_rules.specs.Seen.{seen_by}
 use Rattle.hn_rules.specs.NodeEndpoint.{met, greeting_port, named, node_endpoint}
 use Rattle.hn_rules.specs.NetworkState.{network_state}
+use Rattle.hn_base.proofs.Decisions.{not_both}
 use Rattle.hn_rules.specs.Requests.{state_item, with_some_answer, is_reached, with_state, IsNetworkRequest, request_node}
 use Rattle.hn_rules.specs.Claim.{IsFirstFree, IsFirstClaim, IsSecondClaim, IsClaim, is_taken}
 use Rattle.hn_rules.specs.NodeState.{own_leaf, took_noted, IsTaken, IsNodeState}
 use Rattle.hn_rules.specs.Arrival.{IsItemRule, IsTlvRule, IsTlvs, IsAnswering, IsArrival}
 use Rattle.hn_rules.specs.Tick.{IsExpired, Without, IsPortExpiry, IsExpiry, IsStateSending, IsPortMoving, IsPortSending, IsPortTick, IsPortsTick}
 use Rattle.hn_rules.specs.Events.{IsAttaching, IsPortRestart, emptied, IsRestarting}
-use Rattle.hn_rules.proofs.LawPairs.{pair_total}
+use Rattle.hn_assign.proofs.Orders.{pair_total}
 use Rattle.hn_base.proofs.FirstWords.{begins_front}
 use Rattle.hn_rules.proofs.Sole.{begins_back, begins_along, sole_drawn, sole_given, sole_plain, sole_both, sole_each, sole_word, sole_from, sole_start, sole_after, sole_at, sole_or, sole_where, sole_some}
 
@@ -83,9 +84,6 @@ pub record HasLaws : Type 0 where
   pub one_usable : (view : PlainView) (a b : List Delegated) → AreUsable view a → AreUsable view b → a ≡ b
   pub one_subroutine : (view : PlainView) (wishes : List Wish) (held : Held) (a b : Assigned) (stream : ℕ → ℕ) → IsSubroutine view wishes held a → IsSubroutine view wishes held b
       → Begins a.words stream → Begins b.words stream → a ≡ b
-
-apart_tests : (b : Bool) → IsTrue b → b ≡ false → ⊥
-apart_tests b is not = let clash : true ≡ false = sym is ∙ not in absurd cc
 
 -- ---- a refresh
 
@@ -300,7 +298,7 @@ sole_port_sending laws port =
     sole_or (λ r a. IsTrue (tick_sends r.state.moment port) × IsStateSending port.id r a) (λ r a. (tick_sends r.state.moment port ≡ false) × (a ≡ r))
     (sole_where (λ r. IsTrue (tick_sends r.state.moment port)) (IsStateSending port.id) (sole_state_sending laws port.id))
     (sole_where (λ r. tick_sends r.state.moment port ≡ false) (λ r a. a ≡ r) (sole_plain (λ r. r) (λ r. refl)))
-    (λ r a b h k. apart_tests _ h.0 k.0)
+    (λ r a b h k. not_both _ h.0 k.0)
 
 pub sole_ports_tick : HasLaws → IsSole IsPortsTick
 sole_ports_tick laws =

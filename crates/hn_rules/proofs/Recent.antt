@@ -16,6 +16,7 @@ use Rattle.hn_rules.specs.Nodes.{age_at, held_entry, own_entry, IsReach}
 use Rattle.hn_rules.specs.Refresh.{IsReaching, IsRefresh}
 use Rattle.hn_rules.specs.Router.{IsRefreshed}
 use Rattle.hn_rules.proofs.Forgetting.{between, among_reach, IsMarked}
+use Rattle.hn_base.proofs.Decisions.{from_is_none}
 
 -- ---- moments of loss
 
@@ -33,10 +34,6 @@ marks_same reach now (node ∷ nodes) marked =
     ap (λ (lost : Option ℕ). record node { stored = record node.stored { lost = lost } }) (lost_same (is_among reach node.id.0) now node.stored.lost (All-head (IsMarked reach) node nodes marked)) in
     let more = marks_same reach now nodes (All-tail (IsMarked reach) node nodes marked) in
     cc
-
-no_loss : (lost : Option ℕ) → is_none lost ≡ true → lost ≡ None
-no_loss None is = refl
-no_loss (Some moment) is = absurd cc
 
 -- ---- the same nodes are reachable
 
@@ -101,7 +98,7 @@ module _ (s : State) where
     held_like x node reachable there is =
         let among : is_among s.reach node.id.0 ≡ true = among_reach s.reach x.id node.id.0 ((is_reach.exactly x.id).1 reachable) (sym (ap (λ (n : Entry). n.id.0) is)) in
         let mark = All-contains (IsMarked s.reach) s.table.entries node marked there in
-        let recent = All-contains (LeadsOn s.moment) s.table.entries node leads there (no_loss node.stored.lost (sym mark ∙ among)) in
+        let recent = All-contains (LeadsOn s.moment) s.table.entries node leads there (from_is_none node.stored.lost (sym mark ∙ among)) in
         subst (λ (y : Entry). IsLike y (held_entry s.moment node)) is (record { id = refl; body = refl; recent = λ _. recent })
 
     held_was : (y : Entry) (node : HeldNode) → held_entry s.moment node ≡ y → IsLike y (held_entry moment node)

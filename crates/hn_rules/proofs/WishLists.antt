@@ -1,7 +1,5 @@
 -- The wishes of a router, as they are added one after another.
-use Rattle.std.proofs.Common.{◌≡◌, ◌∙◌, ◌<◌, ◌≤◌, ◌+◌, ◌↔◌, ◌⊎◌, ℕ, Bool, true, false, List, [], ◌∷◌, ◌++◌, length, take, get_or, Contains, Some, Decides, sym, ap, subst, inl, inr, refl, ⊎_elim, arith, rules}
-use Rattle.std.specs.Cmp.{IsTotalOrder}
-use Rattle.std.specs.Cmp.Rules.{comparing}
+use Rattle.std.proofs.Common.{◌≡◌, ◌∙◌, ◌<◌, ◌≤◌, ◌+◌, ◌↔◌, ◌⊎◌, ℕ, Bool, true, false, List, [], ◌∷◌, ◌++◌, length, take, get_or, Contains, Some, Decides, sym, ap, subst, inl, inr, refl, ⊎_elim, arith}
 use Rattle.std.specs.List.{slice_get}
 use Rattle.std.specs.List.Sorted.{IsStrictlySortedBy}
 use Rattle.std.specs.Option.{option_map}
@@ -24,13 +22,11 @@ use Rattle.hn_assign.specs.declared.assigned.Wish.{Wish}
 use Rattle.hn_assign.specs.declared.pair.Pair.{Pair}
 use Rattle.hn_assign.specs.Pair.{IsWished, wish_pair}
 use Rattle.hn_rules.specs.Assigning.{IsWishAt}
+use Rattle.hn_prefix.proofs.Prefixes.{prefix_total}
 
 -- an endpoint has one Common Link
 abbrev pub OneLink : Type 0
 OneLink = (view : PlainView) (e : ℕ) (a b : List (NodeId × EpId)) → IsCommonLink view e a → IsCommonLink view e b → a ≡ b
-
-prefix_total : IsTotalOrder prefix_cmp
-prefix_total = search (comparing, rules)
 
 -- after a wish was added
 abbrev pub HasAdded : Wish → List Wish → List Wish → Type 0

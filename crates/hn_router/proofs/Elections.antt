@@ -1,5 +1,5 @@
 -- Who is elected, as a router sees the network.
-use Rattle.std.proofs.Common.{◌≡◌, ℕ, List, Option, Some, None, subst}
+use Rattle.std.proofs.Common.{◌≡◌, List, Option, Some, None, subst}
 use Rattle.std.specs.Prelude.{IfSome, IfNone, MatchOption}
 use Rattle.hn_base.specs.declared.ids.EpId.{EpId}
 use Rattle.hn_base.specs.declared.ids.NodeId.{NodeId}

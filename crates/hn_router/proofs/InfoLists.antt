@@ -1,11 +1,10 @@
 -- What an endpoint advertises of a router's assignments, one after the other.
-use Rattle.std.proofs.Common.{◌≡◌, ◌↔◌, ◌⊎◌, ℕ, ◌+◌, ◌<◌, List, [], ◌∷◌, ◌++◌, length, map, take, get_or, slice_get, Some, arith, Ordering, Contains, refl, sym, ◌∙◌, ap, subst, ⊎_elim}
+use Rattle.std.proofs.Common.{◌≡◌, ◌↔◌, ℕ, ◌+◌, ◌<◌, List, [], ◌∷◌, ◌++◌, map, take, get_or, slice_get, Some, arith, Ordering, Contains, refl, sym, ◌∙◌, ap, subst, ⊎_elim}
 use Rattle.std.specs.Prelude.{All}
 use Rattle.std.specs.declared.cmp.Ordering.TheVariants.{Less, Equal, Greater}
-use Rattle.std.specs.Cmp.{IsTotalOrder}
 use Rattle.std.specs.List.Sorted.{IsStrictlySortedBy}
 use Rattle.std.specs.Ordering.{on, nat_cmp, ordering_then}
-use Rattle.std.proofs.lemmas.Cmp.{on_total, then_total, nat_cmp_total, tied_itself}
+use Rattle.std.proofs.lemmas.Cmp.{nat_cmp_total, tied_itself}
 use Rattle.std.proofs.lemmas.List.{map-append, take_more, length-take, get_or-take}
 use Rattle.std.proofs.lemmas.List.Elements.{All-contains, All-from_recursion, All-push, All-take, Contains-push, Contains-push_cases, Contains-append_left}
 use Rattle.std.proofs.lemmas.Map.Keys.{sorted_head, sorted_tail, Less-from_sorted}
@@ -23,8 +22,9 @@ use Rattle.hn_deleg.specs.declared.delegated.Delegated.{Delegated}
 use Rattle.hn_deleg.specs.Used.{AreUsable, prefixes_of, whole_seconds}
 use Rattle.hn_rules.specs.declared.state.State.{State}
 use Rattle.hn_rules.specs.Seen.{seen_by}
-use Rattle.hn_router.specs.Advertising.{IsInfoOf, AreInfos}
+use Rattle.hn_router.specs.Advertising.{AreInfos}
 use Rattle.hn_router.specs.Infos.{IsInfoFrom, HasNoInfo}
+use Rattle.hn_prefix.proofs.Prefixes.{prefix_total}
 
 -- the law of hn_deleg: prefixes inside two usable prefixes are in the order of these
 abbrev pub InsideKeepsOrder : Type 0
@@ -33,9 +33,6 @@ InsideKeepsOrder =
     → IsPrefix p → IsPrefix q → IsWithin p d → IsWithin q f → prefix_cmp d f ≡ Less → prefix_cmp p q ≡ Less
 
 -- ---- orders
-
-pub prefix_total : IsTotalOrder prefix_cmp
-prefix_total = then_total (on_total (λ p. p.bits) nat_cmp_total) (on_total (λ p. p.len) nat_cmp_total)
 
 first_less : (a b : Ordering) → b ≡ Equal → ordering_then a b ≡ Less → a ≡ Less
 first_less Less b tied h = refl

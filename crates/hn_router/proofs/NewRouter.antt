@@ -1,5 +1,5 @@
 -- A new router is one.
-use Rattle.std.proofs.Common.{◌≡◌, ◌<◌, ◌^◌, ◌∙◌, ℕ, List, [], ◌∷◌, ◌++◌, None, map, filter, get_or, inl, refl, sym, ap, subst, arith}
+use Rattle.std.proofs.Common.{◌≡◌, ◌<◌, ◌^◌, ◌∙◌, ℕ, List, [], ◌∷◌, ◌++◌, None, map, filter, inl, refl, sym, ap, subst, arith}
 use Rattle.std.specs.Prelude.{All, Contains, ◌↔◌, nat_lt, is_none}
 use Rattle.std.specs.List.Sorted.{IsStrictlySortedBy}
 use Rattle.std.proofs.lemmas.List.Elements.{All-nil}
@@ -22,6 +22,7 @@ use Rattle.hn_own.specs.Ports.{ArePorts}
 use Rattle.hn_rules.specs.Nodes.{held_entry, own_entry, nodes_of}
 use Rattle.hn_rules.specs.Router.{IsPortPast, IsNodePast, IsWell, WasReach}
 use Rattle.hn_router.specs.Laws.{NewIsRouter}
+use Rattle.hn_base.proofs.AscendingLists.{Contains-one}
 
 -- its own node is the only one
 module _ (own : ℕ) (node : Entry) (here : node.id.0 ≡ own) (own_is_reachable : (own : ℕ) (nodes : List Entry) → IsNetwork own nodes → IsReachable own nodes own)
@@ -30,15 +31,11 @@ module _ (own : ℕ) (node : Entry) (here : node.id.0 ≡ own) (own_is_reachable
   unfolding IsStrictlySortedBy
   alone = record { ascending = (tt, tt); own_is_there = (0, omega arith, here) }
 
-  one_in : (n x : ℕ) → Contains (n ∷ []) x → n ≡ x
-  one_in n x (k, within, is) = let first : k ≡ 0 = omega arith in subst (λ (i : ℕ). get_or (n ∷ []) i x ≡ x) first is
-
   alone_reached : (id y : NodeId) → id.0 ≡ own → Contains (id ∷ []) y ↔ IsReachable own (node ∷ []) y.0
   alone_reached id y is_own = (
-    λ (k, within, is). let first : k ≡ 0 = omega arith in
-        let same : id ≡ y = subst (λ (i : ℕ). get_or (id ∷ []) i y ≡ y) first is in
+    λ is. let same = Contains-one id y is in
         subst (IsReachable own (node ∷ [])) (sym is_own ∙ ap (λ (i : NodeId). i.0) same) (own_is_reachable own (node ∷ []) alone),
-    λ reachable. let same = one_in node.id.0 y.0 (reachable_is_a_node own (node ∷ []) y.0 reachable) in
+    λ reachable. let same = Contains-one node.id.0 y.0 (reachable_is_a_node own (node ∷ []) y.0 reachable) in
         (0, omega arith, ap (λ (n : ℕ). let i : NodeId = record { 0 = n } in i) (is_own ∙ sym here ∙ same)),
   )
 

@@ -1,6 +1,6 @@
 -- A router advertises one thing on an endpoint.
-use Rattle.std.proofs.Common.{◌≡◌, ◌↔◌, ◌⊎◌, ℕ, List, Option, Some, None, refl, sym, ◌∙◌, ap, subst, ⊎_elim, Contains, map}
-use Rattle.std.specs.Prelude.{Bool, is_some, MatchOption}
+use Rattle.std.proofs.Common.{◌≡◌, ◌↔◌, ℕ, List, Option, Some, None, refl, sym, ◌∙◌, ap, subst, ⊎_elim, Contains}
+use Rattle.std.specs.Prelude.{is_some, MatchOption}
 use Rattle.std.specs.Ordering.{on}
 use Rattle.std.proofs.lemmas.Cmp.{on_total}
 use Rattle.hn_base.proofs.AscendingLists.{ascending_unique, sorted_parts}
@@ -20,7 +20,7 @@ use Rattle.hn_link.specs.Election.{IsElected, HasNoCandidate}
 use Rattle.hn_rules.specs.declared.state.State.{State}
 use Rattle.hn_rules.specs.Seen.{seen_by, IsElectedAt}
 use Rattle.hn_router.specs.Advertising.{IsInfoOf, AreInfos, IsLifetime, IsAdvertAt, IsAdvertBytes}
-use Rattle.hn_router.proofs.InfoLists.{prefix_total}
+use Rattle.hn_prefix.proofs.Prefixes.{prefix_total}
 
 -- the laws of hn_deleg and hn_link: a view has one list of usable prefixes, and an endpoint one Common Link
 abbrev pub OneUsable : Type 0

@@ -1,5 +1,5 @@
 -- Each event has at most one result over one stream of words.
-use Rattle.std.proofs.Common.{◌≡◌, ◌∙◌, ◌⊎◌, ℕ, Bool, true, false, List, ap, refl, sym, inl, inr}
+use Rattle.std.proofs.Common.{◌≡◌, ◌∙◌, ◌⊎◌, ℕ, false, List, ap, refl, sym, inl, inr}
 use Rattle.std.specs.Prelude.{IsTrue}
 use Rattle.hn_base.specs.declared.ids.EpId.{EpId}
 use Rattle.hn_tlv.specs.Grammar.{PlainTlv, IsTlvList, HasTlvs, FirstFault}
@@ -16,9 +16,7 @@ use Rattle.hn_rules.specs.Tick.{IsExpiry, forgetting, IsPortsTick}
 use Rattle.hn_router.specs.Act.{PlainEvent, Arrive, Tick, Attach, Detach, External, Withdraw, SetCaps, Restart, IsFar, IsMalformed, IsRead, is_refused, IsEventRule, IsEvent}
 use Rattle.hn_router.specs.Ticks.{IsLosing, IsSettling, IsTick}
 use Rattle.hn_rules.proofs.Sole.{sole_given, sole_plain, sole_both, sole_from, sole_or, sole_where, sole_some}
-
-apart_tests : (b : Bool) → IsTrue b → b ≡ false → ⊥
-apart_tests b is not = let clash : true ≡ false = sym is ∙ not in absurd cc
+use Rattle.hn_base.proofs.Decisions.{not_both}
 
 -- what the laws say of lists of TLVs and of the rules
 pub record HasLaws : Type 0 where
@@ -71,4 +69,4 @@ sole_event laws event =
     sole_or (λ r a. IsTrue (is_refused event r.state) × (a ≡ noted note.Refused r)) (λ r a. (is_refused event r.state ≡ false) × IsEventRule event r a)
     (sole_where (λ r. IsTrue (is_refused event r.state)) (λ r a. a ≡ noted note.Refused r) (sole_plain (noted note.Refused) (λ r. refl)))
     (sole_where (λ r. is_refused event r.state ≡ false) (IsEventRule event) (sole_rule laws event))
-    (λ r a b h k. apart_tests _ h.0 k.0)
+    (λ r a b h k. not_both _ h.0 k.0)

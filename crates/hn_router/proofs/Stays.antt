@@ -1,5 +1,5 @@
 -- What an event leaves of a router is one.
-use Rattle.std.proofs.Common.{◌≡◌, ◌≢◌, ℕ, true, false, not, List, inl, inr, sym, subst, arith}
+use Rattle.std.proofs.Common.{◌≡◌, ◌≢◌, true, false, not, List, inl, inr, sym, subst, arith}
 use Rattle.std.specs.Prelude.{length, nat_lt, ◌==◌, ◌||◌}
 use Rattle.std.proofs.lemmas.Bool.{or_parts, eqb-false, ltb-true, not-false}
 use Rattle.hn_base.specs.declared.caps.Caps.{Caps}
@@ -10,12 +10,10 @@ use Rattle.hn_own.specs.OwnPrefixes.{may_delegate}
 use Rattle.hn_own.specs.Ports.{is_attached}
 use Rattle.hn_rules.specs.declared.running.Running.{Running}
 use Rattle.hn_rules.specs.declared.running.Origin.{Origin}
-use Rattle.hn_rules.specs.declared.state.State.{State}
 use Rattle.hn_rules.specs.Arrival.{IsArrival}
-use Rattle.hn_rules.specs.Delegating.{delegating, withdrawing, ending}
+use Rattle.hn_rules.specs.Delegating.{withdrawing, ending}
 use Rattle.hn_rules.specs.Events.{detaching, setting_caps, IsRestarting}
 use Rattle.hn_rules.specs.Laws.{KeepsRouter, KeepsWell, RefreshMakesRouter, AssigningKeeps, DelegatingKeeps, AttachingKeeps, RouterStaysLater}
-use Rattle.hn_rules.specs.Refresh.{IsRefresh}
 use Rattle.hn_rules.specs.Router.{IsWell, IsRouter}
 use Rattle.hn_rules.specs.Rules.{begun_at}
 use Rattle.hn_rules.specs.Tick.{IsExpiry, forgetting, IsPortsTick}

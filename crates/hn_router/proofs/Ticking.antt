@@ -3,7 +3,6 @@ use Rattle.std.proofs.Common.{◌≡◌, ℕ, Option, ap, refl}
 use Rattle.hn_base.specs.declared.ids.EpId.{EpId}
 use Rattle.hn_own.specs.Ports.{endpoints_of}
 use Rattle.hn_rules.specs.declared.running.Running.{Running}
-use Rattle.hn_rules.specs.Assigning.{IsAssigning}
 use Rattle.hn_rules.specs.Delegating.{ending}
 use Rattle.hn_rules.specs.Refresh.{IsRefresh}
 use Rattle.hn_rules.specs.Rules.{Then, AtPort, Ran}

@@ -1,5 +1,5 @@
 -- Which rules an event runs, and in which order.
-use Rattle.std.specs.Prelude.{◌≡◌, ℕ, ◌==◌, ◌||◌, IsTrue, false, Bool, not, ◌⊎◌, nat_lt, length, List, [], None, Option}
+use Rattle.std.specs.Prelude.{◌≡◌, ℕ, ◌==◌, ◌||◌, IsTrue, false, Bool, not, ◌⊎◌, nat_lt, length, List, Option}
 use Rattle.hn_base.specs.declared.ids.EpId.{EpId}
 use Rattle.hn_base.specs.declared.caps.Caps.{Caps}
 use Rattle.hn_base.specs.Addr.{IsLinkLocal}

@@ -1,5 +1,5 @@
 use Rattle.std.proofs.Common.{◌≡◌, ◌∙◌, ap}
-use Rattle.hn_data.specs.View.{PlainView, plain_view}
+use Rattle.hn_data.specs.View.{plain_view}
 use Rattle.hn_rules.specs.Seen.{seen_by}
 use Rattle.hn_router.proofs.Elections.{elected_at}
 use Rattle.hn_router.proofs.router.Router.elected.Goals as goal

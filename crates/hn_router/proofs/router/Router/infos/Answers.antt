@@ -1,4 +1,4 @@
-use Rattle.std.proofs.Common.{◌≡◌, subst, sym, refl, List, length, take, Some, slice_get}
+use Rattle.std.proofs.Common.{◌≡◌, subst, refl, List, length, Some, slice_get}
 use Rattle.std.specs.Prelude.{All}
 use Rattle.std.proofs.lemmas.Option.{slice_get_read}
 use Rattle.std.proofs.lemmas.List.{take_all}
@@ -7,7 +7,6 @@ use Rattle.hn_assign.specs.Facts.{IsInDelegated}
 use Rattle.hn_assign.specs.Pair.{assigned_pair, IsAscending}
 use Rattle.hn_deleg.specs.declared.delegated.Delegated.{Delegated}
 use Rattle.hn_deleg.specs.Used.{AreUsable}
-use Rattle.hn_own.specs.HeldPairs.{AreHeldPairs}
 use Rattle.hn_rules.specs.Seen.{seen_by}
 use Rattle.hn_router.specs.Infos.{IsInfoFrom, HasNoInfo}
 use Rattle.hn_router.proofs.InfoLists.{AreInfosOf, infos_none, infos_more_at, infos_same_at, infos_are}

@@ -1,6 +1,5 @@
 -- What an accepted event says.
 use Rattle.std.proofs.Common.{◌≡◌, ◌<◌, ℕ, Bool, true, false, not, List, Option, Some, None, length, nat_lt, nat_le, slice_get, refl}
-use Rattle.std.specs.Option.{option_or}
 use Rattle.std.proofs.lemmas.Bool.{leb-false}
 use Rattle.hn_base.specs.Name.{name_text}
 use Rattle.hn_base.specs.declared.ids.EpId.{EpId}
@@ -12,11 +11,7 @@ use Rattle.hn_world.specs.declared.member.Member.{Member}
 use Rattle.hn_world.specs.declared.parts.Parts.{Parts}
 use Rattle.hn_world.specs.Names.{is_taken, member_named, link_place}
 use Rattle.hn_world.specs.Refusal.{code_if, of_router, of_link, of_copy, unless_running, unless_attached, unless_free, unless_apart, unless_full_of_endpoints, unless_full_of_events, unless_full_of_mail, unless_acts, unless_detached, unless_ticked, unless_received, unless_joined, unless_new, copy_at, refusal, unless_full_of_prefixes, unless_delegated}
-
--- none of two codes
-pub or_none : (a b : Option ℕ) → option_or a b ≡ None → (a ≡ None) × (b ≡ None)
-or_none None b none = (refl, none)
-or_none (Some code) b none = absurd cc
+use Rattle.hn_base.proofs.Decisions.{neither_given}
 
 pub not_so : (code : ℕ) (b : Bool) → code_if code b ≡ None → b ≡ false
 not_so code true none = absurd cc
@@ -42,34 +37,34 @@ HasRoom w = unless_full_of_events w ≡ None
 
 room_to_define : (w : Parts) (name : List ℕ) (count : ℕ) → unless_new w name count ≡ None → HasRoom w
 room_to_define w name count accepted =
-    let first = or_none (code_if 8 (is_taken name w)) _ accepted in
-    (or_none (code_if 9 (not (nat_lt count 64))) (unless_full_of_events w) first.1).1
+    let first = neither_given (code_if 8 (is_taken name w)) _ accepted in
+    (neither_given (code_if 9 (not (nat_lt count 64))) (unless_full_of_events w) first.1).1
 
 room_to_act : (w : Parts) (m : Member) → unless_acts w m ≡ None → HasRoom w
-room_to_act w m accepted = (or_none (unless_running m) (unless_full_of_events w) accepted).1
+room_to_act w m accepted = (neither_given (unless_running m) (unless_full_of_events w) accepted).1
 
 room_to_detach : (w : Parts) (endpoint : EpId) (m : Member) → unless_detached w endpoint m ≡ None → HasRoom w
 room_to_detach w endpoint m accepted =
-    let first = or_none (unless_running m) _ accepted in
-    (or_none (unless_attached endpoint m) (unless_full_of_events w) first.1).1
+    let first = neither_given (unless_running m) _ accepted in
+    (neither_given (unless_attached endpoint m) (unless_full_of_events w) first.1).1
 
 room_to_tick : (w : Parts) (m : Member) → unless_ticked w m ≡ None → HasRoom w
-room_to_tick w m accepted = room_to_act w m (or_none (unless_acts w m) (unless_full_of_mail w) accepted).0
+room_to_tick w m accepted = room_to_act w m (neither_given (unless_acts w m) (unless_full_of_mail w) accepted).0
 
 room_to_receive : (w : Parts) (endpoint : EpId) (m : Member) → unless_received w endpoint m ≡ None → HasRoom w
-room_to_receive w endpoint m accepted = room_to_detach w endpoint m (or_none (unless_detached w endpoint m) (unless_full_of_mail w) accepted).0
+room_to_receive w endpoint m accepted = room_to_detach w endpoint m (neither_given (unless_detached w endpoint m) (unless_full_of_mail w) accepted).0
 
 room_to_join : (w : Parts) (endpoint : EpId) (m : Member) (link : ℕ) → unless_joined w endpoint m link ≡ None → HasRoom w
 room_to_join w endpoint m link accepted =
-    let first = or_none (unless_running m) _ accepted in
-    let second = or_none (unless_free endpoint m) _ first.1 in
-    let third = or_none (unless_apart link m) _ second.1 in
-    (or_none (unless_full_of_endpoints m) (unless_full_of_events w) third.1).1
+    let first = neither_given (unless_running m) _ accepted in
+    let second = neither_given (unless_free endpoint m) _ first.1 in
+    let third = neither_given (unless_apart link m) _ second.1 in
+    (neither_given (unless_full_of_endpoints m) (unless_full_of_events w) third.1).1
 
 room_to_delegate : (w : Parts) (prefix : PlainPrefix) (m : Member) → unless_delegated w prefix m ≡ None → HasRoom w
 room_to_delegate w prefix m accepted =
-    let first = or_none (unless_running m) _ accepted in
-    (or_none (unless_full_of_prefixes prefix m) (unless_full_of_events w) first.1).1
+    let first = neither_given (unless_running m) _ accepted in
+    (neither_given (unless_full_of_prefixes prefix m) (unless_full_of_events w) first.1).1
 
 room : (w : Parts) (event : WEvent) → refusal w event ≡ None → HasRoom w
 room w (event.Router name id) accepted = room_to_define w (name_text name) _ accepted
@@ -94,7 +89,7 @@ room w (event.Stop name) accepted =
     let router = some_router (unless_acts w) (member_named (name_text name) w) accepted in
     room_to_act w router.0 router.2
 room w (event.Start name) accepted = (some_router (λ m. unless_full_of_events w) (member_named (name_text name) w) accepted).2
-room w (event.Time moment) accepted = (or_none (code_if 10 (nat_lt moment w.moment)) (unless_full_of_events w) accepted).1
+room w (event.Time moment) accepted = (neither_given (code_if 10 (nat_lt moment w.moment)) (unless_full_of_events w) accepted).1
 room w (event.Tick name) accepted =
     let router = some_router (unless_ticked w) (member_named (name_text name) w) accepted in
     room_to_tick w router.0 router.2

@@ -29,7 +29,8 @@ use Rattle.hn_world.specs.Names.{is_named, router_place, link_place, member_name
 use Rattle.hn_world.specs.Refusal.{of_router, of_link, unless_running, unless_free, unless_attached, unless_apart, unless_full_of_endpoints, unless_joined, unless_detached, refusal}
 use Rattle.hn_world.specs.Step.{ActsAt, Acts, Changes, Attaches, Detaches, Does, attached_to, detached_from}
 use Rattle.hn_world.specs.Replay.{Replays, IsAttachedMember, AreAttached}
-use Rattle.hn_world.proofs.Accepted.{or_none, not_so}
+use Rattle.hn_base.proofs.Decisions.{neither_given}
+use Rattle.hn_world.proofs.Accepted.{not_so}
 use Rattle.hn_world.proofs.Onces.{Any}
 use Rattle.hn_world.proofs.Places.{got_set, place_kept}
 use Rattle.hn_world.proofs.Sounds.{all_at, replay_keeps}
@@ -92,10 +93,10 @@ may_join w name link endpoint place at m is_place is_member is_link accepted =
     let joined : unless_joined w endpoint m at ≡ None =
     sym (ap (λ (l : Option ℕ). of_link (unless_joined w endpoint m) l) is_link)
     ∙ sym (ap (of_router (λ (n : Member). of_link (unless_joined w endpoint n) (link_place (name_text link) w))) found) ∙ accepted in
-    let first = or_none (unless_running m) _ joined in
-    let second = or_none (unless_free endpoint m) _ first.1 in
-    let third = or_none (unless_apart at m) _ second.1 in
-    let fourth = or_none (unless_full_of_endpoints m) _ third.1 in
+    let first = neither_given (unless_running m) _ joined in
+    let second = neither_given (unless_free endpoint m) _ first.1 in
+    let third = neither_given (unless_apart at m) _ second.1 in
+    let fourth = neither_given (unless_full_of_endpoints m) _ third.1 in
     record {
       free = not_so 11 (is_attached endpoint m.router.ports) second.0;
       apart = not_so 14 (list_any (λ (a : Attachment). a.link == at) m.attachments) third.0;
@@ -107,8 +108,8 @@ may_leave : (w : Parts) (name : Name) (endpoint : EpId) (place : ℕ) (m : Membe
 may_leave w name endpoint place m is_place is_member accepted =
     let found : member_named (name_text name) w ≡ Some m = found_at (is_named (name_text name)) w.members place m is_place is_member in
     let leaves : unless_detached w endpoint m ≡ None = sym (ap (of_router (unless_detached w endpoint)) found) ∙ accepted in
-    let first = or_none (unless_running m) _ leaves in
-    let second = or_none (unless_attached endpoint m) _ first.1 in
+    let first = neither_given (unless_running m) _ leaves in
+    let second = neither_given (unless_attached endpoint m) _ first.1 in
     not_false (is_attached endpoint m.router.ports) (not_so 11 (not (is_attached endpoint m.router.ports)) second.0)
 
 -- ---- endpoints and attachments

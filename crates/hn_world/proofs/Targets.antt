@@ -1,9 +1,9 @@
 -- The endpoints that are attached to a link.
-use Rattle.std.proofs.Common.{◌≡◌, ℕ, zero, suc, ◌+◌, ◌<◌, Bool, true, false, List, [], ◌∷◌, ◌++◌, length, get_or, take, map, filter, find, Option, Some, refl, sym, ◌∙◌, ap, arith, add-one, append_assoc}
-use Rattle.std.specs.Prelude.{◌==◌, ◌||◌}
+use Rattle.std.proofs.Common.{◌≡◌, ℕ, zero, suc, ◌+◌, ◌<◌, Bool, false, List, [], ◌∷◌, ◌++◌, length, get_or, take, map, filter, find, Option, Some, refl, sym, ◌∙◌, ap, arith, add-one, append_assoc}
+use Rattle.std.specs.Prelude.{◌==◌}
 use Rattle.std.specs.List.{list_any}
 use Rattle.std.specs.Option.{option_map, option_map_or}
-use Rattle.std.proofs.lemmas.Bool.{cond_both}
+use Rattle.std.proofs.lemmas.Bool.{cond_both, or_parts}
 use Rattle.std.proofs.lemmas.List.{append-nil}
 use Rattle.hn_base.specs.declared.ids.EpId.{EpId}
 use Rattle.hn_own.specs.Ports.{endpoints_of}
@@ -33,15 +33,11 @@ on_link-more link i xs d lt =
 
 -- ---- a router with no attachment to a link
 
-neither : (b c : Bool) → (b || c) ≡ false → (b ≡ false) × (c ≡ false)
-neither false c h = (refl, h)
-neither true c h = absurd cc
-
 none_found : (link : ℕ) (e : EpId) (all : List Attachment) → list_any (λ a. a.link == link) all ≡ false
     → option_map_or (λ l. l == link) (option_map (λ (a : Attachment). a.link) (find (is_of e) all)) false ≡ false
 none_found link e [] none = refl
 none_found link e (a ∷ all) none =
-    let parts = neither (a.link == link) (list_any (λ (b : Attachment). b.link == link) all) none in
+    let parts = or_parts (a.link == link) (list_any (λ (b : Attachment). b.link == link) all) none in
     cond_both (is_of e a) (Some a) (find (is_of e) all) (λ (o : Option Attachment). option_map_or (λ l. l == link) (option_map (λ (b : Attachment). b.link) o) false ≡ false)
     (λ _. parts.0) (λ _. none_found link e all parts.1)
 

@@ -30,7 +30,7 @@ use Rattle.hn_world.specs.declared.parts.Parts.{Parts}
 use Rattle.hn_audit.specs.Reached.{IsReached}
 use Rattle.hn_audit.specs.Sound.{IsThere, ElectSame}
 use Rattle.hn_base.proofs.Elements.{in_filter, from_filter}
-use Rattle.hn_audit.proofs.BridgeLists.{any_of, any_from}
+use Rattle.hn_base.proofs.Elements.{any_of, any_from}
 use Rattle.hn_audit.proofs.BridgeOrders.{ascending_of, greatest_of}
 use Rattle.hn_audit.proofs.BridgeSets.{router_of, in_view, of_view}
 use Rattle.hn_audit.proofs.BridgeHomes.{home_of, set_of, in_set, of_set, IsEndOf}

@@ -5,10 +5,9 @@ use Rattle.std.specs.declared.cmp.Ordering.{Ordering}
 use Rattle.std.specs.declared.cmp.Ordering.TheVariants.{Less}
 use Rattle.std.specs.Ordering.{on}
 use Rattle.std.specs.List.Sorted.{IsStrictlySortedBy}
-use Rattle.std.specs.List.{count_by, list_any, AllPairs}
+use Rattle.std.specs.List.{count_by, AllPairs}
 use Rattle.std.proofs.lemmas.Bool.{cases_lt}
 use Rattle.std.proofs.lemmas.List.{get_or_default}
-use Rattle.std.proofs.lemmas.List.Folds.{Any-from_list_any, list_any_at}
 use Rattle.std.proofs.lemmas.Map.Keys.{Less-from_sorted}
 use Rattle.std.proofs.lemmas.List.Sums.{length-filter}
 use Rattle.hn_base.proofs.Elements.{in_filter, from_filter}
@@ -89,13 +88,7 @@ one_of_ascending {X} f R total xs up x y there also same =
     one_of_apart (λ (a b : X). R (f a) (f b) ≡ Less) xs (λ i j d before under. Less-from_sorted (on f R) xs i j d up before under) x y there also
     (not_below_itself R total (f x) (f y) same) (not_below_itself R total (f y) (f x) (sym same))
 
--- ---- list_any
-
-pub any_of : {X : Type 0} (test : X → Bool) (xs : List X) → list_any test xs ≡ true → (x : X) × Contains xs x × (test x ≡ true)
-any_of test xs is = let found = Any-from_list_any test xs is in (found.1, (found.0, found.2, found.3), found.4)
-
-pub any_from : {X : Type 0} (test : X → Bool) (xs : List X) (x : X) → Contains xs x → test x ≡ true → list_any test xs ≡ true
-any_from {X} test xs x (k, lt, at) passes = list_any_at test xs k x lt (subst (λ (y : X). test y ≡ true) (sym at) passes)
+-- ---- tests
 
 pub same_Bool : (a b : Bool) → (a ≡ true → b ≡ true) → (b ≡ true → a ≡ true) → a ≡ b
 same_Bool true true to back = refl

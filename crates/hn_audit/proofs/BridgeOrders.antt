@@ -1,28 +1,27 @@
 -- Lists under a total order: one in ascending order with given elements, and a greatest element.
-use Rattle.std.proofs.Common.{◌≡◌, ◌∙◌, ◌↔◌, ◌⊎◌, List, [], ◌∷◌, Contains, get_or, inl, inr, refl, sym, ap, subst}
+use Rattle.std.proofs.Common.{◌≡◌, ◌∙◌, ◌↔◌, ◌⊎◌, List, [], ◌∷◌, Contains, inl, inr, refl, sym, ap, subst}
 use Rattle.std.specs.Cmp.{IsTotalOrder}
 use Rattle.std.specs.List.Sorted.{IsStrictlySortedBy}
 use Rattle.std.specs.Ordering.{ordering_reverse}
 use Rattle.std.specs.declared.cmp.Ordering.{Ordering}
 use Rattle.std.specs.declared.cmp.Ordering.TheVariants.{Less, Equal, Greater}
-use Rattle.std.proofs.lemmas.List.Elements.{Contains-get_or, recursion_from_All, All-from_recursion, All-contains}
-use Rattle.std.proofs.lemmas.Map.Keys.{sorted_head, sorted_tail}
-use Rattle.hn_base.proofs.AscendingLists.{Contains-head, Contains-tail, Contains-cases, nothing_in, not_below_itself}
+use Rattle.std.proofs.lemmas.List.Elements.{recursion_from_All}
+use Rattle.std.proofs.lemmas.Map.Keys.{sorted_tail}
+use Rattle.hn_base.proofs.AscendingLists.{Contains-head, Contains-tail, Contains-cases, below_head, nothing_in, not_below_itself}
 use Rattle.hn_base.specs.Ascending.{IsExact}
+use Rattle.hn_base.proofs.Elements.{all_of}
+
+-- a first element that is below all others
+pub sorted_cons : {K : Type 0} (R : K → K → Ordering) (x : K) (xs : List K) → ((y : K) → Contains xs y → R x y ≡ Less) → IsStrictlySortedBy R xs → IsStrictlySortedBy R (x ∷ xs)
+unfolding IsStrictlySortedBy
+sorted_cons R x xs below up = (recursion_from_All (λ y. R x y ≡ Less) xs (all_of (λ y. R x y ≡ Less) xs below), up)
+
+pub sorted_none : {K : Type 0} (R : K → K → Ordering) → IsStrictlySortedBy R []
+unfolding IsStrictlySortedBy
+sorted_none R = tt
 
 module _ {K : Type 0} (R : K → K → Ordering) (total : IsTotalOrder R) where
   -- ---- ascending order
-
-  sorted_cons : (x : K) (xs : List K) → ((y : K) → Contains xs y → R x y ≡ Less) → IsStrictlySortedBy R xs → IsStrictlySortedBy R (x ∷ xs)
-  unfolding IsStrictlySortedBy
-  sorted_cons x xs below up = (recursion_from_All (λ (y : K). R x y ≡ Less) xs (λ k d lt. below (get_or xs k d) (Contains-get_or xs k d lt)), up)
-
-  sorted_none : IsStrictlySortedBy R []
-  unfolding IsStrictlySortedBy
-  sorted_none = tt
-
-  below_head : (x : K) (xs : List K) → IsStrictlySortedBy R (x ∷ xs) → (y : K) → Contains xs y → R x y ≡ Less
-  below_head x xs up y h = All-contains (λ (z : K). R x z ≡ Less) xs y (All-from_recursion (λ (z : K). R x z ≡ Less) xs (sorted_head R x xs up)) h
 
   -- a list in order that has one more
   abbrev WithOne : K → List K → Type 0
@@ -31,7 +30,7 @@ module _ {K : Type 0} (R : K → K → Ordering) (total : IsTotalOrder R) where
   first_of : (x : K) (ys : List K) → ((y : K) → Contains ys y → R x y ≡ Less) → IsStrictlySortedBy R ys → WithOne x ys
   first_of x ys below up = (
     x ∷ ys,
-    sorted_cons x ys below up,
+    sorted_cons R x ys below up,
     λ z. (
       Contains-cases x ys z,
       λ some. elim some [
@@ -45,7 +44,7 @@ module _ {K : Type 0} (R : K → K → Ordering) (total : IsTotalOrder R) where
   below_both x y ys less up z h =
       elim (Contains-cases y ys z h) [
         | inl same ↦ subst (λ (v : K). R x v ≡ Less) same less
-        | inr later ↦ total.trans x y z less (below_head y ys up z later)
+        | inr later ↦ total.trans x y z less (below_head R y ys up z later)
       ]
 
   already : (x y : K) (ys : List K) → x ≡ y → IsStrictlySortedBy R (y ∷ ys) → WithOne x (y ∷ ys)
@@ -65,9 +64,9 @@ module _ {K : Type 0} (R : K → K → Ordering) (total : IsTotalOrder R) where
   after x y ys more up (zs, sorted, exact) =
       let less : R y x ≡ Less = total.antisymm y x ∙ ap ordering_reverse more in (
         y ∷ zs,
-        sorted_cons y zs (λ z h. elim ((exact z).0 h) [
+        sorted_cons R y zs (λ z h. elim ((exact z).0 h) [
           | inl same ↦ subst (λ (v : K). R y v ≡ Less) same less
-          | inr later ↦ below_head y ys up z later
+          | inr later ↦ below_head R y ys up z later
         ]) sorted,
         λ z. (
           λ h. elim (Contains-cases y zs z h) [
@@ -97,7 +96,7 @@ module _ {K : Type 0} (R : K → K → Ordering) (total : IsTotalOrder R) where
       go rest Greater is = after x y ys is up rest
 
   pub ascending_of : IsExact R → (xs : List K) → (ys : List K) × IsStrictlySortedBy R ys × ((z : K) → Contains ys z ↔ Contains xs z)
-  ascending_of exact [] = ([], sorted_none, λ z. (λ h. h, λ h. h))
+  ascending_of exact [] = ([], sorted_none R, λ z. (λ h. h, λ h. h))
   ascending_of exact (x ∷ xs) =
       let rest = ascending_of exact xs in
       let more = with_one exact x rest.0 rest.1 in (

@@ -23,7 +23,8 @@ use Rattle.hn_audit.specs.Quiet.{IsQuiet}
 use Rattle.hn_audit.specs.Sound as said
 use Rattle.hn_audit.proofs.BridgeLists.{one_of_ascending}
 use Rattle.hn_audit.proofs.BridgeSets.{IsKnown, OwnVersions, OwnPeers, router_of, itself, one_member}
-use Rattle.hn_audit.proofs.BridgeUsed.{pair_total, used_same}
+use Rattle.hn_assign.proofs.Orders.{pair_total}
+use Rattle.hn_audit.proofs.BridgeUsed.{used_same}
 use Rattle.hn_audit.proofs.BridgeHomes.{home_of, IsEndOf, IsPlugged, of_end, of_has, one_on_link}
 
 -- a settled and quiet router of a replayed world, and the delegated prefixes that it uses

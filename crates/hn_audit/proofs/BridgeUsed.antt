@@ -1,49 +1,27 @@
 -- The used delegated prefixes of a settled set, which of them are wanted, and what is asked for a pair.
-use Rattle.std.proofs.Common.{◌≡◌, ◌∙◌, ◌<◌, ℕ, Bool, true, false, List, Option, Some, None, Contains, length, not, refl, sym, ap, subst, ◌==◌, ◌&&◌, nat_lt}
-use Rattle.std.specs.Cmp.{IsTotalOrder}
+use Rattle.std.proofs.Common.{◌≡◌, ◌∙◌, ◌<◌, ℕ, Bool, true, List, Some, Contains, length, not, refl, sym, ap, subst, ◌==◌, ◌&&◌, nat_lt}
 use Rattle.std.specs.List.{list_any, slice_get}
 use Rattle.std.specs.List.Sorted.{IsStrictlySortedBy}
 use Rattle.std.specs.Ordering.{on}
-use Rattle.std.specs.Option.{option_map}
 use Rattle.std.proofs.lemmas.Bool.{and_from, and_parts, eqb-true, eq-eqb, ltb-true, lt-ltb, false_from_ne_true, not-true, not_from_false}
-use Rattle.std.proofs.lemmas.Cmp.{on_total, then_total, nat_cmp_total}
-use Rattle.std.proofs.lemmas.Option.{same_Some, slice_get-map, slice_get_within, slice_get-get_or, get_or_from_slice_get}
+use Rattle.std.proofs.lemmas.Option.{same_Some, slice_get_within, slice_get-get_or, get_or_from_slice_get}
 use Rattle.hn_base.proofs.AscendingLists.{sorted_parts}
 use Rattle.hn_prefix.specs.Prefix.{PlainPrefix, prefix_cmp}
 use Rattle.hn_data.specs.View.{PlainView}
 use Rattle.hn_deleg.specs.declared.delegated.Delegated.{Delegated}
 use Rattle.hn_deleg.specs.Used.{AreUsable, IsUnwanted, prefixes_of}
-use Rattle.hn_assign.specs.declared.pair.Pair.{Pair}
 use Rattle.hn_assign.specs.declared.assigned.Wish.{Wish}
-use Rattle.hn_assign.specs.Pair.{pair_cmp}
 use Rattle.hn_rules.specs.Assigning.{IsWishAt}
 use Rattle.hn_audit.specs.Settled.{AreSame, UseSame}
 use Rattle.hn_rules.specs.declared.state.State.{State}
 use Rattle.hn_rules.specs.Seen.{seen_by}
-use Rattle.hn_audit.proofs.BridgeLists.{one_of_ascending, any_of, any_from, same_Bool}
-
--- ---- orders
-
-pub prefix_total : IsTotalOrder prefix_cmp
-prefix_total = then_total (on_total (λ (p : PlainPrefix). p.bits) nat_cmp_total) (on_total (λ (p : PlainPrefix). p.len) nat_cmp_total)
-
-pub pair_total : IsTotalOrder pair_cmp
-pair_total = then_total (on_total (λ (p : Pair). p.delegated) prefix_total) (on_total (λ (p : Pair). p.endpoint.0) nat_cmp_total)
+use Rattle.hn_base.proofs.Elements.{any_of, any_from}
+use Rattle.hn_audit.proofs.BridgeLists.{one_of_ascending, same_Bool}
+use Rattle.hn_prefix.proofs.Prefixes.{is_one_prefix, prefix_decided, prefix_total}
+use Rattle.hn_base.proofs.Decisions.{not_both}
+use Rattle.hn_base.proofs.Parts.{part_at, part_stands}
 
 -- ---- whether a delegated prefix is wanted
-
-abbrev pub is_one_prefix : PlainPrefix → PlainPrefix → Bool
-is_one_prefix p q = p.bits == q.bits && p.len == q.len
-
-pub one_prefix : (p q : PlainPrefix) → is_one_prefix p q ≡ true → p ≡ q
-one_prefix p q is =
-    let parts = and_parts (p.bits == q.bits) (p.len == q.len) is in
-    let bits = eqb-true p.bits q.bits parts.0 in
-    let len = eqb-true p.len q.len parts.1 in
-    λ i. record { bits = bits i; len = len i }
-
-prefix_itself : (p : PlainPrefix) → is_one_prefix p p ≡ true
-prefix_itself p = and_from (p.bits == p.bits) (p.len == p.len) (eq-eqb p.bits p.bits refl) (eq-eqb p.len p.len refl)
 
 -- it is deprecated, and another is not
 abbrev pub is_deprecated : PlainPrefix → Delegated → Bool
@@ -66,7 +44,7 @@ module _ (list : List Delegated) (up : IsStrictlySortedBy prefix_cmp (prefixes_o
       let new = any_of is_preferred list parts.1 in
       let says = and_parts (is_one_prefix old.0.prefix u.prefix) (old.0.preferred == 0) old.2 in
       let sorted : IsStrictlySortedBy (on (λ (v : Delegated). v.prefix) prefix_cmp) list = (sorted_parts (λ (v : Delegated). v.prefix) prefix_cmp list).1 up in
-      let same : old.0 ≡ u = one_of_ascending (λ (v : Delegated). v.prefix) prefix_cmp prefix_total list sorted old.0 u old.1 there (one_prefix old.0.prefix u.prefix says.0) in
+      let same : old.0 ≡ u = one_of_ascending (λ (v : Delegated). v.prefix) prefix_cmp prefix_total list sorted old.0 u old.1 there ((prefix_decided old.0.prefix u.prefix).0 says.0) in
       record {
         deprecated = u;
         at = at;
@@ -81,7 +59,7 @@ module _ (list : List Delegated) (up : IsStrictlySortedBy prefix_cmp (prefixes_o
       let same : un.deprecated ≡ u = same_Some un.deprecated u (sym un.at ∙ at) in
       let ended : u.preferred ≡ 0 = subst (λ (v : Delegated). v.preferred ≡ 0) same un.ended in
       and_from (list_any (is_deprecated u.prefix) list) (list_any is_preferred list)
-      (any_from (is_deprecated u.prefix) list u there (and_from (is_one_prefix u.prefix u.prefix) (u.preferred == 0) (prefix_itself u.prefix) (eq-eqb u.preferred 0 ended)))
+      (any_from (is_deprecated u.prefix) list u there (and_from (is_one_prefix u.prefix u.prefix) (u.preferred == 0) ((prefix_decided u.prefix u.prefix).1 refl) (eq-eqb u.preferred 0 ended)))
       (any_from is_preferred list un.other un.in_list (lt-ltb 0 un.other.preferred un.preferred))
 
 -- ---- places of used prefixes
@@ -93,14 +71,10 @@ place_of list d (k, lt, at) = (k, slice_get-get_or (prefixes_of list) k d lt ∙
 -- what is there
 pub delegated_at : (list : List Delegated) (d : PlainPrefix) (place : ℕ) → slice_get (prefixes_of list) place ≡ Some d
     → (u : Delegated) × (slice_get list place ≡ Some u) × (u.prefix ≡ d)
-delegated_at list d place at = go (slice_get list place) refl (sym (slice_get-map (λ (u : Delegated). u.prefix) list place) ∙ at)
-  where
-    go : (o : Option Delegated) → slice_get list place ≡ o → option_map (λ (u : Delegated). u.prefix) o ≡ Some d → (u : Delegated) × (slice_get list place ≡ Some u) × (u.prefix ≡ d)
-    go None is e = absurd cc
-    go (Some u) is e = (u, is, same_Some u.prefix d e)
+delegated_at list d place at = part_at (λ (u : Delegated). u.prefix) list place d at
 
 pub at_prefix : (list : List Delegated) (place : ℕ) (u : Delegated) → slice_get list place ≡ Some u → slice_get (prefixes_of list) place ≡ Some u.prefix
-at_prefix list place u at = slice_get-map (λ (v : Delegated). v.prefix) list place ∙ ap (option_map (λ (v : Delegated). v.prefix)) at
+at_prefix list place u at = part_stands (λ (v : Delegated). v.prefix) list place u at
 
 -- ---- of two routers that use the same
 
@@ -126,9 +100,6 @@ asked_for view a b d place wish same up at asked = record {
       (false_from_ne_true (is_unwanted b here.0.prefix) (λ un. asked.wanted.0 wants ((same.wanted place).1 (to_unwanted b up place here.0 here.1 un)))))
       (λ wants. asked.wanted.1 (λ un. not_both (is_unwanted b here.0.prefix) (from_unwanted b up place here.0 here.1 ((same.wanted place).0 un)) (not-true (is_unwanted b here.0.prefix) wants))));
 }
-  where
-    not_both : (t : Bool) → t ≡ true → t ≡ false → ⊥
-    not_both t yes' no' = absurd cc
 
 -- a place of one list is a place of the other
 pub place_within : (a b : List Delegated) (d : PlainPrefix) (place : ℕ) → AreSame a b → slice_get (prefixes_of b) place ≡ Some d → place < length a

@@ -1,20 +1,17 @@
 -- The node data of a router has one HNCP-Version, with its capabilities, and the peers of its endpoints.
-use Rattle.std.proofs.Common.{◌≡◌, ◌∙◌, ℕ, List, [], ◌∷◌, ◌++◌, Option, Some, Contains, map, inl, inr, refl, sym, ap, subst}
+use Rattle.std.proofs.Common.{◌≡◌, ◌∙◌, ℕ, List, [], ◌∷◌, ◌++◌, Option, Some, Contains, refl, sym, ap, subst}
 use Rattle.std.specs.Prelude.{codes}
 use Rattle.std.specs.List.{filter_map}
 use Rattle.std.proofs.lemmas.List.{append-nil}
-use Rattle.std.proofs.lemmas.List.Elements.{filter_map-append}
-use Rattle.hn_base.proofs.AscendingLists.{Contains-head, Contains-cases, nothing_in, Contains-map, Contains-from_map}
+use Rattle.hn_base.proofs.AscendingLists.{Contains-head, Contains-one, nothing_in, Contains-map, Contains-from_map}
 use Rattle.hn_base.specs.Caps.{PlainCaps, plain_caps}
 use Rattle.hn_typed.specs.Item.{PlainItem, Version}
 use Rattle.hn_data.specs.Items.{AreItems, Reads, first_of}
 use Rattle.hn_data.specs.Peers.{HasPeer, peer_of}
 use Rattle.hn_data.specs.Said.{caps_of, version_of}
-use Rattle.hn_data.specs.declared.said.AssignedPrefix.{AssignedPrefix}
 use Rattle.hn_data.specs.declared.said.PeerLink.{PeerLink}
 use Rattle.hn_own.specs.declared.own.OwnItems.{OwnItems}
-use Rattle.hn_own.specs.declared.own_prefixes.OwnPrefix.{OwnPrefix}
-use Rattle.hn_own.specs.Own.{links_at, link_at, links_of, peer_item, external_items, assigned_item, items_of}
+use Rattle.hn_own.specs.Own.{links_at, link_at, links_of, peer_item, assigned_item, items_of}
 use Rattle.hn_dncp.specs.declared.port.Port.{Port}
 use Rattle.hn_own.specs.Ports.{endpoints_of}
 use Rattle.hn_rules.specs.declared.state.State.{State}
@@ -23,34 +20,16 @@ use Rattle.hn_base.proofs.Elements.{in_filter_map, from_filter_map}
 use Rattle.hn_audit.proofs.Lists.{from_flat_map}
 use Rattle.hn_audit.proofs.BridgeSets.{OwnVersions, OwnPeers}
 use Rattle.hn_rules.specs.Laws.{ItemsArePublished}
+use Rattle.hn_own.proofs.ItemLists.{all_given, by_parts, none_external, none_given}
 
 -- ---- the version among own items
 
-none_of_links : (links : List PeerLink) → filter_map caps_of (map peer_item links) ≡ []
-none_of_links [] = refl
-none_of_links (link ∷ links) = none_of_links links
-
-none_of_external : (now : ℕ) (list : List OwnPrefix) → filter_map caps_of (external_items now list) ≡ []
-none_of_external now [] = refl
-none_of_external now (p ∷ ps) = refl
-
-none_of_assigned : (list : List AssignedPrefix) → filter_map caps_of (map assigned_item list) ≡ []
-none_of_assigned [] = refl
-none_of_assigned (a ∷ list) = none_of_assigned list
-
-abbrev others : ℕ → OwnItems → List PlainItem
-others now own = map peer_item own.links ++ external_items now own.delegated ++ map assigned_item own.assigned
-
-none_of_others : (now : ℕ) (own : OwnItems) → filter_map caps_of (others now own) ≡ []
-none_of_others now own =
-    let links = map peer_item own.links in
-    let external = external_items now own.delegated in
-    let assigned = map assigned_item own.assigned in
-    filter_map-append caps_of (links ++ external) assigned
-    ∙ rw (filter_map-append caps_of links external, none_of_links own.links, none_of_external now own.delegated) (none_of_assigned own.assigned)
-
 one_version : (now : ℕ) (own : OwnItems) → filter_map caps_of (items_of now own) ≡ plain_caps own.caps ∷ []
-one_version now own = ap (λ (rest : List PlainCaps). plain_caps own.caps ∷ rest) (none_of_others now own)
+one_version now own =
+    let links = none_given caps_of peer_item (λ _. refl) own.links in
+    let external = none_external caps_of (λ _. refl) now own.delegated in
+    let others = by_parts caps_of now own ∙ rw (links, external) (none_given caps_of assigned_item (λ _. refl) own.assigned) in
+    ap (λ (rest : List PlainCaps). plain_caps own.caps ∷ rest) others
 
 -- the first of a list whose elements are all one
 first_is : (xs : List PlainCaps) (c : PlainCaps) → Contains xs c → ((y : PlainCaps) → Contains xs y → y ≡ c) → first_of xs ≡ Some c
@@ -59,26 +38,12 @@ first_is (x ∷ xs) c there all = ap Some (all x (Contains-head x xs))
 
 -- ---- the peers among own items
 
-all_of_links : (links : List PeerLink) → filter_map peer_of (map peer_item links) ≡ links
-all_of_links [] = refl
-all_of_links (link ∷ links) = ap (λ (rest : List PeerLink). link ∷ rest) (all_of_links links)
-
-no_peers_external : (now : ℕ) (list : List OwnPrefix) → filter_map peer_of (external_items now list) ≡ []
-no_peers_external now [] = refl
-no_peers_external now (p ∷ ps) = refl
-
-no_peers_assigned : (list : List AssignedPrefix) → filter_map peer_of (map assigned_item list) ≡ []
-no_peers_assigned [] = refl
-no_peers_assigned (a ∷ list) = no_peers_assigned list
-
 peers_among : (now : ℕ) (own : OwnItems) → filter_map peer_of (items_of now own) ≡ own.links
 peers_among now own =
-    let links = map peer_item own.links in
-    let external = external_items now own.delegated in
-    let assigned = map assigned_item own.assigned in
-    filter_map-append peer_of (links ++ external) assigned
-    ∙ rw (filter_map-append peer_of links external, all_of_links own.links, no_peers_external now own.delegated, no_peers_assigned own.assigned)
-    (append-nil (own.links ++ []) ∙ append-nil own.links)
+    let links = all_given peer_of peer_item (λ _. refl) own.links in
+    let external = none_external peer_of (λ _. refl) now own.delegated in
+    let assigned = none_given peer_of assigned_item (λ _. refl) own.assigned in
+    by_parts peer_of now own ∙ rw (links, external, assigned) (append-nil (own.links ++ []) ∙ append-nil own.links)
 
 -- ---- and in own node data
 
@@ -104,16 +69,13 @@ module _ (laws : ReadLaws) (s : State) (router : IsRouter s) where
   no_other y there =
       let one : Contains (plain_caps s.own.items.caps ∷ []) y =
       subst (λ (list : List PlainCaps). Contains list y) (one_version s.own.born s.own.items) (read_is_own caps_of y there) in
-      elim (Contains-cases (plain_caps s.own.items.caps) [] y one) [
-        | inl same ↦ sym same
-        | inr later ↦ absurd (nothing_in y later)
-      ]
+      sym (Contains-one (plain_caps s.own.items.caps) y one)
 
   version_read : Contains (filter_map caps_of read) (plain_caps s.own.items.caps)
   version_read =
       let version : PlainItem = Version (plain_caps s.own.items.caps) (codes "hncp") in
       in_filter_map caps_of read version (plain_caps s.own.items.caps)
-      (((laws.published s router).2 version).1 (Contains-head version (others s.own.born s.own.items))) refl
+      (((laws.published s router).2 version).1 (Contains-head version _)) refl
 
   pub own_version : Reads s.own.body (λ items. version_of items ≡ Some (plain_caps s.own.items.caps))
   own_version = (read, (laws.published s router).1, first_is (filter_map caps_of read) (plain_caps s.own.items.caps) version_read no_other)

@@ -4,6 +4,7 @@ use Rattle.hn_assign.specs.declared.assigned.Advertised.{Advertised}
 use Rattle.hn_assign.specs.declared.assigned.Assigned.{Assigned}
 use Rattle.hn_assign.specs.Scene.{PlainScene, IsBestFor}
 use Rattle.hn_audit.specs.Case.{PlainCase, HasBest, HasNothingToDo, IsAheadCase, StaysAlone, StaysAs, StaysBeside, RestsWith}
+use Rattle.std.proofs.lemmas.Option.{same_Some}
 
 -- the best prefix is one
 abbrev pub IsOneBest : Type 0
@@ -42,12 +43,9 @@ alone at c answer none said = (
 scene : PlainCase → PlainScene
 scene at = record { own = at.own; now = 0; wish = at.wish; advertised = at.advertised }
 
-the_same : (x y : Advertised) → ◌≡◌ {A = Option Advertised} (Some x) (Some y) → x ≡ y
-the_same x y same = cc
-
 one_best : IsOneBest → (at : PlainCase) (x y : Advertised) → HasBest at (Some x) → HasBest at (Some y) → x ≡ y
 unfolding scene
-one_best once at x y is_x is_y = the_same x y (once (scene at) (Some x) (Some y) is_x is_y)
+one_best once at x y is_x is_y = same_Some x y (once (scene at) (Some x) (Some y) is_x is_y)
 
 rests : (at : PlainCase) (c : Assigned) (best : Advertised) (o : Option ℕ) → HasBest at (Some best) → c.published ≡ o → StaysAs at c best o → RestsWith at (Some c)
 rests at c best (Some p) is o_is h = inr (inl (record { best = best; is_best = is; priority = p; published = o_is; above = h.0; valid = h.1 }))

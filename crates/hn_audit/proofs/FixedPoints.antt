@@ -1,10 +1,10 @@
 -- A router is at rest if and only if the assignment subroutine, run anew, changes nothing on it.
-use Rattle.std.proofs.Common.{◌≡◌, ◌∙◌, ◌↔◌, ◌<◌, ◌&&◌, ◌==◌, ℕ, Bool, true, false, IsTrue, List, [], ◌∷◌, Option, Some, None, All, Contains, length, map, not, inl, inr, refl, sym, ap, subst, arith}
+use Rattle.std.proofs.Common.{◌≡◌, ◌∙◌, ◌↔◌, ◌<◌, ℕ, IsTrue, List, Option, Some, All, Contains, length, map, not, inl, inr, refl, sym, ap, subst, arith}
 use Rattle.std.specs.List.{slice_get}
-use Rattle.std.proofs.lemmas.Bool.{and_from, and_parts, eqb-true, eq-eqb, false_from_ne_true, not-true, not_from_false}
+use Rattle.std.proofs.lemmas.Bool.{false_from_ne_true, not-true, not_from_false}
 use Rattle.std.proofs.lemmas.List.Elements.{All-contains}
 use Rattle.std.proofs.lemmas.Option.{same_Some, slice_get_within, slice_get_cases, get_or_from_slice_get}
-use Rattle.hn_base.proofs.AscendingLists.{Contains-cases, Contains-head, Contains-tail, Contains-from_map, Contains-map, nothing_in}
+use Rattle.hn_base.proofs.AscendingLists.{Contains-from_map, Contains-map}
 use Rattle.hn_base.specs.declared.ids.EpId.{EpId}
 use Rattle.hn_base.proofs.Elements.{all_of}
 use Rattle.hn_data.specs.View.{PlainView}
@@ -23,14 +23,15 @@ use Rattle.hn_deleg.specs.declared.delegated.Delegated.{Delegated}
 use Rattle.hn_deleg.specs.Used.{AreUsable, IsUnwanted, prefixes_of}
 use Rattle.hn_own.specs.Ports.{is_attached}
 use Rattle.hn_rules.specs.declared.state.State.{State}
-use Rattle.hn_rules.specs.Assigning.{IsWishAt}
+use Rattle.hn_rules.specs.Assigning.{AreAsked, IsWishAt}
 use Rattle.hn_rules.specs.Router.{IsRouter}
 use Rattle.hn_rules.specs.Seen.{seen_by}
 use Rattle.hn_audit.specs.Fixed.{HasLists, IsRunAnew}
 use Rattle.hn_audit.specs.Quiet.{IsForPair, IsRouterAtRest}
 use Rattle.hn_audit.specs.Resting.{RestsWhereListed}
-use Rattle.hn_audit.proofs.BridgeUsed.{delegated_at, from_unwanted, is_one_prefix, is_unwanted, one_prefix, place_of, to_unwanted}
-use Rattle.hn_audit.proofs.Restings.{IsOneLink, has_one, one_wish}
+use Rattle.hn_assign.proofs.Ats.{has_one, has_some}
+use Rattle.hn_audit.proofs.BridgeUsed.{delegated_at, from_unwanted, is_unwanted, place_of, to_unwanted}
+use Rattle.hn_audit.proofs.Restings.{IsOneLink, one_wish}
 use Rattle.hn_audit.proofs.Sames.{IsOneList}
 
 -- ---- laws of the crates below
@@ -51,89 +52,63 @@ pub record FixedLaws : Type 0 where
   pub rest : RestIsUnchanged
   pub wished : LeavesWished
 
--- ---- what a list has for a pair
+-- ---- a router and its wishes
 
-is_for : Pair → Assigned → Bool
-is_for pair c = is_one_prefix c.delegated pair.delegated && c.endpoint.0 == pair.endpoint.0
-
-is_its_own : (pair : Pair) (c : Assigned) → is_for pair c ≡ true → assigned_pair c ≡ pair
-unfolding is_for
-is_its_own pair c is =
-    let parts = and_parts (is_one_prefix c.delegated pair.delegated) (c.endpoint.0 == pair.endpoint.0) is in
-    let delegated : c.delegated ≡ pair.delegated = one_prefix c.delegated pair.delegated parts.0 in
-    let endpoint : c.endpoint.0 ≡ pair.endpoint.0 = eqb-true c.endpoint.0 pair.endpoint.0 parts.1 in
-    λ i. record { delegated = delegated i; endpoint = record { 0 = endpoint i } }
-
-own_is : (pair : Pair) (c : Assigned) → assigned_pair c ≡ pair → is_for pair c ≡ true
-unfolding is_for
-own_is pair c is =
-    let bits : c.delegated.bits ≡ pair.delegated.bits = ap (λ (p : Pair). p.delegated.bits) is in
-    let len : c.delegated.len ≡ pair.delegated.len = ap (λ (p : Pair). p.delegated.len) is in
-    let endpoint : c.endpoint.0 ≡ pair.endpoint.0 = ap (λ (p : Pair). p.endpoint.0) is in
-    and_from (is_one_prefix c.delegated pair.delegated) (c.endpoint.0 == pair.endpoint.0)
-    (and_from (c.delegated.bits == pair.delegated.bits) (c.delegated.len == pair.delegated.len) (eq-eqb c.delegated.bits pair.delegated.bits bits) (eq-eqb c.delegated.len pair.delegated.len len))
-    (eq-eqb c.endpoint.0 pair.endpoint.0 endpoint)
-
--- a list has an assignment for a pair, or none
-has_some : (pair : Pair) (xs : List Assigned) → (o : Option Assigned) × HasAt assigned_pair pair o xs
-has_some pair [] = (None, λ c there is. nothing_in c there)
-has_some pair (x ∷ xs) = by_test (is_for pair x) refl (has_some pair xs)
-  where
-    by_test : (b : Bool) → is_for pair x ≡ b → (o : Option Assigned) × HasAt assigned_pair pair o xs → (o : Option Assigned) × HasAt assigned_pair pair o (x ∷ xs)
-    by_test true is rest = (Some x, (Contains-head x xs, is_its_own pair x is))
-    by_test false fails (Some c, has) = (Some c, (Contains-tail x xs c has.0, has.1))
-    by_test false fails (None, none) = (
-      None,
-      λ c there is. elim (Contains-cases x xs c there) [
-        | inl here ↦ let passes : is_for pair x ≡ true = own_is pair x (ap assigned_pair here ∙ is) in absurd (cc (sym passes ∙ fails))
-        | inr later ↦ none c later is
-      ],
-    )
-
--- ---- a router on which the subroutine comes to something
-
-module _ (laws : FixedLaws) (s : State) (ran : Ran) (h : IsRunAnew s ran) where
+module _ (laws : FixedLaws) (s : State) (usable : List Delegated) (are_usable : AreUsable (seen_by s) usable) (wishes : List Wish) (are_asked : AreAsked (seen_by s) usable s.ports wishes) where
   -- what is asked for the pair at a place is among the wishes
-  is_wished : (place : ℕ) (wish : Wish) → IsWishAt (seen_by s) h.usable place wish → IsTrue (is_attached wish.endpoint s.ports) → Contains h.wishes wish
-  is_wished place wish asked attached = (h.are_asked.exact wish).1 (record { place = place; asked = asked; attached = attached })
-
-  -- the law of rest, for this router
-  law : (adv : List Advertised) → IsRouter s → All (λ c. IsWished h.wishes (assigned_pair c)) s.held.assigned → AreAdvertised (seen_by s) s.held.assigned adv
-      → IsUnchanged s.held.assigned ran.held.assigned ↔ AreAtRest adv s.id.0 h.wishes s.held.assigned
-  law adv router all are =
-      laws.rest (seen_by s) h.wishes (record { assigned = s.held.assigned; backoffs = h.backoffs }) ran adv h.are_asked.are_wishes.ascending router.well.pairs.assigned all h.are_due are h.is_subroutine
+  is_wished : (place : ℕ) (wish : Wish) → IsWishAt (seen_by s) usable place wish → IsTrue (is_attached wish.endpoint s.ports) → Contains wishes wish
+  is_wished place wish asked attached = (are_asked.exact wish).1 (record { place = place; asked = asked; attached = attached })
 
   -- ---- at rest
 
   module _ (rest : IsRouterAtRest s) where
-    one_list : h.usable ≡ rest.usable
-    one_list = laws.one_list (seen_by s) h.usable rest.usable h.are_usable rest.are_usable
+    one_list : usable ≡ rest.usable
+    one_list = laws.one_list (seen_by s) usable rest.usable are_usable rest.are_usable
 
-    wished_at_rest : (c : Assigned) → Contains s.held.assigned c → IsWished h.wishes (assigned_pair c)
-    wished_at_rest c there =
-        let is_for_pair = rest.for_pairs c there in
-        let at = place_of rest.usable c.delegated is_for_pair.used in
-        let u = delegated_at rest.usable c.delegated at.0 at.1 in
-        let pair = rest.each_pair at.0 c.endpoint (slice_get_within rest.usable at.0 u.0 u.1) is_for_pair.attached in
-        let asked : IsWishAt (seen_by s) h.usable at.0 pair.wish = subst (λ (us : List Delegated). IsWishAt (seen_by s) us at.0 pair.wish) (sym one_list) pair.asked in
-        let attached : IsTrue (is_attached pair.wish.endpoint s.ports) = subst (λ (e : EpId). IsTrue (is_attached e s.ports)) (sym pair.of_endpoint) is_for_pair.attached in
-        let same : pair.asked.delegated ≡ u.0 = same_Some pair.asked.delegated u.0 (sym pair.asked.at ∙ u.1) in
-        let delegated : pair.wish.delegated ≡ c.delegated = pair.asked.prefix ∙ ap (λ (v : Delegated). v.prefix) same ∙ u.2 in
-        let endpoint : pair.wish.endpoint ≡ c.endpoint = pair.of_endpoint in
-        (pair.wish, is_wished at.0 pair.wish asked attached, λ i. record { delegated = delegated i; endpoint = endpoint i })
+    pub wished_at_rest : All (λ c. IsWished wishes (assigned_pair c)) s.held.assigned
+    wished_at_rest = all_of (λ c. IsWished wishes (assigned_pair c)) s.held.assigned wished
+      where
+        wished : (c : Assigned) → Contains s.held.assigned c → IsWished wishes (assigned_pair c)
+        wished c there =
+            let is_for_pair = rest.for_pairs c there in
+            let at = place_of rest.usable c.delegated is_for_pair.used in
+            let u = delegated_at rest.usable c.delegated at.0 at.1 in
+            let pair = rest.each_pair at.0 c.endpoint (slice_get_within rest.usable at.0 u.0 u.1) is_for_pair.attached in
+            let asked : IsWishAt (seen_by s) usable at.0 pair.wish = subst (λ (us : List Delegated). IsWishAt (seen_by s) us at.0 pair.wish) (sym one_list) pair.asked in
+            let attached : IsTrue (is_attached pair.wish.endpoint s.ports) = subst (λ (e : EpId). IsTrue (is_attached e s.ports)) (sym pair.of_endpoint) is_for_pair.attached in
+            let same : pair.asked.delegated ≡ u.0 = same_Some pair.asked.delegated u.0 (sym pair.asked.at ∙ u.1) in
+            let delegated : pair.wish.delegated ≡ c.delegated = pair.asked.prefix ∙ ap (λ (v : Delegated). v.prefix) same ∙ u.2 in
+            let endpoint : pair.wish.endpoint ≡ c.endpoint = pair.of_endpoint in
+            (pair.wish, is_wished at.0 pair.wish asked attached, λ i. record { delegated = delegated i; endpoint = endpoint i })
 
-    are_at_rest : IsRouter s → AreAtRest rest.advertised s.id.0 h.wishes s.held.assigned
+    pub are_at_rest : IsRouter s → AreAtRest rest.advertised s.id.0 wishes s.held.assigned
     are_at_rest router wish there c has =
-        let for = (h.are_asked.exact wish).0 there in
+        let for = (are_asked.exact wish).0 there in
         let asked : IsWishAt (seen_by s) rest.usable for.place wish = subst (λ (us : List Delegated). IsWishAt (seen_by s) us for.place wish) one_list for.asked in
         let pair = rest.each_pair for.place wish.endpoint (slice_get_within rest.usable for.place asked.delegated asked.at) for.attached in
         let same : pair.wish ≡ wish = one_wish laws.one_link (seen_by s) rest.usable for.place pair.wish wish pair.asked asked pair.of_endpoint in
         let its_own : HasAt assigned_pair (wish_pair wish) pair.assignment s.held.assigned = subst (λ (v : Wish). HasAt assigned_pair (wish_pair v) pair.assignment s.held.assigned) same pair.its_own in
-        let one : pair.assignment ≡ c = has_one (wish_pair wish) s.held.assigned pair.assignment c router.well.pairs.assigned its_own has in
+        let one : pair.assignment ≡ c = has_one assigned_pair (wish_pair wish) s.held.assigned pair.assignment c router.well.pairs.assigned its_own has in
         subst (λ (o : Option Assigned). IsAtRest rest.advertised s.id.0 wish o) one (subst (λ (v : Wish). IsAtRest rest.advertised s.id.0 v pair.assignment) same pair.at_rest)
 
-    pub changes_nothing : IsRouter s → IsUnchanged s.held.assigned ran.held.assigned
-    changes_nothing router = (law rest.advertised router (all_of (λ c. IsWished h.wishes (assigned_pair c)) s.held.assigned wished_at_rest) rest.are_advertised).1 (are_at_rest router)
+-- ---- a router on which the subroutine comes to something
+
+module _ (laws : FixedLaws) (s : State) (ran : Ran) (h : IsRunAnew s ran) where
+  -- its assignments, and the backoffs that are due
+  abbrev held : Held
+  held = record { assigned = s.held.assigned; backoffs = h.run.backoffs }
+
+  -- the law of rest, for this router
+  law : (adv : List Advertised) → IsRouter s → All (λ c. IsWished h.wishes (assigned_pair c)) s.held.assigned → AreAdvertised (seen_by s) s.held.assigned adv
+      → IsUnchanged s.held.assigned ran.held.assigned ↔ AreAtRest adv s.id.0 h.wishes s.held.assigned
+  law adv router all are = laws.rest (seen_by s) h.wishes held ran adv h.are_asked.are_wishes.ascending router.well.pairs.assigned all h.run.are_due are h.run.is_subroutine
+
+  -- ---- at rest
+
+  pub changes_nothing : IsRouterAtRest s → IsRouter s → IsUnchanged s.held.assigned ran.held.assigned
+  changes_nothing rest router =
+      (law rest.advertised router (wished_at_rest laws s h.usable h.are_usable h.wishes h.are_asked rest) rest.are_advertised).1
+      (are_at_rest laws s h.usable h.are_usable h.wishes h.are_asked rest router)
 
   -- ---- where nothing changes
 
@@ -142,7 +117,7 @@ module _ (laws : FixedLaws) (s : State) (ran : Ran) (h : IsRunAnew s ran) where
     still_wished c there =
         let after : Contains (map unmarked ran.held.assigned) (unmarked c) = subst (λ (cs : List Assigned). Contains cs (unmarked c)) (sym same) (Contains-map unmarked s.held.assigned c there) in
         let d = Contains-from_map unmarked ran.held.assigned (unmarked c) after in
-        let wished = laws.wished (seen_by s) h.wishes (record { assigned = s.held.assigned; backoffs = h.backoffs }) ran h.is_subroutine in
+        let wished = laws.wished (seen_by s) h.wishes held ran h.run.is_subroutine in
         let one = All-contains (λ (x : Assigned). IsWished h.wishes (assigned_pair x)) ran.held.assigned d.0 wished d.1 in
         (one.0, one.1, one.2 ∙ ap assigned_pair d.2)
 
@@ -171,8 +146,8 @@ module _ (laws : FixedLaws) (s : State) (ran : Ran) (h : IsRunAnew s ran) where
           let u = delegated_in place within in
           let wish : Wish = record { delegated = u.0.prefix; wanted = not (is_unwanted usable u.0.prefix); endpoint = e; common = common; length = 64 } in
           let asked : IsWishAt (seen_by s) usable place wish = record { delegated = u.0; at = u.1; prefix = refl; wanted = is_wanted place u.0 u.1; common = is_common; length = refl } in
-          let there : Contains h.wishes wish = is_wished place wish (subst (λ (us : List Delegated). IsWishAt (seen_by s) us place wish) (sym same_list) asked) attached in
-          let own = has_some (wish_pair wish) s.held.assigned in
+          let there : Contains h.wishes wish = is_wished laws s h.usable h.are_usable h.wishes h.are_asked place wish (subst (λ (us : List Delegated). IsWishAt (seen_by s) us place wish) (sym same_list) asked) attached in
+          let own = has_some assigned_pair (wish_pair wish) s.held.assigned in
           let all : All (λ c. IsWished h.wishes (assigned_pair c)) s.held.assigned = all_of (λ c. IsWished h.wishes (assigned_pair c)) s.held.assigned still_wished in
           record {
             wish = wish;

@@ -18,6 +18,7 @@ mod FrontWorlds
 mod Judging
 mod Lists
 mod QuietSets
+mod RestRuns
 mod Restings
 mod Sames
 mod Settling

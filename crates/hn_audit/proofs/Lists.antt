@@ -1,6 +1,6 @@
 -- Which elements lists have, and lists that grow by what an element gives.
-use Rattle.std.proofs.Common.{◌≡◌, ℕ, ◌+◌, ◌<◌, Bool, true, false, ◌||◌, List, [], ◌∷◌, ◌++◌, length, get_or, take, Contains, refl, sym, ◌∙◌, ap, subst, inl, inr}
-use Rattle.std.specs.List.{filter, flat_map, list_any}
+use Rattle.std.proofs.Common.{◌≡◌, ℕ, ◌+◌, ◌<◌, Bool, true, false, List, [], ◌∷◌, ◌++◌, length, get_or, take, Contains, refl, sym, ◌∙◌, ap, subst, inl, inr}
+use Rattle.std.specs.List.{filter, flat_map}
 use Rattle.std.proofs.lemmas.List.{take_more, append-nil}
 use Rattle.std.proofs.lemmas.List.Elements.{Contains-append_left, Contains-append_right, Contains-append_cases, filter-append}
 use Rattle.hn_base.proofs.AscendingLists.{nothing_in, Contains-head, Contains-tail, Contains-cases}
@@ -19,28 +19,6 @@ pub left_next : {X : Type 0} (p : X → Bool) (xs : List X) (i : ℕ) (x d : X) 
 left_next {X} p xs i x d ys zs within is fails so_far last =
     let more : take (i + 1) xs ≡ take i xs ++ x ∷ [] = take_more xs i d within ∙ ap (λ (v : X). take i xs ++ v ∷ []) (sym is) in
     last ∙ rw (so_far, more, filter-append p (take i xs) (x ∷ []), fails) (sym (append-nil _))
-
--- ---- an element that passes a test
-
-pub in_any : {X : Type 0} (test : X → Bool) (xs : List X) (x : X) → Contains xs x → test x ≡ true → list_any test xs ≡ true
-in_any test [] x h passes = absurd (nothing_in x h)
-in_any {X} test (y ∷ xs) x h passes =
-    elim (Contains-cases y xs x h) [
-      | inl same ↦ let here : test y ≡ true = ap test same ∙ passes in rw here refl
-      | inr later ↦ next (test y) (in_any test xs x later passes)
-    ]
-  where
-    next : (b : Bool) → list_any test xs ≡ true → (b || list_any test xs) ≡ true
-    next true e = refl
-    next false e = e
-
-pub from_any : {X : Type 0} (test : X → Bool) (xs : List X) → list_any test xs ≡ true → (x : X) × Contains xs x × (test x ≡ true)
-from_any test [] e = absurd (cc)
-from_any {X} test (y ∷ xs) e = go (test y) refl e (from_any test xs)
-  where
-    go : (b : Bool) → test y ≡ b → (b || list_any test xs) ≡ true → (list_any test xs ≡ true → (x : X) × Contains xs x × (test x ≡ true)) → (x : X) × Contains (y ∷ xs) x × (test x ≡ true)
-    go true is e more = (y, Contains-head y xs, is)
-    go false is e more = let found = more e in (found.0, Contains-tail y xs found.0 found.1, found.2)
 
 -- ---- flat_map
 

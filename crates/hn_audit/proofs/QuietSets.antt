@@ -1,16 +1,16 @@
--- A set is quiet if and only if the assignment subroutine, run anew, changes nothing on each of its routers. And the
--- router of a name runs.
-use Rattle.std.proofs.Common.{◌≡◌, ◌↔◌, ℕ, Bool, false, IsTrue, List, Option, Some, All, subst}
+-- A set is quiet if and only if the assignment subroutine, run anew, comes to something on each of its routers and changes
+-- nothing. And the router of a name runs.
+use Rattle.std.proofs.Common.{◌≡◌, ◌↔◌, ℕ, Bool, false, IsTrue, List, Option, Some, All, sym, subst}
 use Rattle.std.specs.Option.{option_map_or}
 use Rattle.std.specs.Borrow.{Bor}
-use Rattle.std.proofs.lemmas.List.Elements.{All-contains}
+use Rattle.std.proofs.lemmas.List.Elements.{All-contains, All-nil}
 use Rattle.hn_rules.specs.Router.{IsRouter}
 use Rattle.hn_world.specs.declared.member.Member.{Member}
 use Rattle.hn_world.specs.declared.parts.Parts.{Parts}
 use Rattle.hn_world.specs.Names.{is_named, member_named}
 use Rattle.hn_world.specs.Replay.{IsSound, IsSoundMember}
-use Rattle.hn_audit.specs.Fixed.{ChangesNothing, MayChangeNothing, IsUnmoved}
-use Rattle.hn_audit.specs.Laws.{RestChangesNothing}
+use Rattle.hn_audit.specs.Fixed.{ChangesNothing, IsFixed, MayChangeNothing, IsUnmoved}
+use Rattle.hn_audit.specs.Laws.{RestChangesNothing, RestHasARun}
 use Rattle.hn_audit.specs.Quiet.{IsRouterAtRest}
 use Rattle.hn_audit.specs.Reached.{runs, IsRunning, IsReached}
 use Rattle.hn_audit.proofs.BridgeLists.{found_passes}
@@ -31,6 +31,18 @@ module _ (w : Parts) (r : Member) (set : List (Bor Member)) (is : IsSet w r set)
       (λ s reached.
       let found = may s reached in
       record { router = router_of s reached; ran = found.0; run = found.1; unchanged = found.2 }))
+
+  -- it is quiet if and only if the subroutine, with zeros for random words, comes to something that changes nothing
+  pub quiet_is_fixed : RestHasARun → IsTrue answer ↔ All (λ s. IsRouterAtRest s.now.router) set → (All (λ s. IsUnmoved s.now.router) set → IsTrue answer) → IsTrue answer ↔ IsFixed w r
+  quiet_is_fixed law rest moved = (to_fixed, λ fixed. unchanged_is_quiet moved (may fixed))
+    where
+      to_fixed : IsTrue answer → IsFixed w r
+      to_fixed quiet s reached =
+          let found = law s.router (router_of s reached) ((each_of_set w r set is (λ (m : Member). IsRouterAtRest m.router)).0 (rest.0 quiet) s reached) in
+          (found.0, found.1, subst (All (λ (word : ℕ). word ≡ 0)) (sym found.3) (All-nil (λ (word : ℕ). word ≡ 0)), found.2)
+
+      may : IsFixed w r → MayChangeNothing w r
+      may fixed s reached = let found = fixed s reached in (found.0, found.1, found.3)
 
 -- the router of a name, which runs
 pub named_runs : (name : List ℕ) (w : Parts) (r : Member) → IsTrue (runs name w) → member_named name w ≡ Some r → IsRunning w r

@@ -1,5 +1,5 @@
 -- Routers at rest: their lists, wishes and assignments are one.
-use Rattle.std.proofs.Common.{◌≡◌, ◌∙◌, ◌↔◌, ◌<◌, ℕ, Bool, IsTrue, List, Option, Some, None, All, Contains, length, refl, sym, ap, subst}
+use Rattle.std.proofs.Common.{◌≡◌, ◌∙◌, ◌↔◌, ◌<◌, ℕ, Bool, IsTrue, List, Option, All, Contains, length, sym, ap, subst}
 use Rattle.std.proofs.lemmas.List.Elements.{All-contains}
 use Rattle.std.proofs.lemmas.Option.{same_Some}
 use Rattle.hn_base.specs.declared.ids.EpId.{EpId}
@@ -8,10 +8,9 @@ use Rattle.hn_data.specs.View.{PlainView}
 use Rattle.hn_assign.specs.declared.assigned.Advertised.{Advertised}
 use Rattle.hn_assign.specs.declared.assigned.Assigned.{Assigned}
 use Rattle.hn_assign.specs.declared.assigned.Wish.{Wish}
-use Rattle.hn_assign.specs.declared.pair.Pair.{Pair}
 use Rattle.hn_assign.specs.Advertised.{Link}
 use Rattle.hn_assign.specs.Gathered.{AreAdvertised}
-use Rattle.hn_assign.specs.Pair.{HasAt, IsAscending, assigned_pair, pair_cmp, wish_pair}
+use Rattle.hn_assign.specs.Pair.{HasAt, IsAscending, assigned_pair, wish_pair}
 use Rattle.hn_assign.specs.Rest.{IsAtRest}
 use Rattle.hn_deleg.specs.declared.delegated.Delegated.{Delegated}
 use Rattle.hn_deleg.specs.Used.{AreUsable}
@@ -20,22 +19,15 @@ use Rattle.hn_own.specs.Ports.{endpoints_of}
 use Rattle.hn_rules.specs.declared.state.State.{State}
 use Rattle.hn_rules.specs.Assigning.{IsWishAt}
 use Rattle.hn_rules.specs.Seen.{seen_by}
-use Rattle.hn_sound.specs.Members.{HaveSame}
+use Rattle.hn_base.specs.Ascending.{HaveSame}
 use Rattle.hn_audit.specs.Quiet.{IsForPair, IsPairAtRest, IsRouterAtRest}
 use Rattle.hn_audit.specs.Resting.{IsEachAtRest, IsEndAtRest}
 use Rattle.hn_audit.proofs.BridgeHomes.{attached_is_port, port_is_attached}
-use Rattle.hn_audit.proofs.BridgeLists.{one_of_ascending, same_Bool}
-use Rattle.hn_audit.proofs.BridgeUsed.{pair_total}
+use Rattle.hn_audit.proofs.BridgeLists.{same_Bool}
 use Rattle.hn_audit.proofs.Sames.{IsOneList}
+use Rattle.hn_assign.proofs.Ats.{has_one}
 
 -- ---- a pair
-
--- the assignment of a pair is one
-pub has_one : (pair : Pair) (xs : List Assigned) (a b : Option Assigned) → IsAscending assigned_pair xs → HasAt assigned_pair pair a xs → HasAt assigned_pair pair b xs → a ≡ b
-has_one pair xs None None up a b = refl
-has_one pair xs None (Some y) up a b = absurd (a y b.0 b.1)
-has_one pair xs (Some x) None up a b = absurd (b x a.0 a.1)
-has_one pair xs (Some x) (Some y) up a b = ap Some (one_of_ascending assigned_pair pair_cmp pair_total xs up x y a.0 b.0 (a.1 ∙ sym b.1))
 
 -- an endpoint has one Common Link
 abbrev pub IsOneLink : Type 0
@@ -60,7 +52,7 @@ pair_decides once s usable adv place e wish assignment answer up asked end own s
   λ h.
       let same : h.wish ≡ wish = one_wish once (seen_by s) usable place h.wish wish h.asked asked (h.of_endpoint ∙ sym end) in
       let its_own : HasAt assigned_pair (wish_pair wish) h.assignment s.held.assigned = subst (λ (v : Wish). HasAt assigned_pair (wish_pair v) h.assignment s.held.assigned) same h.its_own in
-      let one : h.assignment ≡ assignment = has_one (wish_pair wish) s.held.assigned h.assignment assignment up its_own own in
+      let one : h.assignment ≡ assignment = has_one assigned_pair (wish_pair wish) s.held.assigned h.assignment assignment up its_own own in
       said.1 (subst (λ (o : Option Assigned). IsAtRest adv s.id.0 wish o) one (subst (λ (v : Wish). IsAtRest adv s.id.0 v h.assignment) same h.at_rest)),
 )
 

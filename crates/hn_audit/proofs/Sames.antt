@@ -1,14 +1,10 @@
 -- Lists that are equal place by place, and routers that use the same.
 use Rattle.std.proofs.Common.{◌≡◌, ◌↔◌, ◌<◌, ℕ, suc, Bool, List, [], ◌∷◌, length, slice_get, All, Contains, Result, Ok, Err, IfOk, refl, sym, ◌∙◌, ap, subst, arith}
-use Rattle.std.specs.Prelude.{Decides, ◌==◌}
 use Rattle.std.specs.Borrow.{Bor}
-use Rattle.std.proofs.lemmas.Bool.{eqb-true, eq-eqb}
 use Rattle.std.proofs.lemmas.List.{length-map}
 use Rattle.std.proofs.lemmas.List.Elements.{All-contains}
 use Rattle.std.proofs.lemmas.Option.{same_Some, slice_get_within}
-use Rattle.hn_base.specs.declared.ids.NodeId.{NodeId}
 use Rattle.hn_base.specs.declared.memory.NoMemory.{NoMemory}
-use Rattle.hn_base.proofs.Keys.{same_node}
 use Rattle.hn_base.proofs.Elements.{all_of}
 use Rattle.hn_prefix.specs.Prefix.{PlainPrefix}
 use Rattle.hn_data.specs.View.{PlainView}
@@ -19,9 +15,6 @@ use Rattle.hn_rules.specs.Seen.{seen_by}
 use Rattle.hn_world.specs.declared.member.Member.{Member}
 use Rattle.hn_audit.specs.Set.{AreSameAt}
 use Rattle.hn_audit.specs.Settled.{AreSame, UseSame}
-
-pub node_decides : (a b : NodeId) → Decides (a.0 == b.0) (a ≡ b)
-node_decides a b = (λ e. same_node a b (eqb-true a.0 b.0 e), λ e. eq-eqb a.0 b.0 (ap (λ (n : NodeId). n.0) e))
 
 -- ---- place by place
 
@@ -98,3 +91,8 @@ all_use_same once set r there =
 pub ok_weaker : (r : Result Bool NoMemory) (P Q : Bool → Type 0) → ((answer : Bool) → P answer → Q answer) → IfOk r P → IfOk r Q
 ok_weaker (Ok answer) P Q weaker h = weaker answer h
 ok_weaker (Err e) P Q weaker h = tt
+
+-- and from two facts of it
+pub ok_both : (r : Result Bool NoMemory) (P O Q : Bool → Type 0) → ((answer : Bool) → P answer → O answer → Q answer) → IfOk r P → IfOk r O → IfOk r Q
+ok_both (Ok answer) P O Q weaker h k = weaker answer h k
+ok_both (Err e) P O Q weaker h k = tt

@@ -2,7 +2,7 @@
 use Rattle.std.proofs.Common.{◌≡◌, ◌↔◌, Bool, true, IsTrue, ◌&&◌, ◌==◌, List, All, Contains, refl, sym, subst}
 use Rattle.std.specs.Borrow.{Bor}
 use Rattle.std.specs.List.{filter, list_any}
-use Rattle.std.proofs.lemmas.Bool.{eqb-true, eq-eqb}
+use Rattle.std.proofs.lemmas.Bool.{eqb-true, eq-eqb, and_parts}
 use Rattle.std.proofs.lemmas.List.Elements.{All-contains}
 use Rattle.hn_base.specs.declared.ids.NodeId.{NodeId}
 use Rattle.hn_base.proofs.AscendingLists.{Contains-map, Contains-from_map}
@@ -12,8 +12,7 @@ use Rattle.hn_world.specs.declared.parts.Parts.{Parts}
 use Rattle.hn_audit.specs.Reached.{IsReached}
 use Rattle.hn_audit.specs.Set.{is_in_set, members_of}
 use Rattle.hn_base.proofs.Elements.{all_of, in_filter, from_filter}
-use Rattle.hn_base.proofs.Decisions.{both_true}
-use Rattle.hn_audit.proofs.Lists.{in_any, from_any}
+use Rattle.hn_base.proofs.Elements.{any_from, any_of}
 
 -- ---- the set
 
@@ -24,10 +23,10 @@ and_true a b e f = rw (e, f) refl
 pub in_set : (reach : List NodeId) (m : Member) → IsTrue (is_in_set reach m) ↔ (IsTrue m.running × Contains reach m.router.id)
 in_set reach m = (
   λ h.
-      let parts = both_true m.running (list_any (λ id. id.0 == m.router.id.0) reach) h in
-      let found = from_any (λ (id : NodeId). id.0 == m.router.id.0) reach parts.1 in
+      let parts = and_parts m.running (list_any (λ id. id.0 == m.router.id.0) reach) h in
+      let found = any_of (λ (id : NodeId). id.0 == m.router.id.0) reach parts.1 in
       (parts.0, subst (Contains reach) (same_node found.0 m.router.id (eqb-true found.0.0 m.router.id.0 found.2)) found.1),
-  λ h. and_true m.running (list_any (λ id. id.0 == m.router.id.0) reach) h.0 (in_any (λ (id : NodeId). id.0 == m.router.id.0) reach m.router.id h.1 (eq-eqb m.router.id.0 m.router.id.0 refl)),
+  λ h. and_true m.running (list_any (λ id. id.0 == m.router.id.0) reach) h.0 (any_from (λ (id : NodeId). id.0 == m.router.id.0) reach m.router.id h.1 (eq-eqb m.router.id.0 m.router.id.0 refl)),
 )
 
 -- the list of the set has those that are reached

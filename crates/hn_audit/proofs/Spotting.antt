@@ -1,13 +1,12 @@
 -- The attached endpoints of a set, and what is found of them.
-use Rattle.std.proofs.Common.{◌≡◌, ◌↔◌, ◌<◌, ℕ, ◌+◌, Bool, true, false, cond, List, [], ◌∷◌, ◌++◌, All, Contains, Option, Some, None, length, take, get_or, find, refl, sym, ◌∙◌, ap, subst, append_assoc}
+use Rattle.std.proofs.Common.{◌≡◌, ◌↔◌, ◌<◌, ℕ, ◌+◌, List, [], ◌∷◌, ◌++◌, All, Contains, Option, Some, None, length, take, get_or, find, refl, sym, ◌∙◌, ap, subst, append_assoc}
 use Rattle.std.specs.Borrow.{Bor}
 use Rattle.std.specs.List.{filter_map}
 use Rattle.std.specs.Option.{option_map}
 use Rattle.std.proofs.lemmas.Bool.{eqb-true}
-use Rattle.std.proofs.lemmas.List.{take_more, append-nil}
-use Rattle.std.proofs.lemmas.List.Elements.{All-contains, filter_map-append}
+use Rattle.std.proofs.lemmas.List.Elements.{All-contains}
 use Rattle.hn_base.specs.declared.ids.EpId.{EpId}
-use Rattle.hn_base.proofs.AscendingLists.{Contains-head, Contains-tail, Contains-map, Contains-from_map}
+use Rattle.hn_base.proofs.AscendingLists.{Contains-map, Contains-from_map}
 use Rattle.hn_base.proofs.Keys.{same_id}
 use Rattle.hn_data.specs.Peers.{peer_link}
 use Rattle.hn_world.specs.declared.member.Attachment.{Attachment}
@@ -18,9 +17,10 @@ use Rattle.hn_audit.specs.declared.spots.Spot.{Spot}
 use Rattle.hn_audit.specs.Reached.{IsRunning, IsReached, IsOnLink, AreOnOneLink}
 use Rattle.hn_audit.specs.Set.{PlainSpot, plain_spot, plain_spots, members_of, spot_at, spots_at, spots_in, IsNoStranger, IsSeen, TellsTrue}
 use Rattle.hn_audit.specs.Settled.{AreLinked, IsSameEndpoint}
-use Rattle.hn_base.proofs.Elements.{all_of, in_filter_map, from_filter_map}
+use Rattle.hn_base.proofs.Elements.{all_of, given_next, in_filter_map, from_filter_map, passed_next}
 use Rattle.hn_audit.proofs.Lists.{in_flat_map, from_flat_map}
 use Rattle.hn_audit.proofs.Settling.{IsSet, set_has, in_set, each_two}
+use Rattle.hn_audit.proofs.BridgeLists.{found_passes}
 
 -- ---- lists that grow
 
@@ -28,26 +28,17 @@ use Rattle.hn_audit.proofs.Settling.{IsSet, set_has, in_set, each_two}
 pub given_more : {X Y : Type 0} (h : X → Option Y) (xs : List X) (i : ℕ) (x d : X) (y : Y) (first ys zs : List Y) → i < length xs → x ≡ get_or xs i d → h x ≡ Some y
     → ys ≡ first ++ filter_map h (take i xs) → zs ≡ ys ++ y ∷ [] → zs ≡ first ++ filter_map h (take (i + 1) xs)
 given_more {X} {Y} h xs i x d y first ys zs within is gives so_far last =
-    let more : take (i + 1) xs ≡ take i xs ++ x ∷ [] = take_more xs i d within ∙ ap (λ (v : X). take i xs ++ v ∷ []) (sym is) in
-    last ∙ rw (so_far, more, filter_map-append h (take i xs) (x ∷ []), gives) (append_assoc first _ _)
+    let so : List Y = filter_map h (take i xs) in
+    let more = given_next h xs i x d y so (so ++ y ∷ []) within is gives refl refl in
+    last ∙ (ap (λ (v : List Y). v ++ y ∷ []) so_far ∙ (append_assoc first so (y ∷ []) ∙ ap (λ (v : List Y). first ++ v) more))
 
 pub passed_more : {X Y : Type 0} (h : X → Option Y) (xs : List X) (i : ℕ) (x d : X) (first ys zs : List Y) → i < length xs → x ≡ get_or xs i d → h x ≡ None
     → ys ≡ first ++ filter_map h (take i xs) → zs ≡ ys → zs ≡ first ++ filter_map h (take (i + 1) xs)
 passed_more {X} {Y} h xs i x d first ys zs within is gives so_far last =
-    let more : take (i + 1) xs ≡ take i xs ++ x ∷ [] = take_more xs i d within ∙ ap (λ (v : X). take i xs ++ v ∷ []) (sym is) in
-    last ∙ rw (so_far, more, filter_map-append h (take i xs) (x ∷ []), gives) (ap (λ (v : List Y). first ++ v) (sym (append-nil _)))
+    let so : List Y = filter_map h (take i xs) in
+    last ∙ (so_far ∙ ap (λ (v : List Y). first ++ v) (passed_next h xs i x d so so within is gives refl refl))
 
 -- ---- which attached endpoints there are
-
-from_find : (p : Attachment → Bool) (xs : List Attachment) (x : Attachment) → find p xs ≡ Some x → Contains xs x × (p x ≡ true)
-from_find p [] x e = absurd (cc)
-from_find p (y ∷ xs) x e = go (p y) refl e (from_find p xs x)
-  where
-    go : (b : Bool) → p y ≡ b → ◌≡◌ {A = Option Attachment} (cond b (Some y) (find p xs)) (Some x) → (find p xs ≡ Some x → Contains xs x × (p x ≡ true)) → Contains (y ∷ xs) x × (p x ≡ true)
-    go true is same more =
-        let this : y ≡ x = cc in
-        (subst (Contains (y ∷ xs)) this (Contains-head y xs), subst (λ (z : Attachment). p z ≡ true) this is)
-    go false is later more = let found = more later in (Contains-tail y xs x found.0, found.1)
 
 -- the attachment of an endpoint that is attached
 pub attachment_of : (m : Member) (e : EpId) (link : ℕ) → IsOnLink link m e → (a : Attachment) × Contains m.attachments a × (a.endpoint ≡ e)
@@ -56,7 +47,7 @@ attachment_of m e link on = go (find (is_of e) m.attachments) refl on
     go : (o : Option Attachment) → find (is_of e) m.attachments ≡ o → option_map (λ a. a.link) o ≡ Some link → (a : Attachment) × Contains m.attachments a × (a.endpoint ≡ e)
     go None is gives = absurd (cc)
     go (Some a) is gives =
-        let found = from_find (is_of e) m.attachments a is in
+        let found = found_passes (is_of e) m.attachments a is in
         (a, found.0, same_id a.endpoint e (eqb-true a.endpoint.0 e.0 found.1))
 
 spot_gives : (m : Member) (e : EpId) (spot : PlainSpot) (o : Option ℕ) → link_of e m ≡ o → option_map (λ link. record { member = m; endpoint = e; link = link }) o ≡ Some spot

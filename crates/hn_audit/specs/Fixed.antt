@@ -1,15 +1,13 @@
 -- The fixed point of the assignment subroutine: a router whose subroutine, run once more, would make, change and destroy
 -- no assignment. No backoff is waited for: each pair without an assignment has one that is due.
-use Rattle.std.specs.Prelude.{IsTrue, List}
+use Rattle.std.specs.Prelude.{◌≡◌, IsTrue, List, All}
 use Rattle.hn_base.specs.declared.ids.EpId.{EpId}
 use Rattle.hn_assign.specs.declared.assigned.Advertised.{Advertised}
 use Rattle.hn_assign.specs.declared.assigned.Wish.{Wish}
-use Rattle.hn_assign.specs.declared.backoff.Backoff.{Backoff}
 use Rattle.hn_assign.specs.declared.held.Ran.{Ran}
 use Rattle.hn_assign.specs.Advertised.{Link}
-use Rattle.hn_assign.specs.Fixed.{AreDue, IsUnchanged}
+use Rattle.hn_assign.specs.Fixed.{IsDueRun, IsUnchanged}
 use Rattle.hn_assign.specs.Gathered.{AreAdvertised}
-use Rattle.hn_assign.specs.Subroutine.{IsSubroutine}
 use Rattle.hn_deleg.specs.declared.delegated.Delegated.{Delegated}
 use Rattle.hn_deleg.specs.Used.{AreUsable}
 use Rattle.hn_link.specs.CommonLink.{IsCommonLink}
@@ -28,11 +26,9 @@ pub record IsRunAnew (s : State) (ran : Ran) : Type 0 where
   pub are_usable : AreUsable (seen_by s) usable
   pub wishes : List Wish
   pub are_asked : AreAsked (seen_by s) usable s.ports wishes
-  pub backoffs : List Backoff
-  pub are_due : AreDue wishes s.moment (record { assigned = s.held.assigned; backoffs = backoffs })
-  pub is_subroutine : IsSubroutine (seen_by s) wishes (record { assigned = s.held.assigned; backoffs = backoffs }) ran
+  pub run : IsDueRun (seen_by s) wishes s.held.assigned ran
 
--- a router on which it comes to something that makes, changes and destroys no assignment
+-- a router on which it comes to a result that makes, changes and destroys no assignment
 pub record IsUnmoved (s : State) : Type 0 where
   pub router : IsRouter s
   pub ran : Ran
@@ -52,8 +48,14 @@ ChangesNothing w r =
     (s : Member) (ran : Ran) → IsReached w r s → IsRunAnew s.router ran
     → IsUnchanged s.router.held.assigned ran.held.assigned
 
--- on each router of the set of r it comes to something, with some random words, that does so
+-- on each router of the set of r it comes to a result, with some random words, that makes, changes and destroys none
 abbrev pub MayChangeNothing : Parts → Member → Type 0
 MayChangeNothing w r =
     (s : Member) → IsReached w r s
     → (ran : Ran) × IsRunAnew s.router ran × IsUnchanged s.router.held.assigned ran.held.assigned
+
+-- on each router of the set of r it comes to a result, with random words of zero, that makes, changes and destroys none
+abbrev pub IsFixed : Parts → Member → Type 0
+IsFixed w r =
+    (s : Member) → IsReached w r s
+    → (ran : Ran) × IsRunAnew s.router ran × All (λ word. word ≡ 0) ran.words × IsUnchanged s.router.held.assigned ran.held.assigned

@@ -1,5 +1,5 @@
 -- Laws of settled and quiet routers.
-use Rattle.std.specs.Prelude.{◌≡◌, ◌↔◌, List, ◌++◌}
+use Rattle.std.specs.Prelude.{◌≡◌, ◌↔◌, List, [], ◌++◌}
 use Rattle.hn_assign.specs.declared.held.Ran.{Ran}
 use Rattle.hn_assign.specs.Fixed.{IsUnchanged}
 use Rattle.hn_rules.specs.declared.state.State.{State}
@@ -44,8 +44,14 @@ RestChangesNothing =
     (s : State) (ran : Ran) → IsRouter s → IsRunAnew s ran → IsRouterAtRest s
     → IsUnchanged s.held.assigned ran.held.assigned
 
--- And a router on which it does not is at rest.
+-- And where a run of it makes, changes and destroys none, the router is at rest.
 abbrev pub UnchangedIsAtRest : Type 0
 UnchangedIsAtRest =
     (s : State) (ran : Ran) → IsRouter s → IsRunAnew s ran → HasLists s
     → IsUnchanged s.held.assigned ran.held.assigned → IsRouterAtRest s
+
+-- On a router at rest it has such a run, which takes no random word.
+abbrev pub RestHasARun : Type 0
+RestHasARun =
+    (s : State) → IsRouter s → IsRouterAtRest s
+    → (ran : Ran) × IsRunAnew s ran × IsUnchanged s.held.assigned ran.held.assigned × (ran.words ≡ [])

@@ -1,11 +1,11 @@
-ghost use Rattle.std.specs.Prelude.{◌≡◌, ◌↔◌, ℕ, IsTrue, IfOk, Some, All};
+ghost use Rattle.std.specs.Prelude.{◌≡◌, ◌↔◌, IsTrue, IfOk, Some, All};
 ghost use Rattle.hn_base.specs.Name.{name_text};
 ghost use Rattle.hn_world.specs.declared.member.Member.{Member};
 ghost use Rattle.hn_world.specs.declared.parts.Parts.{Parts};
 ghost use Rattle.hn_world.specs.Names.{member_named};
 ghost use Rattle.hn_audit.specs.Reached.{runs, IsOfOne};
 ghost use Rattle.hn_audit.specs.Settled.{IsSettled};
-ghost use Rattle.hn_audit.specs.Fixed.{ChangesNothing, MayChangeNothing, IsUnmoved};
+ghost use Rattle.hn_audit.specs.Fixed.{ChangesNothing, IsFixed, IsUnmoved, MayChangeNothing};
 ghost use Rattle.hn_audit.specs.Quiet.{IsQuiet, IsRouterAtRest};
 ghost use Rattle.hn_audit.specs.Sound.{IsSound};
 
@@ -32,9 +32,11 @@ pub trait Audit {
         ensures { IfOk result (λ answer. (r : Member) → member_named (name_text name.now) (parts self.now) ≡ Some r
             → IsTrue answer ↔ IsSettled (parts self.now) r) };
 
-    /// Whether a running router is quiet: it and those that it reaches would make, change and destroy no assignment. So it
-    /// is if and only if the assignment subroutine, run once more on each of them, changes nothing, whatever the random
-    /// words are (RFC 7695, section 4.1). A router that is settled and quiet is sound.
+    /// Whether a running router is quiet: it and those that it reaches would make, change and destroy no assignment. So
+    /// it is if and only if the assignment subroutine, run once more on each of them with a due backoff for each pair
+    /// without an assignment and with random words of zero, comes to a result that makes, changes and destroys no
+    /// assignment (RFC 7695, section 4.1). Then each result leaves all assignments as they are, whatever the random words
+    /// are. A router that is settled and quiet is sound.
     ///
     /// # Errors
     ///
@@ -46,6 +48,8 @@ pub trait Audit {
         ensures unchanged { IfOk result (λ answer. (r : Member) → member_named (name_text name.now) (parts self.now) ≡ Some r
             → IsTrue answer → ChangesNothing (parts self.now) r) }
         ensures fixed { IfOk result (λ answer. (r : Member) → member_named (name_text name.now) (parts self.now) ≡ Some r
+            → IsTrue answer ↔ IsFixed (parts self.now) r) }
+        ensures any_words { IfOk result (λ answer. (r : Member) → member_named (name_text name.now) (parts self.now) ≡ Some r
             → MayChangeNothing (parts self.now) r → IsTrue answer) }
         ensures sound { IfOk result (λ answer. (r : Member) → member_named (name_text name.now) (parts self.now) ≡ Some r
             → IsTrue answer → IsSettled (parts self.now) r → IsSound (parts self.now) r) };

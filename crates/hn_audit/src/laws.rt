@@ -1,9 +1,9 @@
 //! Laws of settled and quiet routers. Each is the contract of a function that does nothing.
 
 ghost use Rattle.hn_world.specs.Leaves.{EqualHashesAgree};
-ghost use Rattle.hn_audit.specs.Laws.{SettledAndQuietIsSound, SetIsSoundAlike, AlwaysSettledAreSound, IsOfEachFront, SettledAreSound, RestChangesNothing, UnchangedIsAtRest};
+ghost use Rattle.hn_audit.specs.Laws.{SettledAndQuietIsSound, SetIsSoundAlike, AlwaysSettledAreSound, IsOfEachFront, SettledAreSound, RestChangesNothing, RestHasARun, UnchangedIsAtRest};
 
-use hn_assign::{rest_is_unchanged, subroutine_leaves};
+use hn_assign::{rest_has_a_run, rest_is_unchanged, subroutine_leaves};
 use hn_data::items_are_unique;
 use hn_deleg::{usable_is_unique, usable_never_overlap};
 use hn_link::common_link_is_unique;
@@ -60,13 +60,17 @@ pub fn headline_of_each_front()
     at_most_one_world();
 }
 
-/// A router is at rest if and only if the assignment subroutine, run once more with each backoff due, makes, changes and
-/// destroys no assignment, whatever the random words are (RFC 7695, section 4.1).
+/// On a router at rest the assignment subroutine, run once more with a due backoff for each pair without an assignment,
+/// makes, changes and destroys no assignment, whatever the random words are (RFC 7695, section 4.1); and it comes to a
+/// result, which takes no random word. Where a result makes, changes and destroys none, the router is at rest, if there
+/// are lists of the advertised prefixes and of the Common Links.
 pub fn rest_is_the_fixed_point()
     ensures unchanged { RestChangesNothing }
     ensures rests { UnchangedIsAtRest }
+    ensures comes { RestHasARun }
 {
     common_link_is_unique();
+    rest_has_a_run();
     rest_is_unchanged();
     subroutine_leaves();
     usable_is_unique();

@@ -1,4 +1,4 @@
-//! A router is quiet, or is not by one pair alone.
+//! A router is quiet, or is not: by a pair that is not at rest, or by an assignment of no pair.
 //!
 //! A backoff is set by one tick, and ends in an assignment with the next one.
 

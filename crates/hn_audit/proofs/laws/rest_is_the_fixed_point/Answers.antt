@@ -1,4 +1,5 @@
 use Rattle.hn_audit.proofs.FixedPoints.{FixedLaws, changes_nothing, unchanged_rests}
+use Rattle.hn_audit.proofs.RestRuns.{rest_has_a_run}
 use Rattle.hn_audit.proofs.laws.rest_is_the_fixed_point.Goals as goal
 
 pub returns-clause-unchanged : goal.returns-clause-unchanged
@@ -10,3 +11,8 @@ pub returns-clause-rests : goal.returns-clause-rests
 returns-clause-rests c s ran router run lists same =
     let laws : FixedLaws = record { one_list = c.usable_is_unique.ensures; one_link = c.common_link_is_unique.ensures; rest = c.rest_is_unchanged.ensures; wished = c.subroutine_leaves.ensures.wished } in
     unchanged_rests laws s ran run same lists router
+
+pub returns-clause-comes : goal.returns-clause-comes
+returns-clause-comes c =
+    let laws : FixedLaws = record { one_list = c.usable_is_unique.ensures; one_link = c.common_link_is_unique.ensures; rest = c.rest_is_unchanged.ensures; wished = c.subroutine_leaves.ensures.wished } in
+    rest_has_a_run laws c.rest_has_a_run.ensures

@@ -1,7 +1,6 @@
 -- What a report says of the routers of its names.
 use Rattle.std.proofs.Common.{◌≡◌, ◌∙◌, ℕ, Bool, List, [], ◌∷◌, ◌++◌, Option, None, Some, Result, Ok, Err, IfOk, refl, ap, sym, subst, length}
-use Rattle.std.specs.Prelude.{◌↔◌, IsTrue, Decides, ◌==◌, codes, false}
-use Rattle.std.proofs.lemmas.Bool.Decides.{Decides-eqb}
+use Rattle.std.specs.Prelude.{◌↔◌, IsTrue, Decides, codes, false}
 use Rattle.std.specs.Option.{option_map, option_map_or, option_or}
 use Rattle.std.specs.Fmt.{decimal}
 use Rattle.hn_base.specs.HexText.{id_text, hex_text}
@@ -21,6 +20,7 @@ use Rattle.hn_lab.specs.Line.{unless_known, unless_runs, unless_both_run, IsOf, 
 use Rattle.hn_lab.specs.Reports.{yes_no, show_line, hash_line, compare_line}
 use Rattle.hn_lab.specs.Stage.{Stage}
 use Rattle.hn_lab.specs.declared.treated.Treated.{Treated}
+use Rattle.hn_base.proofs.Decisions.{neither_given}
 
 -- a report that is the one line of what a line came to
 pub reported : {E : Type 0} (unless : Option ℕ) (IsReport : List ℕ → Type 0) (line : List ℕ) (p : Stage) (r : Result Treated E) → IfOk r (λ t. t.code ≡ None) → IfOk r (λ t. t.lines ≡ line ∷ []) → unless ≡ None → IsReport line → IfOk r (λ t. Reports unless IsReport t.code t.lines p p)
@@ -68,10 +68,6 @@ hashes name w router net line found net_is line_is =
     let m = member_of (member_named (name_text name) w) router found in
     (m.0, m.1, line_is ∙ ap (hashed name) (net_is ∙ ap (λ (r : Router). r.net) m.2))
 
-no_or : (a b : Option ℕ) → option_or a b ≡ None → (a ≡ None) × (b ≡ None)
-no_or None b is = (refl, is)
-no_or (Some code) b is = absurd cc
-
 known : (found : Option Member) → of_router (λ _. None) found ≡ None → (m : Member) × (found ≡ Some m)
 known None is = absurd cc
 known (Some m) is = (m, refl)
@@ -81,8 +77,8 @@ pub compares : (left right : Name) (w : Parts) (agreement : Agreement) (same_ids
     → ((a b : Member) → member_named (name_text left) w ≡ Some a → member_named (name_text right) w ≡ Some b → IsTrue same_ids ↔ (a.router.reach ≡ b.router.reach))
     → line ≡ compare_line left right agreement same_ids → Compares left right w line
 compares left right w agreement same_ids line none agrees ids line_is =
-    let first = no_or (unless_known left w) (option_or (unless_known right w) (option_or (unless_runs left w) (unless_runs right w))) (sym none) in
-    let second = no_or (unless_known right w) (option_or (unless_runs left w) (unless_runs right w)) first.1 in
+    let first = neither_given (unless_known left w) (option_or (unless_known right w) (option_or (unless_runs left w) (unless_runs right w))) (sym none) in
+    let second = neither_given (unless_known right w) (option_or (unless_runs left w) (unless_runs right w)) first.1 in
     let a = known (member_named (name_text left) w) first.0 in
     let b = known (member_named (name_text right) w) second.0 in
     record {
@@ -92,12 +88,6 @@ compares left right w agreement same_ids line none agrees ids line_is =
       is_right = b.1;
       is_line = record { agreement = agreement; same_ids = same_ids; agrees = agrees a.0 b.0 a.1 b.1; ids = ids a.0 b.0 a.1 b.1; line_is = line_is };
     }
-
--- identifiers are compared as numbers
-pub same_id : (a b : NodeId) → Decides (a.0 == b.0) (a ≡ b)
-same_id a b =
-    let number : ℕ → NodeId = λ x. record { 0 = x } in
-    (λ same. ap number ((Decides-eqb a.0 b.0).0 same), λ is. (Decides-eqb a.0 b.0).1 (ap (λ (x : NodeId). x.0) is))
 
 -- the routers of two names reach the same
 pub reach_same : (r : Bool) (left right : Option Member) (a b : Router) (xs ys : List NodeId) → Some a ≡ option_map (λ m. m.router) left → Some b ≡ option_map (λ m. m.router) right → xs ≡ a.reach → ys ≡ b.reach → Decides r (xs ≡ ys)

@@ -1,4 +1,4 @@
--- The events that `flow` and `run` stand for.
+-- The events into which `flow` and `run` are expanded.
 use Rattle.std.specs.Prelude.{◌≡◌, ◌≢◌, ◌⊎◌, ◌≤◌, ◌<◌, ◌+◌, ◌%◌, ◌||◌, ◌==◌, if◌then◌else◌, nat_lt, min, ℕ, suc, List, [], ◌∷◌, Option, None, Some}
 use Rattle.std.specs.List.{slice_get}
 use Rattle.hn_base.specs.declared.name.Name.{Name}

@@ -36,10 +36,10 @@ pub const SINK_FAILED: u8 = 4;
 /// Out of memory.
 pub const NO_MEMORY: u8 = 6;
 
-/// What a script came to.
+/// What a call came to: its status, and the world of the script that was played, if one was.
 #[derive(Debug, Drop)]
 pub struct Played {
-    /// `DONE`, `REFUSED`, `SOURCE_FAILED`, `SINK_FAILED` or `NO_MEMORY`.
+    /// `DONE`, `REFUSED`, `SOURCE_FAILED`, `SINK_FAILED`, `NO_MEMORY`, or a status of the caller's own.
     pub status: u8,
     /// The world that the script led to, also where a line was refused or the sink failed.
     pub world: Option<World>,
@@ -47,7 +47,7 @@ pub struct Played {
 
 impl Played {
     /// A status with no world. Never allocates.
-    fn without_world(status: u8) -> Played
+    pub fn without_world(status: u8) -> Played
         ensures status { result.status ≡ status }
         ensures no_world { result.world ≡ None }
     {

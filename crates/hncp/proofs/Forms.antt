@@ -26,7 +26,7 @@ counted_words (Soak n seed) words many h =
       subst (λ (word : List ℕ). IsNumberText 0 (2 ^ 64 - 1) word seed) (sym (at 3)) h.5,
     )
 
--- two words ask for no form if the second asks for none, and four if the further ones ask for none
+-- two words are bad usage if the second is no form's, and four if the further ones are none's
 pub no_plain_form : (r : Option Form) (word : List ℕ) (words : List (List ℕ)) → length words < 3 → get_or words 1 [] ≡ word
     → IfNone r ((form : Form) → IsPlainWord form word → ⊥) → IfNone r ((form : Form) → IsFormOf form words → ⊥)
 no_plain_form None word words few is none = λ form h. none form (subst (IsPlainWord form) is (plain_word form words few h))

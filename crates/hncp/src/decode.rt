@@ -6,9 +6,9 @@ ghost use Rattle.hn_decode.specs.Nested.{IsDecodeText, IsTextTo};
 ghost use Rattle.hncp.specs.Decode.{SpellsTlvs, IsContentsOf, IsDecodeOf, WritesDecode, CutsDecode, AppendsCut, malformed_line};
 
 use crate::hex_text::octets_of;
-use crate::outcome::{DONE, NO_MEMORY, REFUSED, SINK_FAILED, written_status};
 use crate::output::write_lines;
 use crate::report::malformed_line;
+use crate::status::{DONE, NO_MEMORY, REFUSED, SINK_FAILED, written_status};
 use hn_decode::{decode_text_exists, first_line, lines_go_on, lines_make_the_text, push_next};
 use hn_io::{IoFault, Sink};
 use hn_lab::{SOURCE_LIMIT, pieces_append, write_piece, write_refusal};

@@ -4,18 +4,18 @@
 
 mod decode;
 mod hex_text;
-mod outcome;
 mod output;
 mod report;
 mod run;
 mod soak;
+mod status;
 #[cfg(test)]
 mod tests;
 mod words;
 
 use hn_io::{ReaderSource, WriterSink};
-use outcome::{BAD_USAGE, NO_MEMORY, REFUSED, SINK_FAILED, SOURCE_FAILED};
 use run::run;
+use status::{BAD_USAGE, NO_MEMORY, REFUSED, SINK_FAILED, SOURCE_FAILED};
 use std::alloc::Global;
 use std::io::{BufWriter, ErrorKind, Write};
 use std::process::ExitCode;
@@ -57,9 +57,9 @@ fn status_of(rt: &HostRuntime) -> u8 {
     };
     let mut source = ReaderSource::new(rt.reader());
     let mut sink = WriterSink::new(&mut writer);
-    let outcome = run(alloc, &words, &mut source, &mut sink);
+    let played = run(alloc, &words, &mut source, &mut sink);
     match writer.flush() {
-        Ok(()) => outcome.status,
+        Ok(()) => played.status,
         Err(_) => SINK_FAILED,
     }
 }

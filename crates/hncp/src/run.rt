@@ -15,11 +15,11 @@ ghost use Rattle.hncp.specs.Soak.{IsSoakPlay};
 ghost use Rattle.hncp.specs.declared.words.Form.{Form};
 
 use crate::decode::{each_source_decodes, run_decode};
-use crate::outcome::{BAD_USAGE, DONE, NO_MEMORY, Outcome, REFUSED, SINK_FAILED, SOURCE_FAILED};
 use crate::soak::soak;
+use crate::status::{BAD_USAGE, DONE, NO_MEMORY, REFUSED, SINK_FAILED, SOURCE_FAILED};
 use crate::words::Form;
 use hn_io::{IoFault, Sink, Source};
-use hn_lab::{lab, read_all};
+use hn_lab::{Played, lab, read_all};
 use std::alloc::Global;
 
 /// Reads hexadecimal text, and writes the contents of the datagram that it spells. Answers the status.
@@ -48,7 +48,7 @@ fn decode<S: Source, K: Sink>(alloc: Global, src: &mut S, out: &mut K) -> u8
 /// Runs the program: `words` are those of the command line, the program's name first. The forms are `lab`, which reads
 /// a script, plays it and writes its transcript; `decode`, which reads hexadecimal text and writes what the datagram
 /// has; and `soak`, which plays the script of a soak and writes its transcript.
-pub fn run<S: Source, K: Sink>(alloc: Global, words: &[String], src: &mut S, out: &mut K) -> Outcome
+pub fn run<S: Source, K: Sink>(alloc: Global, words: &[String], src: &mut S, out: &mut K) -> Played
     ensures form { result.status ≡ BAD_USAGE → (form : Form) → IsFormOf form (map string_bytes words.now) → ⊥ }
     ensures bad_usage { ((form : Form) → IsFormOf form (map string_bytes words.now) → ⊥) → result.status ≡ BAD_USAGE }
     ensures untouched { result.status ≡ BAD_USAGE → (src.new ≡ src.old) × (out.new ≡ out.old) }
@@ -104,9 +104,9 @@ pub fn run<S: Source, K: Sink>(alloc: Global, words: &[String], src: &mut S, out
     ensures bounded { (read : List ℕ) × (length read ≤ 2 ^ 24 + 1) × Consumes (S.left src.old) (S.left src.new) read }
 {
     match Form::of(words) {
-        Some(Form::Lab) => Outcome::of(lab(alloc, src, out)),
-        Some(Form::Decode) => Outcome::without_world(decode(alloc, src, out)),
-        Some(Form::Soak { n, seed }) => Outcome::of(soak(alloc, n, seed, out)),
-        None => Outcome::without_world(BAD_USAGE),
+        Some(Form::Lab) => lab(alloc, src, out),
+        Some(Form::Decode) => Played::without_world(decode(alloc, src, out)),
+        Some(Form::Soak { n, seed }) => soak(alloc, n, seed, out),
+        None => Played::without_world(BAD_USAGE),
     }
 }

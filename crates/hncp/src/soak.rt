@@ -10,7 +10,7 @@ ghost use Rattle.hn_audit.specs.Laws.{SettledAreSound};
 ghost use Rattle.hn_lab.specs.Lab.{HasDonePlay, HasRefusal};
 ghost use Rattle.hncp.specs.Soak.{IsSoakPlay};
 
-use crate::outcome::{DONE, NO_MEMORY, REFUSED, SINK_FAILED};
+use crate::status::{DONE, NO_MEMORY, REFUSED, SINK_FAILED};
 use hn_base::NoMemory;
 use hn_io::Sink;
 use hn_lab::{Played, play};
@@ -36,9 +36,6 @@ pub fn soak<K: Sink>(alloc: Global, n: u32, seed: u64, out: &mut K) -> Played
     script_is_unique();
     match soak_script(alloc, n, seed) {
         Ok(script) => play(alloc, script, out),
-        Err(NoMemory) => Played {
-            status: NO_MEMORY,
-            world: None,
-        },
+        Err(NoMemory) => Played::without_world(NO_MEMORY),
     }
 }

@@ -1,5 +1,5 @@
-use crate::outcome::{BAD_USAGE, DONE, REFUSED, SINK_FAILED, SOURCE_FAILED};
 use crate::run::run;
+use crate::status::{BAD_USAGE, DONE, REFUSED, SINK_FAILED, SOURCE_FAILED};
 use crate::words::Form;
 use hn_io::{IoFault, MemSink, MemSource, Sink, Source};
 use std::alloc::{AllocError, Global};
@@ -119,9 +119,9 @@ fn play<S: Source, K: Sink>(
     sink: &mut K,
 ) -> Result<(u8, Option<usize>), AllocError> {
     let words = words(alloc, texts)?;
-    let outcome = run(alloc, &words, source, sink);
-    let events = outcome.world.map(|world| world.trace().len());
-    Ok((outcome.status, events))
+    let played = run(alloc, &words, source, sink);
+    let events = played.world.map(|world| world.trace().len());
+    Ok((played.status, events))
 }
 
 /// Runs a form of the program on an input, and asserts its status and its text.

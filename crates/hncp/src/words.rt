@@ -1,8 +1,6 @@
-ghost use Rattle.std.specs.Prelude.{◌≡◌, ◌-◌, ◌^◌, ℕ, map, codes, IfSome, IfNone, string_bytes};
-ghost use Rattle.hn_script.specs.Field.{IsNumberText};
+ghost use Rattle.std.specs.Prelude.{map, IfSome, IfNone, string_bytes};
 
-/// The most digits of a number.
-const MOST_DIGITS: usize = 20;
+use hn_script::number_in;
 
 /// What the program is asked for.
 #[derive(Clone, Copy, Debug, PartialEq, Eq, Hash)]
@@ -13,18 +11,6 @@ pub enum Form {
     Decode,
     /// `soak N SEED`: the transcript of the script of a soak of 2 to 32 routers, with this seed.
     Soak { n: u32, seed: u64 },
-}
-
-/// The number that this word writes; `None` if and only if it writes none in this range. Never allocates.
-fn number(word: &str, lowest: u64, highest: u64) -> Option<u64>
-    ensures found { IfSome result (IsNumberText lowest highest word.now) }
-    ensures none { IfNone result ((n : ℕ) → IsNumberText lowest highest word.now n → ⊥) }
-{
-    let value = hn_base::number(word.as_bytes(), 10, MOST_DIGITS)?;
-    if value < u128::from(lowest) || value > u128::from(highest) {
-        return None;
-    }
-    Some(value as u64)
 }
 
 impl Form {
@@ -50,8 +36,8 @@ impl Form {
         if word != "soak" {
             return None;
         }
-        let n = number(count, 2, 32)?;
-        let seed = number(seed, 0, u64::MAX)?;
+        let n = number_in(count.as_bytes(), 2, 32)?;
+        let seed = number_in(seed.as_bytes(), 0, u64::MAX)?;
         Some(Form::Soak { n: n as u32, seed })
     }
 

@@ -12,14 +12,14 @@ pub returns-in-Some-Lab-clause-bad_usage : goal.returns-in-Some-Lab-clause-bad_u
 returns-in-Some-Lab-clause-bad_usage g c none = absurd (none c.in-Some-Lab.field-0 c.in-Some-Lab.ensures.found)
 
 pub returns-in-Some-Lab-clause-lab_done : goal.returns-in-Some-Lab-clause-lab_done
-returns-in-Some-Lab-clause-lab_done g c asked = rw c.of-in-Some-Lab.ensures.status c.lab.ensures.done
+returns-in-Some-Lab-clause-lab_done g c asked = c.lab.ensures.done
 
 pub returns-in-Some-Lab-clause-lab_refused : goal.returns-in-Some-Lab-clause-lab_refused
-returns-in-Some-Lab-clause-lab_refused g c asked = rw c.of-in-Some-Lab.ensures.status c.lab.ensures.refused
+returns-in-Some-Lab-clause-lab_refused g c asked = c.lab.ensures.refused
 
 pub returns-in-Some-Lab-clause-statuses : goal.returns-in-Some-Lab-clause-statuses
 returns-in-Some-Lab-clause-statuses g c =
-    rw c.of-in-Some-Lab.ensures.status (Contains-more (0 ∷ []) (2 ∷ 3 ∷ 4 ∷ 6 ∷ []) 1 c.lab.result.status c.lab.ensures.statuses)
+    Contains-more (0 ∷ []) (2 ∷ 3 ∷ 4 ∷ 6 ∷ []) 1 c.lab.result.status c.lab.ensures.statuses
 
 pub returns-in-Some-Decode-clause-bad_usage : goal.returns-in-Some-Decode-clause-bad_usage
 returns-in-Some-Decode-clause-bad_usage g c none = absurd (none c.in-Some-Decode.field-0 c.in-Some-Decode.ensures.found)
@@ -31,22 +31,22 @@ pub returns-in-Some-Soak-clause-soak_done : goal.returns-in-Some-Soak-clause-soa
 returns-in-Some-Soak-clause-soak_done g c n seed asked =
     let read = rw c.in-Some-Soak.field-0-is at c.in-Some-Soak.ensures.found in
     let P : ℕ → ℕ → Type 0 = λ x y. (script : Script) → IsScript script (soak_text x y) → HasDonePlay script.lines → c.soak.result.status ≢ 2 in
-    rw c.of-in-Some-Soak.ensures.status (as_asked P c.in-Some-Soak.n c.in-Some-Soak.seed n seed _ read asked c.soak.ensures.done)
+    as_asked P c.in-Some-Soak.n c.in-Some-Soak.seed n seed _ read asked c.soak.ensures.done
 
 pub returns-in-Some-Soak-clause-soak_refused : goal.returns-in-Some-Soak-clause-soak_refused
 returns-in-Some-Soak-clause-soak_refused g c n seed asked =
     let read = rw c.in-Some-Soak.field-0-is at c.in-Some-Soak.ensures.found in
     let P : ℕ → ℕ → Type 0 = λ x y. (script : Script) → IsScript script (soak_text x y) → HasRefusal script.lines → c.soak.result.status ≢ 0 in
-    rw c.of-in-Some-Soak.ensures.status (as_asked P c.in-Some-Soak.n c.in-Some-Soak.seed n seed _ read asked c.soak.ensures.refused)
+    as_asked P c.in-Some-Soak.n c.in-Some-Soak.seed n seed _ read asked c.soak.ensures.refused
 
 pub returns-in-Some-Soak-clause-soak_statuses : goal.returns-in-Some-Soak-clause-soak_statuses
-returns-in-Some-Soak-clause-soak_statuses g c n seed asked = rw c.of-in-Some-Soak.ensures.status c.soak.ensures.statuses
+returns-in-Some-Soak-clause-soak_statuses g c n seed asked = c.soak.ensures.statuses
 
 pub returns-in-Some-Soak-clause-statuses : goal.returns-in-Some-Soak-clause-statuses
 returns-in-Some-Soak-clause-statuses g c =
     let status = c.soak.result.status in
     let more = Contains-more (0 ∷ []) (2 ∷ 4 ∷ 6 ∷ []) 1 status c.soak.ensures.statuses in
-    rw c.of-in-Some-Soak.ensures.status (Contains-more (0 ∷ 1 ∷ 2 ∷ []) (4 ∷ 6 ∷ []) 3 status more)
+    Contains-more (0 ∷ 1 ∷ 2 ∷ []) (4 ∷ 6 ∷ []) 3 status more
 
 pub returns-in-None-clause-lab : goal.returns-in-None-clause-lab
 returns-in-None-clause-lab g c asked read = absurd (c.in-None.ensures.none Lab asked)

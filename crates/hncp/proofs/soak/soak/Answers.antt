@@ -18,4 +18,4 @@ returns-in-Ok-clause-refused g c script is refused =
     c.play.ensures.refused (subst (λ (s : Script). HasRefusal s.lines) (c.script_is_unique.ensures _ script c.in-Ok.script is c.in-Ok.ensures) refused)
 
 pub returns-in-Err-clause-soak : goal.returns-in-Err-clause-soak
-returns-in-Err-clause-soak g c = ([], inr (refl, refl, refl), Appends-none (g.K.Sink.held c.args.out.now))
+returns-in-Err-clause-soak g c = ([], inr (c.without_world.ensures.status, c.without_world.ensures.no_world, refl), Appends-none (g.K.Sink.held c.args.out.now))

@@ -2,11 +2,11 @@
 use Rattle.std.proofs.Common.{◌≡◌, ℕ, zero, suc, ◌+◌, ◌-◌, ◌*◌, ◌/◌, ◌%◌, ◌^◌, ◌<◌, ◌≤◌, List, [], ◌∷◌, ◌++◌, length, get_or, take, drop, replicate, refl, sym, ap, subst, ◌∙◌, arith}
 use Rattle.std.specs.Prelude.{All}
 use Rattle.std.specs.List.{AllByRecursion}
-use Rattle.std.specs.Int.{w32, w128, byte_at, byte_worth, bytes_high_first, sum_through, to_be_bytes, from_be_bytes}
+use Rattle.std.specs.Int.{w16, w32, w128, byte_at, byte_worth, bytes_high_first, sum_through, to_be_bytes, from_be_bytes}
 use Rattle.std.proofs.lemmas.List.{length-append, length-replicate, length-drop, length-take-le, take-append-drop, take_at}
-use Rattle.std.proofs.lemmas.Nat.{from_be_bytes-to_be_bytes_4, pow-add, mod-pow-add, mul-add-lt, same_from_place, mod_low}
+use Rattle.std.proofs.lemmas.Nat.{be_bytes_2, from_be_bytes-to_be_bytes_4, pow-add, mod-pow-add, mul-add-lt, same_from_place, mod_low}
 use Rattle.std.proofs.Math.Nat.{pow-suc}
-use Rattle.std.proofs.lemmas.List.Elements.{All-nil, All-cons}
+use Rattle.std.proofs.lemmas.List.Elements.{All-from_recursion}
 use Rattle.hn_base.proofs.Recursions.{AllByRecursion-append, AllByRecursion-take, AllByRecursion-drop}
 
 -- the number that bytes make
@@ -17,10 +17,6 @@ be (b ∷ bs) = b * 2 ^ (8 * length bs) + be bs
 abbrev pub Bytes : List ℕ → Type 0
 Bytes bs = AllByRecursion (λ b. b < 256) bs
 
-pub Bytes-from_reads : (bs : List ℕ) → ((i : ℕ) → get_or bs i 0 < 256) → Bytes bs
-Bytes-from_reads [] h = tt
-Bytes-from_reads (b ∷ bs) h = (h 0, Bytes-from_reads bs (λ i. h (suc i)))
-
 pub Bytes-append : (xs ys : List ℕ) → Bytes xs → Bytes ys → Bytes (xs ++ ys)
 Bytes-append = AllByRecursion-append (λ b. b < 256)
 
@@ -29,6 +25,19 @@ Bytes-take = AllByRecursion-take (λ b. b < 256)
 
 pub Bytes-drop : (n : ℕ) (xs : List ℕ) → Bytes xs → Bytes (drop n xs)
 Bytes-drop = AllByRecursion-drop (λ b. b < 256)
+
+-- each place has a byte, or nothing
+abbrev pub AreOctets : List ℕ → Type 0
+AreOctets bytes = (i : ℕ) → get_or bytes i 0 < 256
+
+pub octets : (bs : List ℕ) → Bytes bs → AreOctets bs
+octets [] h i = omega arith
+octets (b ∷ bs) h zero = h.0
+octets (b ∷ bs) h (suc i) = octets bs h.1 i
+
+pub Bytes-from_reads : (bs : List ℕ) → AreOctets bs → Bytes bs
+Bytes-from_reads [] h = tt
+Bytes-from_reads (b ∷ bs) h = (h 0, Bytes-from_reads bs (λ i. h (suc i)))
 
 Bytes-zeros : (n : ℕ) → Bytes (replicate n 0)
 Bytes-zeros zero = tt
@@ -86,9 +95,16 @@ byte_at-is : (k n : ℕ) → byte_at k n ≡ n / 2 ^ (8 * k) % 256
 byte_at-is zero n = omega arith
 byte_at-is (suc k) n = ap (λ m. n / m % 256) (power_256 (suc k))
 
-high_bytes : (k n : ℕ) → Bytes (bytes_high_first k n)
+pub byte_small : (i n : ℕ) → byte_at i n < 2 ^ 8
+byte_small zero n = omega arith
+byte_small (suc i) n = omega arith
+
+pub high_bytes : (k n : ℕ) → Bytes (bytes_high_first k n)
 high_bytes zero n = tt
-high_bytes (suc k) n = (rw (byte_at-is k n) (omega arith), high_bytes k n)
+high_bytes (suc k) n = (byte_small k n, high_bytes k n)
+
+pub number_bytes : (k n : ℕ) → All (λ byte. byte < 2 ^ 8) (bytes_high_first k n)
+number_bytes k n = All-from_recursion (λ (byte : ℕ). byte < 2 ^ 8) (bytes_high_first k n) (high_bytes k n)
 
 be-high : (k n : ℕ) → be (bytes_high_first k n) ≡ n % 2 ^ (8 * k)
 unfolding be
@@ -97,6 +113,15 @@ be-high (suc k) n =
     let len : 2 ^ (8 * length (bytes_high_first k n)) ≡ 2 ^ (8 * k) = ap (λ m. 2 ^ (8 * m)) (length-high k n) in
     let size : 8 * suc k ≡ 8 + 8 * k = omega arith in
     rw (len, be-high k n, byte_at-is k n, size, mod-pow-add n 8 (8 * k)) refl
+
+-- ---- two bytes
+
+-- they are those of the number that they make
+pub two_bytes : (a b : ℕ) → a < 256 → b < 256 → to_be_bytes w16 (from_be_bytes w16 (a ∷ b ∷ [])) ≡ a ∷ b ∷ []
+two_bytes a b p q = be_bytes_2 (a ∷ b ∷ []) (from_be_bytes w16 (a ∷ b ∷ [])) refl (octets (a ∷ b ∷ []) (p, (q, tt))) refl
+
+pub two_small : (a b : ℕ) → a < 256 → b < 256 → from_be_bytes w16 (a ∷ b ∷ []) < 2 ^ 16
+two_small a b p q = omega arith
 
 -- ---- four bytes
 
@@ -203,13 +228,3 @@ zeros_below n i k le e =
     let parts : i - k + k ≡ i = omega arith in
     let sum : (n / 2 ^ k % 2 ^ (i - k)) * 2 ^ k + n % 2 ^ k ≡ 0 = sym (mod-pow-add n (i - k) k) ∙ ap (λ m. n % 2 ^ m) parts ∙ e in
     omega arith
-
--- ---- each has eight bits
-
-pub byte_small : (i n : ℕ) → byte_at i n < 2 ^ 8
-byte_small zero n = omega arith
-byte_small (suc i) n = omega arith
-
-pub number_bytes : (k n : ℕ) → All (λ byte. byte < 2 ^ 8) (bytes_high_first k n)
-number_bytes zero n = All-nil (λ (byte : ℕ). byte < 2 ^ 8)
-number_bytes (suc k) n = All-cons (λ (byte : ℕ). byte < 2 ^ 8) (byte_at k n) (bytes_high_first k n) (byte_small k n) (number_bytes k n)

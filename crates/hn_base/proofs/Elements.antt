@@ -1,10 +1,11 @@
 -- Which elements lists have, and lists that grow by what an element gives.
-use Rattle.std.proofs.Common.{◌≡◌, ℕ, ◌+◌, ◌<◌, Bool, true, false, cond, Option, Some, None, List, [], ◌∷◌, ◌++◌, length, get_or, take, All, Contains, refl, sym, ap, ◌∙◌, subst, inl, inr}
-use Rattle.std.specs.List.{filter, filter_map, cons_option, list_any}
-use Rattle.std.proofs.lemmas.List.{take_more, append-nil}
+use Rattle.std.proofs.Common.{◌≡◌, ℕ, ◌+◌, ◌<◌, Bool, true, false, cond, Option, Some, None, List, [], ◌∷◌, ◌++◌, length, get_or, take, All, Contains, refl, sym, ap, ◌∙◌, subst, inl, inr, find, is_some, arith}
+use Rattle.std.specs.List.{filter, filter_map, cons_option, list_any, AllPairs}
+use Rattle.std.proofs.lemmas.List.{take_more, append-nil, get_or_default}
 use Rattle.std.proofs.lemmas.List.Folds.{Any-from_list_any, list_any_at}
 use Rattle.std.proofs.lemmas.List.Elements.{All-contains_itself, filter_map-append}
 use Rattle.hn_base.proofs.AscendingLists.{nothing_in, Contains-head, Contains-tail, Contains-cases}
+use Rattle.std.proofs.lemmas.Bool.{cases_lt}
 
 -- what holds of each element
 pub all_of : {K : Type 0} (P : K → Type 0) (xs : List K) → ((x : K) → Contains xs x → P x) → All P xs
@@ -79,6 +80,57 @@ any_of test xs is = let found = Any-from_list_any test xs is in (found.1, (found
 
 pub any_from : {X : Type 0} (test : X → Bool) (xs : List X) (x : X) → Contains xs x → test x ≡ true → list_any test xs ≡ true
 any_from {X} test xs x (k, lt, at) passes = list_any_at test xs k x lt (subst (λ (y : X). test y ≡ true) (sym at) passes)
+
+-- ---- find
+
+-- what is found passes
+pub found_passes : {X : Type 0} (test : X → Bool) (xs : List X) (x : X) → find test xs ≡ Some x → Contains xs x × (test x ≡ true)
+found_passes test [] x is = absurd cc
+found_passes {X} test (y ∷ xs) x is = go (found_passes test xs x) (test y) refl is
+  where
+    go : (find test xs ≡ Some x → Contains xs x × (test x ≡ true)) → (b : Bool) → test y ≡ b → cond b (Some y) (find test xs) ≡ Some x
+        → Contains (y ∷ xs) x × (test x ≡ true)
+    go more true passes e =
+        let same : y ≡ x = cc in
+        (subst (Contains (y ∷ xs)) same (Contains-head y xs), subst (λ (z : X). test z ≡ true) same passes)
+    go more false fails e = let rest = more e in (Contains-tail y xs x rest.0, rest.1)
+
+pub found_there : {X : Type 0} (test : X → Bool) (xs : List X) → is_some (find test xs) ≡ true → (x : X) × Contains xs x × (test x ≡ true)
+found_there {X} test xs some = by_find (find test xs) refl some
+  where
+    by_find : (o : Option X) → find test xs ≡ o → is_some o ≡ true → (x : X) × Contains xs x × (test x ≡ true)
+    by_find None is some = absurd cc
+    by_find (Some x) is some = let passes = found_passes test xs x is in (x, passes.0, passes.1)
+
+-- what passes is found, it or another
+pub passing_found : {X : Type 0} (test : X → Bool) (xs : List X) (x : X) → Contains xs x → test x ≡ true → (y : X) × (find test xs ≡ Some y)
+passing_found test [] x there passes = absurd (nothing_in x there)
+passing_found {X} test (z ∷ xs) x there passes = go (λ later. passing_found test xs x later passes) (test z) refl
+  where
+    go : (Contains xs x → (y : X) × (find test xs ≡ Some y)) → (b : Bool) → test z ≡ b → (y : X) × (cond b (Some z) (find test xs) ≡ Some y)
+    go more true is = (z, refl)
+    go more false is =
+        elim (Contains-cases z xs x there) [
+          | inl same ↦ let passes_too : test z ≡ true = ap test same ∙ passes in absurd cc
+          | inr later ↦ more later
+        ]
+
+-- ---- apart
+
+-- two of a list are one where no two of different places are related
+pub one_of_apart : {X : Type 0} (R : X → X → Type 0) (xs : List X) → AllPairs R xs → (x y : X) → Contains xs x → Contains xs y → ¬ (R x y) → ¬ (R y x) → x ≡ y
+one_of_apart {X} R xs apart x y (i, below, at) (j, under, is) not_one not_other =
+    elim (cases_lt i j) [
+      | inl before ↦ absurd (not_one (subst (λ (v : X). R v y) at (subst (R (get_or xs i x)) y_too (apart i j x before under))))
+      | inr not_before ↦
+          elim (cases_lt j i) [
+            | inl after ↦ absurd (not_other (subst (λ (v : X). R v x) y_too (subst (R (get_or xs j x)) at (apart j i x after below))))
+            | inr not_after ↦ let place : i ≡ j = omega arith in sym at ∙ (ap (λ (k : ℕ). get_or xs k x) place ∙ y_too)
+          ]
+    ]
+  where
+    y_too : get_or xs j x ≡ y
+    y_too = get_or_default xs j x y under ∙ is
 
 -- ---- what an element gives, as a `for` goes over a slice
 

@@ -1,7 +1,34 @@
--- A test that all elements before a place pass, and none from there on, or the other way round.
-use Rattle.std.proofs.Common.{◌≡◌, ◌<◌, ◌≤◌, ℕ, zero, suc, Bool, true, false, List, [], ◌∷◌, length, filter, take, drop, get_or, Some, None, refl, sym, ap, arith}
+-- The elements before a place: one more of them, and a test that they alone pass or fail.
+use Rattle.std.proofs.Common.{◌≡◌, ◌<◌, ◌≤◌, ℕ, zero, suc, Bool, true, false, List, [], ◌∷◌, length, filter, take, drop, get_or, Some, None, refl, sym, ap, arith, ◌∙◌, ◌+◌, ◌++◌, slice_get}
 use Rattle.std.specs.Prelude.{find}
 use Rattle.std.proofs.Math.Seq.{take-nil, drop-nil}
+use Rattle.std.proofs.lemmas.List.{take_more, take_at, drop_at}
+use Rattle.std.proofs.lemmas.Option.{get_or_from_slice_get, slice_get_within}
+
+-- ---- the first elements
+
+-- one more of them
+pub front_more : {X : Type 0} (xs : List X) (i : ℕ) (x : X) → i < length xs → x ≡ get_or xs i x → take (i + 1) xs ≡ take i xs ++ x ∷ []
+front_more xs i x within is = take_more xs i x within ∙ ap (λ y. take i xs ++ y ∷ []) (sym is)
+
+pub front_at : {X : Type 0} (xs : List X) (i : ℕ) (x : X) → slice_get xs i ≡ Some x → take (i + 1) xs ≡ take i xs ++ x ∷ []
+front_at xs i x at = front_more xs i x (slice_get_within xs i x at) (sym (get_or_from_slice_get xs i x x at))
+
+-- two lists of two parts each, where the first parts have one length
+pub same_parts : {X : Type 0} (p q s t : List X) → length p ≡ length q → p ++ s ≡ q ++ t → (p ≡ q) × (s ≡ t)
+same_parts p q s t len e = (
+  sym (take_at p s (length q) len) ∙ ap (take (length q)) e ∙ take_at q t (length q) refl,
+  sym (drop_at p s (length q) len) ∙ ap (drop (length q)) e ∙ drop_at q t (length q) refl,
+)
+
+-- lists that are the same have the same first element, and the same others
+pub head_is : {X : Type 0} {x y : X} {xs ys : List X} → x ∷ xs ≡ y ∷ ys → x ≡ y
+head_is e = cc
+
+pub tail_is : {X : Type 0} {x y : X} {xs ys : List X} → x ∷ xs ≡ y ∷ ys → xs ≡ ys
+tail_is e = cc
+
+-- ---- a test
 
 filter_none : {X : Type 0} (p : X → Bool) (xs : List X) → ((k : ℕ) (d : X) → k < length xs → p (get_or xs k d) ≡ false) → filter p xs ≡ []
 filter_none p [] none = refl

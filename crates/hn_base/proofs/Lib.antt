@@ -8,6 +8,7 @@ pub mod Fields
 pub mod FirstWords
 pub mod Firsts
 pub mod Fronts
+pub mod Greatest
 pub mod HexLemmas
 pub mod Keys
 pub mod LeadingBits
@@ -15,6 +16,7 @@ mod NameBytes
 pub mod NumeralLemmas
 pub mod Parts
 pub mod Passing
+pub mod Pigeonhole
 pub mod Recursions
 pub mod Results
 pub mod SplitLemmas

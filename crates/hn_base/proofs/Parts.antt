@@ -7,14 +7,15 @@ use Rattle.std.specs.List.Sorted.{IsStrictlySortedBy, IsSearchInRange, IsBinaryS
 use Rattle.std.specs.Option.{option_map}
 use Rattle.std.specs.Ordering.{on, nat_cmp}
 use Rattle.std.proofs.lemmas.Bool.{cases_lt}
-use Rattle.std.proofs.lemmas.Cmp.{on_total, tied_itself}
+use Rattle.std.proofs.lemmas.Cmp.{on_total, tied_itself, nat_cmp_total}
 use Rattle.std.proofs.lemmas.List.{length-map}
 use Rattle.std.proofs.lemmas.List.Elements.{filter_map-append}
 use Rattle.std.proofs.lemmas.List.Sorted.{searchable_from_sorted}
-use Rattle.std.proofs.lemmas.Map.Keys.{below_from_sorted}
+use Rattle.std.proofs.lemmas.Map.Keys.{below_from_sorted, Less-from_sorted}
 use Rattle.std.proofs.lemmas.Option.{slice_get-map, slice_get_read, slice_get-get_or, same_Some, none-some, get_or_from_slice_get, slice_get_within}
 use Rattle.hn_base.specs.Ascending.{IsExact}
-use Rattle.hn_base.proofs.AscendingLists.{sorted_from_strictly, sorted_parts}
+use Rattle.hn_base.proofs.AscendingLists.{sorted_from_strictly, sorted_parts, not_below_itself}
+use Rattle.hn_base.proofs.Elements.{one_of_apart}
 
 -- the element that has a part which stands at a place of the parts
 pub part_at : {K J : Type 0} (f : K → J) (xs : List K) (k : ℕ) (j : J) → slice_get (map f xs) k ≡ Some j → (x : K) × (slice_get xs k ≡ Some x) × (f x ≡ j)
@@ -77,12 +78,17 @@ part_is f xs k j x at is = same_Some (f x) j (sym (part_stands f xs k x at) ∙ 
 pub one_place_of : {K : Type 0} (f : K → ℕ) (xs : List K) → IsStrictlySortedBy nat_cmp (map f xs) → (i k : ℕ) (x y : K) → slice_get xs i ≡ Some x → slice_get xs k ≡ Some y → f x ≡ f y → i ≡ k
 one_place_of f xs up i k x y at there same = one_place (map f xs) up i k (f y) (part_stands f xs i x at ∙ ap Some same) (part_stands f xs k y there)
 
--- and they are one where their parts are equal
+-- of elements whose parts ascend no two have one part
+pub one_of_ascending : {X K : Type 0} (f : X → K) (R : K → K → Ordering) → IsTotalOrder R → (xs : List X) → IsStrictlySortedBy (on f R) xs
+    → (x y : X) → Contains xs x → Contains xs y → f x ≡ f y → x ≡ y
+one_of_ascending {X} f R total xs up x y there also same =
+    one_of_apart (λ (a b : X). R (f a) (f b) ≡ Less) xs (λ i j d before under. Less-from_sorted (on f R) xs i j d up before under) x y there also
+    (not_below_itself R total (f x) (f y) same) (not_below_itself R total (f y) (f x) (sym same))
+
+-- so it is with the element at a place
 pub one_element : {K : Type 0} (f : K → ℕ) (xs : List K) → IsStrictlySortedBy nat_cmp (map f xs) → (place : ℕ) (x y : K) → slice_get xs place ≡ Some x → Contains xs y → f y ≡ f x → y ≡ x
-one_element f xs up place x y at (k, lt, is) same =
-    let there : slice_get xs k ≡ Some y = slice_get_read xs (length xs) k y refl lt (sym is) in
-    let one : k ≡ place = one_place_of f xs up k place y x there at same in
-    same_Some y x (sym there ∙ ap (slice_get xs) one ∙ at)
+one_element f xs up place x y at there same =
+    one_of_ascending f nat_cmp nat_cmp_total xs ((sorted_parts f nat_cmp xs).1 up) y x there (contains_at xs place x at) same
 
 -- parts that some elements have, and one element more
 pub filter_map-push : {K J : Type 0} (f : K → Option J) (xs : List K) (x : K) → filter_map f (xs ++ x ∷ []) ≡ filter_map f xs ++ option_to_list (f x)

@@ -24,6 +24,11 @@ pub ok_with : {A E : Type 0} (r : Result A E) (x y : A) → IsOk r → IfOk r (�
 ok_with (Ok v) x y ok is same = ap Ok (is ∙ same)
 ok_with (Err e) x y ok is same = absurd cc
 
+-- two facts of one value
+pub ok_both : {X E : Type 0} (r : Result X E) (P Q R : X → Type 0) → ((x : X) → P x → Q x → R x) → IfOk r P → IfOk r Q → IfOk r R
+ok_both (Ok x) P Q R weaker h k = weaker x h k
+ok_both (Err e) P Q R weaker h k = tt
+
 -- a result is `Ok` where a fact holds that each error denies
 pub ok_where : {A E : Type 0} (r : Result A E) (P : A → Type 0) (Q : E → Type 0) (U : Type 0) → MatchResult r P (λ e. ¬ U × Q e) → U → IsOk r
 ok_where (Ok x) P Q U cases holds = refl

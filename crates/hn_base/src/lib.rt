@@ -21,6 +21,7 @@ mod shared;
 mod split;
 #[cfg(test)]
 mod tests;
+mod version;
 
 pub use addr::{Addr, link_local};
 pub use ascending::{ascending_is_unique, is_in_set, sort_to_set};
@@ -37,3 +38,4 @@ pub use order::older;
 pub use sequence::{Bytes, Sequence, Words};
 pub use shared::{Exact, Shared};
 pub use split::split_once;
+pub use version::Version;

@@ -1,11 +1,12 @@
 -- How long hashes and entries are, and what equal entries say.
-use Rattle.std.proofs.Common.{◌≡◌, ℕ, List, ◌++◌, length, take, drop, refl, sym, ap, ◌∙◌, arith, length-append}
+use Rattle.std.proofs.Common.{◌≡◌, ℕ, List, length, refl, arith, length-append}
 use Rattle.std.specs.Int.{w32, to_be_bytes}
-use Rattle.std.proofs.lemmas.List.{take_at, drop_at, length-take-le}
+use Rattle.std.proofs.lemmas.List.{length-take-le}
 use Rattle.md5.specs.Md5.{md5, digest_bytes}
 use Rattle.hn_hash.specs.Hash.{hash_of}
 use Rattle.hn_hash.specs.Network.{entry_of}
 use Rattle.hn_hash.specs.declared.leaf.Leaf.{Leaf}
+use Rattle.hn_base.proofs.Fronts.{same_parts}
 
 pub length-md5 : (text : List ℕ) → length (md5 text) ≡ 16
 unfolding md5 digest_bytes
@@ -17,13 +18,6 @@ length-hash_of text = length-take-le 8 (md5 text) (omega (arith, length-md5 text
 pub length-entry_of : (leaf : Leaf) → length (entry_of leaf) ≡ 12
 length-entry_of leaf =
     omega (arith, length-append (to_be_bytes w32 leaf.number) (hash_of leaf.body), length-hash_of leaf.body)
-
--- two texts of two parts each, where the first parts have one length
-pub same_parts : (p q s t : List ℕ) → length p ≡ length q → p ++ s ≡ q ++ t → (p ≡ q) × (s ≡ t)
-same_parts p q s t len e = (
-  sym (take_at p s (length q) len) ∙ ap (take (length q)) e ∙ take_at q t (length q) refl,
-  sym (drop_at p s (length q) len) ∙ ap (drop (length q)) e ∙ drop_at q t (length q) refl,
-)
 
 -- what equal entries say
 pub same_entries : (x y : Leaf) → entry_of x ≡ entry_of y

@@ -5,7 +5,8 @@ use Rattle.hn_hash.specs.Hash.{hash_of}
 use Rattle.hn_hash.specs.Network.{entry_of, leaf_text}
 use Rattle.hn_hash.specs.Agreement.{body_at}
 use Rattle.hn_hash.specs.declared.leaf.Leaf.{Leaf}
-use Rattle.hn_hash.proofs.Hashes.{length-entry_of, same_parts, same_entries}
+use Rattle.hn_hash.proofs.Hashes.{length-entry_of, same_entries}
+use Rattle.hn_base.proofs.Fronts.{same_parts, head_is, tail_is}
 
 abbrev pub number_bytes : List Leaf → List (List ℕ)
 number_bytes leaves = map (λ leaf. to_be_bytes w32 leaf.number) leaves
@@ -36,12 +37,6 @@ IsAlike-from_texts (x ∷ xs) (y ∷ ys) e =
     let first_number = first.0 in
     let first_hash = first.1 in
     record { len = ap suc rest.len; numbers = cc; one_hash = cc }
-
-tail_is : {p q : List ℕ} {ps qs : List (List ℕ)} → p ∷ ps ≡ q ∷ qs → ps ≡ qs
-tail_is e = cc
-
-head_is : {p q : List ℕ} {ps qs : List (List ℕ)} → p ∷ ps ≡ q ∷ qs → p ≡ q
-head_is e = cc
 
 -- the first leaves, and the others
 pub IsAlike-head : (x y : Leaf) (xs ys : List Leaf) → IsAlike (x ∷ xs) (y ∷ ys)

@@ -1,11 +1,13 @@
 -- Bytes are a list of TLVs, or they have a first fault: what begins them is nothing, a TLV or a fault.
-use Rattle.std.proofs.Common.{◌≡◌, ℕ, zero, suc, ◌+◌, ◌/◌, ◌%◌, ◌^◌, ◌<◌, ◌≤◌, ◌⊎◌, inl, inr, List, [], ◌∷◌, ◌++◌, length, get_or, take, drop, replicate, All, refl, sym, ap, ◌∙◌, append_assoc, arith}
+use Rattle.std.proofs.Common.{◌≡◌, ℕ, zero, suc, ◌+◌, ◌^◌, ◌<◌, ◌≤◌, ◌⊎◌, inl, inr, List, [], ◌∷◌, ◌++◌, length, take, drop, replicate, All, refl, sym, ap, ◌∙◌, append_assoc, arith}
 use Rattle.std.specs.Int.{w16, to_be_bytes, from_be_bytes}
 use Rattle.std.proofs.lemmas.Bool.{cases_lt}
-use Rattle.std.proofs.lemmas.List.{take-append-drop, length-append, length-drop, length-take-le, get_or-drop, get_or_past}
+use Rattle.std.proofs.lemmas.List.{take-append-drop, length-append, length-drop, length-take-le, get_or-drop}
 use Rattle.hn_tlv.specs.Grammar.{PlainTlv, padding, tlv_size, header, spelling, HasTlvs, IsTlvAt, IsFault, FirstFault}
 use Rattle.hn_tlv.specs.Padding.{IsPaddingFault}
-use Rattle.hn_tlv.proofs.Split.{AreBytes, IsSplit, is_split, faulty_padding, whole_tlv}
+use Rattle.hn_tlv.proofs.Split.{IsSplit, is_split, faulty_padding, whole_tlv}
+use Rattle.hn_base.proofs.BigEndian.{AreOctets, octets, two_bytes, two_small}
+use Rattle.std.proofs.lemmas.List.Elements.{recursion_from_All}
 
 -- ---- what begins the bytes
 
@@ -29,18 +31,8 @@ zeros_or_fault (suc count) (zero ∷ bytes) = more (zeros_or_fault count bytes)
     more (inr (offset, why, (few, inr breaks))) =
         inr (suc offset, why, (omega arith, inr (breaks.0, record { byte = breaks.1.byte; rest = breaks.1.rest; parts = ap (λ (z : List ℕ). 0 ∷ z) breaks.1.parts; not_zero = breaks.1.not_zero })))
 
--- two bytes are those of the number that they make
-two_bytes : (a b : ℕ) → a < 2 ^ 8 → b < 2 ^ 8 → to_be_bytes w16 (from_be_bytes w16 (a ∷ b ∷ [])) ≡ a ∷ b ∷ []
-two_bytes a b a_fits b_fits =
-    let high : from_be_bytes w16 (a ∷ b ∷ []) / 256 % 256 ≡ a = omega arith in
-    let low : from_be_bytes w16 (a ∷ b ∷ []) % 256 ≡ b = omega arith in
-    cc
-
-two_fit : (a b : ℕ) → a < 2 ^ 8 → b < 2 ^ 8 → from_be_bytes w16 (a ∷ b ∷ []) < 2 ^ 16
-two_fit a b a_fits b_fits = omega arith
-
 -- a type, a length and a value
-begin_value : (bytes value rest : List ℕ) (kind len : ℕ) → AreBytes bytes → kind < 2 ^ 16 → len < 2 ^ 16 → length value ≡ len → bytes ≡ header kind len ++ (value ++ rest) → Begin bytes
+begin_value : (bytes value rest : List ℕ) (kind len : ℕ) → AreOctets bytes → kind < 2 ^ 16 → len < 2 ^ 16 → length value ≡ len → bytes ≡ header kind len ++ (value ++ rest) → Begin bytes
 begin_value bytes value rest kind len fit kind_fits length_fits value_len parts =
     let tlv : PlainTlv = record { kind = kind; value = value } in
     let split : IsSplit bytes tlv rest = is_split bytes value rest kind len fit kind_fits length_fits value_len parts in
@@ -50,7 +42,7 @@ begin_value bytes value rest kind len fit kind_fits length_fits value_len parts 
     ]
 
 -- a type and a length
-begin_header : (bytes rest : List ℕ) (kind len : ℕ) → AreBytes bytes → kind < 2 ^ 16 → len < 2 ^ 16 → bytes ≡ header kind len ++ rest → Begin bytes
+begin_header : (bytes rest : List ℕ) (kind len : ℕ) → AreOctets bytes → kind < 2 ^ 16 → len < 2 ^ 16 → bytes ≡ header kind len ++ rest → Begin bytes
 begin_header bytes rest kind len fit kind_fits length_fits parts =
     elim (cases_lt (length rest) len) [
       | inl short ↦
@@ -60,7 +52,7 @@ begin_header bytes rest kind len fit kind_fits length_fits parts =
           (parts ∙ ap (λ (z : List ℕ). header kind len ++ z) (sym (take-append-drop len rest)))
     ]
 
-begins : (bytes : List ℕ) → AreBytes bytes → Begin bytes
+begins : (bytes : List ℕ) → AreOctets bytes → Begin bytes
 begins [] fit = Nothing refl
 begins (a ∷ []) fit = AFault 0 1 (inl (refl, record { not_empty = omega arith; too_short = omega arith; offset_is = refl }))
 begins (a ∷ b ∷ []) fit = AFault 0 1 (inl (refl, record { not_empty = omega arith; too_short = omega arith; offset_is = refl }))
@@ -70,7 +62,7 @@ begins (a ∷ b ∷ c ∷ d ∷ rest) fit =
     let len : ℕ = from_be_bytes w16 (c ∷ d ∷ []) in
     let parts : a ∷ b ∷ c ∷ d ∷ rest ≡ header kind len ++ rest =
     ap (λ (z : List ℕ). z ++ c ∷ d ∷ rest) (sym (two_bytes a b (fit 0) (fit 1))) ∙ ap (λ (z : List ℕ). (to_be_bytes w16 kind ++ z) ++ rest) (sym (two_bytes c d (fit 2) (fit 3))) in
-    begin_header (a ∷ b ∷ c ∷ d ∷ rest) rest kind len fit (two_fit a b (fit 0) (fit 1)) (two_fit c d (fit 2) (fit 3)) parts
+    begin_header (a ∷ b ∷ c ∷ d ∷ rest) rest kind len fit (two_small a b (fit 0) (fit 1)) (two_small c d (fit 2) (fit 3)) parts
 
 -- ---- the whole
 
@@ -96,7 +88,7 @@ covered_after bytes tlv after here (inr (place, why, f)) =
       },
     )
 
-covered_within : (fuel : ℕ) (bytes : List ℕ) → length bytes ≤ fuel → AreBytes bytes → IsCovered bytes
+covered_within : (fuel : ℕ) (bytes : List ℕ) → length bytes ≤ fuel → AreOctets bytes → IsCovered bytes
 covered_within zero [] few fit = inl ([], refl)
 covered_within zero (b ∷ bytes) few fit = absurd (omega arith)
 covered_within (suc fuel) bytes few fit =
@@ -109,12 +101,5 @@ covered_within (suc fuel) bytes few fit =
           inr (offset, why, record { tlvs = []; front = []; rest = bytes; offset = offset; before = refl; parts = refl; fault = fault; place_is = omega arith })
     ]
 
-bytes_at : (bytes : List ℕ) → All (λ byte. byte < 2 ^ 8) bytes → AreBytes bytes
-bytes_at bytes all i =
-    elim (cases_lt i (length bytes)) [
-      | inl within ↦ all i 0 within
-      | inr past ↦ let none : get_or bytes i 0 ≡ 0 = get_or_past bytes i 0 past in omega arith
-    ]
-
 pub covered : (bytes : List ℕ) → All (λ byte. byte < 2 ^ 8) bytes → IsCovered bytes
-covered bytes all = covered_within (length bytes) bytes (omega arith) (bytes_at bytes all)
+covered bytes all = covered_within (length bytes) bytes (omega arith) (octets bytes (recursion_from_All (λ byte. byte < 2 ^ 8) bytes all))

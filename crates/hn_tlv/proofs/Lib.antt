@@ -5,3 +5,4 @@ pub mod PadBytes
 pub mod Split
 pub mod Covered
 pub mod Told
+pub mod SpelledBytes

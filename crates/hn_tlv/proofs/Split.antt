@@ -4,22 +4,20 @@ use Rattle.std.proofs.lemmas.List.{get_or_default, get_or_append_left, get_or-ap
 use Rattle.hn_tlv.specs.Grammar.{PlainTlv, IsTlv, padding, tlv_size, header, unpadded, spelling, IsTlvAt, IsFault}
 use Rattle.hn_tlv.specs.Padding.{IsPaddingFault}
 use Rattle.hn_tlv.proofs.Places.{read_again}
-
-abbrev pub AreBytes : List ℕ → Type 0
-AreBytes bytes = (i : ℕ) → get_or bytes i 0 < 2 ^ 8
+use Rattle.hn_base.proofs.BigEndian.{AreOctets}
 
 -- type, length and value, as they were read, are those of a TLV
 pub record IsSplit (bytes : List ℕ) (tlv : PlainTlv) (rest : List ℕ) : Type 0 where
   pub valid : IsTlv tlv
   pub parts : bytes ≡ unpadded tlv ++ rest
 
-value_byte : (bytes value rest : List ℕ) (kind len : ℕ) → AreBytes bytes → bytes ≡ header kind len ++ (value ++ rest) → (k : ℕ) → k < length value → get_or value k 0 < 2 ^ 8
+value_byte : (bytes value rest : List ℕ) (kind len : ℕ) → AreOctets bytes → bytes ≡ header kind len ++ (value ++ rest) → (k : ℕ) → k < length value → get_or value k 0 < 2 ^ 8
 value_byte bytes value rest kind len fit parts k lt =
     let front : List ℕ = header kind len in
     let in_bytes : get_or bytes (length front + k) 0 ≡ get_or value k 0 = ap (λ (z : List ℕ). get_or z (length front + k) 0) parts ∙ get_or-append-add front (value ++ rest) k 0 ∙ get_or_append_left value rest 0 k lt in
     omega (arith, in_bytes, fit (length front + k))
 
-pub is_split : (bytes value rest : List ℕ) (kind len : ℕ) → AreBytes bytes → kind < 2 ^ 16 → len < 2 ^ 16 → length value ≡ len → bytes ≡ header kind len ++ (value ++ rest) → IsSplit bytes (record { kind = kind; value = value }) rest
+pub is_split : (bytes value rest : List ℕ) (kind len : ℕ) → AreOctets bytes → kind < 2 ^ 16 → len < 2 ^ 16 → length value ≡ len → bytes ≡ header kind len ++ (value ++ rest) → IsSplit bytes (record { kind = kind; value = value }) rest
 is_split bytes value rest kind len fit kind_fits length_fits value_len parts = record {
   valid = record {
     kind_fits = kind_fits;

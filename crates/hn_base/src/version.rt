@@ -1,0 +1,6 @@
+/// The version of the language of scripts.
+#[derive(Clone, Copy, Debug, PartialEq, Eq, Hash)]
+pub enum Version {
+    /// The first line of a script is `hncp 1`.
+    One,
+}

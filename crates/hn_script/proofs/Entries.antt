@@ -7,8 +7,8 @@ use Rattle.hn_script.specs.Line.{spelling, Spells, Gives}
 use Rattle.hn_script.specs.Script.{IsEntry, AreLines, numbered, first_line, FirstLineFault}
 use Rattle.hn_script.specs.Texts.{words_of}
 use Rattle.hn_script.specs.declared.line.Line.{Line}
-use Rattle.hn_script.specs.declared.version.Version.{Version}
-use Rattle.hn_script.specs.declared.version.Version.TheVariants.{One}
+use Rattle.hn_base.specs.declared.version.Version.{Version}
+use Rattle.hn_base.specs.declared.version.Version.TheVariants.{One}
 
 pub no_lines : (n : ℕ) → AreLines n [] []
 no_lines n = ([], tt, refl)

@@ -1,14 +1,14 @@
 -- What is printed in hexadecimal is read again.
-use Rattle.std.proofs.Common.{◌≡◌, ℕ, zero, suc, ◌+◌, ◌*◌, ◌/◌, ◌%◌, ◌^◌, ◌<◌, ◌≤◌, List, [], ◌∷◌, slice_index, Some, refl, ap, ◌∙◌, arith}
+use Rattle.std.proofs.Common.{◌≡◌, ℕ, suc, ◌+◌, ◌*◌, ◌/◌, ◌%◌, ◌^◌, ◌<◌, ◌≤◌, List, [], ◌∷◌, slice_index, Some, refl, ap, ◌∙◌, arith}
 use Rattle.std.proofs.lemmas.Bool.Decides.{nat_tests}
 use Rattle.std.proofs.lemmas.Nat.{from_be_bytes-to_be_bytes_4}
 use Rattle.std.specs.Char.{digit_value}
-use Rattle.std.specs.Int.{w32, to_be_bytes, from_be_bytes, byte_at, bytes_high_first}
+use Rattle.std.specs.Int.{w32, to_be_bytes, from_be_bytes, byte_at}
 use Rattle.std.specs.Str.Parse.{AllDigits, digits_value, digits_value_after}
 use Rattle.hex.specs.Hex.{IsBytes, encode_lower, encode_with, hex_digit_value, lower_digits}
 use Rattle.hex.proofs.HexLemmas.{IsDigits-lower_digits}
 use Rattle.hn_base.specs.HexText.{IsIdText, id_text}
-use Rattle.hn_base.proofs.BigEndian.{byte_small}
+use Rattle.hn_base.proofs.BigEndian.{byte_small, octets, high_bytes}
 use Rattle.hn_script.proofs.WordBytes.{IsWordByte, IsWord}
 
 digit_from_hex : (c d : ℕ) → hex_digit_value c ≡ Some d → digit_value c ≡ d
@@ -45,18 +45,13 @@ hex_digits (b ∷ bytes) h =
     let low = hex_digit (b % 16) (omega arith) in
     (rw high (omega arith), (rw low (omega arith), hex_digits bytes (λ i. h (suc i))))
 
-bytes_small : (k n : ℕ) → IsBytes (bytes_high_first k n)
-bytes_small zero n i = omega arith
-bytes_small (suc k) n zero = byte_small k n
-bytes_small (suc k) n (suc i) = bytes_small k n i
-
 pub printed_id : (id : ℕ) → id < 2 ^ 32 → IsIdText (id_text id) id
 unfolding encode_with
 printed_id id fits =
     let value = four_bytes (byte_at 3 id) (byte_at 2 id) (byte_at 1 id) (byte_at 0 id)
     (byte_small 3 id) (byte_small 2 id) (byte_small 1 id) (byte_small 0 id) in record {
       eight = refl;
-      numeral = record { digits = (omega arith, hex_digits (to_be_bytes w32 id) (bytes_small 4 id)); short = omega arith; value = value ∙ from_be_bytes-to_be_bytes_4 id fits };
+      numeral = record { digits = (omega arith, hex_digits (to_be_bytes w32 id) (octets (to_be_bytes w32 id) (high_bytes 4 id))); short = omega arith; value = value ∙ from_be_bytes-to_be_bytes_4 id fits };
     }
 
 above_digit : (base c : ℕ) → base ≤ 16 → digit_value c < base → IsWordByte c

@@ -27,8 +27,8 @@ use Rattle.hn_script.specs.Texts.{words_of, lines_of}
 use Rattle.hn_script.specs.declared.line.How.{How}
 use Rattle.hn_script.specs.declared.line.How.TheVariants.{Uni, Multi, Far}
 use Rattle.hn_script.specs.declared.line.Line.{Line}
-use Rattle.hn_script.specs.declared.version.Version.{Version}
-use Rattle.hn_script.specs.declared.version.Version.TheVariants.{One}
+use Rattle.hn_base.specs.declared.version.Version.{Version}
+use Rattle.hn_base.specs.declared.version.Version.TheVariants.{One}
 use Rattle.hn_script.proofs.HexTexts.{printed_id, IsWord-digits, IsWord-hex}
 use Rattle.hn_script.proofs.LineWords.{first_letters}
 use Rattle.hn_script.proofs.Pieces.{words_last, words_cut, lines_none, lines_cut}

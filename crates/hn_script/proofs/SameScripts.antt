@@ -9,11 +9,12 @@ use Rattle.hn_script.specs.Texts.{words_of, lines_of}
 use Rattle.hn_script.specs.declared.fault.ScriptFault.{ScriptFault}
 use Rattle.hn_script.specs.declared.line.Line.{Line}
 use Rattle.hn_script.specs.declared.script.Script.{Script}
-use Rattle.hn_script.specs.declared.version.Version.{Version}
-use Rattle.hn_script.specs.declared.version.Version.TheVariants.{One}
+use Rattle.hn_base.specs.declared.version.Version.{Version}
 use Rattle.hn_script.proofs.Entries.{no_line_fault, no_first_fault}
 use Rattle.hn_script.proofs.PrefixWords.{WritesOnePrefix}
 use Rattle.hn_script.proofs.SameFields.{same_line}
+use Rattle.hn_base.proofs.Fronts.{tail_is}
+use Rattle.hn_base.proofs.Fields.{one_version}
 
 -- ---- one script
 
@@ -36,19 +37,13 @@ same_entries one (a ∷ left) (b ∷ right) (text ∷ texts) h k =
     let tail = same_entries one left right texts h.1 k.1 in
     cc
 
-same_version : (a b : Version) → a ≡ b
-same_version One One = refl
-
-same_texts : (f g : List ℕ) (left right : List (List ℕ)) → f ∷ left ≡ g ∷ right → left ≡ right
-same_texts f g left right e = cc
-
 pub one_script : WritesOnePrefix → AtMostOneScript
 one_script one bytes script other h k =
-    let texts : h.texts ≡ k.texts = same_texts _ _ h.texts k.texts (sym h.parts ∙ k.parts) in
+    let texts : h.texts ≡ k.texts = tail_is (sym h.parts ∙ k.parts) in
     let given = subst (λ found. AllZip IsEntry k.lines.0 found) (sym texts) k.lines.1 in
     let entries = same_entries one h.lines.0 k.lines.0 h.texts h.lines.1 given in
     let lines : script.lines ≡ other.lines = h.lines.2 ∙ ap (numbered 2) entries ∙ sym k.lines.2 in
-    rw (same_version script.version other.version, lines) refl
+    rw (one_version script.version other.version, lines) refl
 
 -- ---- no fault of a script
 

@@ -11,7 +11,7 @@ use Rattle.hn_script.specs.Soak.{router_name, link_name, up_to, chance_texts, li
 use Rattle.hn_script.specs.SoakLines.{IsLineOf, Adds}
 use Rattle.hn_script.specs.declared.line.Line.{Line}
 use Rattle.hn_script.specs.declared.script.Script.{Script}
-use Rattle.hn_script.specs.declared.version.Version.TheVariants.{One}
+use Rattle.hn_base.specs.declared.version.Version.TheVariants.{One}
 use Rattle.hn_script.proofs.SoakTexts.{adds_both}
 
 -- ---- how many lines there are

@@ -7,8 +7,8 @@ use Rattle.hn_script.specs.Texts.{line_feed, lines_of, words_of}
 use Rattle.hn_script.specs.declared.fault.ScriptFault.{ScriptFault}
 use Rattle.hn_script.specs.declared.line.Line.{Line}
 use Rattle.hn_script.specs.declared.script.Script.{Script}
-use Rattle.hn_script.specs.declared.version.Version.{Version}
-use Rattle.hn_script.specs.declared.version.Version.TheVariants.{One}
+use Rattle.hn_base.specs.declared.version.Version.{Version}
+use Rattle.hn_base.specs.declared.version.Version.TheVariants.{One}
 
 -- the most bytes of a script
 abbrev pub most_bytes : ℕ

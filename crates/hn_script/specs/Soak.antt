@@ -4,7 +4,7 @@ use Rattle.std.specs.Prelude.{ℕ, zero, suc, ◌/◌, ◌==◌, if◌then◌els
 use Rattle.std.specs.Fmt.{decimal}
 use Rattle.hn_base.specs.HexText.{id_text}
 use Rattle.hn_script.specs.Script.{ended, first_line}
-use Rattle.hn_script.specs.declared.version.Version.TheVariants.{One}
+use Rattle.hn_base.specs.declared.version.Version.TheVariants.{One}
 
 -- the name of the router, and of the link, of a number
 abbrev pub router_name : ℕ → List ℕ

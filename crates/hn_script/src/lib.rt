@@ -31,4 +31,3 @@ pub use laws::{
 pub use line::{How, Line, letter_text};
 pub use script::{Script, first_fault, parse, print};
 pub use soak::soak_script;
-pub use version::Version;

@@ -11,8 +11,8 @@ use crate::fault::{ParseFault, ScriptFault};
 use crate::line::Line;
 use crate::reader::{check_text, line_fault, read_text};
 use crate::texts::next_line;
-use crate::version::Version;
-use hn_base::{Bytes, NoMemory, Sequence};
+use crate::version::version_of;
+use hn_base::{Bytes, NoMemory, Sequence, Version};
 use std::alloc::Global;
 
 /// The most bytes of a script.
@@ -85,7 +85,7 @@ fn first_line_of(text: &[u8]) -> Result<Version, u8>
     ensures refused { IfErr result (λ code. FirstLineFault text.now code) }
 {
     check_text(text)?;
-    Version::of(text).ok_or(OPENING)
+    version_of(text).ok_or(OPENING)
 }
 
 /// The lines of these bytes, of which the first has number 2.

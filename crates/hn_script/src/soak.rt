@@ -10,8 +10,7 @@ ghost use Rattle.hn_script.specs.SoakLines.{Adds};
 use crate::laws::printed_is_read;
 use crate::line::Line;
 use crate::script::Script;
-use crate::version::Version;
-use hn_base::{EpId, Name, NoMemory, NodeId, Sequence};
+use hn_base::{EpId, Name, NoMemory, NodeId, Sequence, Version};
 use hn_prefix::Prefix;
 use std::alloc::Global;
 

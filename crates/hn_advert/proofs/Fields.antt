@@ -2,23 +2,15 @@
 use Rattle.std.proofs.Common.{◌≡◌, ℕ, zero, suc, ◌-◌, ◌*◌, ◌^◌, ◌/◌, ◌%◌, ◌<◌, ◌≤◌, Bool, not, eqb, cond, List, [], ◌∷◌, ◌++◌, length, get_or, take, drop, bit_and, Some, None, refl, sym, ap, subst, ◌∙◌, arith}
 use Rattle.std.specs.Int.{w16, w32, w128, to_be_bytes, from_be_bytes}
 use Rattle.std.proofs.lemmas.List.{take-append-drop, get_or-take, length-take-le, length-drop}
-use Rattle.std.proofs.lemmas.Nat.{be_bytes_2, be_bytes_4}
+use Rattle.std.proofs.lemmas.Nat.{be_bytes_4}
 use Rattle.std.proofs.lemmas.Nat.Bits.{and_pow}
 use Rattle.std.proofs.lemmas.Bool.{eq-eqb, ne_eqb}
 use Rattle.hn_prefix.specs.Prefix.{prefix_containing}
-use Rattle.hn_base.proofs.BigEndian.{Bytes, Bytes-from_reads, Bytes-take, Bytes-drop, whole_is, front_small}
+use Rattle.hn_base.proofs.BigEndian.{Bytes-from_reads, Bytes-take, Bytes-drop, whole_is, front_small, AreOctets, octets, two_bytes, two_small}
 use Rattle.hn_advert.specs.declared.advert.Info.{Info}
 use Rattle.hn_advert.specs.declared.header.Fixed.{Fixed}
 use Rattle.hn_advert.specs.Layout.{PrefixOption, OtherOption}
 use Rattle.hn_advert.specs.Reading.{HasFlags, HasHeaderFirst, HasOptionFirst}
-
-abbrev pub AreOctets : List ℕ → Type 0
-AreOctets bytes = (i : ℕ) → get_or bytes i 0 < 256
-
-pub octets : (bs : List ℕ) → Bytes bs → AreOctets bs
-octets [] h i = omega arith
-octets (b ∷ bs) h zero = h.0
-octets (b ∷ bs) h (suc i) = octets bs h.1 i
 
 pub octets_front : (bs fs : List ℕ) (n : ℕ) → AreOctets bs → fs ≡ take n bs → AreOctets fs
 octets_front bs fs n h is = rw is (octets (take n bs) (Bytes-take n bs (Bytes-from_reads bs h)))
@@ -34,14 +26,8 @@ two a b = from_be_bytes w16 (a ∷ b ∷ [])
 abbrev pub four : ℕ → ℕ → ℕ → ℕ → ℕ
 four a b c d = from_be_bytes w32 (a ∷ b ∷ c ∷ d ∷ [])
 
-two_bytes : (a b : ℕ) → a < 256 → b < 256 → to_be_bytes w16 (two a b) ≡ a ∷ b ∷ []
-two_bytes a b p q = be_bytes_2 (a ∷ b ∷ []) (two a b) refl (octets (a ∷ b ∷ []) (p, (q, tt))) refl
-
 four_bytes : (a b c d : ℕ) → a < 256 → b < 256 → c < 256 → d < 256 → to_be_bytes w32 (four a b c d) ≡ a ∷ b ∷ c ∷ d ∷ []
 four_bytes a b c d p q r s = be_bytes_4 (a ∷ b ∷ c ∷ d ∷ []) (four a b c d) refl (octets (a ∷ b ∷ c ∷ d ∷ []) (p, (q, (r, (s, tt))))) refl
-
-two_small : (a b : ℕ) → a < 256 → b < 256 → two a b < 2 ^ 16
-two_small a b p q = omega arith
 
 four_small : (a b c d : ℕ) → a < 256 → b < 256 → c < 256 → d < 256 → four a b c d < 2 ^ 32
 four_small a b c d p q r s = omega arith

@@ -12,8 +12,9 @@ use Rattle.hn_advert.specs.Layout.{NdOption, PrefixOption, OtherOption, option_b
 use Rattle.hn_advert.specs.Advert.{IsAdvert}
 use Rattle.hn_advert.specs.Fault.{units_of, HasWholeOption, IsOptionFault, IsFirstOptionFault, AdvertFault}
 use Rattle.hn_advert.specs.Reading.{HasHeaderFirst, HasOptionFirst, HasInfos}
-use Rattle.hn_advert.proofs.Fields.{AreOctets, octets, octets_front, octets_after, flags_in, header_begins, prefix_begins, other_begins, fixed_in}
+use Rattle.hn_advert.proofs.Fields.{octets_front, octets_after, flags_in, header_begins, prefix_begins, other_begins, fixed_in}
 use Rattle.hn_advert.proofs.Steps.{advert_of_parts, has_fault, infos_cons, fault_cons}
+use Rattle.hn_base.proofs.BigEndian.{AreOctets, octets}
 
 -- ---- one option
 

@@ -1,5 +1,5 @@
 -- The laws of the table and of what comes of a node state.
-use Rattle.std.proofs.Common.{◌≡◌, ◌≢◌, ◌<◌, ◌∙◌, ℕ, inl, inr, Bool, true, false, cond, List, [], ◌∷◌, ◌++◌, filter, Option, Some, None, refl, sym, ap, subst, arith}
+use Rattle.std.proofs.Common.{◌≡◌, ◌≢◌, ◌<◌, ◌∙◌, ℕ, inl, inr, Bool, true, false, cond, List, [], ◌∷◌, ◌++◌, filter, Option, Some, None, refl, sym, ap, subst, arith, get_or}
 use Rattle.std.specs.Prelude.{find, ◌==◌, nat_lt}
 use Rattle.std.specs.Option.{option_map}
 use Rattle.std.specs.List.{AllByRecursion}
@@ -12,6 +12,9 @@ use Rattle.hn_store.specs.declared.state.Took.TheVariants.{Kept, Renumbered, Ask
 use Rattle.hn_store.specs.Nodes.{Nodes, held, entry, put}
 use Rattle.hn_store.specs.Acceptance.{PlainState, Line, IsAnswer, kept, renumbered, changed, entries_after}
 use Rattle.hn_store.specs.Laws.{PutChangesOneNode, AcceptanceIsUnique, OthersStay, OwnStays}
+use Rattle.hn_base.proofs.Fronts.{find-none}
+use Rattle.hn_base.proofs.Passing.{find-filter}
+use Rattle.std.proofs.lemmas.List.Elements.{All-from_recursion}
 
 -- ---- the first line that holds is one
 
@@ -39,18 +42,6 @@ acceptance_unique nodes own s now m n took other a b =
 
 -- ---- what a put entry changes
 
--- where what is sought passes the filter, the filter changes no search
-find_filter : {X : Type 0} (t p : X → Bool) (passes : (x : X) → t x ≡ true → p x ≡ true) (xs : List X) → find t (filter p xs) ≡ find t xs
-find_filter t p passes [] = refl
-find_filter t p passes (x ∷ xs) =
-    elim (t x) as (λ b. t x ≡ b → find t (cond (p x) (x ∷ filter p xs) (filter p xs)) ≡ cond b (Some x) (find t xs)) [
-      | true ↦ λ here. rw (passes x here, here) refl
-      | false ↦ λ here. elim (p x) as (λ b. find t (cond b (x ∷ filter p xs) (filter p xs)) ≡ find t xs) [
-        | true ↦ rw here (find_filter t p passes xs)
-        | false ↦ find_filter t p passes xs
-      ]
-    ] refl
-
 none_in_filter : {X : Type 0} (t p : X → Bool) (fails : (x : X) → p x ≡ true → t x ≡ false) (xs : List X) → AllByRecursion (λ x. t x ≡ false) (filter p xs)
 none_in_filter t p fails [] = tt
 none_in_filter t p fails (x ∷ xs) =
@@ -63,12 +54,8 @@ find_after : {X : Type 0} (t : X → Bool) (xs ys : List X) → AllByRecursion (
 find_after t [] ys none = refl
 find_after t (x ∷ xs) ys none = rw none.0 (find_after t xs ys none.1)
 
-find_nothing : {X : Type 0} (t : X → Bool) (xs : List X) → AllByRecursion (λ x. t x ≡ false) xs → find t xs ≡ None
-find_nothing t [] none = refl
-find_nothing t (x ∷ xs) none = rw none.0 (find_nothing t xs none.1)
-
 find_before : {X : Type 0} (t : X → Bool) (xs ys : List X) → AllByRecursion (λ x. t x ≡ false) ys → find t (xs ++ ys) ≡ find t xs
-find_before t [] ys none = find_nothing t ys none
+find_before t [] ys none = find-none t ys (All-from_recursion (λ x. t x ≡ false) ys none)
 find_before t (x ∷ xs) ys none = ap (cond (t x) (Some x)) (find_before t xs ys none)
 
 abbrev is_of : ℕ → HeldNode → Bool
@@ -85,7 +72,7 @@ found_below : (entries : List HeldNode) (id other : ℕ) (stored : Stored) → o
 found_below entries id other stored lt =
     find_before (is_of other) (filter (is_below id) entries) (entry id stored ∷ filter (is_above id) entries)
     (ne_eqb id other (λ same. omega arith), none_in_filter (is_of other) (is_above id) (λ x up. ne_eqb x.id.0 other (λ same. let more = ltb-true id x.id.0 up in omega arith)) entries)
-    ∙ find_filter (is_of other) (is_below id) (λ x is. let same = eqb-true x.id.0 other is in lt-ltb x.id.0 id (omega arith)) entries
+    ∙ find-filter (is_of other) (is_below id) entries (λ k d within is. let same = eqb-true (get_or entries k d).id.0 other is in lt-ltb (get_or entries k d).id.0 id (omega arith))
 
 -- a node above it
 found_above : (entries : List HeldNode) (id other : ℕ) (stored : Stored) → id < other → find (is_of other) (put id stored entries) ≡ find (is_of other) entries
@@ -94,7 +81,7 @@ found_above entries id other stored lt =
     find_after (is_of other) (filter (is_below id) entries) (entry id stored ∷ filter (is_above id) entries)
     (none_in_filter (is_of other) (is_below id) (λ x down. ne_eqb x.id.0 other (λ same. let less = ltb-true x.id.0 id down in omega arith)) entries)
     ∙ ap (λ (b : Bool). cond b (Some (entry id stored)) (find (is_of other) (filter (is_above id) entries))) apart
-    ∙ find_filter (is_of other) (is_above id) (λ x is. let same = eqb-true x.id.0 other is in lt-ltb id x.id.0 (omega arith)) entries
+    ∙ find-filter (is_of other) (is_above id) entries (λ k d within is. let same = eqb-true (get_or entries k d).id.0 other is in lt-ltb id (get_or entries k d).id.0 (omega arith))
 
 -- that node
 found_put : (entries : List HeldNode) (id : ℕ) (stored : Stored) → find (is_of id) (put id stored entries) ≡ Some (entry id stored)

@@ -1,4 +1,4 @@
-mod Elections
+pub mod Elections
 mod InView
 mod Candidates
 mod Joined

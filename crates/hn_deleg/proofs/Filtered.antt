@@ -12,9 +12,10 @@ use Rattle.std.proofs.lemmas.Option.{get_or_from_slice_get}
 use Rattle.hn_base.proofs.Parts.{contains_at}
 use Rattle.hn_base.proofs.AscendingLists.{nothing_in, sorted_push}
 use Rattle.hn_prefix.specs.Prefix.{PlainPrefix, IsPrefix, IsWithin, prefix_cmp}
-use Rattle.hn_deleg.proofs.Lists.{take_at, sorted_take}
+use Rattle.hn_deleg.proofs.Lists.{sorted_take}
 use Rattle.hn_deleg.proofs.Prefixes.{WithinIsRange, OverlapIsRange, OverlapIsNesting, less_bits, not_within_later}
 use Rattle.hn_deleg.specs.Steps.{AreOutermost, IsCovered, IsReadyFor}
+use Rattle.hn_base.proofs.Fronts.{front_at}
 
 -- an element is the last one, or before it
 last_or_before : (kept : List PlainPrefix) (k l : PlainPrefix) → IsStrictlySortedBy prefix_cmp kept → Contains kept k → slice_get kept (length kept - 1) ≡ Some l → (k ≡ l) ⊎ (prefix_cmp k l ≡ Less)
@@ -111,18 +112,18 @@ filtered_more within_range xs kept p ready f none = record {
 
 pub ready_at : (ascending kept : List PlainPrefix) (n : ℕ) (p : PlainPrefix) → slice_get ascending n ≡ Some p → IsStrictlySortedBy prefix_cmp ascending → All IsPrefix ascending → IsFiltered (take n ascending) kept → IsReadyFor kept p
 ready_at ascending kept n p at up valid f =
-    let more = take_at ascending n p at in
+    let more = front_at ascending n p at in
     ready_next (take n ascending) kept p (subst (IsStrictlySortedBy prefix_cmp) more (sorted_take prefix_cmp (n + 1) ascending up)) (subst (All IsPrefix) more (All-take IsPrefix (n + 1) ascending valid)) f
 
 pub filtered_same_at : WithinIsRange → (ascending kept : List PlainPrefix) (n : ℕ) (p : PlainPrefix) → slice_get ascending n ≡ Some p → IsStrictlySortedBy prefix_cmp ascending → All IsPrefix ascending → IsFiltered (take n ascending) kept
     → IsCovered kept p → IsFiltered (take (n + 1) ascending) kept
 filtered_same_at within_range ascending kept n p at up valid f c =
-    subst (λ (l : List PlainPrefix). IsFiltered l kept) (sym (take_at ascending n p at)) (filtered_same within_range (take n ascending) kept p (ready_at ascending kept n p at up valid f) f c)
+    subst (λ (l : List PlainPrefix). IsFiltered l kept) (sym (front_at ascending n p at)) (filtered_same within_range (take n ascending) kept p (ready_at ascending kept n p at up valid f) f c)
 
 pub filtered_more_at : WithinIsRange → (ascending kept : List PlainPrefix) (n : ℕ) (p : PlainPrefix) → slice_get ascending n ≡ Some p → IsStrictlySortedBy prefix_cmp ascending → All IsPrefix ascending → IsFiltered (take n ascending) kept
     → ¬ (IsCovered kept p) → IsFiltered (take (n + 1) ascending) (kept ++ p ∷ [])
 filtered_more_at within_range ascending kept n p at up valid f none =
-    subst (λ (l : List PlainPrefix). IsFiltered l (kept ++ p ∷ [])) (sym (take_at ascending n p at)) (filtered_more within_range (take n ascending) kept p (ready_at ascending kept n p at up valid f) f none)
+    subst (λ (l : List PlainPrefix). IsFiltered l (kept ++ p ∷ [])) (sym (front_at ascending n p at)) (filtered_more within_range (take n ascending) kept p (ready_at ascending kept n p at up valid f) f none)
 
 pub outermost_from_filtered : (xs kept : List PlainPrefix) → IsFiltered xs kept → AreOutermost xs kept
 outermost_from_filtered xs kept f = record {

@@ -1,19 +1,12 @@
 -- The first elements of a list, and lists in strictly ascending order.
-use Rattle.std.proofs.Common.{◌≡◌, ◌⊎◌, ℕ, ◌+◌, ◌≤◌, List, [], ◌∷◌, ◌++◌, length, take, Contains, Some, Ordering, refl, sym, ◌∙◌, ap, subst, inl, inr, ⊎_elim, arith, slice_get, suc, zero}
+use Rattle.std.proofs.Common.{◌≡◌, ◌⊎◌, ℕ, List, [], ◌∷◌, length, take, Contains, Ordering, refl, ap, subst, inl, inr, ⊎_elim, suc, zero}
 use Rattle.std.specs.declared.cmp.Ordering.TheVariants.{Less}
-use Rattle.std.specs.Cmp.{IsTotalOrder}
 use Rattle.std.specs.List.Sorted.{IsStrictlySortedBy}
-use Rattle.std.proofs.lemmas.List.{take_more}
 use Rattle.std.proofs.lemmas.List.Elements.{All-contains, All-contains_itself, All-take, All-from_recursion, recursion_from_All}
 use Rattle.std.proofs.lemmas.Map.Keys.{sorted_tail}
-use Rattle.std.proofs.lemmas.Option.{get_or_from_slice_get, slice_get_within}
-use Rattle.hn_base.proofs.AscendingLists.{Contains-head, Contains-tail, Contains-cases, nothing_in, not_below_itself, below_head, not_both}
+use Rattle.hn_base.proofs.AscendingLists.{Contains-head, Contains-tail, Contains-cases, nothing_in, below_head}
 
 -- ---- the first elements
-
--- the first elements and the next one
-pub take_at : {K : Type 0} (xs : List K) (n : ℕ) (x : K) → slice_get xs n ≡ Some x → take (n + 1) xs ≡ take n xs ++ x ∷ []
-take_at {K} xs n x at = take_more xs n x (slice_get_within xs n x at) ∙ ap (λ (z : K). take n xs ++ z ∷ []) (get_or_from_slice_get xs n x x at)
 
 pub Contains-from_take : {K : Type 0} (n : ℕ) (xs : List K) (x : K) → Contains (take n xs) x → Contains xs x
 Contains-from_take n xs x h = All-contains (Contains xs) (take n xs) x (All-take (Contains xs) n xs (All-contains_itself xs)) h
@@ -48,24 +41,3 @@ taken_or_after {K} R (suc n) (y ∷ ys) x up h =
     ))
     (taken_or_after R n ys x (sorted_tail R y ys up) rest))
     (Contains-cases y ys x h)
-
--- an ascending list within another is no longer than it
-pub no_longer : {K : Type 0} (R : K → K → Ordering) → IsTotalOrder R → (xs ys : List K) → IsStrictlySortedBy R xs → IsStrictlySortedBy R ys → ((z : K) → Contains xs z → Contains ys z) → length xs ≤ length ys
-no_longer R o [] ys p q within = omega arith
-no_longer R o (x ∷ xs) [] p q within = absurd (nothing_in x (within x (Contains-head x xs)))
-no_longer {K} R o (x ∷ xs) (y ∷ ys) p q within =
-    ⊎_elim (λ (first : y ≡ x).
-    let rest : length xs ≤ length ys = no_longer R o xs ys (sorted_tail R x xs p) (sorted_tail R y ys q) (λ z h.
-    ⊎_elim (λ (again : y ≡ z). absurd (not_below_itself R o x x refl (subst (λ (v : K). R x v ≡ Less) (sym again ∙ first) (below_head R x xs p z h)))) (λ (later : Contains ys z). later)
-    (Contains-cases y ys z (within z (Contains-tail x xs z h)))) in
-    omega arith)
-    (λ (later : Contains ys x).
-    let below : R y x ≡ Less = below_head R y ys q x later in
-    let rest : length (x ∷ xs) ≤ length ys = no_longer R o (x ∷ xs) ys p (sorted_tail R y ys q) (λ z h.
-    ⊎_elim (λ (is : y ≡ z). ⊎_elim (λ (e : x ≡ z). subst (Contains ys) e later)
-    (λ (g : Contains xs z). absurd (not_both R o x y (subst (λ (v : K). R x v ≡ Less) (sym is) (below_head R x xs p z g)) below))
-    (Contains-cases x xs z h))
-    (λ (g : Contains ys z). g)
-    (Contains-cases y ys z (within z h))) in
-    omega arith)
-    (Contains-cases y ys x (within x (Contains-head x xs)))

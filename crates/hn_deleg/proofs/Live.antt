@@ -13,11 +13,11 @@ use Rattle.hn_data.specs.Said.{HasVersion}
 use Rattle.hn_data.specs.Delegations.{HasDelegation}
 use Rattle.hn_data.specs.declared.said.Delegation.{Delegation}
 use Rattle.hn_data.specs.declared.view.Entry.{Entry}
-use Rattle.hn_deleg.proofs.Lists.{take_at}
 use Rattle.hn_deleg.specs.Live.{remaining}
 use Rattle.hn_deleg.specs.Steps.{live_of, HasPrefixes, IsLiveAt, IsLiveIn}
 use Rattle.hn_deleg.specs.declared.delegated.Delegated.{Delegated}
 use Rattle.std.proofs.lemmas.Bool.{and_parts}
+use Rattle.hn_base.proofs.Fronts.{front_at}
 
 -- ---- the delegations of a node
 
@@ -52,10 +52,10 @@ added_same old new age said d were is =
 
 pub added_more_at : (old new : List Delegated) (age : ℕ) (said : List Delegation) (n : ℕ) (d : Delegation) (u : Delegated) → AreAdded old new age (take n said) → slice_get said n ≡ Some d → Some u ≡ live_of age d → IsPrefix u.prefix
     → AreAdded old (new ++ u ∷ []) age (take (n + 1) said)
-added_more_at old new age said n d u were at is valid = subst (AreAdded old (new ++ u ∷ []) age) (sym (take_at said n d at)) (added_more old new age (take n said) d u were is valid)
+added_more_at old new age said n d u were at is valid = subst (AreAdded old (new ++ u ∷ []) age) (sym (front_at said n d at)) (added_more old new age (take n said) d u were is valid)
 
 pub added_same_at : (old new : List Delegated) (age : ℕ) (said : List Delegation) (n : ℕ) (d : Delegation) → AreAdded old new age (take n said) → slice_get said n ≡ Some d → None ≡ live_of age d → AreAdded old new age (take (n + 1) said)
-added_same_at old new age said n d were at is = subst (AreAdded old new age) (sym (take_at said n d at)) (added_same old new age (take n said) d were is)
+added_same_at old new age said n d were at is = subst (AreAdded old new age) (sym (front_at said n d at)) (added_same old new age (take n said) d were is)
 
 -- ---- a node
 
@@ -94,7 +94,7 @@ live_more nodes node old new were are u = (
 
 pub live_more_at : (nodes : List Entry) (n : ℕ) (node : Entry) (old new : List Delegated) → slice_get nodes n ≡ Some node → ((u : Delegated) → Contains old u ↔ IsLiveIn (take n nodes) u)
     → ((u : Delegated) → Contains new u ↔ (Contains old u ⊎ IsLiveAt node u)) → (u : Delegated) → Contains new u ↔ IsLiveIn (take (n + 1) nodes) u
-live_more_at nodes n node old new at were are u = subst (λ (l : List Entry). Contains new u ↔ IsLiveIn l u) (sym (take_at nodes n node at)) (live_more (take n nodes) node old new were are u)
+live_more_at nodes n node old new at were are u = subst (λ (l : List Entry). Contains new u ↔ IsLiveIn l u) (sym (front_at nodes n node at)) (live_more (take n nodes) node old new were are u)
 
 -- ---- what remains
 

@@ -4,10 +4,10 @@ use Rattle.std.proofs.lemmas.Bool.{cases_lt}
 use Rattle.std.proofs.lemmas.List.Elements.{Contains-push, Contains-push_cases, Contains-append_left}
 use Rattle.hn_base.proofs.AscendingLists.{Contains-from_map, nothing_in}
 use Rattle.hn_prefix.specs.Prefix.{PlainPrefix}
-use Rattle.hn_deleg.proofs.Lists.{take_at}
 use Rattle.hn_deleg.specs.declared.delegated.Delegated.{Delegated}
 use Rattle.hn_deleg.specs.Steps.{IsGreatestIn, HasLifetimesIn}
 use Rattle.hn_deleg.specs.Used.{prefixes_of}
+use Rattle.hn_base.proofs.Fronts.{front_at}
 
 -- not below the lifetimes of a prefix, and one of them or 0
 pub record IsTop (xs : List Delegated) (p : PlainPrefix) (f : Delegated → ℕ) (ms : ℕ) : Type 0 where
@@ -62,10 +62,10 @@ tops_other xs u p valid preferred tops other = record {
 }
 
 pub tops_more_at : (xs : List Delegated) (n : ℕ) (u : Delegated) (p : PlainPrefix) (valid preferred : ℕ) → slice_get xs n ≡ Some u → AreTops (take n xs) p valid preferred → u.prefix ≡ p → AreTops (take (n + 1) xs) p (max u.valid valid) (max u.preferred preferred)
-tops_more_at xs n u p valid preferred at tops is = subst (λ (l : List Delegated). AreTops l p (max u.valid valid) (max u.preferred preferred)) (sym (take_at xs n u at)) (tops_more (take n xs) u p valid preferred tops is)
+tops_more_at xs n u p valid preferred at tops is = subst (λ (l : List Delegated). AreTops l p (max u.valid valid) (max u.preferred preferred)) (sym (front_at xs n u at)) (tops_more (take n xs) u p valid preferred tops is)
 
 pub tops_other_at : (xs : List Delegated) (n : ℕ) (u : Delegated) (p : PlainPrefix) (valid preferred : ℕ) → slice_get xs n ≡ Some u → AreTops (take n xs) p valid preferred → u.prefix ≢ p → AreTops (take (n + 1) xs) p valid preferred
-tops_other_at xs n u p valid preferred at tops other = subst (λ (l : List Delegated). AreTops l p valid preferred) (sym (take_at xs n u at)) (tops_other (take n xs) u p valid preferred tops other)
+tops_other_at xs n u p valid preferred at tops other = subst (λ (l : List Delegated). AreTops l p valid preferred) (sym (front_at xs n u at)) (tops_other (take n xs) u p valid preferred tops other)
 
 greatest_from_top : (xs : List Delegated) (p : PlainPrefix) (f : Delegated → ℕ) (ms : ℕ) → Contains (prefixes_of xs) p → IsTop xs p f ms → IsGreatestIn xs p f ms
 greatest_from_top xs p f ms there top =

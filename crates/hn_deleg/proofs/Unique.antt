@@ -11,9 +11,9 @@ use Rattle.hn_data.specs.declared.said.Delegation.{Delegation}
 use Rattle.hn_deleg.specs.declared.delegated.Delegated.{Delegated}
 use Rattle.hn_deleg.specs.Live.{IsGreatest}
 use Rattle.hn_deleg.specs.Used.{prefixes_of, IsOutermost, HasLifetimes, AreUsable}
-use Rattle.hn_deleg.proofs.Lists.{no_longer}
+use Rattle.hn_base.proofs.Pigeonhole.{no_longer}
 use Rattle.hn_deleg.proofs.Prefixes.{OverlapIsNesting}
-use Rattle.hn_prefix.proofs.Prefixes.{prefix_total}
+use Rattle.hn_prefix.proofs.Prefixes.{prefix_total, exact_prefix}
 
 pub outermost_of : (view : PlainView) (list : List Delegated) (p : PlainPrefix) → AreUsable view list → Contains (prefixes_of list) p → IsOutermost view p
 outermost_of view list p are h =
@@ -35,7 +35,7 @@ same_prefix view a b are_a are_b p h =
     (λ (after : (length b ≡ 32) × All (λ q. prefix_cmp q p ≡ Less) (prefixes_of b)).
     let below : (q : PlainPrefix) → Contains (prefixes_of b) q → prefix_cmp q p ≡ Less = λ q g. All-contains (λ (z : PlainPrefix). prefix_cmp z p ≡ Less) (prefixes_of b) q after.1 g in
     let longer = prefixes_of b ++ p ∷ [] in
-    let most : length longer ≤ length (prefixes_of a) = no_longer prefix_cmp prefix_total longer (prefixes_of a) (sorted_push prefix_cmp (prefixes_of b) p are_b.ascending below) are_a.ascending (λ z g.
+    let most : length longer ≤ length (prefixes_of a) = no_longer prefix_cmp prefix_total exact_prefix longer (prefixes_of a) (sorted_push prefix_cmp (prefixes_of b) p are_b.ascending below) (λ z g.
     ⊎_elim (λ (in_b : Contains (prefixes_of b) z).
     ⊎_elim (λ (in_a : Contains (prefixes_of a) z). in_a)
     (λ (past : (length a ≡ 32) × All (λ q. prefix_cmp q z ≡ Less) (prefixes_of a)).

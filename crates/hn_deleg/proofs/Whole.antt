@@ -16,7 +16,8 @@ use Rattle.hn_deleg.specs.Live.{remaining, IsAnnounced, IsCandidate, IsGreatest}
 use Rattle.hn_deleg.specs.Steps.{live_of, HasPrefixes, IsLiveIn, IsOutermostIn, AreOutermost, IsGreatestIn, HasLifetimesIn}
 use Rattle.hn_deleg.specs.Used.{prefixes_of, IsOutermost, HasLifetimes, AreUsable}
 use Rattle.hn_deleg.proofs.Live.{leaves, left, left_of}
-use Rattle.hn_deleg.proofs.Lists.{take_at, sorted_take, taken_or_after, Contains-from_take}
+use Rattle.hn_deleg.proofs.Lists.{sorted_take, taken_or_after, Contains-from_take}
+use Rattle.hn_base.proofs.Fronts.{front_at}
 
 -- ---- candidates and lifetimes
 
@@ -86,7 +87,7 @@ lifetimes_in_view view live u are h =
 pub prefixes_more : (found : List Delegated) (u : Delegated) (prefixes : List PlainPrefix) (n : ℕ) (p : PlainPrefix) → prefixes_of found ≡ take n prefixes → u.prefix ≡ p → slice_get prefixes n ≡ Some p
     → prefixes_of (found ++ u ∷ []) ≡ take (n + 1) prefixes
 prefixes_more found u prefixes n p were is at =
-    map-append (λ (x : Delegated). x.prefix) found (u ∷ []) ∙ ap (λ (ps : List PlainPrefix). ps ++ u.prefix ∷ []) were ∙ ap (λ (q : PlainPrefix). take n prefixes ++ q ∷ []) is ∙ sym (take_at prefixes n p at)
+    map-append (λ (x : Delegated). x.prefix) found (u ∷ []) ∙ ap (λ (ps : List PlainPrefix). ps ++ u.prefix ∷ []) were ∙ ap (λ (q : PlainPrefix). take n prefixes ++ q ∷ []) is ∙ sym (front_at prefixes n p at)
 
 -- what is sorted are the prefixes of the list
 pub sorted_prefixes : (live list : List Delegated) (found sorted : List PlainPrefix) → list ≡ live → found ≡ prefixes_of list → ((p : PlainPrefix) → Contains sorted p ↔ Contains found p)

@@ -2,16 +2,16 @@
 use Rattle.std.proofs.Common.{◌≡◌, ◌<◌, ◌≤◌, ◌+◌, ◌^◌, ◌∙◌, ℕ, zero, suc, List, [], ◌∷◌, ◌++◌, length, map, take, drop, get_or, inl, inr, ap, refl, sym, subst, arith, length-append}
 use Rattle.std.specs.List.{concat, All, AllByRecursion}
 use Rattle.std.proofs.lemmas.List.{append-nil, take-append-drop}
-use Rattle.std.proofs.lemmas.List.Elements.{All-tail, Contains-append_left, Contains-append_right}
+use Rattle.std.proofs.lemmas.List.Elements.{Contains-append_left, Contains-append_right, All-append, recursion_from_All}
 use Rattle.std.proofs.lemmas.List.Folds.{concat-append}
 use Rattle.std.proofs.lemmas.Bool.{cases_lt}
-use Rattle.std.proofs.Math.Seq.{take-append_seam, drop-append_seam}
 use Rattle.hn_base.specs.declared.ids.NodeId.{NodeId}
 use Rattle.hn_base.specs.declared.ids.EpId.{EpId}
 use Rattle.hn_tlv.specs.Grammar.{PlainTlv, IsTlv, spelling, IsTlvList}
 use Rattle.hn_typed.specs.Fields.{word}
-use Rattle.hn_base.proofs.Recursions.{AllByRecursion-append}
 use Rattle.hn_dncp.specs.Packing.{sender_tlv, datagram_of, IsFullBefore, IsFilled, IsPacking, IsShort, AreRead}
+use Rattle.hn_base.proofs.BigEndian.{number_bytes}
+use Rattle.hn_base.proofs.Fronts.{same_parts}
 
 same_cons : {A : Type 0} (x y : A) (xs ys : List A) → x ≡ y → xs ≡ ys → x ∷ xs ≡ y ∷ ys
 same_cons x y xs ys first others = ap (λ z. z ∷ xs) first ∙ ap (λ zs. y ∷ zs) others
@@ -95,8 +95,9 @@ module _ (own : NodeId) (endpoint : EpId) where
       let down = not_shorter p.0 p.1 q.0 q.1 d e same p.3 q.3 in
       let up = not_shorter q.0 q.1 p.0 p.1 e d (sym same) q.3 p.3 in
       let long : length p.0 ≡ length q.0 = omega arith in
-      let groups : p.0 ≡ q.0 = sym (take-append_seam p.0 p.1) ∙ ap (take (length p.0)) same ∙ ap (λ n. take n (q.0 ++ q.1)) long ∙ take-append_seam q.0 q.1 in
-      let rests : p.1 ≡ q.1 = sym (drop-append_seam p.0 p.1) ∙ ap (drop (length p.0)) same ∙ ap (λ n. drop n (q.0 ++ q.1)) long ∙ drop-append_seam q.0 q.1 in
+      let parts = same_parts p.0 q.0 p.1 q.1 long same in
+      let groups : p.0 ≡ q.0 = parts.0 in
+      let rests : p.1 ≡ q.1 = parts.1 in
       let firsts : d ≡ e = p.3.datagram_is ∙ ap (datagram_of own endpoint) groups ∙ sym q.3.datagram_is in
       let others : ds ≡ es = same_packing p.1 ds es p.4 (subst (λ rest. IsPacking own endpoint rest es) (sym rests) q.4) in
       same_cons d e ds es firsts others
@@ -135,19 +136,11 @@ module _ (own : NodeId) (endpoint : EpId) where
   listed [] all = refl
   listed (tlv ∷ tlvs) all = (concat (map spelling tlvs), all.0, refl, listed tlvs all.1)
 
-  by_place : (bytes : List ℕ) → AllByRecursion (λ byte. byte < 2 ^ 8) bytes → All (λ byte. byte < 2 ^ 8) bytes
-  by_place [] all k d within = absurd (omega arith)
-  by_place (byte ∷ bytes) all zero d within = all.0
-  by_place (byte ∷ bytes) all (suc k) d within = by_place bytes all.1 k d (omega arith)
-
-  word_bytes : (n : ℕ) → AllByRecursion (λ byte. byte < 2 ^ 8) (word n)
-  word_bytes n = (omega arith, (omega arith, (omega arith, (omega arith, tt))))
-
   IsTlv-sender_tlv : IsTlv (sender_tlv own endpoint)
   IsTlv-sender_tlv = record {
     kind_fits = omega arith;
     length_fits = omega arith;
-    bytes = by_place (word own.0 ++ word endpoint.0) (AllByRecursion-append (λ byte. byte < 2 ^ 8) (word own.0) (word endpoint.0) (word_bytes own.0) (word_bytes endpoint.0));
+    bytes = All-append (λ byte. byte < 2 ^ 8) (word own.0) (word endpoint.0) (number_bytes 4 own.0) (number_bytes 4 endpoint.0);
   }
 
   read : (tlvs : List PlainTlv) (datagrams : List (List ℕ)) → AllByRecursion IsTlv tlvs → IsPacking own endpoint (map spelling tlvs) datagrams → AreRead own endpoint tlvs datagrams
@@ -163,10 +156,6 @@ module _ (own : NodeId) (endpoint : EpId) where
         read to.back datagrams are.1 (subst (λ rest. IsPacking own endpoint rest datagrams) to.rest_is packing.4),
       )
 
-  by_recursion : (tlvs : List PlainTlv) → All IsTlv tlvs → AllByRecursion IsTlv tlvs
-  by_recursion [] all = tt
-  by_recursion (tlv ∷ tlvs) all = (all 0 tlv (omega arith), by_recursion tlvs (All-tail IsTlv tlv tlvs all))
-
   -- the datagrams of a packing are lists of TLVs
   pub packing_read : (tlvs : List PlainTlv) (datagrams : List (List ℕ)) → All IsTlv tlvs → IsPacking own endpoint (map spelling tlvs) datagrams → AreRead own endpoint tlvs datagrams
-  packing_read tlvs datagrams all packing = read tlvs datagrams (by_recursion tlvs all) packing
+  packing_read tlvs datagrams all packing = read tlvs datagrams (recursion_from_All IsTlv tlvs all) packing

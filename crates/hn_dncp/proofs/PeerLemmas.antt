@@ -1,18 +1,17 @@
 -- The peers of an endpoint, when one is renewed or added.
-use Rattle.std.proofs.Common.{◌≡◌, ◌≢◌, ◌<◌, ◌∙◌, ℕ, Bool, true, false, List, [], ◌∷◌, ◌++◌, length, map, Some, inl, inr, ap, refl, sym, get_or, arith, length-append, length-set}
+use Rattle.std.proofs.Common.{◌≡◌, ◌≢◌, ◌<◌, ◌∙◌, ℕ, Bool, true, false, List, [], ◌∷◌, ◌++◌, length, map, Some, inl, inr, ap, sym, get_or, arith, length-append, length-set}
 use Rattle.std.proofs.Math.ListN.{get_or-map}
 use Rattle.std.proofs.Math.Seq.{map-set_same}
 use Rattle.std.specs.Prelude.{slice_set, position, if◌then◌else◌, ◌==◌, ◌&&◌}
-use Rattle.std.specs.List.{AllPairs, list_any}
+use Rattle.std.specs.List.{AllPairs}
 use Rattle.std.proofs.lemmas.Bool.{and_parts, cases_lt, eqb-true}
 use Rattle.std.proofs.lemmas.Bool.Decides.{nat_tests}
-use Rattle.std.proofs.lemmas.List.Folds.{list_any_at}
 use Rattle.std.proofs.lemmas.List.Quantifiers.{position-Some, all_pairs_push}
 use Rattle.hn_base.specs.declared.ids.NodeId.{NodeId}
 use Rattle.hn_base.specs.declared.ids.EpId.{EpId}
 use Rattle.hn_dncp.specs.declared.peers.Neighbour.{Neighbour}
 use Rattle.hn_dncp.specs.Peers.{is_peer, has_peer, IsOther, ArePeers}
-use Rattle.hn_base.proofs.Passing.{map-one}
+use Rattle.hn_base.proofs.Passing.{map-one, each_fails}
 
 -- a peer's node and endpoint, and whether they are those of another
 abbrev key : Neighbour → ℕ × ℕ
@@ -67,17 +66,9 @@ ArePeers-set peers i y d are same = record {
 pub found_key : (peers : List Neighbour) (i : ℕ) (y d : Neighbour) → position (is_peer y.node y.endpoint) peers ≡ Some i → key y ≡ key (get_or peers i d)
 found_key peers i y d found = sym (same_key (key y) (key (get_or peers i d)) (position-Some (is_peer y.node y.endpoint) peers i d found).1)
 
--- where no peer passes a test, each fails it
-none_passes : (p : Neighbour → Bool) (peers : List Neighbour) → list_any p peers ≡ false → (k : ℕ) (d : Neighbour) → k < length peers → p (get_or peers k d) ≡ false
-none_passes p peers none k d within = by_test (p (get_or peers k d)) refl
-  where
-    by_test : (b : Bool) → p (get_or peers k d) ≡ b → b ≡ false
-    by_test true is = let some = list_any_at p peers k d within is in absurd cc
-    by_test false is = refl
-
 -- an unknown peer is added where there is room
 pub ArePeers-push : (peers : List Neighbour) (y : Neighbour) → ArePeers peers → length peers < 64 → has_peer y.node y.endpoint peers ≡ false → ArePeers (peers ++ y ∷ [])
 ArePeers-push peers y are room unknown = record {
   few = omega (arith, length-append peers (y ∷ []));
-  once = all_pairs_push IsOther peers y are.once (λ k d within. flips (key (get_or peers k d)) (key y) ∙ none_passes (is_peer y.node y.endpoint) peers unknown k d within);
+  once = all_pairs_push IsOther peers y are.once (λ k d within. flips (key (get_or peers k d)) (key y) ∙ each_fails (is_peer y.node y.endpoint) peers unknown k d within);
 }

@@ -3,13 +3,12 @@ use Rattle.std.proofs.Common.{◌≡◌, ◌∙◌, ◌↔◌, ◌⊎◌, List, 
 use Rattle.std.specs.declared.cmp.Ordering.TheVariants.{Less, Equal, Greater}
 use Rattle.std.specs.Ordering.{on, ordering_reverse}
 use Rattle.std.proofs.lemmas.Cmp.{on_total}
-use Rattle.std.proofs.lemmas.List.Elements.{All-contains, All-from_recursion}
-use Rattle.std.proofs.lemmas.Map.Keys.{sorted_head, sorted_tail}
 use Rattle.hn_base.proofs.AscendingLists.{not_below_itself, nothing_in, Contains-head, Contains-tail, Contains-cases, ascending_unique}
 use Rattle.hn_assign.specs.declared.assigned.Wish.{Wish}
 use Rattle.hn_assign.specs.declared.pair.Pair.{Pair}
 use Rattle.hn_assign.specs.Pair.{pair_cmp, IsAscending, HasAt, Updates, KeepsWished}
 use Rattle.hn_assign.proofs.Orders.{pair_total, pair_exact}
+use Rattle.hn_base.proofs.Parts.{one_of_ascending}
 
 -- two pairs are the same, or not
 pub pair_cases : (p q : Pair) → (p ≡ q) ⊎ (¬ (p ≡ q))
@@ -21,17 +20,9 @@ pair_cases p q = by_order (pair_cmp p q) refl
     by_order Greater e = inr (λ same. not_below_itself pair_cmp pair_total q p (sym same) (pair_total.antisymm q p ∙ ap ordering_reverse e))
 
 module _ {A : Type 0} (key : A → Pair) where
-  below : (x : A) (xs : List A) (y : A) → IsAscending key (x ∷ xs) → Contains xs y → ¬ (key x ≡ key y)
-  below x xs y up h same = not_below_itself pair_cmp pair_total (key x) (key y) same (All-contains (λ z. pair_cmp (key x) (key z) ≡ Less) xs y (All-from_recursion (λ z. pair_cmp (key x) (key z) ≡ Less) xs (sorted_head (on key pair_cmp) x xs up)) h)
-
   -- a pair has one element at most
   pub one_of : (xs : List A) (x y : A) → IsAscending key xs → Contains xs x → Contains xs y → key x ≡ key y → x ≡ y
-  one_of [] x y up hx hy same = absurd (nothing_in x hx)
-  one_of (z ∷ xs) x y up hx hy same =
-      ⊎_elim
-      (λ (zx : z ≡ x). ⊎_elim (λ (zy : z ≡ y). sym zx ∙ zy) (λ (ty : Contains xs y). absurd (below z xs y up ty (ap key zx ∙ same))) (Contains-cases z xs y hy))
-      (λ (tx : Contains xs x). ⊎_elim (λ (zy : z ≡ y). absurd (below z xs x up tx (ap key zy ∙ sym same))) (λ (ty : Contains xs y). one_of xs x y (sorted_tail (on key pair_cmp) z xs up) tx ty same) (Contains-cases z xs y hy))
-      (Contains-cases z xs x hx)
+  one_of xs x y up hx hy same = one_of_ascending key pair_cmp pair_total xs up x y hx hy same
 
   -- a list has an element for a pair, or none
   pub has_some : (pair : Pair) (xs : List A) → (o : Option A) × HasAt key pair o xs

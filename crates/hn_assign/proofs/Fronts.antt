@@ -1,11 +1,7 @@
 -- The front of a list that a `for` has seen.
-use Rattle.std.proofs.Common.{◌≡◌, ◌∙◌, ℕ, ◌+◌, ◌<◌, ◌⊎◌, List, [], ◌∷◌, ◌++◌, length, take, get_or, Contains, ap, sym, subst}
-use Rattle.std.proofs.lemmas.List.{take_more}
+use Rattle.std.proofs.Common.{◌≡◌, ℕ, ◌+◌, ◌<◌, ◌⊎◌, List, length, take, get_or, Contains, subst}
 use Rattle.std.proofs.lemmas.List.Elements.{Contains-push_cases}
-
--- one more element
-pub front_more : {A : Type 0} (xs : List A) (i : ℕ) (x : A) → i < length xs → x ≡ get_or xs i x → take (i + 1) xs ≡ take i xs ++ x ∷ []
-front_more xs i x within is = take_more xs i x within ∙ ap (λ y. take i xs ++ y ∷ []) (sym is)
+use Rattle.hn_base.proofs.Fronts.{front_more}
 
 pub front_cases : {A : Type 0} (xs : List A) (i : ℕ) (x a : A) → i < length xs → x ≡ get_or xs i x → Contains (take (i + 1) xs) a → Contains (take i xs) a ⊎ (x ≡ a)
 front_cases xs i x a within is h = Contains-push_cases (take i xs) x a (subst (λ ys. Contains ys a) (front_more xs i x within is) h)

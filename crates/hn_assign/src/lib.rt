@@ -36,5 +36,6 @@ pub use laws::{
 };
 pub use pair::Pair;
 pub use precedence::{PRIORITY, best, valid};
+pub use scene::Scene;
 pub use subroutines::subroutine;
 pub use wishes::Wishes;

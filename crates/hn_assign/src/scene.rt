@@ -18,7 +18,7 @@ pub struct Scene<'a> {
 
 impl Scene<'_> {
     /// The best prefix for the pair.
-    pub(crate) fn best(&self) -> Option<Advertised>
+    pub fn best(&self) -> Option<Advertised>
         ensures { IsBestFor (plain_scene self.entry.now) result }
     {
         best(
@@ -30,7 +30,7 @@ impl Scene<'_> {
     }
 
     /// Whether an assignment of the pair is valid.
-    pub(crate) fn is_valid(&self, c: &Assigned) -> bool
+    pub fn is_valid(&self, c: &Assigned) -> bool
         ensures { IsTrue result ↔ IsValidFor (plain_scene self.entry.now) c.now }
     {
         valid(

@@ -23,7 +23,8 @@ use Rattle.hn_sound.specs.Premises.{Meets, IsHome}
 use Rattle.hn_sound.specs.Premises.Premise.{OneLink, OnceOnLink, UsedApart, ForUsed, PublishedInside, OneEach}
 use Rattle.hn_sound.specs.Sound.{IsGreatest, HasNoPublisher}
 use Rattle.hn_sound.proofs.Endpoints.{same_endpoint, cases_node, cases_id, cases_prefix}
-use Rattle.hn_sound.proofs.Members.{find_one, IsGreatestOf, greatest_of}
+use Rattle.hn_base.proofs.Greatest.{IsGreatestOf, greatest_of}
+use Rattle.hn_sound.proofs.Members.{find_one}
 use Rattle.hn_sound.proofs.Views.{to_advertised, from_advertised, to_common_link, from_common_link}
 
 -- an assignment that is published for a delegated prefix, with its endpoint

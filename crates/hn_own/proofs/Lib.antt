@@ -1,9 +1,10 @@
+pub mod AttachedPorts
 pub mod ItemLists
 mod OwnPieces
 mod OwnSame
 mod OwnSizes
 mod OwnSums
 mod PairLists
-mod PortLists
-mod PrefixLists
+pub mod PortLists
+pub mod PrefixLists
 mod PrefixOrder

@@ -1,5 +1,5 @@
 -- The encodings of own items, one after the other.
-use Rattle.std.proofs.Common.{◌≡◌, ◌<◌, ◌+◌, ◌^◌, ◌∙◌, ℕ, List, [], ◌∷◌, ◌++◌, length, map, take, get_or, refl, ap, subst, sym, append_assoc, arith}
+use Rattle.std.proofs.Common.{◌≡◌, ◌<◌, ◌+◌, ◌∙◌, ℕ, List, [], ◌∷◌, ◌++◌, length, map, take, get_or, refl, ap, subst, sym, append_assoc, arith}
 use Rattle.std.specs.Prelude.{All, ◌==◌, false}
 use Rattle.std.specs.Int.{w128, to_be_bytes}
 use Rattle.std.specs.List.{flat_map}
@@ -17,6 +17,7 @@ use Rattle.hn_data.specs.OwnData.{AreBytes, IsEncoding, IsEncoded}
 use Rattle.hn_own.specs.declared.own_prefixes.OwnPrefix.{OwnPrefix}
 use Rattle.hn_own.specs.Lifetimes.{seconds_left}
 use Rattle.hn_own.specs.Own.{delegated_item, external_items, encodings}
+use Rattle.hn_tlv.proofs.SpelledBytes.{IsByte}
 
 -- ---- one more
 
@@ -50,17 +51,16 @@ bytes_more {X} item_of xs i d bytes piece within are is =
 
 delegated_bytes : (now : ℕ) (own : OwnPrefix) → IsPrefix own.prefix → AreBytes (value_of (delegated_item now own))
 delegated_bytes now own is =
-    let Small : ℕ → Type 0 = λ byte. byte < 2 ^ 8 in
     let valid = word (seconds_left now own.valid_until) in
     let preferred = word (seconds_left now own.preferred_until) in
     let bits = take (bytes_for own.prefix.len) (to_be_bytes w128 own.prefix.bits) in
     let len = is.len_in_range in
-    let field : All Small (prefix_field own.prefix) = All-cons Small own.prefix.len bits (omega arith) (All-take Small (bytes_for own.prefix.len) (to_be_bytes w128 own.prefix.bits) (number_bytes 16 own.prefix.bits)) in
-    let fixed : All Small ((valid ++ preferred) ++ prefix_field own.prefix) =
-    All-append Small (valid ++ preferred) (prefix_field own.prefix) (All-append Small valid preferred (number_bytes 4 (seconds_left now own.valid_until)) (number_bytes 4 (seconds_left now own.preferred_until))) field
+    let field : All IsByte (prefix_field own.prefix) = All-cons IsByte own.prefix.len bits (omega arith) (All-take IsByte (bytes_for own.prefix.len) (to_be_bytes w128 own.prefix.bits) (number_bytes 16 own.prefix.bits)) in
+    let fixed : All IsByte ((valid ++ preferred) ++ prefix_field own.prefix) =
+    All-append IsByte (valid ++ preferred) (prefix_field own.prefix) (All-append IsByte valid preferred (number_bytes 4 (seconds_left now own.valid_until)) (number_bytes 4 (seconds_left now own.preferred_until))) field
     in
-    let none = All-nil Small in
-    All-append Small (((valid ++ preferred) ++ prefix_field own.prefix) ++ []) [] (All-append Small ((valid ++ preferred) ++ prefix_field own.prefix) [] fixed none) none
+    let none = All-nil IsByte in
+    All-append IsByte (((valid ++ preferred) ++ prefix_field own.prefix) ++ []) [] (All-append IsByte ((valid ++ preferred) ++ prefix_field own.prefix) [] fixed none) none
 
 delegated_tlv : (now : ℕ) (own : OwnPrefix) → IsWritable (delegated_item now own) → IsTlv (tlv_of (delegated_item now own))
 delegated_tlv now own is = record {

@@ -1,10 +1,7 @@
 -- What is asked for attached endpoints, and what the subroutine makes of it.
-use Rattle.std.proofs.Common.{◌≡◌, ◌↔◌, ℕ, true, false, List, [], ◌∷◌, Contains, Option, Some, Result, Ok, Err, sym, ap, subst, refl, ⊎_elim, arith}
-use Rattle.std.specs.Prelude.{All, IfOk, is_some}
-use Rattle.std.specs.List.{find}
-use Rattle.std.proofs.lemmas.Bool.{cond_both, eqb-true, eq-eqb, cases_Bool}
+use Rattle.std.proofs.Common.{◌≡◌, ◌↔◌, ℕ, List, Contains, Result, Ok, Err, sym, subst}
+use Rattle.std.specs.Prelude.{All, IfOk}
 use Rattle.std.proofs.lemmas.List.Elements.{All-contains}
-use Rattle.hn_base.proofs.AscendingLists.{Contains-tail, Contains-cases, nothing_in}
 use Rattle.hn_base.specs.declared.ids.EpId.{EpId}
 use Rattle.hn_base.specs.declared.memory.NoMemory.{NoMemory}
 use Rattle.hn_data.specs.View.{PlainView}
@@ -18,32 +15,12 @@ use Rattle.hn_assign.specs.Facts.{AreWishes, IsInDelegated, HasOwnPriority}
 use Rattle.hn_assign.specs.Pair.{assigned_pair, backoff_pair, IsAscending, IsWished}
 use Rattle.hn_assign.specs.Subroutine.{IsSubroutine}
 use Rattle.hn_own.specs.HeldPairs.{AreHeldPairs}
-use Rattle.hn_own.specs.Ports.{ArePorts, is_port, is_attached, endpoints_of}
+use Rattle.hn_own.specs.Ports.{ArePorts, endpoints_of}
 use Rattle.hn_rules.specs.declared.state.State.{State}
 use Rattle.hn_rules.specs.Seen.{seen_by}
 use Rattle.hn_rules.specs.Assigning.{IsWishAt, AreAsked, IsAssigned}
 use Rattle.hn_rules.proofs.LawPairs.{wished_few}
-
--- ---- attached endpoints
-
-pub contains-from_attached : (at : EpId) (ports : List Port) → is_attached at ports ≡ true → Contains (endpoints_of ports) at
-contains-from_attached at [] is = absurd cc
-contains-from_attached at (p ∷ ports) is =
-    ⊎_elim
-    (λ (here : is_port at p ≡ true). (0, omega arith, ap (λ (n : ℕ). record { 0 = n }) (eqb-true p.id.0 at.0 here)))
-    (λ (other : is_port at p ≡ false).
-    let later : is_attached at ports ≡ true = rw other at is in
-    Contains-tail p.id (endpoints_of ports) at (contains-from_attached at ports later))
-    (cases_Bool (is_port at p))
-
-pub attached-from_contains : (at : EpId) (ports : List Port) → Contains (endpoints_of ports) at → is_attached at ports ≡ true
-attached-from_contains at [] there = absurd (nothing_in at there)
-attached-from_contains at (p ∷ ports) there =
-    cond_both (is_port at p) (Some p) (find (is_port at) ports) (λ (o : Option Port). is_some o ≡ true) (λ _. refl)
-    (λ other. ⊎_elim
-    (λ (same : p.id ≡ at). let here : is_port at p ≡ true = eq-eqb p.id.0 at.0 (ap (λ (id : EpId). id.0) same) in absurd cc)
-    (λ (later : Contains (endpoints_of ports) at). attached-from_contains at ports later)
-    (Contains-cases p.id (endpoints_of ports) at there))
+use Rattle.hn_own.proofs.AttachedPorts.{attached_is_port, port_is_attached}
 
 -- ---- what is asked
 
@@ -55,9 +32,9 @@ are_asked view usable ports endpoints wishes are same exact = record {
     λ there. let found = (exact wish).0 there in record {
       place = found.0;
       asked = found.1;
-      attached = attached-from_contains wish.endpoint ports (subst (λ (es : List EpId). Contains es wish.endpoint) same found.2);
+      attached = port_is_attached ports wish.endpoint (subst (λ (es : List EpId). Contains es wish.endpoint) same found.2);
     },
-    λ is. (exact wish).1 (is.place, is.asked, subst (λ (es : List EpId). Contains es wish.endpoint) (sym same) (contains-from_attached wish.endpoint ports is.attached)),
+    λ is. (exact wish).1 (is.place, is.asked, subst (λ (es : List EpId). Contains es wish.endpoint) (sym same) (attached_is_port ports wish.endpoint is.attached)),
   );
 }
 

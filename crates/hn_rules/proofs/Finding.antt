@@ -3,19 +3,15 @@ use Rattle.std.proofs.Common.{◌≡◌, ◌≤◌, suc, Bool, true, false, cond
 use Rattle.std.specs.Prelude.{All, find}
 use Rattle.std.specs.List.{AllPairs}
 use Rattle.std.proofs.lemmas.Bool.{cond_both}
-use Rattle.std.proofs.lemmas.List.Elements.{All-cons, All-head, All-tail}
+use Rattle.std.proofs.lemmas.List.Elements.{All-cons, All-head, All-tail, All-contains}
 use Rattle.std.proofs.lemmas.List.Kept.{AllPairs-cons}
 use Rattle.hn_rules.specs.Tick.{Without}
+use Rattle.hn_base.proofs.Elements.{found_passes}
 
 module _ {A : Type 0} where
   -- what holds of each holds of the one that is found
   pub find_all : (P : A → Type 0) (p : A → Bool) (xs : List A) (x : A) → All P xs → find p xs ≡ Some x → P x
-  find_all P p [] x all is = absurd cc
-  find_all P p (y ∷ xs) x all is = by_test (p y) (find_all P p xs x (All-tail P y xs all)) is
-    where
-      by_test : (b : Bool) → (find p xs ≡ Some x → P x) → cond b (Some y) (find p xs) ≡ Some x → P x
-      by_test true more is = let same : y ≡ x = cc in subst P same (All-head P y xs all)
-      by_test false more is = more is
+  find_all P p xs x all is = All-contains P xs x all (found_passes p xs x is).0
 
   -- where nothing is found, nothing is found in a part of the list
   pub find-none_filter : (p q : A → Bool) (xs : List A) → find p xs ≡ None → find p (filter q xs) ≡ None
@@ -26,17 +22,6 @@ module _ {A : Type 0} where
       by_test true is none more = absurd cc
       by_test false is none more =
           cond_both (q x) (x ∷ filter q xs) (filter q xs) (λ kept. find p kept ≡ None) (λ _. rw is (more none)) (λ _. more none)
-
-  -- where the elements that pass stay in a part of the list, the same one is found
-  pub find-filter : (p q : A → Bool) (xs : List A) → All (λ x. p x ≡ true → q x ≡ true) xs → find p (filter q xs) ≡ find p xs
-  find-filter p q [] stay = refl
-  find-filter p q (x ∷ xs) stay =
-      by_test (p x) refl (All-head (λ x. p x ≡ true → q x ≡ true) x xs stay) (find-filter p q xs (All-tail (λ x. p x ≡ true → q x ≡ true) x xs stay))
-    where
-      by_test : (b : Bool) → p x ≡ b → (p x ≡ true → q x ≡ true) → find p (filter q xs) ≡ find p xs → find p (cond (q x) (x ∷ filter q xs) (filter q xs)) ≡ cond b (Some x) (find p xs)
-      by_test true is stays more = rw (stays is, is) refl
-      by_test false is stays more =
-          cond_both (q x) (x ∷ filter q xs) (filter q xs) (λ kept. find p kept ≡ find p xs) (λ _. rw is more) (λ _. more)
 
   -- ---- pairs
 

@@ -12,7 +12,7 @@ use Rattle.std.proofs.lemmas.Map.Keys.{IsDistinct-from_apart}
 use Rattle.hn_base.proofs.AscendingLists.{Contains-tail}
 use Rattle.hn_store.specs.Nodes.{held, ids_of}
 use Rattle.hn_store.specs.declared.stored.HeldNode.{HeldNode}
-use Rattle.hn_rules.proofs.Pigeonhole.{length-le_from_Contains}
+use Rattle.hn_base.proofs.Pigeonhole.{length-le_from_Contains}
 
 -- the identifier so many after a word
 abbrev id_after : ℕ → ℕ → ℕ

@@ -1,15 +1,10 @@
 -- Pairs of a delegated prefix and an endpoint, and those for which a router has a wish.
-use Rattle.std.proofs.Common.{◌≡◌, ◌≤◌, ◌*◌, ◌∙◌, Bool, true, false, cond, List, [], ◌∷◌, length, map, Some, Decides, ⊎_elim, refl, sym, ap, subst, arith, length-append}
-use Rattle.std.specs.Prelude.{Contains, find, is_some, flat_map}
-use Rattle.std.specs.declared.cmp.Ordering.TheVariants.{Equal}
-use Rattle.std.specs.Cmp.{eq_by_cmp_equiv}
-use Rattle.std.specs.Ordering.{eq_by_cmp, is_eq}
+use Rattle.std.proofs.Common.{◌≡◌, ◌≤◌, ◌*◌, ◌∙◌, List, [], ◌∷◌, length, map, ⊎_elim, sym, subst, arith, length-append}
+use Rattle.std.specs.Prelude.{Contains, flat_map}
 use Rattle.std.proofs.lemmas.Bool.{eqb-true}
-use Rattle.std.proofs.lemmas.Cmp.{tied_itself}
 use Rattle.std.proofs.lemmas.List.{length-map}
 use Rattle.std.proofs.lemmas.List.Elements.{Contains-append_left, Contains-append_right}
-use Rattle.std.proofs.lemmas.Map.Keys.{IsDistinct-from_sorted}
-use Rattle.hn_base.proofs.AscendingLists.{Contains-head, Contains-tail, Contains-cases, Contains-map, Contains-from_map, nothing_in, equal_from_is_eq, sorted_parts}
+use Rattle.hn_base.proofs.AscendingLists.{Contains-cases, Contains-map, Contains-from_map, nothing_in, sorted_parts}
 use Rattle.hn_base.proofs.Keys.{same_id}
 use Rattle.hn_prefix.specs.Prefix.{PlainPrefix}
 use Rattle.hn_data.specs.View.{PlainView}
@@ -19,20 +14,11 @@ use Rattle.hn_assign.specs.declared.assigned.Wish.{Wish}
 use Rattle.hn_assign.specs.declared.pair.Pair.{Pair}
 use Rattle.hn_assign.specs.Pair.{pair_cmp, wish_pair, IsWished, IsAscending}
 use Rattle.hn_own.specs.Ports.{is_port}
-use Rattle.hn_rules.proofs.Pigeonhole.{length-le_from_Contains}
+use Rattle.hn_base.proofs.Pigeonhole.{no_longer}
 use Rattle.hn_rules.specs.Assigning.{AreAsked}
 use Rattle.hn_assign.proofs.Orders.{pair_exact, pair_total}
 use Rattle.hn_base.proofs.Parts.{contains_at}
-
--- ---- their order
-
-pair_decides : (a b : Pair) → Decides (eq_by_cmp pair_cmp a b) (a ≡ b)
-pair_decides a b = (
-  λ is. pair_exact a b (equal_from_is_eq (pair_cmp a b) is),
-  λ e. let tied : pair_cmp b b ≡ Equal = tied_itself pair_total b in
-      let turned : pair_cmp a b ≡ pair_cmp b b = ap (λ (p : Pair). pair_cmp p b) e in
-      ap is_eq (turned ∙ tied),
-)
+use Rattle.hn_base.proofs.Elements.{found_there}
 
 -- ---- all pairs of a usable prefix and an endpoint
 
@@ -60,14 +46,6 @@ pair_there (v ∷ vs) ports u port in_usable in_ports =
 
 -- ---- each pair with a wish is one of them
 
-found_there : {A : Type 0} (p : A → Bool) (xs : List A) → is_some (find p xs) ≡ true → (x : A) × Contains xs x × (p x ≡ true)
-found_there p [] is = absurd cc
-found_there {A} p (x ∷ xs) is = by_test (p x) refl is (found_there p xs)
-  where
-    by_test : (b : Bool) → p x ≡ b → is_some (cond b (Some x) (find p xs)) ≡ true → (is_some (find p xs) ≡ true → (y : A) × Contains xs y × (p y ≡ true)) → (y : A) × Contains (x ∷ xs) y × (p y ≡ true)
-    by_test true passes is more = (x, Contains-head x xs, passes)
-    by_test false passes is more = let found = more is in (found.0, Contains-tail x xs found.0 found.1, found.2)
-
 module _ (view : PlainView) (usable : List Delegated) (ports : List Port) (wishes : List Wish) (are : AreAsked view usable ports wishes) where
   wished_there : (pair : Pair) → IsWished wishes pair → Contains (pairs_of usable ports) pair
   wished_there pair (wish, there, is) =
@@ -85,5 +63,5 @@ module _ (view : PlainView) (usable : List Delegated) (ports : List Port) (wishe
       let each : (pair : Pair) → Contains pairs pair → Contains (pairs_of usable ports) pair =
       λ pair there. let from = Contains-from_map pair_of xs pair there in subst (Contains (pairs_of usable ports)) from.2 (wished_there (pair_of from.0) (all from.0 from.1))
       in
-      let no_more = length-le_from_Contains (eq_by_cmp_equiv pair_total) pair_decides pairs (pairs_of usable ports) (IsDistinct-from_sorted pair_cmp pairs ((sorted_parts pair_of pair_cmp xs).0 up)) each in
+      let no_more = no_longer pair_cmp pair_total pair_exact pairs (pairs_of usable ports) ((sorted_parts pair_of pair_cmp xs).0 up) each in
       omega (arith, length-map xs pair_of, pairs_few usable ports few_ports)

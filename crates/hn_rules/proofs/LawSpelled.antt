@@ -1,43 +1,25 @@
 -- Own items that can be written have TLVs, and the ascending set of the encodings of items is read as those items again.
-use Rattle.std.proofs.Common.{◌≡◌, ◌∙◌, ◌<◌, ◌^◌, ◌+◌, ◌*◌, ℕ, List, [], ◌∷◌, ◌++◌, length, map, take, replicate, get_or, refl, sym, ap, subst, inl, arith}
+use Rattle.std.proofs.Common.{◌≡◌, ◌∙◌, ◌<◌, ◌^◌, ◌+◌, ◌*◌, ℕ, List, [], ◌∷◌, ◌++◌, map, take, get_or, refl, sym, ap, subst, inl, arith}
 use Rattle.std.specs.Prelude.{All, Contains, codes}
-use Rattle.std.specs.Int.{w16, w128, to_be_bytes}
+use Rattle.std.specs.Int.{w128, to_be_bytes}
 use Rattle.std.specs.List.{concat}
 use Rattle.std.proofs.lemmas.List.{append-nil}
-use Rattle.std.proofs.lemmas.List.Elements.{All-append, All-cons, All-nil, All-take, All-head, All-tail, All-map, All-replicate, All-contains, All-from_recursion}
+use Rattle.std.proofs.lemmas.List.Elements.{All-append, All-cons, All-nil, All-take, All-head, All-tail, All-map, All-contains, All-from_recursion}
 use Rattle.hn_base.proofs.AscendingLists.{Contains-from_map}
 use Rattle.hn_base.proofs.BigEndian.{number_bytes}
 use Rattle.hn_base.specs.Caps.{PlainCaps, plain_caps}
-use Rattle.hn_tlv.specs.Grammar.{PlainTlv, IsTlv, IsTlvList, header, padding, spelling}
+use Rattle.hn_tlv.specs.Grammar.{PlainTlv, IsTlv, IsTlvList, spelling}
 use Rattle.hn_typed.specs.Fields.{word, bytes_for, prefix_field}
 use Rattle.hn_typed.specs.Item.{PlainItem, Version, External}
 use Rattle.hn_typed.specs.Table.{IsItem}
 use Rattle.hn_typed.specs.Written.{tlv_of, IsWritable}
 use Rattle.hn_data.specs.Items.{IsReading}
-use Rattle.hn_data.specs.OwnData.{AreBytes}
 use Rattle.hn_data.specs.declared.said.AssignedPrefix.{AssignedPrefix}
 use Rattle.hn_data.specs.declared.said.PeerLink.{PeerLink}
 use Rattle.hn_own.specs.declared.own.OwnItems.{OwnItems}
 use Rattle.hn_own.specs.declared.own_prefixes.OwnPrefix.{OwnPrefix}
 use Rattle.hn_own.specs.Own.{peer_item, external_items, assigned_item, items_of}
-
-abbrev Small : ℕ → Type 0
-Small byte = byte < 2 ^ 8
-
--- ---- bytes
-
-spelling_bytes : (tlv : PlainTlv) → IsTlv tlv → AreBytes (spelling tlv)
-spelling_bytes tlv is =
-    let kind = to_be_bytes w16 tlv.kind in
-    let len = to_be_bytes w16 (length tlv.value) in
-    let head : All Small (header tlv.kind (length tlv.value)) = All-append Small kind len (number_bytes 2 tlv.kind) (number_bytes 2 (length tlv.value)) in
-    let zeros : List ℕ = replicate (padding (length tlv.value)) 0 in
-    All-append Small (header tlv.kind (length tlv.value) ++ tlv.value) zeros (All-append Small (header tlv.kind (length tlv.value)) tlv.value head is.bytes)
-    (All-replicate Small (padding (length tlv.value)) 0 (omega arith))
-
-list_bytes : (tlvs : List PlainTlv) (bytes : List ℕ) → IsTlvList tlvs bytes → AreBytes bytes
-list_bytes [] bytes is = subst AreBytes (sym is) (All-nil Small)
-list_bytes (tlv ∷ tlvs) bytes (rest, valid, spelled, more) = subst AreBytes (sym spelled) (All-append Small (spelling tlv) rest (spelling_bytes tlv valid) (list_bytes tlvs rest more))
+use Rattle.hn_tlv.proofs.SpelledBytes.{IsByte, list_bytes}
 
 -- ---- own items
 
@@ -54,7 +36,7 @@ version_fit caps is = record {
       let upper : 16 * caps.m + caps.p < 2 ^ 8 = let m = fits.m in let p = fits.p in omega arith in
       let lower : 16 * caps.h + caps.l < 2 ^ 8 = let h = fits.h in let l = fits.l in omega arith in
       let value : List ℕ = 0 ∷ 0 ∷ (16 * caps.m + caps.p) ∷ (16 * caps.h + caps.l) ∷ codes "hncp" in
-      All-from_recursion Small value (omega arith, (omega arith, (upper, (lower, (omega arith, (omega arith, (omega arith, (omega arith, tt))))))));
+      All-from_recursion IsByte value (omega arith, (omega arith, (upper, (lower, (omega arith, (omega arith, (omega arith, (omega arith, tt))))))));
 }
 
 peer_fit : (link : PeerLink) → IsFit (peer_item link)
@@ -62,18 +44,18 @@ peer_fit link is =
     let peer = word link.peer.0 in
     let there = word link.peer_endpoint.0 in
     let here = word link.endpoint.0 in
-    let none = All-nil Small in
+    let none = All-nil IsByte in
     record {
       kind_fits = omega arith;
       length_fits = let short = is.short in omega arith;
       bytes =
-          All-append Small (((peer ++ there) ++ here) ++ []) []
-          (All-append Small ((peer ++ there) ++ here) []
-          (All-append Small (peer ++ there) here (All-append Small peer there (number_bytes 4 link.peer.0) (number_bytes 4 link.peer_endpoint.0)) (number_bytes 4 link.endpoint.0)) none) none;
+          All-append IsByte (((peer ++ there) ++ here) ++ []) []
+          (All-append IsByte ((peer ++ there) ++ here) []
+          (All-append IsByte (peer ++ there) here (All-append IsByte peer there (number_bytes 4 link.peer.0) (number_bytes 4 link.peer_endpoint.0)) (number_bytes 4 link.endpoint.0)) none) none;
     }
 
 external_fit : (subs : List ℕ) → IsFit (External subs)
-external_fit [] is = record { kind_fits = omega arith; length_fits = omega arith; bytes = All-nil Small }
+external_fit [] is = record { kind_fits = omega arith; length_fits = omega arith; bytes = All-nil IsByte }
 external_fit (byte ∷ subs) is = record {
   kind_fits = omega arith;
   length_fits = let short = is.short in omega arith;
@@ -84,18 +66,18 @@ assigned_fit : (a : AssignedPrefix) → IsFit (assigned_item a)
 assigned_fit a is =
     let endpoint = word a.endpoint.0 in
     let bits = take (bytes_for a.prefix.len) (to_be_bytes w128 a.prefix.bits) in
-    let field : All Small (prefix_field a.prefix) =
-    All-cons Small a.prefix.len bits (let len = is.in_range.2.len_in_range in omega arith) (All-take Small (bytes_for a.prefix.len) (to_be_bytes w128 a.prefix.bits) (number_bytes 16 a.prefix.bits))
+    let field : All IsByte (prefix_field a.prefix) =
+    All-cons IsByte a.prefix.len bits (let len = is.in_range.2.len_in_range in omega arith) (All-take IsByte (bytes_for a.prefix.len) (to_be_bytes w128 a.prefix.bits) (number_bytes 16 a.prefix.bits))
     in
     let priority : 16 * 0 + a.priority < 2 ^ 8 = let fits = is.in_range.1 in omega arith in
     let after : List ℕ = (16 * 0 + a.priority) ∷ prefix_field a.prefix in
-    let none = All-nil Small in
+    let none = All-nil IsByte in
     record {
       kind_fits = omega arith;
       length_fits = let short = is.short in omega arith;
       bytes =
-          All-append Small ((endpoint ++ after) ++ []) []
-          (All-append Small (endpoint ++ after) [] (All-append Small endpoint after (number_bytes 4 a.endpoint.0) (All-cons Small (16 * 0 + a.priority) (prefix_field a.prefix) priority field)) none) none;
+          All-append IsByte ((endpoint ++ after) ++ []) []
+          (All-append IsByte (endpoint ++ after) [] (All-append IsByte endpoint after (number_bytes 4 a.endpoint.0) (All-cons IsByte (16 * 0 + a.priority) (prefix_field a.prefix) priority field)) none) none;
     }
 
 externals_fit : (now : ℕ) (list : List OwnPrefix) → All IsFit (external_items now list)

@@ -2,6 +2,7 @@ mod Arriving
 mod AssignPairs
 mod AssignRuns
 mod Endpoints
+pub mod Entries
 mod Finding
 mod Forgetting
 mod FreeIds
@@ -15,7 +16,6 @@ mod Leaves
 mod NodeLists
 mod OneResults
 mod Parts
-mod Pigeonhole
 mod PortFacts
 pub mod Rans
 mod Recent

@@ -27,7 +27,7 @@ use hn_own::HeldPairs;
 use std::alloc::Global;
 
 /// The length of the prefixes that links get.
-const LINK_LENGTH: u8 = 64;
+pub const LINK_LENGTH: u8 = 64;
 
 /// What is asked for the pair of a usable delegated prefix and an endpoint.
 fn wish_at(

@@ -19,6 +19,7 @@ mod take;
 mod tick;
 
 pub use answers::{Answer, Subject};
+pub use assigning::LINK_LENGTH;
 pub use done::{Done, Note, Outgoing, Publication};
 pub use laws::{
     assigned_is_published, hash_is_of_leaves, items_are_published, refresh_makes_a_router,

@@ -5,12 +5,12 @@ use Rattle.std.specs.declared.cmp.Ordering.TheVariants.{Less, Equal, Greater}
 use Rattle.std.specs.List.Sorted.{IsStrictlySortedBy}
 use Rattle.std.specs.Ordering.{on, nat_cmp, ordering_then}
 use Rattle.std.proofs.lemmas.Cmp.{nat_cmp_total, tied_itself}
-use Rattle.std.proofs.lemmas.List.{map-append, take_more, length-take, get_or-take}
-use Rattle.std.proofs.lemmas.List.Elements.{All-contains, All-from_recursion, All-push, All-take, Contains-push, Contains-push_cases, Contains-append_left}
-use Rattle.std.proofs.lemmas.Map.Keys.{sorted_head, sorted_tail, Less-from_sorted}
+use Rattle.std.proofs.lemmas.List.{map-append, length-take, get_or-take}
+use Rattle.std.proofs.lemmas.List.Elements.{All-contains, All-push, All-take, Contains-push, Contains-push_cases, Contains-append_left}
+use Rattle.std.proofs.lemmas.Map.Keys.{Less-from_sorted}
 use Rattle.std.proofs.lemmas.Option.{get_or_from_slice_get, slice_get_within}
-use Rattle.hn_base.proofs.AscendingLists.{not_below_itself, nothing_in, Contains-cases, Contains-map, Contains-from_map, sorted_push}
-use Rattle.hn_base.proofs.Parts.{contains_at}
+use Rattle.hn_base.proofs.AscendingLists.{nothing_in, Contains-map, Contains-from_map, sorted_push, sorted_parts}
+use Rattle.hn_base.proofs.Parts.{contains_at, one_of_ascending}
 use Rattle.hn_base.specs.declared.ids.EpId.{EpId}
 use Rattle.hn_prefix.specs.Prefix.{PlainPrefix, IsPrefix, IsWithin, prefix_cmp}
 use Rattle.hn_advert.specs.declared.advert.Info.{Info}
@@ -25,6 +25,7 @@ use Rattle.hn_rules.specs.Seen.{seen_by}
 use Rattle.hn_router.specs.Advertising.{AreInfos}
 use Rattle.hn_router.specs.Infos.{IsInfoFrom, HasNoInfo}
 use Rattle.hn_prefix.proofs.Prefixes.{prefix_total}
+use Rattle.hn_base.proofs.Fronts.{front_at}
 
 -- the law of hn_deleg: prefixes inside two usable prefixes are in the order of these
 abbrev pub InsideKeepsOrder : Type 0
@@ -47,20 +48,8 @@ delegated_less a c same less =
 
 -- a prefix has one element
 one_used : (xs : List Delegated) (u v : Delegated) → IsStrictlySortedBy prefix_cmp (prefixes_of xs) → Contains xs u → Contains xs v → u.prefix ≡ v.prefix → u ≡ v
-one_used [] u v up hu hv same = absurd (nothing_in u hu)
-one_used (x ∷ xs) u v up hu hv same =
-    let all_after : All (λ (q : PlainPrefix). prefix_cmp x.prefix q ≡ Less) (prefixes_of xs) = All-from_recursion (λ (q : PlainPrefix). prefix_cmp x.prefix q ≡ Less) (prefixes_of xs) (sorted_head prefix_cmp x.prefix (prefixes_of xs) up) in
-    let after : (z : Delegated) → Contains xs z → prefix_cmp x.prefix z.prefix ≡ Less = λ z h. All-contains (λ (q : PlainPrefix). prefix_cmp x.prefix q ≡ Less) (prefixes_of xs) z.prefix all_after (Contains-map (λ (w : Delegated). w.prefix) xs z h) in
-    ⊎_elim
-    (λ (is_u : x ≡ u). ⊎_elim
-    (λ (is_v : x ≡ v). sym is_u ∙ is_v)
-    (λ (rest : Contains xs v). absurd (not_below_itself prefix_cmp prefix_total x.prefix v.prefix (ap (λ (w : Delegated). w.prefix) is_u ∙ same) (after v rest)))
-    (Contains-cases x xs v hv))
-    (λ (early : Contains xs u). ⊎_elim
-    (λ (is_v : x ≡ v). absurd (not_below_itself prefix_cmp prefix_total x.prefix u.prefix (ap (λ (w : Delegated). w.prefix) is_v ∙ sym same) (after u early)))
-    (λ (rest : Contains xs v). one_used xs u v (sorted_tail prefix_cmp x.prefix (prefixes_of xs) up) early rest same)
-    (Contains-cases x xs v hv))
-    (Contains-cases x xs u hu)
+one_used xs u v up hu hv same =
+    one_of_ascending (λ (d : Delegated). d.prefix) prefix_cmp prefix_total xs ((sorted_parts (λ (d : Delegated). d.prefix) prefix_cmp xs).1 up) u v hu hv same
 
 -- ---- of one assignment
 
@@ -151,10 +140,6 @@ infos_same usable e done c infos were none = record {
 
 -- ---- the same, by the place of the next assignment
 
--- the first elements and the next one
-take_at : (xs : List Assigned) (n : ℕ) (c : Assigned) → slice_get xs n ≡ Some c → take (n + 1) xs ≡ take n xs ++ c ∷ []
-take_at xs n c at = take_more xs n c (slice_get_within xs n c at) ∙ ap (λ (b : Assigned). take n xs ++ b ∷ []) (get_or_from_slice_get xs n c c at)
-
 before_at : (xs : List Assigned) (n : ℕ) (c : Assigned) → slice_get xs n ≡ Some c → IsAscending assigned_pair xs → All (λ b. pair_cmp (assigned_pair b) (assigned_pair c) ≡ Less) (take n xs)
 before_at xs n c at up k d within =
     let size = length-take n xs in
@@ -174,11 +159,11 @@ next_at view usable xs n c at are up inside = record {
 pub infos_more_at : InsideKeepsOrder → (view : PlainView) (usable : List Delegated) (e : EpId) (xs : List Assigned) (n : ℕ) (c : Assigned) (infos : List Info) (i : Info) → slice_get xs n ≡ Some c → AreUsable view usable
     → IsAscending assigned_pair xs → All IsInDelegated xs → AreInfosOf usable e (take n xs) infos → IsInfoFrom usable e c i → IsPrefix i.prefix → AreInfosOf usable e (take (n + 1) xs) (infos ++ i ∷ [])
 infos_more_at keeps view usable e xs n c infos i at are up inside were from valid =
-    subst (λ (l : List Assigned). AreInfosOf usable e l (infos ++ i ∷ [])) (sym (take_at xs n c at)) (infos_more keeps view usable e (take n xs) c infos i (next_at view usable xs n c at are up inside) were from valid)
+    subst (λ (l : List Assigned). AreInfosOf usable e l (infos ++ i ∷ [])) (sym (front_at xs n c at)) (infos_more keeps view usable e (take n xs) c infos i (next_at view usable xs n c at are up inside) were from valid)
 
 pub infos_same_at : (usable : List Delegated) (e : EpId) (xs : List Assigned) (n : ℕ) (c : Assigned) (infos : List Info) → slice_get xs n ≡ Some c → AreInfosOf usable e (take n xs) infos → HasNoInfo usable e c
     → AreInfosOf usable e (take (n + 1) xs) infos
-infos_same_at usable e xs n c infos at were none = subst (λ (l : List Assigned). AreInfosOf usable e l infos) (sym (take_at xs n c at)) (infos_same usable e (take n xs) c infos were none)
+infos_same_at usable e xs n c infos at were none = subst (λ (l : List Assigned). AreInfosOf usable e l infos) (sym (front_at xs n c at)) (infos_same usable e (take n xs) c infos were none)
 
 -- ---- of a router
 

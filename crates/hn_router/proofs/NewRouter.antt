@@ -23,6 +23,8 @@ use Rattle.hn_rules.specs.Nodes.{held_entry, own_entry, nodes_of}
 use Rattle.hn_rules.specs.Router.{IsPortPast, IsNodePast, IsWell, WasReach}
 use Rattle.hn_router.specs.Laws.{NewIsRouter}
 use Rattle.hn_base.proofs.AscendingLists.{Contains-one}
+use Rattle.hn_own.proofs.PortLists.{ArePorts-none}
+use Rattle.hn_own.proofs.PrefixLists.{AreOwnPrefixes-none}
 
 -- its own node is the only one
 module _ (own : ℕ) (node : Entry) (here : node.id.0 ≡ own) (own_is_reachable : (own : ℕ) (nodes : List Entry) → IsNetwork own nodes → IsReachable own nodes own)
@@ -43,14 +45,6 @@ alone_ascending : (id : NodeId) → IsStrictlySortedBy node_cmp (id ∷ [])
 unfolding IsStrictlySortedBy
 alone_ascending id = (tt, tt)
 
-no_ports : ArePorts []
-unfolding IsStrictlySortedBy
-no_ports = record { ascending = tt; few = omega arith; numbered = All-nil (λ (p : Port). 0 < p.id.0) }
-
-no_prefixes : AreOwnPrefixes []
-unfolding IsStrictlySortedBy
-no_prefixes = record { ascending = tt; few = omega arith }
-
 nothing_held : AreHeldPairs no_pairs
 unfolding IsStrictlySortedBy
 nothing_held = record { assigned = tt; backoffs = tt; few = omega arith; inside = All-nil IsInDelegated; priority = All-nil HasOwnPriority }
@@ -62,11 +56,11 @@ new_is_one none own_is_reachable reachable_is_a_node id now s new =
   where
     well : IsWell s
     well = record {
-      ports = subst ArePorts (sym new.ports_are) no_ports;
+      ports = subst ArePorts (sym new.ports_are) ArePorts-none;
       peers = subst (λ (ports : List Port). All (λ port. ArePeers port.peers) ports) (sym new.ports_are) (All-nil (λ (port : Port). ArePeers port.peers));
       table = subst IsTable (sym new.table_is) (none 256 (inl refl));
       own = new.own_is;
-      delegated = subst AreOwnPrefixes (sym new.no_prefixes) no_prefixes;
+      delegated = subst AreOwnPrefixes (sym new.no_prefixes) AreOwnPrefixes-none;
       pairs = subst AreHeldPairs (sym new.nothing_held) nothing_held;
       other = subst (λ (nodes : Nodes). held nodes.entries s.id.0 ≡ None) (sym new.table_is) refl;
       numbered = record {

@@ -1,30 +1,16 @@
 -- A new router is determined by its identifier and its moment.
-use Rattle.std.proofs.Common.{◌≡◌, ◌∙◌, ◌≤◌, ℕ, List, ap, sym}
-use Rattle.std.specs.Coded.{le_prop}
-use mathlib.Core.HLevel.{is_prop→PathP}
+use Rattle.std.proofs.Common.{◌≡◌, ◌∙◌, ℕ, List, ap, sym}
 use Rattle.hn_base.specs.Caps.{PlainCaps, plain_caps}
 use Rattle.hn_base.specs.declared.caps.Caps.{Caps}
 use Rattle.hn_own.specs.HeldPairs.{published_in}
 use Rattle.hn_own.specs.Own.{PlainData, IsOwnData, links_of}
 use Rattle.hn_rules.specs.Refresh.{own_items, network_state_hash}
 use Rattle.hn_router.specs.Laws.{NewIsUnique}
+use Rattle.hn_base.proofs.Fields.{same_caps}
 
 one_caps : (a b : Caps) → plain_caps a ≡ plain_caps b → a ≡ b
 one_caps a b same =
-    let m : a.m ≡ b.m = ap (λ (c : PlainCaps). c.m) same in
-    let p : a.p ≡ b.p = ap (λ (c : PlainCaps). c.p) same in
-    let h : a.h ≡ b.h = ap (λ (c : PlainCaps). c.h) same in
-    let l : a.l ≡ b.l = ap (λ (c : PlainCaps). c.l) same in
-    λ i. record {
-      m = m i;
-      p = p i;
-      h = h i;
-      l = l i;
-      m_in_range = is_prop→PathP (λ j. m j ≤ 15) (λ j. le_prop) a.m_in_range b.m_in_range i;
-      p_in_range = is_prop→PathP (λ j. p j ≤ 15) (λ j. le_prop) a.p_in_range b.p_in_range i;
-      h_in_range = is_prop→PathP (λ j. h j ≤ 15) (λ j. le_prop) a.h_in_range b.h_in_range i;
-      l_in_range = is_prop→PathP (λ j. l j ≤ 15) (λ j. le_prop) a.l_in_range b.l_in_range i;
-    }
+    same_caps a b (ap (λ (c : PlainCaps). c.m) same) (ap (λ (c : PlainCaps). c.p) same) (ap (λ (c : PlainCaps). c.h) same) (ap (λ (c : PlainCaps). c.l) same)
 
 -- what a law says of own node data
 abbrev pub OneOwn : Type 0

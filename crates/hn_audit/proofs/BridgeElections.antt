@@ -31,12 +31,14 @@ use Rattle.hn_audit.specs.Reached.{IsReached}
 use Rattle.hn_audit.specs.Sound.{IsThere, ElectSame}
 use Rattle.hn_base.proofs.Elements.{in_filter, from_filter}
 use Rattle.hn_base.proofs.Elements.{any_of, any_from}
-use Rattle.hn_audit.proofs.BridgeOrders.{ascending_of, greatest_of}
+use Rattle.hn_audit.proofs.BridgeOrders.{ascending_of}
 use Rattle.hn_audit.proofs.BridgeSets.{router_of, in_view, of_view}
 use Rattle.hn_audit.proofs.BridgeHomes.{home_of, set_of, in_set, of_set, IsEndOf}
 use Rattle.hn_audit.proofs.BridgePremises.{IsCase}
 use Rattle.hn_audit.proofs.BridgeSeen.{common_is_link}
 use Rattle.hn_audit.proofs.BridgeSounds.{end_on, reached_there, plugged_there}
+use Rattle.hn_link.proofs.Elections.{rank_total}
+use Rattle.hn_base.proofs.Greatest.{greatest_of}
 
 -- ---- orders
 
@@ -47,9 +49,6 @@ endpoint_exact : IsExact endpoint_cmp
 endpoint_exact =
     exact_then {K = NodeId × EpId} (λ at. at.0.0) (λ at. at.1.0) nat_cmp nat_cmp exact_nat exact_nat
     (λ x y node id. λ i. (record { 0 = node i }, record { 0 = id i }))
-
-rank_total : IsTotalOrder rank_cmp
-rank_total = then_total (on_total (λ x. x.priority) nat_cmp_total) (then_total (on_total (λ x. x.combined) nat_cmp_total) (on_total (λ x. x.node.0) nat_cmp_total))
 
 -- the capabilities of a router
 abbrev caps_of : Member → PlainCaps
@@ -225,24 +224,24 @@ module _ (w : Parts) (r : Member) (usable : List Delegated) (case : IsCase w r u
 
   comes_out : (s : Member) (common : List (NodeId × EpId)) (letter : Letter) → IsReached w r s → (who : Option NodeId) × Elects s common letter who
   comes_out s common letter s_in =
-      elim (greatest_of (member_cmp letter) (member_total letter) (standing_list common letter)) [
+      elim (greatest_of (member_total letter) (λ (m : Member). Unit {0}) (λ m. inl tt) (standing_list common letter)) [
         | inl found ↦ (
           Some found.0.router.id,
           record {
             caps = caps_of found.0;
-            candidate = to_candidate s common letter found.0 s_in (from_standing common letter found.0 found.1.there);
+            candidate = to_candidate s common letter found.0 s_in (from_standing common letter found.0 found.1.is_in);
             greatest = λ other others candidate above.
                 let m = of_candidate s common letter other others s_in candidate in
                 let by_node = subst (λ (n : NodeId). rank_cmp (rank_of letter (caps_of found.0) found.0.router.id) (rank_of letter others n) ≡ Less) (sym m.1.of_node) above in
                 let by_caps = subst (λ (c : PlainCaps). rank_cmp (rank_of letter (caps_of found.0) found.0.router.id) (rank_of letter c m.0.router.id) ≡ Less) (sym m.1.has_caps) by_node in
-                found.1.greatest m.0 (to_standing common letter m.0 m.1.standing) by_caps;
+                found.1.greatest m.0 (to_standing common letter m.0 m.1.standing) tt by_caps;
           },
         )
         | inr none ↦ (
           None,
           λ id caps candidate.
               let m = of_candidate s common letter id caps s_in candidate in
-              none m.0 (to_standing common letter m.0 m.1.standing),
+              none m.0 (to_standing common letter m.0 m.1.standing) tt,
         )
       ]
 

@@ -1,5 +1,5 @@
 -- The home of a settled set: its endpoints on links, and its assignments.
-use Rattle.std.proofs.Common.{◌≡◌, ◌≢◌, ◌∙◌, ◌<◌, ℕ, true, List, Option, Some, None, Contains, IsTrue, filter, find, map, is_some, not, refl, sym, ap, subst}
+use Rattle.std.proofs.Common.{◌≡◌, ◌≢◌, ◌∙◌, ◌<◌, ℕ, List, Option, Some, None, Contains, IsTrue, filter, find, map, not, refl, sym, ap, subst}
 use Rattle.std.specs.Option.{option_map}
 use Rattle.std.specs.List.{filter_map, flat_map}
 use Rattle.std.proofs.lemmas.Bool.{and_from, and_parts, eqb-true, eq-eqb}
@@ -14,7 +14,7 @@ use Rattle.hn_assign.specs.declared.assigned.Assigned.{Assigned}
 use Rattle.hn_deleg.specs.declared.delegated.Delegated.{Delegated}
 use Rattle.hn_deleg.specs.Used.{prefixes_of}
 use Rattle.hn_dncp.specs.declared.port.Port.{Port}
-use Rattle.hn_own.specs.Ports.{endpoints_of, is_attached, is_port}
+use Rattle.hn_own.specs.Ports.{endpoints_of, is_attached}
 use Rattle.hn_rules.specs.Router.{IsRouter}
 use Rattle.hn_sound.specs.Home.{Home, Endpoint, Held, HasAssignment}
 use Rattle.hn_world.specs.declared.member.Attachment.{Attachment}
@@ -24,11 +24,11 @@ use Rattle.hn_world.specs.Names.{is_of, link_of}
 use Rattle.hn_world.specs.Replay.{IsAttachedMember}
 use Rattle.hn_audit.specs.Reached.{IsReached, runs_as}
 use Rattle.hn_audit.specs.Sound as said
-use Rattle.hn_base.proofs.Elements.{in_filter, from_filter, in_filter_map, from_filter_map}
+use Rattle.hn_base.proofs.Elements.{in_filter, from_filter, in_filter_map, from_filter_map, found_passes, one_of_apart}
 use Rattle.hn_audit.proofs.Lists.{in_flat_map, from_flat_map}
-use Rattle.hn_audit.proofs.BridgeLists.{found_passes, passing_found, one_of_apart}
 use Rattle.hn_audit.proofs.BridgeSets.{IsKnown, router_of, one_member}
 use Rattle.hn_audit.proofs.BridgeUsed.{is_unwanted}
+use Rattle.hn_own.proofs.AttachedPorts.{port_is_attached}
 
 -- ---- the attachments of a router
 
@@ -57,24 +57,8 @@ on_link_is_port m e link attached on =
     let by = attached_by m e link on.1 in
     (attached.endpoints e on.0).1 (subst (Contains (map (λ (a : Attachment). a.endpoint) m.attachments)) by.1.of_endpoint (Contains-map (λ (a : Attachment). a.endpoint) m.attachments by.0 by.1.there))
 
-pub port_is_attached : (ports : List Port) (e : EpId) → Contains (endpoints_of ports) e → IsTrue (is_attached e ports)
-port_is_attached ports e there =
-    let from = Contains-from_map (λ (p : Port). p.id) ports e there in
-    let passes : is_port e from.0 ≡ true = eq-eqb from.0.id.0 e.0 (ap (λ (id : EpId). id.0) from.2) in
-    let found = passing_found (is_port e) ports from.0 from.1 passes in
-    ap (λ (o : Option Port). is_some o) found.1
-
 pub on_link_is_attached : (m : Member) (e : EpId) (link : ℕ) → IsAttachedMember m → IsPlugged link m e → IsTrue (is_attached e m.router.ports)
 on_link_is_attached m e link attached on = port_is_attached m.router.ports e (on_link_is_port m e link attached on)
-
-pub attached_is_port : (ports : List Port) (e : EpId) → IsTrue (is_attached e ports) → Contains (endpoints_of ports) e
-attached_is_port ports e is = go (find (is_port e) ports) refl is
-  where
-    go : (o : Option Port) → find (is_port e) ports ≡ o → is_some o ≡ true → Contains (endpoints_of ports) e
-    go None at some = absurd cc
-    go (Some p) at some =
-        let passes = found_passes (is_port e) ports p at in
-        subst (Contains (endpoints_of ports)) (same_id p.id e (eqb-true p.id.0 e.0 passes.1)) (Contains-map (λ (q : Port). q.id) ports p passes.0)
 
 -- endpoints are numbered from 1
 pub port_is_numbered : (m : Member) (e : EpId) → IsRouter m.router → Contains (endpoints_of m.router.ports) e → 0 < e.0

@@ -1,4 +1,4 @@
--- Lists under a total order: one in ascending order with given elements, and a greatest element.
+-- Under a total order there is a list in ascending order with given elements.
 use Rattle.std.proofs.Common.{◌≡◌, ◌∙◌, ◌↔◌, ◌⊎◌, List, [], ◌∷◌, Contains, inl, inr, refl, sym, ap, subst}
 use Rattle.std.specs.Cmp.{IsTotalOrder}
 use Rattle.std.specs.List.Sorted.{IsStrictlySortedBy}
@@ -7,7 +7,7 @@ use Rattle.std.specs.declared.cmp.Ordering.{Ordering}
 use Rattle.std.specs.declared.cmp.Ordering.TheVariants.{Less, Equal, Greater}
 use Rattle.std.proofs.lemmas.List.Elements.{recursion_from_All}
 use Rattle.std.proofs.lemmas.Map.Keys.{sorted_tail}
-use Rattle.hn_base.proofs.AscendingLists.{Contains-head, Contains-tail, Contains-cases, below_head, nothing_in, not_below_itself}
+use Rattle.hn_base.proofs.AscendingLists.{Contains-head, Contains-tail, Contains-cases, below_head, nothing_in}
 use Rattle.hn_base.specs.Ascending.{IsExact}
 use Rattle.hn_base.proofs.Elements.{all_of}
 
@@ -113,51 +113,3 @@ module _ {K : Type 0} (R : K → K → Ordering) (total : IsTotalOrder R) where
           ],
         ),
       )
-
-  -- ---- a greatest element
-
-  pub record IsGreatestOf (xs : List K) (x : K) : Type 0 where
-    pub there : Contains xs x
-    pub greatest : (y : K) → Contains xs y → ¬ (R x y ≡ Less)
-
-  -- the first is above the greatest of the others
-  new_greatest : (x y : K) (xs : List K) → R x y ≡ Less → IsGreatestOf xs x → IsGreatestOf (y ∷ xs) y
-  new_greatest x y xs less g = record {
-    there = Contains-head y xs;
-    greatest = λ z h above. elim (Contains-cases y xs z h) [
-      | inl same ↦ not_below_itself R total y z same above
-      | inr later ↦ g.greatest z later (total.trans x y z less above)
-    ];
-  }
-
-  old_greatest : (x y : K) (xs : List K) → ¬ (R x y ≡ Less) → IsGreatestOf xs x → IsGreatestOf (y ∷ xs) x
-  old_greatest x y xs not_less g = record {
-    there = Contains-tail y xs x g.there;
-    greatest = λ z h above. elim (Contains-cases y xs z h) [
-      | inl same ↦ not_less (subst (λ (v : K). R x v ≡ Less) (sym same) above)
-      | inr later ↦ g.greatest z later above
-    ];
-  }
-
-  only_greatest : (y : K) (xs : List K) → ((z : K) → ¬ (Contains xs z)) → IsGreatestOf (y ∷ xs) y
-  only_greatest y xs none = record {
-    there = Contains-head y xs;
-    greatest = λ z h above. elim (Contains-cases y xs z h) [
-      | inl same ↦ not_below_itself R total y z same above
-      | inr later ↦ none z later
-    ];
-  }
-
-  -- a list has a greatest element, or none
-  pub greatest_of : (xs : List K) → ((x : K) × IsGreatestOf xs x) ⊎ ((x : K) → ¬ (Contains xs x))
-  greatest_of [] = inr (λ x h. nothing_in x h)
-  greatest_of (y ∷ xs) =
-      elim (greatest_of xs) [
-        | inl found ↦ inl (next found.0 found.1 (R found.0 y) refl)
-        | inr none ↦ inl (y, only_greatest y xs none)
-      ]
-    where
-      next : (x : K) → IsGreatestOf xs x → (o : Ordering) → R x y ≡ o → (z : K) × IsGreatestOf (y ∷ xs) z
-      next x g Less is = (y, new_greatest x y xs is g)
-      next x g Equal is = (x, old_greatest x y xs (λ less. absurd (let both : Equal ≡ Less = sym is ∙ less in cc)) g)
-      next x g Greater is = (x, old_greatest x y xs (λ less. absurd (let both : Greater ≡ Less = sym is ∙ less in cc)) g)

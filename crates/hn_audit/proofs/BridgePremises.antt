@@ -21,11 +21,11 @@ use Rattle.hn_audit.specs.Reached.{IsReached}
 use Rattle.hn_audit.specs.Settled.{AreSame}
 use Rattle.hn_audit.specs.Quiet.{IsQuiet}
 use Rattle.hn_audit.specs.Sound as said
-use Rattle.hn_audit.proofs.BridgeLists.{one_of_ascending}
 use Rattle.hn_audit.proofs.BridgeSets.{IsKnown, OwnVersions, OwnPeers, router_of, itself, one_member}
 use Rattle.hn_assign.proofs.Orders.{pair_total}
 use Rattle.hn_audit.proofs.BridgeUsed.{used_same}
 use Rattle.hn_audit.proofs.BridgeHomes.{home_of, IsEndOf, IsPlugged, of_end, of_has, one_on_link}
+use Rattle.hn_base.proofs.Parts.{one_of_ascending}
 
 -- a settled and quiet router of a replayed world, and the delegated prefixes that it uses
 pub record IsCase (w : Parts) (r : Member) (usable : List Delegated) : Type 0 where

@@ -1,7 +1,6 @@
 -- The set of a settled router: its routers are known by their identifiers, and each sees the others as they are.
-use Rattle.std.proofs.Common.{◌≡◌, ◌∙◌, true, List, Option, Some, None, Contains, inl, inr, refl, sym, ap, subst, ◌==◌}
-use Rattle.std.specs.Option.{option_map}
-use Rattle.std.proofs.lemmas.Bool.{and_from, and_parts, eqb-true, eq-eqb, ne_eqb, cases_eq, cond-true, cond-false}
+use Rattle.std.proofs.Common.{◌≡◌, ◌∙◌, true, List, Some, Contains, inl, inr, refl, sym, ap, subst, ◌==◌}
+use Rattle.std.proofs.lemmas.Bool.{and_from, and_parts, eqb-true, eq-eqb, cases_eq}
 use Rattle.std.proofs.lemmas.List.Elements.{All-contains}
 use Rattle.std.proofs.lemmas.Option.{same_Some}
 use Rattle.hn_base.proofs.AscendingLists.{Contains-from_map}
@@ -15,7 +14,6 @@ use Rattle.hn_data.specs.declared.said.PeerLink.{PeerLink}
 use Rattle.hn_own.specs.Ports.{endpoints_of}
 use Rattle.hn_data.specs.declared.view.Entry.{Entry}
 use Rattle.hn_store.specs.Nodes.{held}
-use Rattle.hn_store.specs.declared.stored.Stored.{Stored}
 use Rattle.hn_rules.specs.declared.state.State.{State}
 use Rattle.hn_rules.specs.Laws.{ViewIsNetwork}
 use Rattle.hn_rules.specs.Nodes.{held_entry, own_entry, entry_of, view_of}
@@ -27,6 +25,7 @@ use Rattle.hn_audit.specs.Reached.{IsRunning, IsReached, IsOfOne, runs_as}
 use Rattle.hn_audit.specs.Settled.{IsSettled, Holds}
 use Rattle.hn_base.proofs.Elements.{in_filter_map, from_filter_map}
 use Rattle.hn_audit.proofs.BridgeLists.{one_passes, two_pass}
+use Rattle.hn_rules.proofs.Entries.{entry_own, entry_held, entry_named}
 
 -- ---- what is known of a settled router of a replayed world
 
@@ -44,36 +43,6 @@ pub record IsKnown (w : Parts) (r : Member) : Type 0 where
   pub network : ViewIsNetwork
   pub runs : IsRunning w r
   pub settled : IsSettled w r
-
--- ---- the nodes that a router sees
-
-entry_own : (s : State) (id : NodeId) → id.0 ≡ s.id.0 → entry_of s id ≡ Some (own_entry s)
-entry_own s id is = cond-true (id.0 == s.id.0) _ _ (eq-eqb id.0 s.id.0 is)
-
-entry_other : (s : State) (id : NodeId) → (id.0 ≡ s.id.0 → ⊥)
-    → entry_of s id ≡ option_map (λ (stored : Stored). held_entry s.moment (record { id = id; stored = stored })) (held s.table.entries id.0)
-entry_other s id differs = cond-false (id.0 == s.id.0) _ _ (ne_eqb id.0 s.id.0 differs)
-
-entry_held : (s : State) (id : NodeId) (stored : Stored) → (id.0 ≡ s.id.0 → ⊥) → held s.table.entries id.0 ≡ Some stored
-    → entry_of s id ≡ Some (held_entry s.moment (record { id = id; stored = stored }))
-entry_held s id stored differs is =
-    entry_other s id differs ∙ ap (option_map (λ (kept : Stored). held_entry s.moment (record { id = id; stored = kept }))) is
-
--- an entry is of the identifier that it was looked up by
-entry_named : (s : State) (id : NodeId) (n : Entry) → entry_of s id ≡ Some n → n.id ≡ id
-entry_named s id n is =
-    elim (cases_eq id.0 s.id.0) [
-      | inl own ↦
-          let same : own_entry s ≡ n = same_Some (own_entry s) n (sym (entry_own s id own) ∙ is) in
-          sym (ap (λ (e : Entry). e.id) same) ∙ sym (same_node id s.id own)
-      | inr differs ↦ by_held (held s.table.entries id.0) (sym (entry_other s id differs) ∙ is)
-    ]
-  where
-    by_held : (o : Option Stored) → option_map (λ (stored : Stored). held_entry s.moment (record { id = id; stored = stored })) o ≡ Some n → n.id ≡ id
-    by_held None e = absurd cc
-    by_held (Some stored) e =
-        let same : held_entry s.moment (record { id = id; stored = stored }) ≡ n = same_Some _ n e in
-        sym (ap (λ (x : Entry). x.id) same)
 
 -- a router reaches itself
 pub reaches_itself : ViewIsNetwork → (s : State) → IsRouter s → Contains s.reach s.id

@@ -20,9 +20,10 @@ use Rattle.hn_audit.specs.Settled.{AreSame}
 use Rattle.hn_audit.specs.Sound.{Uses, DoesNotWant, SeesNoFree, IsThere, IsServed, IsWithout, IsHeldOn}
 use Rattle.hn_audit.proofs.BridgeSets.{IsKnown, one_member}
 use Rattle.hn_audit.proofs.BridgeUsed.{is_unwanted, to_unwanted, place_of, delegated_at}
-use Rattle.hn_audit.proofs.BridgeHomes.{home_of, IsEndOf, IsPlugged, to_end, of_end, to_has, of_has, port_is_numbered, attached_is_port, on_link_is_attached}
+use Rattle.hn_audit.proofs.BridgeHomes.{home_of, IsEndOf, IsPlugged, to_end, of_end, to_has, of_has, port_is_numbered, on_link_is_attached}
 use Rattle.hn_audit.proofs.BridgePremises.{IsCase, uses_same, for_used, is_inside}
 use Rattle.hn_audit.proofs.BridgeSeen.{gathered_is_published}
+use Rattle.hn_own.proofs.AttachedPorts.{attached_is_port}
 
 -- an endpoint of a router on a link
 abbrev pub end_on : Member → EpId → ℕ → Endpoint

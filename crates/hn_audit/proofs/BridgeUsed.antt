@@ -16,10 +16,10 @@ use Rattle.hn_audit.specs.Settled.{AreSame, UseSame}
 use Rattle.hn_rules.specs.declared.state.State.{State}
 use Rattle.hn_rules.specs.Seen.{seen_by}
 use Rattle.hn_base.proofs.Elements.{any_of, any_from}
-use Rattle.hn_audit.proofs.BridgeLists.{one_of_ascending, same_Bool}
+use Rattle.hn_audit.proofs.BridgeLists.{same_Bool}
 use Rattle.hn_prefix.proofs.Prefixes.{is_one_prefix, prefix_decided, prefix_total}
 use Rattle.hn_base.proofs.Decisions.{not_both}
-use Rattle.hn_base.proofs.Parts.{part_at, part_stands}
+use Rattle.hn_base.proofs.Parts.{part_at, part_stands, one_of_ascending}
 
 -- ---- whether a delegated prefix is wanted
 

@@ -18,7 +18,7 @@ use Rattle.hn_sound.specs.Members.{IsAdvertised, IsOnLinkOf, IsSeenAtRest}
 use Rattle.hn_sound.specs.Premises.{IsHome}
 use Rattle.hn_sound.specs.Sound as home
 use Rattle.hn_world.specs.declared.event.Traced.{Traced}
-use Rattle.hn_world.specs.declared.event.Version.{Version}
+use Rattle.hn_base.specs.declared.version.Version.{Version}
 use Rattle.hn_world.specs.declared.member.Member.{Member}
 use Rattle.hn_world.specs.declared.parts.Parts.{Parts}
 use Rattle.hn_world.specs.Replay.{Replays, IsReplayed, Always, AreAttached, IsAttachedMember, IsSoundMember, IsSound as IsSoundWorld}

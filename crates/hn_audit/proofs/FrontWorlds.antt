@@ -1,13 +1,10 @@
 -- Worlds of a world's past.
-use Rattle.std.proofs.Common.{◌≡◌, ◌∙◌, List, ◌++◌, append_assoc, refl, sym, ap, subst}
+use Rattle.std.proofs.Common.{◌≡◌, ◌∙◌, List, ◌++◌, append_assoc, sym, ap, subst}
 use Rattle.hn_world.specs.declared.event.Traced.{Traced}
-use Rattle.hn_world.specs.declared.event.Version.{Version}
-use Rattle.hn_world.specs.declared.event.Version.TheVariants.{One}
+use Rattle.hn_base.specs.declared.version.Version.{Version}
 use Rattle.hn_world.specs.declared.parts.Parts.{Parts}
 use Rattle.hn_world.specs.Replay.{Replays, IsReplayed, Always}
-
-pub one_version : (a b : Version) → a ≡ b
-one_version One One = refl
+use Rattle.hn_base.proofs.Fields.{one_version}
 
 -- a world has the trace that leads to it
 abbrev pub HasItsTrace : Type 0

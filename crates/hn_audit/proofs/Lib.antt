@@ -12,11 +12,11 @@ mod BridgeSounds
 mod BridgeUsed
 mod BridgeVersions
 mod BridgeWorlds
-mod Cases
 mod FixedPoints
 mod FrontWorlds
 mod Judging
 mod Lists
+mod PairRests
 mod QuietSets
 mod RestRuns
 mod Restings

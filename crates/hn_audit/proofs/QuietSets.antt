@@ -13,8 +13,8 @@ use Rattle.hn_audit.specs.Fixed.{ChangesNothing, IsFixed, MayChangeNothing, IsUn
 use Rattle.hn_audit.specs.Laws.{RestChangesNothing, RestHasARun}
 use Rattle.hn_audit.specs.Quiet.{IsRouterAtRest}
 use Rattle.hn_audit.specs.Reached.{runs, IsRunning, IsReached}
-use Rattle.hn_audit.proofs.BridgeLists.{found_passes}
 use Rattle.hn_audit.proofs.Settling.{IsSet, each_of_set}
+use Rattle.hn_base.proofs.Elements.{found_passes}
 
 module _ (w : Parts) (r : Member) (set : List (Bor Member)) (is : IsSet w r set) (sound : IsSound w) (answer : Bool) where
   router_of : (s : Member) → IsReached w r s → IsRouter s.router

@@ -32,12 +32,12 @@ use Rattle.hn_rules.specs.Router.{IsRouter}
 use Rattle.hn_rules.specs.Seen.{seen_by}
 use Rattle.hn_audit.specs.Laws.{RestHasARun}
 use Rattle.hn_audit.specs.Quiet.{IsRouterAtRest}
-use Rattle.hn_audit.proofs.BridgeHomes.{attached_is_port, port_is_attached}
 use Rattle.hn_prefix.proofs.Prefixes.{prefix_total}
 use Rattle.hn_audit.proofs.BridgeUsed.{at_prefix}
 use Rattle.hn_audit.proofs.FixedPoints.{FixedLaws, are_at_rest, wished_at_rest}
 use Rattle.hn_audit.proofs.Restings.{IsOneLink, one_wish}
 use Rattle.hn_audit.proofs.BridgeOrders.{sorted_cons, sorted_none}
+use Rattle.hn_own.proofs.AttachedPorts.{attached_is_port, port_is_attached}
 
 -- ---- a law of hn_assign
 

@@ -22,10 +22,10 @@ use Rattle.hn_rules.specs.Seen.{seen_by}
 use Rattle.hn_base.specs.Ascending.{HaveSame}
 use Rattle.hn_audit.specs.Quiet.{IsForPair, IsPairAtRest, IsRouterAtRest}
 use Rattle.hn_audit.specs.Resting.{IsEachAtRest, IsEndAtRest}
-use Rattle.hn_audit.proofs.BridgeHomes.{attached_is_port, port_is_attached}
 use Rattle.hn_audit.proofs.BridgeLists.{same_Bool}
 use Rattle.hn_audit.proofs.Sames.{IsOneList}
 use Rattle.hn_assign.proofs.Ats.{has_one}
+use Rattle.hn_own.proofs.AttachedPorts.{attached_is_port, port_is_attached}
 
 -- ---- a pair
 

@@ -1,10 +1,9 @@
 -- Lists that are equal place by place, and routers that use the same.
-use Rattle.std.proofs.Common.{◌≡◌, ◌↔◌, ◌<◌, ℕ, suc, Bool, List, [], ◌∷◌, length, slice_get, All, Contains, Result, Ok, Err, IfOk, refl, sym, ◌∙◌, ap, subst, arith}
+use Rattle.std.proofs.Common.{◌≡◌, ◌↔◌, ◌<◌, ℕ, suc, List, [], ◌∷◌, length, slice_get, All, Contains, refl, sym, ◌∙◌, ap, subst, arith}
 use Rattle.std.specs.Borrow.{Bor}
 use Rattle.std.proofs.lemmas.List.{length-map}
 use Rattle.std.proofs.lemmas.List.Elements.{All-contains}
 use Rattle.std.proofs.lemmas.Option.{same_Some, slice_get_within}
-use Rattle.hn_base.specs.declared.memory.NoMemory.{NoMemory}
 use Rattle.hn_base.proofs.Elements.{all_of}
 use Rattle.hn_prefix.specs.Prefix.{PlainPrefix}
 use Rattle.hn_data.specs.View.{PlainView}
@@ -86,13 +85,3 @@ all_use_same once set r there =
       λ all. all_of as_each set (λ s one. all_of (λ (u : Bor Member). UseSame s.now.router u.now.router) set (λ u other. use_same_too once r.now.router s.now.router u.now.router (All-contains as_r set s all one) (All-contains as_r set u all other))),
       λ all. All-contains as_each set r all there,
     )
-
--- what follows from the answer
-pub ok_weaker : (r : Result Bool NoMemory) (P Q : Bool → Type 0) → ((answer : Bool) → P answer → Q answer) → IfOk r P → IfOk r Q
-ok_weaker (Ok answer) P Q weaker h = weaker answer h
-ok_weaker (Err e) P Q weaker h = tt
-
--- and from two facts of it
-pub ok_both : (r : Result Bool NoMemory) (P O Q : Bool → Type 0) → ((answer : Bool) → P answer → O answer → Q answer) → IfOk r P → IfOk r O → IfOk r Q
-ok_both (Ok answer) P O Q weaker h k = weaker answer h k
-ok_both (Err e) P O Q weaker h k = tt

@@ -17,10 +17,9 @@ use Rattle.hn_audit.specs.declared.spots.Spot.{Spot}
 use Rattle.hn_audit.specs.Reached.{IsRunning, IsReached, IsOnLink, AreOnOneLink}
 use Rattle.hn_audit.specs.Set.{PlainSpot, plain_spot, plain_spots, members_of, spot_at, spots_at, spots_in, IsNoStranger, IsSeen, TellsTrue}
 use Rattle.hn_audit.specs.Settled.{AreLinked, IsSameEndpoint}
-use Rattle.hn_base.proofs.Elements.{all_of, given_next, in_filter_map, from_filter_map, passed_next}
+use Rattle.hn_base.proofs.Elements.{all_of, given_next, in_filter_map, from_filter_map, passed_next, found_passes}
 use Rattle.hn_audit.proofs.Lists.{in_flat_map, from_flat_map}
 use Rattle.hn_audit.proofs.Settling.{IsSet, set_has, in_set, each_two}
-use Rattle.hn_audit.proofs.BridgeLists.{found_passes}
 
 -- ---- lists that grow
 

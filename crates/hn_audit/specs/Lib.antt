@@ -1,7 +1,7 @@
 pub mod Reached
 pub mod Set
 pub mod Settled
-pub mod Case
+pub mod Rest
 pub mod Quiet
 pub mod Resting
 pub mod Fixed

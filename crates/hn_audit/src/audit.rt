@@ -11,7 +11,7 @@ ghost use Rattle.hn_audit.specs.Sound.{IsSound};
 
 use crate::knowing::know_each_other;
 use crate::laws::{rest_is_the_fixed_point, settled_and_quiet_is_sound};
-use crate::reached::{are_known, member, set_of};
+use crate::reached::{are_known, set_of};
 use crate::resting::rests;
 use crate::spots::{are_on_their_links, spots_of};
 use hn_base::{Name, NoMemory};
@@ -86,7 +86,7 @@ impl Audit for World {
     ghost parts = { λ w. w };
 
     fn settled(&self, alloc: Global, name: &Name) -> Result<bool, NoMemory> {
-        let Some(r) = member(self, name) else {
+        let Some(r) = self.member(name) else {
             unreachable!()
         };
         if !are_known(self, r.router.reach()) {
@@ -100,7 +100,7 @@ impl Audit for World {
         rest_is_the_fixed_point();
         settled_and_quiet_is_sound();
         self.is_replayed();
-        let Some(r) = member(self, name) else {
+        let Some(r) = self.member(name) else {
             unreachable!()
         };
         let set = set_of(alloc, self, r.router.reach())?;

@@ -1,28 +1,12 @@
 //! The set of a router: the running routers that it reaches.
 
-ghost use Rattle.std.specs.Prelude.{◌≡◌, ◌↔◌, IsTrue, IfOk, All, filter, option_copied};
-ghost use Rattle.hn_base.specs.Name.{name_text};
-ghost use Rattle.hn_world.specs.Names.{is_named, link_of, member_named};
+ghost use Rattle.std.specs.Prelude.{◌≡◌, ◌↔◌, IsTrue, IfOk, All, filter};
 ghost use Rattle.hn_audit.specs.Reached.{runs_as, IsOfOne};
 ghost use Rattle.hn_audit.specs.Set.{is_in_set, members_of};
 
-use hn_base::{EpId, Name, NoMemory, NodeId};
+use hn_base::{NoMemory, NodeId};
 use hn_world::{Member, World};
 use std::alloc::Global;
-
-/// Whether a router has that name.
-fn is_named(member: &Member, name: &Name) -> bool
-    ensures { result ≡ is_named (name_text name.now) member.now }
-{
-    member.name.as_str() == name.as_str()
-}
-
-/// The router of a name.
-pub(crate) fn member<'a>(world: &'a World, name: &Name) -> Option<&'a Member>
-    ensures { option_copied result ≡ member_named (name_text name.now) world.now }
-{
-    world.members().iter().find(|member| is_named(member, name))
-}
 
 /// Whether a router runs and has that identifier.
 fn runs_as(member: &Member, id: NodeId) -> bool
@@ -68,15 +52,4 @@ pub(crate) fn set_of<'a>(
         }
     }
     Ok(set)
-}
-
-/// The link to which an endpoint of a router is attached.
-pub(crate) fn link_of(member: &Member, endpoint: EpId) -> Option<usize>
-    ensures { result ≡ link_of endpoint member.now }
-{
-    let attachments = member.attachments.as_slice();
-    attachments
-        .iter()
-        .find(|a| a.endpoint == endpoint)
-        .map(|a| a.link)
 }

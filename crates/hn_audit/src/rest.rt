@@ -1,96 +1,63 @@
 //! Whether a pair of a delegated prefix and an endpoint is at rest (RFC 7695, section 4.1).
 
 ghost use Rattle.std.specs.Prelude.{◌↔◌, ◌≤◌, IsTrue};
-ghost use Rattle.hn_audit.specs.Case.{plain_case, HasBest, HasNothingToDo, IsValidCase, IsAheadCase, StaysAlone, StaysBeside, RestsWith};
+ghost use Rattle.hn_assign.specs.Scene.{plain_scene};
+ghost use Rattle.hn_audit.specs.Rest.{HasNothingToDo, IsAheadFor, StaysAlone, StaysBeside, RestsWith};
 
-use hn_assign::{Advertised, Assigned, Known, Wish, best, lines_exclude_each_other, valid};
-use hn_base::{Key, NodeId};
+use hn_assign::{Advertised, Assigned, Scene, lines_exclude_each_other};
+use hn_base::Key;
 
-/// What a pair is judged by: the router, the wish for the pair, and the advertised prefixes.
-#[derive(Clone, Copy, Debug)]
-pub(crate) struct Case<'a> {
-    pub(crate) own: NodeId,
-    pub(crate) wish: &'a Wish,
-    pub(crate) known: &'a Known,
+/// Whether the delegated prefix is not wanted, or nothing in it is free.
+fn has_nothing_to_do(scene: &Scene<'_>) -> bool
+    requires { scene.now.wish.now.length ≤ 64 }
+    ensures { IsTrue result ↔ HasNothingToDo (plain_scene scene.entry.now) }
+{
+    !scene.wish.wanted
+        || scene
+            .known
+            .first_free(&scene.wish.delegated, 0, scene.wish.length)
+            .is_none()
 }
 
-impl Case<'_> {
-    /// The best prefix for the pair.
-    fn best(&self) -> Option<Advertised>
-        ensures { HasBest (plain_case self.entry.now) result }
-    {
-        best(
-            self.known.as_slice(),
-            self.own,
-            self.wish.common.as_slice(),
-            &self.wish.delegated,
-        )
-    }
+/// Whether an assignment with this priority would be ahead of another node's.
+fn is_ahead(scene: &Scene<'_>, priority: u8, best: &Advertised) -> bool
+    ensures { IsTrue result ↔ IsAheadFor (plain_scene scene.entry.now) priority best.now }
+{
+    let key = Key {
+        priority,
+        node: scene.own,
+        endpoint: scene.wish.endpoint,
+    };
+    key.is_above(&best.key)
+}
 
-    /// Whether an assignment of the pair is valid.
-    fn is_valid(&self, c: &Assigned) -> bool
-        ensures { IsTrue result ↔ IsValidCase (plain_case self.entry.now) c.now }
-    {
-        valid(
-            self.known.as_slice(),
-            self.own,
-            self.wish.common.as_slice(),
-            c,
-        )
-    }
+/// Whether an assignment stays where no other node has the best prefix.
+fn stays_alone(scene: &Scene<'_>, c: &Assigned) -> bool
+    ensures { IsTrue result ↔ StaysAlone (plain_scene scene.entry.now) c.now }
+{
+    c.published.is_some() && scene.is_valid(c)
+}
 
-    /// Whether the delegated prefix is not wanted, or nothing in it is free.
-    fn has_nothing_to_do(&self) -> bool
-        requires { self.now.wish.now.length ≤ 64 }
-        ensures { IsTrue result ↔ HasNothingToDo (plain_case self.entry.now) }
-    {
-        !self.wish.wanted
-            || self
-                .known
-                .first_free(&self.wish.delegated, 0, self.wish.length)
-                .is_none()
+/// Whether an assignment stays beside the best prefix.
+fn stays_beside(scene: &Scene<'_>, c: &Assigned, best: &Advertised) -> bool
+    ensures { IsTrue result ↔ StaysBeside (plain_scene scene.entry.now) c.now best.now }
+{
+    match c.published {
+        Some(priority) => is_ahead(scene, priority, best) && scene.is_valid(c),
+        None => c.prefix == best.prefix,
     }
+}
 
-    /// Whether an assignment with this priority would be ahead of another node's.
-    fn is_ahead(&self, priority: u8, best: &Advertised) -> bool
-        ensures { IsTrue result ↔ IsAheadCase (plain_case self.entry.now) priority best.now }
-    {
-        let key = Key {
-            priority,
-            node: self.own,
-            endpoint: self.wish.endpoint,
-        };
-        key.is_above(&best.key)
-    }
-
-    /// Whether an assignment stays where no other node has the best prefix.
-    fn stays_alone(&self, c: &Assigned) -> bool
-        ensures { IsTrue result ↔ StaysAlone (plain_case self.entry.now) c.now }
-    {
-        c.published.is_some() && self.is_valid(c)
-    }
-
-    /// Whether an assignment stays beside the best prefix.
-    fn stays_beside(&self, c: &Assigned, best: &Advertised) -> bool
-        ensures { IsTrue result ↔ StaysBeside (plain_case self.entry.now) c.now best.now }
-    {
-        match c.published {
-            Some(priority) => self.is_ahead(priority, best) && self.is_valid(c),
-            None => c.prefix == best.prefix,
-        }
-    }
-
-    /// Whether the pair is at rest, with the assignment that it has, if any.
-    pub(crate) fn is_at_rest(&self, assignment: &Option<Assigned>) -> bool
-        requires { self.now.wish.now.length ≤ 64 }
-        ensures { IsTrue result ↔ RestsWith (plain_case self.entry.now) assignment.now }
-    {
-        lines_exclude_each_other();
-        match (self.best(), assignment) {
-            (None, None) => self.has_nothing_to_do(),
-            (None, Some(c)) => self.stays_alone(c),
-            (Some(_), None) => false,
-            (Some(best), Some(c)) => self.stays_beside(c, &best),
-        }
+/// Whether the pair is at rest, with the assignment that it has, if any.
+pub(crate) fn is_at_rest(scene: &Scene<'_>, assignment: &Option<Assigned>) -> bool
+    requires { scene.now.wish.now.length ≤ 64 }
+    ensures { IsTrue result ↔ RestsWith (plain_scene scene.entry.now) assignment.now }
+{
+    lines_exclude_each_other();
+    match (scene.best(), assignment) {
+        (None, None) => has_nothing_to_do(scene),
+        (None, Some(c)) => stays_alone(scene, c),
+        (Some(_), None) => false,
+        (Some(best), Some(c)) => stays_beside(scene, c, &best),
     }
 }

@@ -8,18 +8,16 @@ ghost use Rattle.hn_audit.specs.Fixed.{IsUnmoved};
 ghost use Rattle.hn_audit.specs.Quiet.{IsForPair, IsPairAtRest, IsRouterAtRest};
 ghost use Rattle.hn_audit.specs.Resting.{IsEachAtRest, IsEndAtRest, RestsIfListed, RestsWhereListed};
 
-use crate::rest::Case;
-use hn_assign::{Assigned, Known, Pair, Wish, rest_is_unchanged, subroutine_leaves};
+use crate::rest::is_at_rest;
+use hn_assign::{Assigned, Known, Pair, Scene, Wish, rest_is_unchanged, subroutine_leaves};
 use hn_base::{Endpoints, EpId, NoMemory};
 use hn_deleg::{Delegated, usable_is_unique, wanted};
 use hn_link::common_link_is_unique;
 use hn_prefix::Prefix;
 use hn_router::Router;
+use hn_rules::LINK_LENGTH;
 use hn_sound::rest_knows_no_order;
 use std::alloc::Global;
-
-/// The length of the prefixes that links get.
-const LINK_LENGTH: u8 = 64;
 
 /// What a router is judged by: the delegated prefixes that it uses, and what it knows to be advertised.
 #[derive(Clone, Copy)]
@@ -74,12 +72,13 @@ impl Outlook<'_> {
         let assigned = &self.router.held().assigned;
         let _ascending = assigned.as_slice();
         let assignment = assigned.find(&pair);
-        let case = Case {
+        let scene = Scene {
             own: self.router.id(),
+            now: self.router.moment(),
             wish: &wish,
             known: self.known,
         };
-        case.is_at_rest(&assignment)
+        is_at_rest(&scene, &assignment)
     }
 
     /// Whether each pair of an endpoint is at rest.

@@ -6,7 +6,7 @@ ghost use Rattle.hn_audit.specs.Reached.{AreOnOneLink, IsOnLink};
 ghost use Rattle.hn_audit.specs.Set.{members_of, plain_spot, plain_spots, spot_at, spots_at, spots_in, HasOn, Touches, IsNoStranger, IsSeen, IsTrueOf, TellsTrue, AreOnTheirLinks};
 ghost use Rattle.hn_audit.specs.Settled.{AreLinked, IsSameEndpoint};
 
-use crate::reached::{is_in_set, link_of};
+use crate::reached::is_in_set;
 use hn_base::{EpId, NoMemory, NodeId};
 use hn_data::{PeerLink, linked};
 use hn_router::Router;
@@ -25,7 +25,7 @@ pub(crate) struct Spot<'a> {
 fn spot_at<'a>(member: &'a Member, a: &Attachment) -> Option<Spot<'a>>
     ensures { option_map plain_spot result ≡ spot_at member.now a.now }
 {
-    let link = link_of(member, a.endpoint)?;
+    let link = member.link_of(a.endpoint)?;
     Some(Spot {
         member,
         endpoint: a.endpoint,
@@ -68,7 +68,7 @@ fn is_one_on(spots: &[Spot<'_>], link: usize) -> bool
 fn is_near(member: &Member, endpoint: EpId, spots: &[Spot<'_>]) -> bool
     ensures { IsTrue result ↔ ((link : ℕ) × IsOnLink link member.now endpoint × HasOn (plain_spots spots.now) link) }
 {
-    match link_of(member, endpoint) {
+    match member.link_of(endpoint) {
         Some(link) => is_one_on(spots, link),
         None => false,
     }
@@ -103,7 +103,7 @@ pub(crate) fn have_no_strangers(world: &World, reach: &[NodeId], spots: &[Spot<'
 fn are_on_one_link(s: &Member, e: EpId, u: &Member, f: EpId) -> bool
     ensures { IsTrue result ↔ AreOnOneLink s.now e u.now f }
 {
-    match (link_of(s, e), link_of(u, f)) {
+    match (s.link_of(e), u.link_of(f)) {
         (Some(link), Some(other)) => link == other,
         _ => false,
     }

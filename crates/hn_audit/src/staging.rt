@@ -5,7 +5,7 @@ ghost use Rattle.hn_world.specs.Step.{IsInRange};
 
 use crate::Audit;
 use crate::knowing::{hold_each_other, reach_same, use_same};
-use crate::reached::{are_known, member, set_of};
+use crate::reached::{are_known, set_of};
 use crate::resting::rests;
 use crate::spots::{have_no_strangers, see_each_other, spots_of, tell_true};
 use hn_base::{Addr, Bytes, Caps, EpId, Name, NodeId};
@@ -297,7 +297,7 @@ fn is_settled(alloc: Global, world: &World, letter: u8) -> Result<bool, Fail> {
 }
 
 fn router(world: &World, letter: u8) -> Result<&Member, Fail> {
-    Ok(member(world, &name(letter)?).ok_or("a router")?)
+    Ok(world.member(&name(letter)?).ok_or("a router")?)
 }
 
 /// Whether a line holds of a router.

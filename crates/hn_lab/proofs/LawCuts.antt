@@ -11,6 +11,7 @@ use Rattle.hn_lab.proofs.LawSole.{StepsAreUnique}
 use Rattle.hn_lab.proofs.LawLines.{ReportLaws}
 use Rattle.hn_lab.proofs.LawPlays.{Plays, plays, compared}
 use Rattle.hn_lab.proofs.LawGrows.{EventsAreEntered, Extends, extends_stage, extends_then, grows_line}
+use Rattle.hn_base.proofs.Fronts.{same_parts}
 
 -- ---- fronts of lists
 
@@ -25,17 +26,6 @@ fronts (x ∷ xs) us (y ∷ ys) vs same =
       | inl shorter ↦ inl (shorter.0, λ i. sym heads i ∷ shorter.1 i)
       | inr longer ↦ inr (longer.0, λ i. heads i ∷ longer.1 i)
     ]
-
--- fronts of one length are one
-same_front : {X : Type 0} (xs us ys vs : List X) → xs ++ us ≡ ys ++ vs → length xs ≡ length ys → xs ≡ ys
-same_front [] us [] vs same lengths = refl
-same_front [] us (y ∷ ys) vs same lengths = absurd (omega (arith, lengths))
-same_front (x ∷ xs) us [] vs same lengths = absurd (omega (arith, lengths))
-same_front (x ∷ xs) us (y ∷ ys) vs same lengths =
-    let heads : x ≡ y = cc in
-    let tails : xs ++ us ≡ ys ++ vs = cc in
-    let rest = same_front xs us ys vs tails (omega (arith, lengths)) in
-    λ i. heads i ∷ rest i
 
 -- ---- a play only adds events
 
@@ -78,7 +68,7 @@ module _ (steps : StepsAreUnique) (reports : ReportLaws) (entered : EventsAreEnt
   same_cut front rest longer p a b s t is h k lengths =
       let on = goes_on front rest h.end k.end p h.after k.after h.whole k.whole h.play (subst (λ (x : List (ℕ × Line)). Plays x k.end p k.whole k.after) is k.play) in
       let whole : t ++ k.more ≡ s ++ (h.more ++ on.0.0) = sym k.whole_is ∙ on.0.1 ∙ ap (λ (x : List Told). x ++ on.0.0) h.whole_is ∙ append_assoc s h.more on.0.0 in
-      let texts : t ≡ s = same_front t k.more s (h.more ++ on.0.0) whole (sym lengths) in
+      let texts : t ≡ s = (same_parts t s k.more (h.more ++ on.0.0) (sym lengths) whole).0 in
       let lasts = same_from_push h.so_far k.so_far (record { at = length h.after.world.trace; line = h.line }) (record { at = length k.after.world.trace; line = k.line }) (sym h.text_is ∙ sym texts ∙ k.text_is) in
       let counts : length h.after.world.trace ≡ length k.after.world.trace = ap (λ (x : Told). x.at) lasts.1 in
       (sym texts, h.last_is ∙ same_world h.after k.after on.1 counts ∙ sym k.last_is)

@@ -1,19 +1,11 @@
 -- Lines of text, one after another.
-use Rattle.std.proofs.Common.{◌≡◌, ◌∙◌, ◌+◌, ◌<◌, ◌++◌, ℕ, List, [], ◌∷◌, Option, sym, ap, append-nil, length, take, drop, get_or, add-one}
+use Rattle.std.proofs.Common.{◌≡◌, ◌∙◌, ◌+◌, ◌<◌, ◌++◌, ℕ, List, ◌∷◌, Option, sym, ap, length, take, drop, get_or, add-one}
 use Rattle.std.specs.Prelude.{map}
 use Rattle.std.specs.Io.KnownBytes.{Appends}
 use Rattle.std.proofs.Math.Seq.{drop-cons}
-use Rattle.std.proofs.lemmas.List.{take-append-drop, map_more, map-append}
-use Rattle.std.proofs.lemmas.Grind.{flat_map-append}
+use Rattle.std.proofs.lemmas.List.{take-append-drop, map-append}
 use Rattle.hn_lab.specs.Output.{AppendsPart, AreCut, joined}
 use Rattle.hn_lab.proofs.TextStreams.{Appends-more}
-
--- one line more
-joined_more : (lines : List (List ℕ)) (line : List ℕ) → joined (lines ++ line ∷ []) ≡ joined lines ++ line
-joined_more lines line = flat_map-append (λ (l : List ℕ). l) lines (line ∷ []) ∙ ap (λ (l : List ℕ). joined lines ++ l) (append-nil line)
-
-pub joined_to : {K : Type 0} (f : K → List ℕ) (xs : List K) (i : ℕ) (x : K) → i < length xs → x ≡ get_or xs i x → joined (map f (take (i + 1) xs)) ≡ joined (map f (take i xs)) ++ f x
-joined_to f xs i x within is = ap joined (map_more f xs i x within) ∙ joined_more (map f (take i xs)) (f (get_or xs i x)) ∙ ap (λ y. joined (map f (take i xs)) ++ f y) (sym is)
 
 -- the lines before one, that one, and those after it
 lines_at : {K : Type 0} (f : K → List ℕ) (xs : List K) (i : ℕ) (x : K) → i < length xs → x ≡ get_or xs i x → map f xs ≡ map f (take i xs) ++ f x ∷ map f (drop (i + 1) xs)

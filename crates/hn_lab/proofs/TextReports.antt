@@ -21,6 +21,7 @@ use Rattle.hn_lab.specs.Reports.{yes_no, show_line, hash_line, compare_line}
 use Rattle.hn_lab.specs.Stage.{Stage}
 use Rattle.hn_lab.specs.declared.treated.Treated.{Treated}
 use Rattle.hn_base.proofs.Decisions.{neither_given}
+use Rattle.hn_world.proofs.Accepted.{some_router}
 
 -- a report that is the one line of what a line came to
 pub reported : {E : Type 0} (unless : Option ℕ) (IsReport : List ℕ → Type 0) (line : List ℕ) (p : Stage) (r : Result Treated E) → IfOk r (λ t. t.code ≡ None) → IfOk r (λ t. t.lines ≡ line ∷ []) → unless ≡ None → IsReport line → IfOk r (λ t. Reports unless IsReport t.code t.lines p p)
@@ -68,10 +69,6 @@ hashes name w router net line found net_is line_is =
     let m = member_of (member_named (name_text name) w) router found in
     (m.0, m.1, line_is ∙ ap (hashed name) (net_is ∙ ap (λ (r : Router). r.net) m.2))
 
-known : (found : Option Member) → of_router (λ _. None) found ≡ None → (m : Member) × (found ≡ Some m)
-known None is = absurd cc
-known (Some m) is = (m, refl)
-
 pub compares : (left right : Name) (w : Parts) (agreement : Agreement) (same_ids : Bool) (line : List ℕ) → None ≡ unless_both_run left right w
     → ((a b : Member) → member_named (name_text left) w ≡ Some a → member_named (name_text right) w ≡ Some b → Agrees (leaves_of a.router) (leaves_of b.router) agreement)
     → ((a b : Member) → member_named (name_text left) w ≡ Some a → member_named (name_text right) w ≡ Some b → IsTrue same_ids ↔ (a.router.reach ≡ b.router.reach))
@@ -79,8 +76,8 @@ pub compares : (left right : Name) (w : Parts) (agreement : Agreement) (same_ids
 compares left right w agreement same_ids line none agrees ids line_is =
     let first = neither_given (unless_known left w) (option_or (unless_known right w) (option_or (unless_runs left w) (unless_runs right w))) (sym none) in
     let second = neither_given (unless_known right w) (option_or (unless_runs left w) (unless_runs right w)) first.1 in
-    let a = known (member_named (name_text left) w) first.0 in
-    let b = known (member_named (name_text right) w) second.0 in
+    let a = some_router (λ _. None) (member_named (name_text left) w) first.0 in
+    let b = some_router (λ _. None) (member_named (name_text right) w) second.0 in
     record {
       a = a.0;
       b = b.0;

@@ -1,7 +1,7 @@
 -- The play of a script.
 use Rattle.std.specs.Prelude.{◌≡◌, ℕ, List, [], ◌∷◌, ◌++◌, None, Some}
 use Rattle.hn_script.specs.declared.line.Line.{Line}
-use Rattle.hn_world.specs.declared.event.Version.TheVariants.{One}
+use Rattle.hn_base.specs.declared.version.Version.TheVariants.{One}
 use Rattle.hn_world.specs.declared.parts.Parts.{Parts}
 use Rattle.hn_world.specs.Replay.{empty_world}
 use Rattle.hn_lab.specs.declared.end.End.{End}

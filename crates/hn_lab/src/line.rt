@@ -12,11 +12,8 @@ use crate::treated::Treated;
 use hn_base::{Addr, Bytes, EpId, Moment, Name, NoMemory};
 use hn_prefix::Prefix;
 use hn_script::{How, Line};
-use hn_world::WEvent;
+use hn_world::{HNCP_PORT, WEvent};
 use std::alloc::Global;
-
-/// The port of HNCP (RFC 7788, section 3).
-const HNCP_PORT: u16 = 8231;
 
 /// The source of an injected datagram.
 fn source_of(how: How) -> Addr

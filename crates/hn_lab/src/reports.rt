@@ -14,10 +14,8 @@ use crate::treated::Treated;
 use hn_base::{Hex, Name, NoMemory};
 use hn_hash::Agreement;
 use hn_router::Router;
+use hn_world::UNKNOWN;
 use std::alloc::{AllocError, Global};
-
-/// The code of a name that is unknown.
-const UNKNOWN: u8 = 7;
 
 /// The code of a router that is stopped.
 const STOPPED: u8 = 12;

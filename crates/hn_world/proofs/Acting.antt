@@ -1,5 +1,5 @@
 -- What was prepared, and then done, is the event.
-use Rattle.std.proofs.Common.{◌≡◌, ◌∙◌, ℕ, ◌<◌, ◌≤◌, ◌-◌, ◌==◌, Bool, true, false, cond, List, [], ◌∷◌, ◌++◌, length, get_or, Option, Some, None, Result, Ok, Err, IfOk, OnOk, slice_get, slice_set, refl, sym, subst, ap, arith}
+use Rattle.std.proofs.Common.{◌≡◌, ◌∙◌, ℕ, ◌<◌, ◌≤◌, ◌-◌, ◌==◌, Bool, true, false, cond, List, [], ◌∷◌, ◌++◌, length, get_or, Option, Some, None, Result, Ok, Err, OnOk, slice_get, slice_set, refl, sym, subst, ap, arith}
 use Rattle.std.proofs.lemmas.List.{append-nil}
 use Rattle.std.proofs.lemmas.Option.{slice_get_within, slice_get-get_or, same_Some}
 use Rattle.std.proofs.lemmas.Grind.{common_steps}
@@ -31,11 +31,6 @@ use Rattle.hn_world.proofs.Accepted.{some_router, some_copy}
 use Rattle.hn_world.proofs.Places.{got_set, got_front, within, place_kept}
 use Rattle.hn_world.proofs.Sounds.{all_at}
 use Rattle.hn_world.specs.Step.{ActsAt, Acts, Changes, Does, Step, IsStep, IsInRange, acted, entered, with_member, taken}
-
--- two clauses on one result
-pub both : {X Y : Type 0} (r : Result X Y) (P Q R : X → Type 0) → ((x : X) → P x → Q x → R x) → IfOk r P → IfOk r Q → IfOk r R
-both (Ok x) P Q R f p q = f x p q
-both (Err e) P Q R f p q = tt
 
 -- three clauses on an effect
 pub on_ok : {X Y : Type 0} (r : Result X Y) (P Q R S : Type 0) → (P → Q → R → S) → OnOk r P → OnOk r Q → OnOk r R → OnOk r S

@@ -5,7 +5,7 @@ use Rattle.hn_hash.specs.Agreement.{EqualHashesAgreeOrCollide}
 use Rattle.hn_rules.specs.Laws.{HashIsOfLeaves}
 use Rattle.hn_rules.specs.Nodes.{leaves_of}
 use Rattle.hn_world.specs.declared.event.Traced.{Traced}
-use Rattle.hn_world.specs.declared.event.Version.{Version}
+use Rattle.hn_base.specs.declared.version.Version.{Version}
 use Rattle.hn_world.specs.declared.parts.Parts.{Parts}
 use Rattle.hn_world.specs.Leaves.{EqualHashesAgree}
 use Rattle.hn_world.specs.Replay.{Replays, IsSoundMember, IsSound}

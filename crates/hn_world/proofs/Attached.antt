@@ -1,7 +1,7 @@
 -- The endpoints of the routers of a replayed world are those of their attachments, and no two attachments are to one link.
 use Rattle.std.proofs.Common.{◌≡◌, ◌≢◌, ◌∙◌, ◌<◌, ◌⊎◌, ◌↔◌, ℕ, zero, suc, Bool, true, false, not, cond, List, [], ◌∷◌, ◌++◌, Option, Some, None, All, Contains, length, map, filter, find, get_or, position, slice_get, slice_set, nat_lt, ◌==◌, ◌||◌, inl, inr, refl, sym, ap, subst, arith}
 use Rattle.std.specs.List.{list_any, position_or_len}
-use Rattle.std.proofs.lemmas.Bool.{eqb-true, eqb-false, ltb-false, or_parts}
+use Rattle.std.proofs.lemmas.Bool.{eqb-true, eqb-false, ltb-false}
 use Rattle.std.proofs.lemmas.List.{map-append}
 use Rattle.std.proofs.lemmas.List.Elements.{All-nil, All-push, All-set, Contains-append_left, Contains-append_right, Contains-append_cases, Contains-push, Contains-push_cases}
 use Rattle.std.proofs.lemmas.List.Folds.{find_at}
@@ -21,7 +21,7 @@ use Rattle.hn_own.specs.Ports.{endpoints_of, is_attached}
 use Rattle.hn_world.specs.declared.event.WEvent.{WEvent}
 use Rattle.hn_world.specs.declared.event.WEvent.TheVariants as event
 use Rattle.hn_world.specs.declared.event.Traced.{Traced}
-use Rattle.hn_world.specs.declared.event.Version.{Version}
+use Rattle.hn_base.specs.declared.version.Version.{Version}
 use Rattle.hn_world.specs.declared.member.Attachment.{Attachment}
 use Rattle.hn_world.specs.declared.member.Member.{Member}
 use Rattle.hn_world.specs.declared.parts.Parts.{Parts}
@@ -34,6 +34,7 @@ use Rattle.hn_world.proofs.Accepted.{not_so}
 use Rattle.hn_world.proofs.Onces.{Any}
 use Rattle.hn_world.proofs.Places.{got_set, place_kept}
 use Rattle.hn_world.proofs.Sounds.{all_at, replay_keeps}
+use Rattle.hn_base.proofs.Passing.{each_fails}
 
 -- ---- lists
 
@@ -74,11 +75,6 @@ after_change name event change words notes before between after h k =
 not_false : (b : Bool) → not b ≡ false → b ≡ true
 not_false true is = refl
 not_false false is = absurd cc
-
-none_is : {A : Type 0} (p : A → Bool) (xs : List A) (k : ℕ) (d : A) → list_any p xs ≡ false → k < length xs → p (get_or xs k d) ≡ false
-none_is p [] k d none within = absurd (omega arith)
-none_is p (x ∷ xs) zero d none within = (or_parts (p x) (list_any p xs) none).0
-none_is p (x ∷ xs) (suc k) d none within = none_is p xs k d (or_parts (p x) (list_any p xs) none).1 (omega arith)
 
 -- an endpoint may be attached to a link
 record MayJoin (endpoint : EpId) (link : ℕ) (m : Member) : Type 0 where
@@ -257,7 +253,7 @@ module _ (follow : EndpointsFollow) where
       subst (λ (es : List EpId). Same es (numbers_of (m.attachments ++ record { endpoint = endpoint; link = h.link_at } ∷ []))) (sym follows)
       (by_number h.link_at m ends may here.endpoints (endpoint.0 == 0) refl) in
       let apart = all_pairs_push (λ (a b : Attachment). a.link ≢ b.link) m.attachments (record { endpoint = endpoint; link = h.link_at }) here.apart
-      (λ k d within. eqb-false (get_or m.attachments k d).link h.link_at (none_is (λ (a : Attachment). a.link == h.link_at) m.attachments k d may.apart within)) in
+      (λ k d within. eqb-false (get_or m.attachments k d).link h.link_at (each_fails (λ (a : Attachment). a.link == h.link_at) m.attachments may.apart k d within)) in
       subst (λ (ms : List Member). All IsAttachedMember ms) (sym changed)
       (All-set IsAttachedMember before.members h.acts.place (attached_to h.link_at endpoint (record m { router = next })) (record { endpoints = joined; apart = apart }) all)
     where

@@ -14,7 +14,7 @@ use Rattle.hn_world.specs.declared.copies.MailCopy.{MailCopy}
 use Rattle.hn_world.specs.declared.event.WEvent.{WEvent}
 use Rattle.hn_world.specs.declared.event.WEvent.TheVariants as event
 use Rattle.hn_world.specs.declared.event.Traced.{Traced}
-use Rattle.hn_world.specs.declared.event.Version.{Version}
+use Rattle.hn_base.specs.declared.version.Version.{Version}
 use Rattle.hn_world.specs.declared.member.Member.{Member}
 use Rattle.hn_world.specs.declared.parts.Parts.{Parts}
 use Rattle.hn_world.specs.Step.{ActsAt, Acts, Begins, Changes, Quietly, Does, Step, IsStep, acted, entered, with_member, attached_to, taken}

@@ -3,12 +3,6 @@ use hn_prefix::Prefix;
 use std::error::Error;
 use std::fmt;
 
-/// The version of the script language that a world follows.
-#[derive(Clone, Copy, Debug, PartialEq, Eq)]
-pub enum Version {
-    One,
-}
-
 /// What may happen in a world.
 #[derive(Debug, Drop)]
 pub enum WEvent {

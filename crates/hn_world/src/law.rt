@@ -6,7 +6,7 @@ ghost use Rattle.hn_hash.specs.declared.leaf.Leaf.{Leaf};
 ghost use Rattle.hn_rules.specs.declared.done.Note.{Note};
 ghost use Rattle.hn_world.specs.declared.event.WEvent.{WEvent};
 ghost use Rattle.hn_world.specs.declared.event.Traced.{Traced};
-ghost use Rattle.hn_world.specs.declared.event.Version.{Version};
+ghost use Rattle.hn_base.specs.declared.version.Version.{Version};
 ghost use Rattle.hn_world.specs.declared.parts.Parts.{Parts};
 ghost use Rattle.hn_world.specs.Replay.{Replays, IsReplayed, IsSound, AreAttached, Always};
 ghost use Rattle.hn_world.specs.Step.{Step, IsStep};

@@ -21,10 +21,12 @@ mod trace;
 mod world;
 
 pub use copies::{CopyInfo, MailCopy};
-pub use event::{Traced, Version, WEvent, WorldFault};
+pub use event::{Traced, WEvent, WorldFault};
 pub use law::{
     agreement_is_unique, always_attached, always_sound, at_most_one_world, each_event_is_entered,
     equal_hashes_always_agree, step_is_unique,
 };
+pub use mail::HNCP_PORT;
 pub use member::{Attachment, Member};
+pub use refusal::UNKNOWN;
 pub use world::World;

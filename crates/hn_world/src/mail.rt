@@ -10,7 +10,7 @@ use hn_rules::Outgoing;
 use std::alloc::Global;
 
 /// The port of HNCP (RFC 7788, section 3).
-const HNCP_PORT: u16 = 8231;
+pub const HNCP_PORT: u16 = 8231;
 
 impl Target {
     /// The address of the endpoint.

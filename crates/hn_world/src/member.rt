@@ -58,7 +58,7 @@ fn is_named(member: &Member, name: &Name) -> bool
 
 impl Member {
     /// The link to which an endpoint is attached. Never allocates.
-    pub(crate) fn link_of(&self, endpoint: EpId) -> Option<usize>
+    pub fn link_of(&self, endpoint: EpId) -> Option<usize>
         ensures { result ≡ link_of endpoint self.now }
     {
         self.attachments

@@ -1,9 +1,9 @@
 use crate::copies::Copies;
-use crate::event::Version;
 use crate::links::Links;
 use crate::member::Members;
 use crate::published::Publications;
 use crate::trace::Trace;
+use hn_base::Version;
 use hn_rules::Present;
 
 /// The fields of a world.

@@ -15,7 +15,7 @@ use hn_base::{EpId, Name};
 use hn_prefix::Prefix;
 
 /// The code of a name that is unknown or names the other kind.
-const UNKNOWN: u8 = 7;
+pub const UNKNOWN: u8 = 7;
 
 /// The most routers, and the most links.
 const MOST_DEFINED: usize = 64;

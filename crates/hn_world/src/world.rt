@@ -2,21 +2,21 @@ ghost use Rattle.std.specs.Prelude.{◌≡◌, ◌↔◌, ℕ, None, Some, Err, 
 ghost use Rattle.std.specs.Option.{option_map, option_map_or};
 ghost use Rattle.std.specs.List.{slice_get};
 ghost use Rattle.hn_base.specs.Name.{name_text};
-ghost use Rattle.hn_world.specs.declared.event.Version.TheVariants.{One};
+ghost use Rattle.hn_base.specs.declared.version.Version.TheVariants.{One};
 ghost use Rattle.hn_world.specs.Names.{member_named};
 ghost use Rattle.hn_world.specs.Refusal.{refusal};
 ghost use Rattle.hn_world.specs.Step.{IsStep, IsInRange};
 ghost use Rattle.hn_world.specs.Replay.{empty_world, IsReplayed, IsSound};
 
 use crate::copies::Copies;
-use crate::event::{Traced, Version, WEvent, WorldFault};
+use crate::event::{Traced, WEvent, WorldFault};
 use crate::law::always_sound;
 use crate::links::Links;
 use crate::member::{Member, Members};
 use crate::parts::Parts;
 use crate::published::Publications;
 use crate::trace::Trace;
-use hn_base::{Moment, Name, NoMemory, Sequence};
+use hn_base::{Moment, Name, NoMemory, Sequence, Version};
 use hn_io::Draw;
 use hn_router::Router;
 use hn_rules::{Note, Present, Publication};
@@ -154,6 +154,13 @@ impl World {
         ensures { option_copied result ≡ option_map (λ m. m.router) (member_named (name_text name.now) self.now) }
     {
         self.parts.members.find(name).map(|member| &member.router)
+    }
+
+    /// The router of that name, with its attachments; `None` if and only if there is none. Never allocates.
+    pub fn member(&self, name: &Name) -> Option<&Member>
+        ensures { option_copied result ≡ member_named (name_text name.now) self.now }
+    {
+        self.parts.members.find(name)
     }
 
     /// Whether there is a router of that name and it runs. Never allocates.

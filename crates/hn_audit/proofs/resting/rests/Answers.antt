@@ -8,8 +8,8 @@ use Rattle.hn_audit.specs.Fixed.{IsUnmoved}
 use Rattle.hn_audit.specs.Resting.{IsEachAtRest, RestsWhereListed}
 use Rattle.hn_audit.proofs.FixedPoints.{FixedLaws, are_for_pairs, each_rests}
 use Rattle.hn_audit.proofs.Restings.{router_rests, for_pairs, each_at_rest}
-use Rattle.hn_audit.proofs.Sames.{ok_weaker}
 use Rattle.hn_audit.proofs.resting.rests.Goals as goal
+use Rattle.std.proofs.lemmas.Result.{IfOk-weaker}
 
 pub returns-then-not-are_for_pairs-clause-rest : goal.returns-then-not-are_for_pairs-clause-rest
 returns-then-not-are_for_pairs-clause-rest c =
@@ -40,7 +40,7 @@ returns-clause-rest c =
     let all : All (IsForPair s usable) s.held.assigned = c.are_for_pairs.ensures.0 yes in
     let P : Bool → Type 0 = λ answer. IsTrue answer ↔ IsEachAtRest s usable adv in
     let Q : Bool → Type 0 = λ answer. IsTrue answer ↔ IsRouterAtRest s in
-    ok_weaker c.endpoints_rest.result P Q
+    IfOk-weaker c.endpoints_rest.result P Q
     (λ answer said. (
       λ rest. router_rests s usable adv are_usable are_advertised all (said.0 rest),
       λ h. said.1 (each_at_rest c.usable_is_unique.ensures s usable are_usable h c.rest_knows_no_order.ensures adv are_advertised),
@@ -57,6 +57,6 @@ returns-clause-unmoved c =
     let laws : FixedLaws = record { one_list = c.usable_is_unique.ensures; one_link = c.common_link_is_unique.ensures; rest = c.rest_is_unchanged.ensures; wished = c.subroutine_leaves.ensures.wished } in
     let P : Bool → Type 0 = λ answer. RestsWhereListed s usable adv → IsTrue answer in
     let Q : Bool → Type 0 = λ answer. IsUnmoved s → IsTrue answer in
-    ok_weaker c.endpoints_rest.result P Q
+    IfOk-weaker c.endpoints_rest.result P Q
     (λ answer said unmoved. said (each_rests laws s unmoved.ran unmoved.run unmoved.unchanged usable are_usable adv are_advertised unmoved.router))
     c.endpoints_rest.ensures.listed

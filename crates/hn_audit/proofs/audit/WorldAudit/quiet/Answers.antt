@@ -12,9 +12,10 @@ use Rattle.hn_audit.specs.Settled.{IsSettled}
 use Rattle.hn_audit.specs.Sound.{IsSound as IsSoundRouter}
 use Rattle.hn_audit.specs.Set.{is_in_set, members_of}
 use Rattle.hn_audit.proofs.QuietSets.{quiet_changes_nothing, quiet_is_fixed, unchanged_is_quiet, named_runs}
-use Rattle.hn_audit.proofs.Sames.{ok_both, ok_weaker}
+use Rattle.hn_base.proofs.Results.{ok_both}
 use Rattle.hn_audit.proofs.Settling.{IsSet, each_of_set}
 use Rattle.hn_audit.proofs.audit.WorldAudit.quiet.Goals as goal
+use Rattle.std.proofs.lemmas.Result.{IfOk-weaker}
 
 pub returns-clause-quiet : goal.returns-clause-quiet
 returns-clause-quiet c =
@@ -26,7 +27,7 @@ returns-clause-quiet c =
     let Q : Bool → Type 0 = λ answer. (m : Member) → member_named (name_text c.args.name.now) w ≡ Some m → IsTrue answer ↔ IsQuiet w m in
     let law = each_of_set w r set is (λ (m : Member). IsRouterAtRest m.router) in
     let said : IfOk c.rest.result P = subst (λ (s : List (Bor Member)). IfOk c.rest.result (λ answer. IsTrue answer ↔ All (λ (m : Bor Member). IsRouterAtRest m.now.router) s)) c.as_slice.ensures.value c.rest.ensures.rest in
-    ok_weaker c.rest.result P Q
+    IfOk-weaker c.rest.result P Q
     (λ answer h m named.
     let same : r ≡ m = same_Some r m (c.in-Some.ensures ∙ named) in
     subst (λ (n : Member). IsTrue answer ↔ IsQuiet w n) same (λ yes. law.0 (h.0 yes), λ quiet. h.1 (law.1 quiet)))
@@ -42,7 +43,7 @@ returns-clause-unchanged c =
     let P : Bool → Type 0 = λ answer. IsTrue answer ↔ All (λ (s : Bor Member). IsRouterAtRest s.now.router) set in
     let Q : Bool → Type 0 = λ answer. (m : Member) → member_named (name_text c.args.name.now) w ≡ Some m → IsTrue answer → ChangesNothing w m in
     let said : IfOk c.rest.result P = subst (λ (s : List (Bor Member)). IfOk c.rest.result (λ answer. IsTrue answer ↔ All (λ (m : Bor Member). IsRouterAtRest m.now.router) s)) c.as_slice.ensures.value c.rest.ensures.rest in
-    ok_weaker c.rest.result P Q
+    IfOk-weaker c.rest.result P Q
     (λ answer rest m named.
     let same : r ≡ m = same_Some r m (c.in-Some.ensures ∙ named) in
     subst (λ (n : Member). IsTrue answer → ChangesNothing w n) same (quiet_changes_nothing w r set is sound answer c.rest_is_the_fixed_point.ensures.unchanged rest))
@@ -76,7 +77,7 @@ returns-clause-any_words c =
     let P : Bool → Type 0 = λ answer. All (λ (s : Bor Member). IsUnmoved s.now.router) set → IsTrue answer in
     let Q : Bool → Type 0 = λ answer. (m : Member) → member_named (name_text c.args.name.now) w ≡ Some m → MayChangeNothing w m → IsTrue answer in
     let said : IfOk c.rest.result P = subst (λ (s : List (Bor Member)). IfOk c.rest.result (λ answer. All (λ (m : Bor Member). IsUnmoved m.now.router) s → IsTrue answer)) c.as_slice.ensures.value c.rest.ensures.unmoved in
-    ok_weaker c.rest.result P Q
+    IfOk-weaker c.rest.result P Q
     (λ answer moved m named.
     let same : r ≡ m = same_Some r m (c.in-Some.ensures ∙ named) in
     subst (λ (n : Member). MayChangeNothing w n → IsTrue answer) same (unchanged_is_quiet w r set is sound answer moved))
@@ -88,6 +89,6 @@ returns-clause-sound c =
     let law = c.settled_and_quiet_is_sound.ensures in
     let P : Bool → Type 0 = λ answer. (m : Member) → member_named (name_text c.args.name.now) w ≡ Some m → IsTrue answer ↔ IsQuiet w m in
     let Q : Bool → Type 0 = λ answer. (m : Member) → member_named (name_text c.args.name.now) w ≡ Some m → IsTrue answer → IsSettled w m → IsSoundRouter w m in
-    ok_weaker c.rest.result P Q
+    IfOk-weaker c.rest.result P Q
     (λ answer quiet m named yes settled. law w m c.is_replayed.ensures (named_runs (name_text c.args.name.now) w m c.requires named) settled ((quiet m named).0 yes))
     (returns-clause-quiet c)

@@ -3,10 +3,10 @@ use Rattle.std.proofs.lemmas.List.{take_all}
 use Rattle.std.proofs.lemmas.List.Elements.{All-more, Contains-get_or}
 use Rattle.hn_base.specs.declared.ids.EpId.{EpId}
 use Rattle.hn_own.specs.Ports.{endpoints_of, is_attached}
-use Rattle.hn_audit.proofs.BridgeHomes.{port_is_attached}
 use Rattle.hn_audit.specs.Resting.{IsEndAtRest}
 use Rattle.hn_audit.proofs.Restings.{each_decides}
 use Rattle.hn_audit.proofs.resting.Outlook.endpoints_rest.Goals as goal
+use Rattle.hn_own.proofs.AttachedPorts.{port_is_attached}
 
 pub returns-then-not-branch-clause-rest : goal.returns-then-not-branch-clause-rest
 returns-then-not-branch-clause-rest c =

@@ -4,8 +4,9 @@ use Rattle.hn_router.specs.Act.{Arrive}
 use Rattle.hn_rules.specs.declared.running.Origin.{Origin}
 use Rattle.hn_world.specs.declared.event.WEvent.TheVariants as event
 use Rattle.hn_world.specs.Prepared.{IsPrepared}
-use Rattle.hn_world.proofs.Acting.{both, no_router, router_past, acted_step}
+use Rattle.hn_world.proofs.Acting.{no_router, router_past, acted_step}
 use Rattle.hn_world.proofs.parts.Parts.inject.Goals as goal
+use Rattle.hn_base.proofs.Results.{ok_both}
 
 pub unreachable-requires : goal.unreachable-requires
 unreachable-requires g c = no_router _ (name_text c.args.name) c.args.self.now c.requires.accepted (sym c.place_of.ensures ∙ c.in_default.is)
@@ -19,5 +20,5 @@ returns-clause-ok g c =
     let found = sym c.place_of.ensures ∙ c.in-Some.is in
     let origin : Origin = record { endpoint = c.args.endpoint; from = c.args.from; multicast = c.args.multicast } in
     let is = subst (λ (bytes : List ℕ). IsPrepared c.in-Some.place (Arrive origin bytes) (g.D.Draw.words c.args.draw.now) (g.D.Draw.words c.prepare.new.draw) c.args.self.now p) c.as_slice.ensures c.in_ok-prepared.ensures in
-    both c.finish.result _ _ _ (λ notes world noted. acted_step c.in-Some.place (Arrive origin c.args.bytes) _ _ c.args.self.now p is (event.Inject c.args.name c.args.endpoint c.args.from c.args.multicast c.args.bytes) c.args.name c.finish.new.self notes c.requires.accepted tt found (λ h. h) world noted)
+    ok_both c.finish.result _ _ _ (λ notes world noted. acted_step c.in-Some.place (Arrive origin c.args.bytes) _ _ c.args.self.now p is (event.Inject c.args.name c.args.endpoint c.args.from c.args.multicast c.args.bytes) c.args.name c.finish.new.self notes c.requires.accepted tt found (λ h. h) world noted)
     c.finish.ensures.world c.finish.ensures.notes

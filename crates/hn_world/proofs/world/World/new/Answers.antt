@@ -1,5 +1,5 @@
 use Rattle.std.proofs.Common.{◌≡◌, sym, subst}
-use Rattle.hn_world.specs.declared.event.Version.TheVariants.{One}
+use Rattle.hn_base.specs.declared.version.Version.TheVariants.{One}
 use Rattle.hn_world.specs.declared.parts.Parts.{Parts}
 use Rattle.hn_world.specs.Replay.{empty_world, IsReplayed}
 use Rattle.hn_world.proofs.Going.{replays_none}

@@ -3,7 +3,7 @@ use Rattle.std.proofs.Common.{◌≡◌, ◌↔◌, ℕ, Bool, IsTrue, IsSome, i
 use Rattle.hn_assign.specs.declared.assigned.Advertised.{Advertised}
 use Rattle.hn_assign.specs.declared.assigned.Assigned.{Assigned}
 use Rattle.hn_assign.specs.Scene.{PlainScene, IsBestFor}
-use Rattle.hn_audit.specs.Case.{PlainCase, HasBest, HasNothingToDo, IsAheadCase, StaysAlone, StaysAs, StaysBeside, RestsWith}
+use Rattle.hn_audit.specs.Rest.{HasNothingToDo, IsAheadFor, StaysAlone, StaysAs, StaysBeside, RestsWith}
 use Rattle.std.proofs.lemmas.Option.{same_Some}
 
 -- the best prefix is one
@@ -12,10 +12,10 @@ IsOneBest = (at : PlainScene) (x y : Option Advertised) → IsBestFor at x → I
 
 -- ---- without an assignment
 
-pub idle : (at : PlainCase) (answer : Bool) → HasBest at None → IsTrue answer ↔ HasNothingToDo at → IsTrue answer ↔ RestsWith at None
+pub idle : (at : PlainScene) (answer : Bool) → IsBestFor at None → IsTrue answer ↔ HasNothingToDo at → IsTrue answer ↔ RestsWith at None
 idle at answer none said = (λ yes. record { no_best = none; nothing_to_do = said.0 yes }, λ rest. said.1 rest.nothing_to_do)
 
-pub not_idle : (at : PlainCase) (best : Advertised) → HasBest at (Some best) → ¬ (RestsWith at None)
+pub not_idle : (at : PlainScene) (best : Advertised) → IsBestFor at (Some best) → ¬ (RestsWith at None)
 not_idle at best is rest = rest.no_best best is.candidate
 
 -- ---- without a best prefix
@@ -27,12 +27,12 @@ its_priority None some = absurd (cc)
 is_published : (o : Option ℕ) (p : ℕ) → o ≡ Some p → IsSome o
 is_published o p is = ap (λ (x : Option ℕ). is_some x) is
 
-stays : (at : PlainCase) (c : Assigned) → HasBest at None → RestsWith at (Some c) → StaysAlone at c
+stays : (at : PlainScene) (c : Assigned) → IsBestFor at None → RestsWith at (Some c) → StaysAlone at c
 stays at c none (inl h) = (is_published c.published h.published.0 h.published.1, h.valid)
 stays at c none (inr (inl h)) = absurd (none h.best h.is_best.candidate)
 stays at c none (inr (inr h)) = absurd (none h.best h.is_best.candidate)
 
-pub alone : (at : PlainCase) (c : Assigned) (answer : Bool) → HasBest at None → IsTrue answer ↔ StaysAlone at c → IsTrue answer ↔ RestsWith at (Some c)
+pub alone : (at : PlainScene) (c : Assigned) (answer : Bool) → IsBestFor at None → IsTrue answer ↔ StaysAlone at c → IsTrue answer ↔ RestsWith at (Some c)
 alone at c answer none said = (
   λ yes. let h = said.0 yes in inl (record { no_best = none; published = its_priority c.published h.0; valid = h.1 }),
   λ rest. said.1 (stays at c none rest),
@@ -40,27 +40,23 @@ alone at c answer none said = (
 
 -- ---- with a best prefix
 
-scene : PlainCase → PlainScene
-scene at = record { own = at.own; now = 0; wish = at.wish; advertised = at.advertised }
+one_best : IsOneBest → (at : PlainScene) (x y : Advertised) → IsBestFor at (Some x) → IsBestFor at (Some y) → x ≡ y
+one_best once at x y is_x is_y = same_Some x y (once at (Some x) (Some y) is_x is_y)
 
-one_best : IsOneBest → (at : PlainCase) (x y : Advertised) → HasBest at (Some x) → HasBest at (Some y) → x ≡ y
-unfolding scene
-one_best once at x y is_x is_y = same_Some x y (once (scene at) (Some x) (Some y) is_x is_y)
-
-rests : (at : PlainCase) (c : Assigned) (best : Advertised) (o : Option ℕ) → HasBest at (Some best) → c.published ≡ o → StaysAs at c best o → RestsWith at (Some c)
+rests : (at : PlainScene) (c : Assigned) (best : Advertised) (o : Option ℕ) → IsBestFor at (Some best) → c.published ≡ o → StaysAs at c best o → RestsWith at (Some c)
 rests at c best (Some p) is o_is h = inr (inl (record { best = best; is_best = is; priority = p; published = o_is; above = h.0; valid = h.1 }))
 rests at c best None is o_is h = inr (inr (record { best = best; is_best = is; unpublished = o_is; same = h }))
 
-stays_so : IsOneBest → (at : PlainCase) (c : Assigned) (best : Advertised) → HasBest at (Some best) → RestsWith at (Some c) → StaysBeside at c best
+stays_so : IsOneBest → (at : PlainScene) (c : Assigned) (best : Advertised) → IsBestFor at (Some best) → RestsWith at (Some c) → StaysBeside at c best
 stays_so once at c best is (inl h) = absurd (h.no_best best is.candidate)
 stays_so once at c best is (inr (inl h)) =
     let same : h.best ≡ best = one_best once at h.best best h.is_best is in
-    let above : IsAheadCase at h.priority best = subst (λ (b : Advertised). IsAheadCase at h.priority b) same h.above in
+    let above : IsAheadFor at h.priority best = subst (λ (b : Advertised). IsAheadFor at h.priority b) same h.above in
     subst (λ (o : Option ℕ). StaysAs at c best o) (sym h.published) (above, h.valid)
 stays_so once at c best is (inr (inr h)) =
     let same : h.best ≡ best = one_best once at h.best best h.is_best is in
     let prefix : c.prefix ≡ best.prefix = subst (λ (b : Advertised). c.prefix ≡ b.prefix) same h.same in
     subst (λ (o : Option ℕ). StaysAs at c best o) (sym h.unpublished) prefix
 
-pub beside : IsOneBest → (at : PlainCase) (c : Assigned) (best : Advertised) (answer : Bool) → HasBest at (Some best) → IsTrue answer ↔ StaysBeside at c best → IsTrue answer ↔ RestsWith at (Some c)
+pub beside : IsOneBest → (at : PlainScene) (c : Assigned) (best : Advertised) (answer : Bool) → IsBestFor at (Some best) → IsTrue answer ↔ StaysBeside at c best → IsTrue answer ↔ RestsWith at (Some c)
 beside once at c best answer is said = (λ yes. rests at c best c.published is refl (said.0 yes), λ rest. said.1 (stays_so once at c best is rest))

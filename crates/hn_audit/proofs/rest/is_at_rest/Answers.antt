@@ -1,31 +1,32 @@
 use Rattle.std.proofs.Common.{◌↔◌, IsTrue, Option, None, Some, false, sym, subst}
 use Rattle.hn_assign.specs.declared.assigned.Advertised.{Advertised}
 use Rattle.hn_assign.specs.declared.assigned.Assigned.{Assigned}
-use Rattle.hn_audit.specs.Case.{plain_case, HasBest, RestsWith}
-use Rattle.hn_audit.proofs.Cases.{idle, not_idle, alone, beside}
-use Rattle.hn_audit.proofs.rest.Case.is_at_rest.Goals as goal
+use Rattle.hn_assign.specs.Scene.{plain_scene, IsBestFor}
+use Rattle.hn_audit.specs.Rest.{RestsWith}
+use Rattle.hn_audit.proofs.PairRests.{idle, not_idle, alone, beside}
+use Rattle.hn_audit.proofs.rest.is_at_rest.Goals as goal
 
 pub returns-in-None-None : goal.returns-in-None-None
 returns-in-None-None c =
-    let at = plain_case c.args.self.now in
-    let none : HasBest at None = subst (λ (b : Option Advertised). HasBest at b) c.in-None-None.is-0 c.best.ensures in
+    let at = plain_scene c.args.scene.now in
+    let none : IsBestFor at None = subst (λ (b : Option Advertised). IsBestFor at b) c.in-None-None.is-0 c.best.ensures in
     subst (λ (o : Option Assigned). IsTrue c.has_nothing_to_do.result ↔ RestsWith at o) (sym c.in-None-None.is-1) (idle at c.has_nothing_to_do.result none c.has_nothing_to_do.ensures)
 
 pub returns-in-None-Some : goal.returns-in-None-Some
 returns-in-None-Some c =
-    let at = plain_case c.args.self.now in
-    let none : HasBest at None = subst (λ (b : Option Advertised). HasBest at b) c.in-None-Some.is-0 c.best.ensures in
+    let at = plain_scene c.args.scene.now in
+    let none : IsBestFor at None = subst (λ (b : Option Advertised). IsBestFor at b) c.in-None-Some.is-0 c.best.ensures in
     subst (λ (o : Option Assigned). IsTrue c.stays_alone.result ↔ RestsWith at o) (sym c.in-None-Some.is-1) (alone at c.in-None-Some.c c.stays_alone.result none c.stays_alone.ensures)
 
 pub returns-in-Some-None : goal.returns-in-Some-None
 returns-in-Some-None c =
-    let at = plain_case c.args.self.now in
-    let is : HasBest at (Some c.in-Some-None.field-0-0) = subst (λ (b : Option Advertised). HasBest at b) c.in-Some-None.is-0 c.best.ensures in
+    let at = plain_scene c.args.scene.now in
+    let is : IsBestFor at (Some c.in-Some-None.field-0-0) = subst (λ (b : Option Advertised). IsBestFor at b) c.in-Some-None.is-0 c.best.ensures in
     subst (λ (o : Option Assigned). IsTrue false ↔ RestsWith at o) (sym c.in-Some-None.is-1) (λ no. absurd cc, λ rest. absurd (not_idle at c.in-Some-None.field-0-0 is rest))
 
 pub returns-in-Some-Some : goal.returns-in-Some-Some
 returns-in-Some-Some c =
-    let at = plain_case c.args.self.now in
-    let is : HasBest at (Some c.in-Some-Some.best) = subst (λ (b : Option Advertised). HasBest at b) c.in-Some-Some.is-0 c.best.ensures in
+    let at = plain_scene c.args.scene.now in
+    let is : IsBestFor at (Some c.in-Some-Some.best) = subst (λ (b : Option Advertised). IsBestFor at b) c.in-Some-Some.is-0 c.best.ensures in
     subst (λ (o : Option Assigned). IsTrue c.stays_beside.result ↔ RestsWith at o) (sym c.in-Some-Some.is-1)
     (beside c.lines_exclude_each_other.ensures.best at c.in-Some-Some.c c.in-Some-Some.best c.stays_beside.result is c.stays_beside.ensures)

@@ -1,8 +1,8 @@
 -- The stream of a generator, word by word.
-use Rattle.std.specs.Prelude.{◌≡◌, ℕ, suc, Some}
+use Rattle.std.specs.Prelude.{◌≡◌, suc, Some}
 use Rattle.std.proofs.Common.{refl}
-use Rattle.rand_pcg.specs.Lcg.{Lcg, next, state_after}
-use Rattle.rand_pcg.specs.Pcg.{multiplier_64, pcg32}
+use Rattle.rand_pcg.specs.Lcg.{Lcg, state_after}
+use Rattle.rand_pcg.specs.Pcg.{pcg32}
 use Rattle.hn_io.specs.Pcg.{pcg_word}
 
 pub first_word : (g : Lcg) → (pcg32 g).0 ≡ pcg_word g 0

@@ -77,8 +77,8 @@ pub fn rest_is_unchanged()
         → IsUnchanged held.assigned ran.held.assigned ↔ AreAtRest advertised view.own wishes held.assigned }
 {}
 
-/// Where each pair is at rest, the subroutine comes to a result with each backoff due: it takes no random word, and
-/// leaves all assignments as they are, marks of application aside.
+/// Where all assignments are of wished pairs and each pair is at rest, the subroutine comes to a result with each backoff
+/// due. It takes no random word, and leaves all assignments as they are, marks of application aside.
 pub fn rest_has_a_run()
     ensures { (view : PlainView) (wishes : List Wish) (assigned : List Assigned) (advertised : List Advertised)
         → IsAscending wish_pair wishes → IsAscending assigned_pair assigned

@@ -28,5 +28,5 @@ pub use law::{
 };
 pub use mail::HNCP_PORT;
 pub use member::{Attachment, Member};
-pub use refusal::UNKNOWN;
+pub use refusal::{NOT_ATTACHED, PAST, STOPPED, UNKNOWN};
 pub use world::World;

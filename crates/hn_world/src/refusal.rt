@@ -17,6 +17,33 @@ use hn_prefix::Prefix;
 /// The code of a name that is unknown or names the other kind.
 pub const UNKNOWN: u8 = 7;
 
+/// The code of the name of a new router or link that is taken.
+const TAKEN: u8 = 8;
+
+/// The code of one router, link, endpoint, delegated prefix or event too many.
+const FULL: u8 = 9;
+
+/// The code of a moment before the present one.
+pub const PAST: u8 = 10;
+
+/// The code of an endpoint that is not attached.
+pub const NOT_ATTACHED: u8 = 11;
+
+/// The code of an endpoint that is in use.
+const IN_USE: u8 = 11;
+
+/// The code of a router that is stopped.
+pub const STOPPED: u8 = 12;
+
+/// The code of a number that no copy has.
+const NO_COPY: u8 = 13;
+
+/// The code of a second endpoint of a router on one link.
+const LINK_IN_USE: u8 = 14;
+
+/// The code of one copy or byte of mail too many.
+const FULL_OF_MAIL: u8 = 16;
+
 /// The most routers, and the most links.
 const MOST_DEFINED: usize = 64;
 
@@ -37,37 +64,37 @@ impl Member {
     fn unless_running(&self) -> Option<u8>
         ensures { result ≡ unless_running self.now }
     {
-        code_if(12, !self.running)
+        code_if(STOPPED, !self.running)
     }
 
     fn unless_attached(&self, endpoint: EpId) -> Option<u8>
         ensures { result ≡ unless_attached endpoint self.now }
     {
-        code_if(11, !self.router.attached(endpoint))
+        code_if(NOT_ATTACHED, !self.router.attached(endpoint))
     }
 
     fn unless_free(&self, endpoint: EpId) -> Option<u8>
         ensures { result ≡ unless_free endpoint self.now }
     {
-        code_if(11, self.router.attached(endpoint))
+        code_if(IN_USE, self.router.attached(endpoint))
     }
 
     fn unless_apart(&self, link: usize) -> Option<u8>
         ensures { result ≡ unless_apart link self.now }
     {
-        code_if(14, self.has_link(link))
+        code_if(LINK_IN_USE, self.has_link(link))
     }
 
     fn unless_full_of_endpoints(&self) -> Option<u8>
         ensures { result ≡ unless_full_of_endpoints self.now }
     {
-        code_if(9, !self.router.has_room())
+        code_if(FULL, !self.router.has_room())
     }
 
     fn unless_full_of_prefixes(&self, prefix: &Prefix) -> Option<u8>
         ensures { result ≡ unless_full_of_prefixes prefix.now self.now }
     {
-        code_if(9, !self.router.may_have(prefix))
+        code_if(FULL, !self.router.may_have(prefix))
     }
 }
 
@@ -75,7 +102,7 @@ impl Parts {
     fn unless_full_of_events(&self) -> Option<u8>
         ensures { result ≡ unless_full_of_events self.now }
     {
-        code_if(9, self.trace.as_slice().len() >= MOST_EVENTS)
+        code_if(FULL, self.trace.as_slice().len() >= MOST_EVENTS)
     }
 
     fn unless_full_of_mail(&self) -> Option<u8>
@@ -83,7 +110,7 @@ impl Parts {
     {
         let many = self.copies.len() >= MOST_COPIES;
         code_if(
-            16,
+            FULL_OF_MAIL,
             many || self.copies.bytes() + self.trace.injected() >= MOST_BYTES,
         )
     }
@@ -150,7 +177,7 @@ impl Parts {
     fn unless_new(&self, name: &Name, count: usize) -> Option<u8>
         ensures { result ≡ unless_new self.now (name_text name.now) count }
     {
-        code_if(8, self.is_taken(name)).or(code_if(9, count >= MOST_DEFINED).or(
+        code_if(TAKEN, self.is_taken(name)).or(code_if(FULL, count >= MOST_DEFINED).or(
             self.unless_full_of_events(),
         ))
     }
@@ -193,7 +220,7 @@ impl Parts {
     {
         match self.copy_at(copy) {
             Some(copy) => self.refuses_copy(copy),
-            None => Some(13),
+            None => Some(NO_COPY),
         }
     }
 
@@ -202,7 +229,7 @@ impl Parts {
     {
         match self.copy_at(copy) {
             Some(_) => self.unless_full_of_events(),
-            None => Some(13),
+            None => Some(NO_COPY),
         }
     }
 
@@ -279,7 +306,7 @@ impl Parts {
             }
             WEvent::Start { name } => self.refuses_start(name),
             WEvent::Time { moment } => {
-                code_if(10, *moment < self.moment.get()).or(self.unless_full_of_events())
+                code_if(PAST, *moment < self.moment.get()).or(self.unless_full_of_events())
             }
             WEvent::Tick { name } => self.refuses_tick(name),
             WEvent::Deliver { copy } => self.refuses_deliver(*copy),

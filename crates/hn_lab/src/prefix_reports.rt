@@ -12,10 +12,8 @@ use hn_assign::Assigned;
 use hn_base::{EpId, Letter, Name, NoMemory, NodeId};
 use hn_deleg::{Delegated, whole_seconds};
 use hn_script::letter_text;
+use hn_world::NOT_ATTACHED;
 use std::alloc::{AllocError, Global};
-
-/// The code of an endpoint that is not attached.
-const DETACHED: u8 = 11;
 
 /// The line on a delegated prefix that a router uses.
 fn use_line(alloc: Global, name: &Name, d: &Delegated) -> Result<String, AllocError>
@@ -147,7 +145,7 @@ impl Playing {
         }
         match self.world.router(name) {
             Some(router) if router.attached(endpoint) => None,
-            _ => Some(DETACHED),
+            _ => Some(NOT_ATTACHED),
         }
     }
 

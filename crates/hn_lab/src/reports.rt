@@ -14,11 +14,8 @@ use crate::treated::Treated;
 use hn_base::{Hex, Name, NoMemory};
 use hn_hash::Agreement;
 use hn_router::Router;
-use hn_world::UNKNOWN;
+use hn_world::{STOPPED, UNKNOWN};
 use std::alloc::{AllocError, Global};
-
-/// The code of a router that is stopped.
-const STOPPED: u8 = 12;
 
 pub(crate) fn yes_no(answer: bool) -> &'static str
     ensures { result.now ≡ yes_no answer }

@@ -6,11 +6,8 @@ ghost use Rattle.hn_lab.specs.Stage.{stage_of};
 
 use crate::playing::Playing;
 use hn_base::{Moment, Name, NoMemory};
-use hn_world::WEvent;
+use hn_world::{PAST, WEvent};
 use std::alloc::Global;
-
-/// The code of a moment before the present one.
-const PAST: u8 = 10;
 
 impl Playing {
     /// Routers tick, one after another. Answers the code with which that is refused.

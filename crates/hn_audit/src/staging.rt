@@ -45,7 +45,7 @@ pub(crate) enum Act<'a> {
     Delegate(u8, &'a [u8], u32, u32),
     /// A router no longer has a delegated prefix.
     Withdraw(u8, &'a [u8]),
-    /// A router gets capabilities: this one as a proxy for multicast (M), and none else.
+    /// A router gets capabilities: this one as the mDNS proxy (M), and none else.
     Caps(u8, u8),
     /// The moment becomes this one.
     Pass(u64),

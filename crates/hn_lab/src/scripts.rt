@@ -1,4 +1,4 @@
-ghost use Rattle.std.specs.Prelude.{◌≡◌, ◌≢◌, ◌↔◌, ◌+◌, ◌^◌, ◌≤◌, ◌⊎◌, ℕ, List, [], ◌∷◌, None, Some, Err, length, Contains, IfSome, IfOk};
+ghost use Rattle.std.specs.Prelude.{◌≡◌, ◌≢◌, ◌↔◌, ◌+◌, ◌^◌, ◌≤◌, ◌⊎◌, ℕ, List, [], ◌∷◌, None, Some, Err, length, Contains, IsSome, IfSome, IfOk};
 ghost use Rattle.std.specs.Io.KnownBytes.{Appends, Consumes};
 ghost use Rattle.std.specs.List.{AllByRecursion};
 ghost use Rattle.hn_io.specs.Faults.{Counts, IsReliable};
@@ -78,6 +78,7 @@ fn refuse<K: Sink>(alloc: Global, fault: ScriptFault, out: &mut K) -> Played
     ensures written { (written : List ℕ) × IsLineWritten (refused_line fault.line fault.code) result.status written
         × Appends (K.held out.old) (K.held out.new) written }
     ensures no_world { result.world ≡ None }
+    ensures not_done { result.status ≢ DONE }
     ensures statuses { Contains (REFUSED ∷ SINK_FAILED ∷ NO_MEMORY ∷ []) result.status }
     ensures counts { Counts (result.status ≡ SINK_FAILED) (K.faults out.old) (K.faults out.new) }
     ensures reliable { IsReliable (result.status ≡ SINK_FAILED) (K.never_fails out.old) (K.never_fails out.new) }
@@ -96,6 +97,7 @@ pub fn play<K: Sink>(alloc: Global, script: Script, out: &mut K) -> Played
     ensures done { HasDonePlay script.lines → result.status ≢ REFUSED }
     ensures refused { HasRefusal script.lines → result.status ≢ DONE }
     ensures no_world { result.status ≡ NO_MEMORY → result.world ≡ None }
+    ensures world { result.status ≢ NO_MEMORY → IsSome result.world }
     ensures replayed { IfSome result.world IsReplayed }
     ensures headline { IfSome result.world (Always EqualHashesAgree) }
     ensures settled { IfSome result.world (Always SettledAreSound) }
@@ -126,6 +128,7 @@ fn play_bytes<K: Sink>(alloc: Global, bytes: &[u8], out: &mut K) -> Played
     ensures refused { (script : AScript) → IsScript script bytes.now → HasRefusal script.lines → result.status ≢ DONE }
     ensures no_script { (fault : AFault) → IsFirstFault fault bytes.now → result.status ≢ DONE }
     ensures no_world { result.status ≡ NO_MEMORY → result.world ≡ None }
+    ensures done_world { result.status ≡ DONE → IsSome result.world }
     ensures replayed { IfSome result.world IsReplayed }
     ensures headline { IfSome result.world (Always EqualHashesAgree) }
     ensures settled { IfSome result.world (Always SettledAreSound) }
@@ -151,6 +154,7 @@ pub fn lab<S: Source, K: Sink>(alloc: Global, src: &mut S, out: &mut K) -> Playe
     ensures refused { IfSome (S.left src.old) (λ bytes. (script : AScript) → IsScript script bytes → HasRefusal script.lines → result.status ≢ DONE) }
     ensures no_script { IfSome (S.left src.old) (λ bytes. (fault : AFault) → IsFirstFault fault bytes → result.status ≢ DONE) }
     ensures no_world { (result.status ≡ SOURCE_FAILED) ⊎ (result.status ≡ NO_MEMORY) → result.world ≡ None }
+    ensures done_world { result.status ≡ DONE → IsSome result.world }
     ensures replayed { IfSome result.world IsReplayed }
     ensures headline { IfSome result.world (Always EqualHashesAgree) }
     ensures settled { IfSome result.world (Always SettledAreSound) }

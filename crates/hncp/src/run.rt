@@ -1,4 +1,4 @@
-ghost use Rattle.std.specs.Prelude.{◌≡◌, ◌≢◌, ◌+◌, ◌^◌, ◌≤◌, ◌⊎◌, ℕ, List, [], ◌∷◌, None, map, length, Contains, IfSome, string_bytes};
+ghost use Rattle.std.specs.Prelude.{◌≡◌, ◌≢◌, ◌+◌, ◌^◌, ◌≤◌, ◌⊎◌, ℕ, List, [], ◌∷◌, None, map, length, Contains, IsSome, IfSome, string_bytes};
 ghost use Rattle.std.specs.Io.KnownBytes.{Appends, Consumes};
 ghost use Rattle.hn_io.specs.Faults.{Counts, IsReliable};
 ghost use Rattle.hn_script.specs.Script.{IsScript, IsFirstFault};
@@ -62,6 +62,7 @@ pub fn run<S: Source, K: Sink>(alloc: Global, words: &[String], src: &mut S, out
         → IsScript script bytes → HasRefusal script.lines → result.status ≢ DONE) }
     ensures no_script { IsFormOf Form.Lab (map string_bytes words.now) → IfSome (S.left src.old) (λ bytes. (fault : ScriptFault)
         → IsFirstFault fault bytes → result.status ≢ DONE) }
+    ensures lab_world { IsFormOf Form.Lab (map string_bytes words.now) → result.status ≡ DONE → IsSome result.world }
     ensures replayed { IfSome result.world IsReplayed }
 
     // At each moment of the world's past, two routers with equal hashes have equal leaves, or a collision exists.
@@ -89,6 +90,7 @@ pub fn run<S: Source, K: Sink>(alloc: Global, words: &[String], src: &mut S, out
         → IsScript script (soak_text n seed) → HasDonePlay script.lines → result.status ≢ REFUSED }
     ensures soak_refused { (n seed : ℕ) → IsFormOf (Form.Soak n seed) (map string_bytes words.now) → (script : Script)
         → IsScript script (soak_text n seed) → HasRefusal script.lines → result.status ≢ DONE }
+    ensures soak_world { (n seed : ℕ) → IsFormOf (Form.Soak n seed) (map string_bytes words.now) → result.status ≢ NO_MEMORY → IsSome result.world }
     ensures soak_statuses { (n seed : ℕ) → IsFormOf (Form.Soak n seed) (map string_bytes words.now)
         → Contains (DONE ∷ REFUSED ∷ SINK_FAILED ∷ NO_MEMORY ∷ []) result.status }
     ensures soak_reads_nothing { (n seed : ℕ) → IsFormOf (Form.Soak n seed) (map string_bytes words.now) → src.new ≡ src.old }

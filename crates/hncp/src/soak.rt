@@ -1,4 +1,4 @@
-ghost use Rattle.std.specs.Prelude.{◌≡◌, ◌≢◌, ◌≤◌, ℕ, List, [], ◌∷◌, Contains, IfSome};
+ghost use Rattle.std.specs.Prelude.{◌≡◌, ◌≢◌, ◌≤◌, ℕ, List, [], ◌∷◌, Contains, IsSome, IfSome};
 ghost use Rattle.std.specs.Io.KnownBytes.{Appends};
 ghost use Rattle.hn_io.specs.Faults.{Counts, IsReliable};
 ghost use Rattle.hn_script.specs.Script.{IsScript};
@@ -25,6 +25,7 @@ pub fn soak<K: Sink>(alloc: Global, n: u32, seed: u64, out: &mut K) -> Played
     ensures done { (script : Script) → IsScript script (soak_text n seed) → HasDonePlay script.lines → result.status ≢ REFUSED }
     ensures refused { (script : Script) → IsScript script (soak_text n seed) → HasRefusal script.lines → result.status ≢ DONE }
     ensures no_world { result.status ≡ NO_MEMORY → result.world ≡ None }
+    ensures world { result.status ≢ NO_MEMORY → IsSome result.world }
     ensures replayed { IfSome result.world IsReplayed }
     ensures headline { IfSome result.world (Always EqualHashesAgree) }
     ensures settled { IfSome result.world (Always SettledAreSound) }

@@ -56,3 +56,6 @@ returns-in-None-clause-soak g c n seed asked = absurd (c.in-None.ensures.none (S
 
 pub returns-in-None-clause-soak_statuses : goal.returns-in-None-clause-soak_statuses
 returns-in-None-clause-soak_statuses g c n seed asked = absurd (c.in-None.ensures.none (Soak n seed) asked)
+
+pub returns-in-None-clause-soak_world : goal.returns-in-None-clause-soak_world
+returns-in-None-clause-soak_world g c n seed asked _ = absurd (c.in-None.ensures.none (Soak n seed) asked)

@@ -3,7 +3,6 @@
 
 mod asked;
 mod delegations;
-mod fault;
 mod kept;
 mod laws;
 mod node_data;
@@ -17,7 +16,6 @@ mod view;
 mod walk;
 
 pub use asked::{keep_alive, linked, version};
-pub use fault::DataFault;
 pub use laws::{ascending_set_is_unique, items_are_unique, node_data_has_items};
 pub use node_data::NodeData;
 pub use own_data::encode;

@@ -1,17 +1,16 @@
 ghost use Rattle.std.specs.Prelude.{◌≡◌, ◌↔◌, ℕ, List, All, length, IsTrue, Err, Contains, IfOk, OnOk, IsNone, IfNone, IfSome, IsSomeAnd};
 ghost use Rattle.std.specs.List.Sorted.{IsStrictlySortedBy};
 ghost use Rattle.hn_tlv.specs.Grammar.{PlainTlv, HasTlvs, IsTlvAt, FirstFault};
+ghost use Rattle.hn_tlv.specs.declared.list_fault.ListFault.TheVariants.{Malformed};
 ghost use Rattle.hn_typed.specs.Item.{PlainItem};
 ghost use Rattle.hn_data.specs.Items.{AreItems, Reads};
 ghost use Rattle.hn_data.specs.OwnData.{IsEncoded, IsWrittenIn, IsAscendingSet};
 ghost use Rattle.hn_data.specs.Walk.{IsPlace, IsFoundAt, Decodes};
-ghost use Rattle.hn_data.specs.declared.fault.DataFault.TheVariants.{Tlv};
 ghost use Rattle.hn_data.specs.Kept.{IsKept};
 ghost use Rattle.hn_data.specs.Peers.{HasPeer, peer_cmp};
 ghost use Rattle.hn_data.specs.Delegations.{HasDelegation, HasExternal};
 ghost use Rattle.hn_data.specs.Said.{HasAssigned};
 
-use crate::fault::DataFault;
 use crate::kept::Kept;
 use crate::laws::{are_bytes, items_are_unique, node_data_has_items};
 use crate::own_data::ascending_set;
@@ -19,7 +18,7 @@ use crate::reading::read_kept;
 use crate::said::{AssignedPrefix, Delegation, PeerLink};
 use crate::walk::tlv_at;
 use hn_base::{Bytes, NoMemory};
-use hn_tlv::{check, list_grows, spelling_is_prefix_free, tlv_is_unique};
+use hn_tlv::{ListFault, check, list_grows, spelling_is_prefix_free, tlv_is_unique};
 use hn_typed::{Item, ItemFault, item_is_unique, read, written_is_read};
 use std::alloc::Global;
 use std::marker::Model;
@@ -66,13 +65,13 @@ impl NodeData {
     ///
     /// # Errors
     ///
-    /// `Tlv` if and only if the bytes are no list of TLVs (RFC 7787, section 7), with the first fault, as
+    /// `Malformed` if and only if the bytes are no list of TLVs (RFC 7787, section 7), with the first fault, as
     /// `hn_tlv::check` gives it, which never allocates.
-    pub fn from_bytes(alloc: Global, bytes: &[u8]) -> Result<NodeData, DataFault>
+    pub fn from_bytes(alloc: Global, bytes: &[u8]) -> Result<NodeData, ListFault>
         ensures data { IfOk result (λ d. d ≡ bytes.now) }
         ensures listed { OnOk result (HasTlvs bytes.now) }
         ensures refused { (place why : ℕ)
-            → (result ≡ Err (Tlv (record { place = place; why = why }))) ↔ FirstFault bytes.now place why }
+            → (result ≡ Err (Malformed (record { place = place; why = why }))) ↔ FirstFault bytes.now place why }
     {
         check(bytes)?;
         let copy = Bytes::copy_of(alloc, bytes)?;

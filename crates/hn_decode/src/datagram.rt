@@ -1,14 +1,13 @@
 ghost use Rattle.std.specs.Prelude.{◌≡◌, ◌++◌, ◌<◌, ◌^◌, ℕ, List, ◌↔◌, Err, IfOk, length, drop, string_bytes};
 ghost use Rattle.hn_tlv.specs.Grammar.{HasTlvs, FirstFault};
-ghost use Rattle.hn_decode.specs.declared.fault.DecodeFault.TheVariants.{Malformed};
+ghost use Rattle.hn_tlv.specs.declared.list_fault.ListFault.TheVariants.{Malformed};
 ghost use Rattle.hn_decode.specs.Nested.{first_line, IsTextTo, IsDecodeText, Adds};
 
-use crate::fault::DecodeFault;
 use crate::laws::lines_make_the_text;
 use crate::line::DEEPEST;
 use crate::nested::{push_tlv, tlv_at};
 use hn_base::NoMemory;
-use hn_tlv::{check, list_continues};
+use hn_tlv::{ListFault, check, list_continues};
 use std::alloc::Global;
 
 /// The first line of the text of a datagram: `tlvs C` with the number of its TLVs, and LF.
@@ -47,7 +46,7 @@ pub fn push_next(out: &mut String, bytes: &[u8], at: usize) -> Result<usize, NoM
 ///
 /// `Malformed` if and only if the datagram is no list of TLVs, with the first fault as `hn_tlv::check` gives it, which
 /// never allocates; otherwise `NoMemory`.
-pub fn decode(alloc: Global, bytes: &[u8]) -> Result<String, DecodeFault>
+pub fn decode(alloc: Global, bytes: &[u8]) -> Result<String, ListFault>
     ensures text { IfOk result (λ text. IsDecodeText bytes.now (string_bytes text)) }
     ensures malformed { (place why : ℕ)
         → (result ≡ Err (Malformed (record { place = place; why = why }))) ↔ FirstFault bytes.now place why }

@@ -3,7 +3,6 @@
 #![tactic(auto)]
 
 mod datagram;
-mod fault;
 #[cfg(test)]
 mod item_tests;
 mod item_text;
@@ -12,7 +11,6 @@ mod line;
 mod nested;
 
 pub use datagram::{decode, first_line, push_next};
-pub use fault::DecodeFault;
 pub use laws::{decode_text_exists, decode_text_is_unique, lines_go_on, lines_make_the_text};
 
 #[cfg(test)]

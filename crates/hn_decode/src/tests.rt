@@ -1,5 +1,5 @@
 use super::*;
-use hn_tlv::{HEADER_CUT, PADDING_CUT, PADDING_NOT_ZERO, TlvFault, VALUE_CUT};
+use hn_tlv::{HEADER_CUT, ListFault, PADDING_CUT, PADDING_NOT_ZERO, TlvFault, VALUE_CUT};
 use std::test::Fail;
 
 /// Datagrams in hexadecimal, and their texts.
@@ -97,25 +97,12 @@ fn malformed(rt: HostRuntime) -> Result<(), Fail> {
     ];
     for (digits, place, why) in cases {
         let bytes = hex::decode(rt.alloc(), digits)?;
-        let fault = DecodeFault::Malformed(TlvFault { place, why });
+        let fault = ListFault::Malformed(TlvFault { place, why });
         assert_eq!(rt;
             decode(rt.alloc(), &bytes).err(),
             Some(fault),
             "at {digits}"
         );
     }
-    Ok(())
-}
-
-#[test]
-fn faults_are_printed(rt: HostRuntime) -> Result<(), Fail> {
-    let fault = DecodeFault::Malformed(TlvFault {
-        place: 7,
-        why: PADDING_NOT_ZERO,
-    });
-    let line = format!(in rt.alloc(); "{fault}")?;
-    assert_eq!(rt; line.as_str(), "TLV list at byte 7: a pad byte is not zero");
-    let line = format!(in rt.alloc(); "{}", DecodeFault::NoMemory)?;
-    assert_eq!(rt; line.as_str(), "out of memory");
     Ok(())
 }

@@ -11,9 +11,9 @@ use crate::state::{OwnLeaf, State, Took};
 use crate::stored::{HeldNode, Stored};
 use crate::table::Table;
 use hn_base::{Moment, NoMemory, NodeId, older};
-use hn_data::{DataFault, NodeData};
+use hn_data::NodeData;
 use hn_hash::{Part, h};
-use hn_tlv::first_fault_is_unique;
+use hn_tlv::{ListFault, first_fault_is_unique};
 use std::alloc::Global;
 
 /// How many bytes the data of a node have at most.
@@ -140,8 +140,8 @@ impl Table {
         first_fault_is_unique();
         let body = match NodeData::from_bytes(alloc, state.body) {
             Ok(body) => body,
-            Err(DataFault::Tlv(_)) => return Ok(Took::BadBody),
-            Err(DataFault::NoMemory) => return Err(NoMemory),
+            Err(ListFault::Malformed(_)) => return Ok(Took::BadBody),
+            Err(ListFault::NoMemory) => return Err(NoMemory),
         };
         self.store(state, body, now)?;
         Ok(Took::Kept)

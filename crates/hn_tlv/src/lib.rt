@@ -8,6 +8,7 @@
 
 mod fault;
 mod laws;
+mod list_fault;
 mod reading;
 mod writing;
 
@@ -17,6 +18,7 @@ pub use laws::{
     list_is_unique, list_or_first_fault, lists_join, spelling_is_prefix_free, spelling_is_read,
     tlv_is_unique,
 };
+pub use list_fault::ListFault;
 pub use reading::{Tlv, check, next};
 pub use writing::{HEADER_SIZE, padding, size, write_to};
 

@@ -64,12 +64,16 @@ fn longest_value(rt: HostRuntime) -> Result<(), Fail> {
 }
 
 #[test]
-fn fault_is_printed(rt: HostRuntime) -> Result<(), Fail> {
+fn faults_are_printed(rt: HostRuntime) -> Result<(), Fail> {
     let fault = TlvFault {
         place: 7,
         why: PADDING_NOT_ZERO,
     };
     let line = format!(in rt.alloc(); "{fault}")?;
     assert_eq!(rt; line.as_str(), "TLV list at byte 7: a pad byte is not zero");
+    let line = format!(in rt.alloc(); "{}", ListFault::Malformed(fault))?;
+    assert_eq!(rt; line.as_str(), "TLV list at byte 7: a pad byte is not zero");
+    let line = format!(in rt.alloc(); "{}", ListFault::NoMemory)?;
+    assert_eq!(rt; line.as_str(), "out of memory");
     Ok(())
 }

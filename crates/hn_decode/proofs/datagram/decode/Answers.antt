@@ -2,25 +2,24 @@ use Rattle.std.proofs.Common.{List, ℕ, ◌++◌, refl, ap, ◌∙◌, append_a
 use Rattle.std.proofs.lemmas.Result.{err_from_is_err_and}
 use Rattle.hn_decode.specs.Nested.{first_line}
 use Rattle.hn_tlv.proofs.Told.{tells_first, tells_other}
-use Rattle.hn_decode.specs.declared.fault.DecodeFault.TheVariants.{Malformed}
 use Rattle.hn_decode.proofs.datagram.decode.Goals as goal
 
 pub returns-in_err-count-clause-malformed : goal.returns-in_err-count-clause-malformed
 returns-in_err-count-clause-malformed c =
     let passed = err_from_is_err_and c.from_residual.result c.from_residual.ensures.1 in
-    tells_first Malformed c.args.bytes.now c.from_residual.result (λ fault other e. cc) c.in_err-count.field-0.0 (rw (passed.1, passed.2) refl) c.in_err-count.ensures.fault
+    tells_first c.args.bytes.now c.from_residual.result c.in_err-count.field-0.0 (rw (passed.1, passed.2) refl) c.in_err-count.ensures.fault
 
 pub returns-in_err-out-clause-malformed : goal.returns-in_err-out-clause-malformed
 returns-in_err-out-clause-malformed c =
     let passed = err_from_is_err_and c.from_residual-in_err-out.result c.from_residual-in_err-out.ensures.1 in
     let count = c.in_ok-count.ensures.count in
-    tells_other Malformed c.args.bytes.now c.from_residual-in_err-out.result (count.0, count.1) (λ fault e. cc)
+    tells_other c.args.bytes.now c.from_residual-in_err-out.result (count.0, count.1) (λ fault e. cc)
 
 pub returns-in_err-at-clause-malformed : goal.returns-in_err-at-clause-malformed
 returns-in_err-at-clause-malformed c =
     let passed = err_from_is_err_and c.from_residual-in_err-at.result c.from_residual-in_err-at.ensures.1 in
     let count = c.in_ok-count.ensures.count in
-    tells_other Malformed c.args.bytes.now c.from_residual-in_err-at.result (count.0, count.1) (λ fault e. cc)
+    tells_other c.args.bytes.now c.from_residual-in_err-at.result (count.0, count.1) (λ fault e. cc)
 
 pub loop-at-preserved : goal.loop-at-preserved
 loop-at-preserved c =
@@ -35,4 +34,4 @@ loop-at-preserved c =
 pub returns-clause-malformed : goal.returns-clause-malformed
 returns-clause-malformed c =
     let count = c.in_ok-count.ensures.count in
-    tells_other Malformed c.args.bytes.now _ (count.0, count.1) (λ fault e. cc)
+    tells_other c.args.bytes.now _ (count.0, count.1) (λ fault e. cc)

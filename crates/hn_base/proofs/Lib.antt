@@ -2,6 +2,7 @@ pub mod AscendingLists
 pub mod AscendingNumbers
 pub mod Around
 pub mod BigEndian
+pub mod Causes
 pub mod Decisions
 pub mod Elements
 pub mod Fields

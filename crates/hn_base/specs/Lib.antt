@@ -1,6 +1,7 @@
 pub mod Addr
 pub mod Ascending
 pub mod Caps
+pub mod Causes
 pub mod HexText
 pub mod Key
 pub mod Name

@@ -1,7 +1,8 @@
 -- Lines one after the other: what they give, and that what gives something has no fault.
 use Rattle.std.proofs.Common.{◌≢◌, ℕ, ◌+◌, ◌≤◌, List, [], ◌∷◌, ◌++◌, length, Option, Some, None, inl, inr, refl, sym, ap, arith}
 use Rattle.std.proofs.lemmas.Slice.Zip.{AllZip-long}
-use Rattle.hn_script.specs.Fault.{FaultElse, NoFault, IsPlain, TextFault, WordsFault, FirstWordFault, LineFault}
+use Rattle.hn_base.specs.Causes.{OnCause, NoCause}
+use Rattle.hn_script.specs.Fault.{IsPlain, TextFault, WordsFault, FirstWordFault, LineFault}
 use Rattle.hn_script.specs.Field.{IsField}
 use Rattle.hn_script.specs.Line.{spelling, Spells, Gives}
 use Rattle.hn_script.specs.Script.{IsEntry, AreLines, numbered, first_line, FirstLineFault}
@@ -55,7 +56,7 @@ no_line_fault entry text h code =
     no_text_fault text (WordsFault (words_of text)) code h.short h.plain (λ found. no_words_fault entry (words_of text) found h.gives)
 
 pub no_first_fault : (version : Version) (code : ℕ) → ¬ FirstLineFault (first_line version) code
-no_first_fault One code = no_text_fault (first_line One) (FaultElse 1 ((version : Version) → first_line One ≢ first_line version) NoFault) code (omega arith) plain (λ found fault. elim fault [
+no_first_fault One code = no_text_fault (first_line One) (OnCause ((version : Version) → first_line One ≢ first_line version) 1 NoCause) code (omega arith) plain (λ found fault. elim fault [
   | inl wrong ↦ wrong.0 One refl
   | inr never ↦ never.1
 ])

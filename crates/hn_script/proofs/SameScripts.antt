@@ -1,7 +1,8 @@
 -- Bytes are one script, or have one first fault.
 use Rattle.std.proofs.Common.{◌≡◌, ◌≢◌, ℕ, ◌+◌, List, [], ◌∷◌, Option, Some, None, inl, inr, refl, sym, ap, ◌∙◌, subst, arith}
 use Rattle.std.specs.List.{AllZip}
-use Rattle.hn_script.specs.Fault.{FaultElse, NoFault, IsUnknown, IsMiscounted, IsMalformed, TextFault, WordsFault, LineFault}
+use Rattle.hn_base.specs.Causes.{OnCause, NoCause}
+use Rattle.hn_script.specs.Fault.{IsUnknown, IsMiscounted, IsMalformed, TextFault, WordsFault, LineFault}
 use Rattle.hn_script.specs.Laws.{AtMostOneScript, AtMostOneFault}
 use Rattle.hn_script.specs.Line.{Gives}
 use Rattle.hn_script.specs.Script.{IsEntry, IsScript, FaultFrom, FaultOfLines, FirstLineFault, IsFirstFault, numbered, first_line}
@@ -15,6 +16,7 @@ use Rattle.hn_script.proofs.PrefixWords.{WritesOnePrefix}
 use Rattle.hn_script.proofs.SameFields.{same_line}
 use Rattle.hn_base.proofs.Fronts.{tail_is}
 use Rattle.hn_base.proofs.Fields.{one_version}
+use Rattle.hn_base.proofs.Causes.{one_cause}
 
 -- ---- one script
 
@@ -74,25 +76,22 @@ script_no_fault bytes script fault h found = elim found [
 IsSole : (ℕ → Type 0) → Type 0
 IsSole P = (a b : ℕ) → P a → P b → a ≡ b
 
-sole_none : IsSole NoFault
+sole_none : IsSole NoCause
 unfolding IsSole
 sole_none a b h k = absurd h
 
-sole_else : (code : ℕ) (Broken : Type 0) (further : ℕ → Type 0) → IsSole further → IsSole (FaultElse code Broken further)
+sole_else : (Broken : Type 0) (code : ℕ) (further : ℕ → Type 0) → IsSole further → IsSole (OnCause Broken code further)
 unfolding IsSole
-sole_else code Broken further sole a b h k = elim h [
-  | inl here ↦ elim k [ inl there ↦ here.1 ∙ sym there.1 | inr later ↦ absurd (later.0 here.0) ]
-  | inr early ↦ elim k [ inl there ↦ absurd (early.0 there.0) | inr later ↦ sole a b early.1 later.1 ]
-]
+sole_else Broken code further sole a b h k = one_cause Broken code further a b (sole a b) h k
 
 sole_words : (words : List (List ℕ)) → IsSole (WordsFault words)
 unfolding IsSole
 sole_words [] a b h k = absurd h
 sole_words (word ∷ words) a b h k =
-    sole_else 2 (IsUnknown word) _ (sole_else 3 (IsMiscounted word words) _ (sole_else 4 (IsMalformed (word ∷ words)) NoFault sole_none)) a b h.1 k.1
+    sole_else (IsUnknown word) 2 _ (sole_else (IsMiscounted word words) 3 _ (sole_else (IsMalformed (word ∷ words)) 4 NoCause sole_none)) a b h.1 k.1
 
 sole_text : (text : List ℕ) (further : ℕ → Type 0) → IsSole further → IsSole (TextFault text further)
-sole_text text further sole = sole_else 5 _ _ (sole_else 6 _ further sole)
+sole_text text further sole = sole_else _ 5 _ (sole_else _ 6 further sole)
 
 same_code : (text : List ℕ) (a b : ℕ) → LineFault text a → LineFault text b → a ≡ b
 unfolding IsSole
@@ -100,7 +99,7 @@ same_code text = sole_text text (WordsFault (words_of text)) (sole_words (words_
 
 same_first_code : (text : List ℕ) (a b : ℕ) → FirstLineFault text a → FirstLineFault text b → a ≡ b
 unfolding IsSole
-same_first_code text = sole_text text _ (sole_else 1 ((version : Version) → text ≢ first_line version) NoFault sole_none)
+same_first_code text = sole_text text _ (sole_else ((version : Version) → text ≢ first_line version) 1 NoCause sole_none)
 
 same_fault : (fault other : ScriptFault) → fault.line ≡ other.line → fault.code ≡ other.code → fault ≡ other
 same_fault fault other line code = rw (line, code) refl

@@ -1,8 +1,9 @@
 -- What a step of the reading answers.
 use Rattle.std.specs.Prelude.{◌≡◌, ◌≢◌, ℕ, List, ◌∷◌, length, Option, Some, None, Result, Ok, Err}
 use Rattle.std.specs.List.{AllZip}
+use Rattle.hn_base.specs.Causes.{OnCause, NoCause}
 use Rattle.hn_script.specs.Draft.{IsDraftOf}
-use Rattle.hn_script.specs.Fault.{FaultElse, NoFault, FirstWordFault, LineFault}
+use Rattle.hn_script.specs.Fault.{FirstWordFault, LineFault}
 use Rattle.hn_script.specs.Field.{Field, IsField}
 use Rattle.hn_script.specs.Line.{Spells}
 use Rattle.hn_script.specs.Script.{IsEntry}
@@ -18,7 +19,7 @@ ReadsField {A} field_of word (Err code) = (code ≡ 4) × ((value : A) → ¬ Is
 abbrev pub ReadsFields : {A : Type 0} → ℕ → (A → List Field) → List (List ℕ) → Result A ℕ → Type 0
 ReadsFields count fields_of words (Ok values) = AllZip IsField (fields_of values) words
 ReadsFields {A} count fields_of words (Err code) =
-    FaultElse 3 (length words ≢ count) (FaultElse 4 ((values : A) → ¬ AllZip IsField (fields_of values) words) NoFault) code
+    OnCause (length words ≢ count) 3 (OnCause ((values : A) → ¬ AllZip IsField (fields_of values) words) 4 NoCause) code
 
 -- a first word and the words after it give the line that they spell, and else their fault
 abbrev pub ReadsLine : List ℕ → List (List ℕ) → Result Line ℕ → Type 0

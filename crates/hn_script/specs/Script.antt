@@ -1,7 +1,8 @@
 -- Which bytes are the script of which lines, and which line is the first with a fault.
 use Rattle.std.specs.Prelude.{◌≡◌, ◌≢◌, ℕ, ◌+◌, ◌^◌, ◌<◌, ◌≤◌, ◌⊎◌, List, [], ◌∷◌, ◌++◌, length, map, codes, Option, Some, None}
 use Rattle.std.specs.List.{AllZip, concat}
-use Rattle.hn_script.specs.Fault.{FaultElse, NoFault, IsPlain, TextFault, LineFault}
+use Rattle.hn_base.specs.Causes.{OnCause, NoCause}
+use Rattle.hn_script.specs.Fault.{IsPlain, TextFault, LineFault}
 use Rattle.hn_script.specs.Line.{Gives, line_text}
 use Rattle.hn_script.specs.Texts.{line_feed, lines_of, words_of}
 use Rattle.hn_script.specs.declared.fault.ScriptFault.{ScriptFault}
@@ -43,7 +44,7 @@ pub record IsScript (script : Script) (bytes : List ℕ) : Type 0 where
 
 -- 1: what is wrong with the first line
 abbrev pub FirstLineFault : List ℕ → ℕ → Type 0
-FirstLineFault text = TextFault text (FaultElse 1 ((version : Version) → text ≢ first_line version) NoFault)
+FirstLineFault text = TextFault text (OnCause ((version : Version) → text ≢ first_line version) 1 NoCause)
 
 -- the first fault of these texts, of which the first has number n
 abbrev pub FaultFrom : ℕ → List (List ℕ) → ScriptFault → Type 0

@@ -2,6 +2,7 @@
 use Rattle.std.proofs.Common.{◌≡◌, ◌≢◌, ◌<◌, ℕ, inl, inr, List, length, Option, refl, sym, ap, subst, arith}
 use Rattle.std.specs.Prelude.{Result, Ok, Err, IfOk}
 use Rattle.std.proofs.lemmas.Bool.{ne_eqb}
+use Rattle.hn_base.specs.Causes.{LineElse}
 use Rattle.hn_tlv.specs.Grammar.{HasTlvs}
 use Rattle.hn_hash.specs.declared.part.Part.{Part}
 use Rattle.hn_store.specs.declared.state.OwnLeaf.{OwnLeaf}
@@ -9,7 +10,7 @@ use Rattle.hn_store.specs.declared.state.Took.{Took}
 use Rattle.hn_store.specs.declared.state.Took.TheVariants.{Kept, Renumbered, Ask, Stale, BadHash, BadBody, TooLong, Full, Own}
 use Rattle.hn_store.specs.declared.stored.HeldNode.{HeldNode}
 use Rattle.hn_store.specs.Nodes.{Nodes}
-use Rattle.hn_store.specs.Acceptance.{PlainState, held_part, known_of, CarriesData, HasWrongHash, IsStale, IsFull, IsNews, Line, IsAnswer, entries_after, Accepts}
+use Rattle.hn_store.specs.Acceptance.{PlainState, held_part, known_of, CarriesData, HasWrongHash, IsStale, IsFull, IsNews, IsAnswer, entries_after, Accepts}
 use Rattle.hn_store.specs.AcceptanceParts.{HasRightHash, IsPassed, IsOfData, IsOfNumber}
 
 pub stale : (nodes : Nodes) (own : OwnLeaf) (s : PlainState) → IsStale (known_of nodes.entries own s.node) s → IsAnswer nodes own s Stale
@@ -28,11 +29,11 @@ too_long nodes own s fresh room is = inr (fresh, inr (room, inl (is, refl)))
 
 -- a state that the first three lines let through
 passed : (nodes : Nodes) (own : OwnLeaf) (s : PlainState) (took : Took) → IsPassed nodes own s
-    → Line (HasWrongHash s) (took ≡ BadHash)
-    (Line (s.node ≡ own.id.0) (took ≡ Own)
-    (Line (CarriesData s × ¬ (HasTlvs s.body)) (took ≡ BadBody)
-    (Line (CarriesData s) (took ≡ Kept)
-    (Line (IsNews (known_of nodes.entries own s.node) s) (took ≡ Ask)
+    → LineElse (HasWrongHash s) (took ≡ BadHash)
+    (LineElse (s.node ≡ own.id.0) (took ≡ Own)
+    (LineElse (CarriesData s × ¬ (HasTlvs s.body)) (took ≡ BadBody)
+    (LineElse (CarriesData s) (took ≡ Kept)
+    (LineElse (IsNews (known_of nodes.entries own s.node) s) (took ≡ Ask)
     (took ≡ Renumbered))))) → IsAnswer nodes own s took
 unfolding IsAnswer
 passed nodes own s took p later = inr (p.fresh, inr (p.room, inr ((λ long. let short = p.short in omega arith), later)))

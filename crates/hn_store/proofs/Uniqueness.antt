@@ -10,20 +10,14 @@ use Rattle.hn_store.specs.declared.state.OwnLeaf.{OwnLeaf}
 use Rattle.hn_store.specs.declared.state.Took.{Took}
 use Rattle.hn_store.specs.declared.state.Took.TheVariants.{Kept, Renumbered, Ask, Stale, BadHash, BadBody, TooLong, Full, Own}
 use Rattle.hn_store.specs.Nodes.{Nodes, held, entry, put}
-use Rattle.hn_store.specs.Acceptance.{PlainState, Line, IsAnswer, kept, renumbered, changed, entries_after}
+use Rattle.hn_store.specs.Acceptance.{PlainState, IsAnswer, kept, renumbered, changed, entries_after}
 use Rattle.hn_store.specs.Laws.{PutChangesOneNode, AcceptanceIsUnique, OthersStay, OwnStays}
+use Rattle.hn_base.proofs.Causes.{both_lines}
 use Rattle.hn_base.proofs.Fronts.{find-none}
 use Rattle.hn_base.proofs.Passing.{find-filter}
 use Rattle.std.proofs.lemmas.List.Elements.{All-from_recursion}
 
 -- ---- the first line that holds is one
-
--- two readings of a table of lines: both end at this line, or both go on
-both : {C A B L M R : Type 0} → Line C A L → Line C B M → (A → B → R) → (L → M → R) → R
-both (inl (holds, a)) (inl (also, b)) here later = here a b
-both (inl (holds, a)) (inr (no', m)) here later = absurd (no' holds)
-both (inr (no', l)) (inl (holds, b)) here later = absurd (no' holds)
-both (inr (no', l)) (inr (nor', m)) here later = later l m
 
 one : (took a b : Took) → a ≡ took → b ≡ took → a ≡ b
 one took a b e f = e ∙ sym f
@@ -31,8 +25,8 @@ one took a b e f = e ∙ sym f
 pub one_answer : (nodes : Nodes) (own : OwnLeaf) (s : PlainState) (a b : Took) → IsAnswer nodes own s a → IsAnswer nodes own s b → a ≡ b
 unfolding IsAnswer
 one_answer nodes own s a b x y =
-    both x y (one Stale a b) (λ x y. both x y (one Full a b) (λ x y. both x y (one TooLong a b) (λ x y. both x y (one BadHash a b) (λ x y.
-    both x y (one Own a b) (λ x y. both x y (one BadBody a b) (λ x y. both x y (one Kept a b) (λ x y. both x y (one Ask a b) (one Renumbered a b))))))))
+    both_lines x y (one Stale a b) (λ x y. both_lines x y (one Full a b) (λ x y. both_lines x y (one TooLong a b) (λ x y. both_lines x y (one BadHash a b) (λ x y.
+    both_lines x y (one Own a b) (λ x y. both_lines x y (one BadBody a b) (λ x y. both_lines x y (one Kept a b) (λ x y. both_lines x y (one Ask a b) (one Renumbered a b))))))))
 
 pub acceptance_unique : AcceptanceIsUnique
 acceptance_unique nodes own s now m n took other a b =

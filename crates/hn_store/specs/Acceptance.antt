@@ -1,6 +1,7 @@
 -- What comes of a node state that arrives (RFC 7787, section 4.4).
 use Rattle.std.specs.Prelude.{◌≡◌, ◌≢◌, ◌⊎◌, ◌<◌, ℕ, List, [], ◌==◌, if◌then◌else◌, length, Option, Some, None}
 use Rattle.std.specs.Option.{option_map, option_and_then}
+use Rattle.hn_base.specs.Causes.{LineElse}
 use Rattle.hn_base.specs.Order.{IsOlder}
 use Rattle.hn_tlv.specs.Grammar.{HasTlvs}
 use Rattle.hn_hash.specs.Hash.{hash_of}
@@ -54,23 +55,19 @@ abbrev pub IsNews : Option Part → PlainState → Type 0
 IsNews None s = Unit {0}
 IsNews (Some known) s = known.hash ≢ s.hash
 
--- a line of a table of which the first line decides whose condition holds
-abbrev pub Line : Type 0 → Type 0 → Type 0 → Type 0
-Line condition answer lines = (condition × answer) ⊎ (¬ condition × lines)
-
 -- the answer to a node state, by the first line whose condition holds; that there is a limit for the nodes and for
 -- their data is not the standard's
 unfoldable pub IsAnswer : Nodes → OwnLeaf → PlainState → Took → Type 0
 IsAnswer nodes own s took =
     let known = known_of nodes.entries own s.node in
-    Line (IsStale known s) (took ≡ Stale)
-    (Line (IsFull nodes known) (took ≡ Full)
-    (Line (60000 < length s.body) (took ≡ TooLong)
-    (Line (HasWrongHash s) (took ≡ BadHash)
-    (Line (s.node ≡ own.id.0) (took ≡ Own)
-    (Line (CarriesData s × ¬ (HasTlvs s.body)) (took ≡ BadBody)
-    (Line (CarriesData s) (took ≡ Kept)
-    (Line (IsNews known s) (took ≡ Ask)
+    LineElse (IsStale known s) (took ≡ Stale)
+    (LineElse (IsFull nodes known) (took ≡ Full)
+    (LineElse (60000 < length s.body) (took ≡ TooLong)
+    (LineElse (HasWrongHash s) (took ≡ BadHash)
+    (LineElse (s.node ≡ own.id.0) (took ≡ Own)
+    (LineElse (CarriesData s × ¬ (HasTlvs s.body)) (took ≡ BadBody)
+    (LineElse (CarriesData s) (took ≡ Kept)
+    (LineElse (IsNews known s) (took ≡ Ask)
     (took ≡ Renumbered))))))))
 
 -- what a state with data puts in place of what was held of its node; a moment of loss stays

@@ -9,7 +9,9 @@ use Rattle.hn_prefix.specs.Prefix.{PlainPrefix, IsPrefix}
 use Rattle.hn_typed.specs.Item.{PlainItem, RequestNetwork, RequestNode, NodeEndpoint, NetworkState, NodeState, Peer, KeepAlive, Version, External, Delegated, Assigned, Address, Other}
 use Rattle.hn_typed.specs.Fields.{word, two_in_byte, prefix_field, ThenSubs, HasSubs}
 use Rattle.hn_typed.specs.Table.{IsOtherKind, IsItem}
-use Rattle.hn_typed.specs.Fault.{Layout, Subs, PrefixAndSubs, Text, Anything, layout, layout_of, prefix_size, IsPrefixTooLong, HasBitPastPrefix, IsMalformedAfter, IsNoText, OnCause, NoCause, IsFirstCause, IsItemFault}
+use Rattle.hn_typed.specs.Fault.{Layout, Subs, PrefixAndSubs, Text, Anything, layout, layout_of, prefix_size, IsPrefixTooLong, HasBitPastPrefix, IsMalformedAfter, IsNoText, IsFirstCause, IsItemFault}
+use Rattle.hn_base.specs.Causes.{OnCause, NoCause}
+use Rattle.hn_base.proofs.Causes.{one_cause}
 use Rattle.hn_typed.proofs.Causes.{past_prefix, length-prefix_field}
 
 -- no cause holds
@@ -107,12 +109,6 @@ pub no_fault : (tlv : PlainTlv) (item : PlainItem) (why : ℕ) → IsItem tlv it
 no_fault tlv item why h = no_cause (layout_of tlv.kind) tlv.value why (is_whole tlv item h)
 
 -- ---- one cause is the first
-
-one_cause : (cause : Type 0) (number : ℕ) (others : ℕ → Type 0) (v w : ℕ) → (others v → others w → v ≡ w) → OnCause cause number others v → OnCause cause number others w → v ≡ w
-one_cause cause number others v w same (inl a) (inl b) = a.1 ∙ sym b.1
-one_cause cause number others v w same (inl a) (inr b) = absurd (b.0 a.0)
-one_cause cause number others v w same (inr a) (inl b) = absurd (a.0 b.0)
-one_cause cause number others v w same (inr a) (inr b) = same a.1 b.1
 
 same_of_five : (a b c d e : Type 0) (v w : ℕ) → OnCause a 3 (OnCause b 1 (OnCause c 3 (OnCause d 2 (OnCause e 4 NoCause)))) v → OnCause a 3 (OnCause b 1 (OnCause c 3 (OnCause d 2 (OnCause e 4 NoCause)))) w → v ≡ w
 same_of_five a b c d e v w =

@@ -1,7 +1,8 @@
 -- Why a TLV decodes to no item, by the first cause from left to right.
-use Rattle.std.specs.Prelude.{◌≡◌, ◌≢◌, ℕ, ◌+◌, ◌-◌, ◌%◌, ◌^◌, ◌<◌, ◌⊎◌, List, drop, take, length, slice_index, ◌==◌, if◌then◌else◌}
+use Rattle.std.specs.Prelude.{◌≢◌, ℕ, ◌+◌, ◌-◌, ◌%◌, ◌^◌, ◌<◌, List, drop, take, length, slice_index, ◌==◌, if◌then◌else◌}
 use Rattle.std.specs.Int.{w128, from_be_bytes}
 use Rattle.std.specs.Str.{IsUtf8}
+use Rattle.hn_base.specs.Causes.{OnCause, NoCause}
 use Rattle.hn_tlv.specs.Grammar.{PlainTlv}
 use Rattle.hn_typed.specs.Fields.{bytes_for, ThenSubs}
 
@@ -72,13 +73,6 @@ IsMalformedAfter _ len after = ⊥
 abbrev pub IsNoText : Following → List ℕ → Type 0
 IsNoText Text after = ¬ (IsUtf8 after)
 IsNoText _ after = ⊥
-
--- a number that names a cause, where it holds, and else what the others say
-abbrev pub OnCause : Type 0 → ℕ → (ℕ → Type 0) → ℕ → Type 0
-OnCause cause number others why = (cause × (why ≡ number)) ⊎ ((¬ cause) × others why)
-
-abbrev pub NoCause : ℕ → Type 0
-NoCause why = ⊥
 
 -- The first cause that holds: a prefix length above 128; fixed fields or prefix bytes are missing; a bit past the prefix
 -- length; no pad of zeros and list of TLVs; a user agent that is not in UTF-8.

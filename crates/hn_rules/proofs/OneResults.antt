@@ -50,7 +50,7 @@ use Rattle.hn_rules.specs.declared.answers.Subject.{Subject}
 use Rattle.hn_rules.specs.declared.answers.Subject.TheVariants as subject
 use Rattle.hn_own.specs.Own.{PlainData, IsOwnData}
 use Rattle.hn_own.specs.Ports.{endpoints_of, attached}
-use Rattle.hn_rules.specs.Nodes.{IsReach}
+use Rattle.hn_rules.specs.Nodes.{IsReach, own_leaf}
 use Rattle.hn_rules.specs.Rules.{Then, Each, AtPort, with_words, with_port, noted, IsSole}
 use Rattle.hn_rules.specs.Refresh.{Publishes, IsPublished, next_number, IsPublishing, IsReaching, IsHashing, IsPortReset, IsReset, IsRefresh, network_state_hash}
 use Rattle.hn_rules.specs.Answers.{with_answer}
@@ -61,7 +61,7 @@ use Rattle.hn_rules.specs.NetworkState.{network_state}
 use Rattle.hn_base.proofs.Decisions.{not_both}
 use Rattle.hn_rules.specs.Requests.{state_item, with_some_answer, is_reached, with_state, IsNetworkRequest, request_node}
 use Rattle.hn_rules.specs.Claim.{IsFirstFree, IsFirstClaim, IsSecondClaim, IsClaim, is_taken}
-use Rattle.hn_rules.specs.NodeState.{own_leaf, took_noted, IsTaken, IsNodeState}
+use Rattle.hn_rules.specs.NodeState.{took_noted, IsTaken, IsNodeState}
 use Rattle.hn_rules.specs.Arrival.{IsItemRule, IsTlvRule, IsTlvs, IsAnswering, IsArrival}
 use Rattle.hn_rules.specs.Tick.{IsExpired, Without, IsPortExpiry, IsExpiry, IsStateSending, IsPortMoving, IsPortSending, IsPortTick, IsPortsTick}
 use Rattle.hn_rules.specs.Events.{IsAttaching, IsPortRestart, emptied, IsRestarting}

@@ -42,7 +42,8 @@ use Rattle.hn_rules.specs.NodeEndpoint.{asking, met, greeting_port, named, node_
 use Rattle.hn_rules.specs.Requests.{with_some_answer, state_item, with_state, is_reached, request_node, IsNetworkRequest}
 use Rattle.hn_rules.specs.NetworkState.{compared, network_state}
 use Rattle.hn_rules.specs.Claim.{IsFirstClaim, IsSecondClaim, IsClaim}
-use Rattle.hn_rules.specs.NodeState.{own_leaf, IsTaken, IsNodeState}
+use Rattle.hn_rules.specs.Nodes.{own_leaf}
+use Rattle.hn_rules.specs.NodeState.{IsTaken, IsNodeState}
 use Rattle.hn_rules.specs.Arrival.{IsItemRule, IsTlvRule}
 use Rattle.hn_rules.specs.Delegating.{delegating, withdrawing, ending}
 use Rattle.hn_rules.specs.Tick.{IsExpired, IsPortExpiry, IsExpiry, forgetting, IsPortSending, IsPortTick, IsPortsTick}

@@ -3,20 +3,15 @@ use Rattle.std.specs.Prelude.{◌≡◌, Bool, true, false, []}
 use Rattle.hn_typed.specs.Item.{RequestNode}
 use Rattle.hn_store.specs.Nodes.{Nodes}
 use Rattle.hn_store.specs.Acceptance.{PlainState, Accepts}
-use Rattle.hn_store.specs.declared.state.OwnLeaf.{OwnLeaf}
 use Rattle.hn_store.specs.declared.state.Took.{Took}
 use Rattle.hn_store.specs.declared.state.Took.TheVariants as took
-use Rattle.hn_rules.specs.declared.state.State.{State}
 use Rattle.hn_rules.specs.declared.running.Running.{Running}
 use Rattle.hn_rules.specs.declared.done.Note.TheVariants as note
 use Rattle.hn_rules.specs.declared.answers.Subject.TheVariants.{NodeRequest}
+use Rattle.hn_rules.specs.Nodes.{own_leaf}
 use Rattle.hn_rules.specs.Rules.{Rule, noted}
 use Rattle.hn_rules.specs.Answers.{with_answer}
 use Rattle.hn_rules.specs.Claim.{IsClaim}
-
--- the own node, as the table compares it
-abbrev pub own_leaf : State → OwnLeaf
-own_leaf s = record { id = s.id; number = s.number; hash = s.own.hash }
 
 -- what the table answers is noted
 abbrev pub took_noted : PlainState → Took → Running → Running

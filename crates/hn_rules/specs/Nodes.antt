@@ -9,7 +9,9 @@ use Rattle.hn_hash.specs.declared.part.Part.{Part}
 use Rattle.hn_hash.specs.declared.leaf.Leaf.{Leaf}
 use Rattle.hn_data.specs.declared.view.Entry.{Entry}
 use Rattle.hn_graph.specs.Path.{IsReachable}
-use Rattle.hn_store.specs.Nodes.{held, stored_part}
+use Rattle.hn_store.specs.Nodes.{held}
+use Rattle.hn_store.specs.Acceptance.{known_of}
+use Rattle.hn_store.specs.declared.state.OwnLeaf.{OwnLeaf}
 use Rattle.hn_store.specs.declared.stored.Stored.{Stored}
 use Rattle.hn_store.specs.declared.stored.HeldNode.{HeldNode}
 use Rattle.hn_rules.specs.declared.state.State.{State}
@@ -58,11 +60,13 @@ leaf_of n = record { number = n.number; body = n.body }
 abbrev pub leaves_of : State → List Leaf
 leaves_of s = map leaf_of (view_of s)
 
+-- the own node, as the table compares it
+abbrev pub own_leaf : State → OwnLeaf
+own_leaf s = record { id = s.id; number = s.number; hash = s.own.hash }
+
 -- a node's part of the network state, with the hash that is kept of its node data
 abbrev pub part_of : State → NodeId → Option Part
-part_of s id =
-    if id.0 == s.id.0 then Some (record { number = s.number; hash = s.own.hash })
-    else option_map stored_part (held s.table.entries id.0)
+part_of s id = known_of s.table.entries (own_leaf s) id.0
 
 -- the parts of the reachable nodes, in ascending order of identifier (RFC 7787, section 4.1)
 abbrev pub parts_of : State → List Part

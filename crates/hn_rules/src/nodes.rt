@@ -4,14 +4,14 @@ ghost use Rattle.std.specs.Prelude.{◌≡◌, ◌++◌, ◌∷◌, [], ◌-◌,
 ghost use Rattle.std.specs.List.{filter_map};
 ghost use Rattle.std.specs.Option.{option_copied, option_map};
 ghost use Rattle.hn_data.specs.View.{IsNetwork};
-ghost use Rattle.hn_rules.specs.Nodes.{age_at, held_entry, own_entry, held_entries, nodes_of, entry_of, leaf_of, leaves_of, part_of, parts_of, IsReach};
+ghost use Rattle.hn_rules.specs.Nodes.{age_at, held_entry, own_entry, held_entries, nodes_of, entry_of, leaf_of, leaves_of, own_leaf, part_of, parts_of, IsReach};
 
 use crate::state::State;
 use hn_base::{Bytes, Moment, NoMemory, NodeId, NodeIds};
 use hn_data::Entry;
 use hn_graph::reach;
 use hn_hash::{Leaf, Part};
-use hn_store::Stored;
+use hn_store::{OwnLeaf, Stored};
 use std::alloc::Global;
 
 /// The age of held node data, in milliseconds.
@@ -92,20 +92,23 @@ impl State {
         reach(alloc, self.id, nodes.as_slice())
     }
 
+    /// The own node, as the table compares it.
+    pub(crate) fn own_leaf(&self) -> OwnLeaf
+        ensures { result ≡ own_leaf self.now }
+    {
+        OwnLeaf {
+            id: self.id,
+            number: self.number,
+            hash: self.own.get().hash(),
+        }
+    }
+
     /// A node's part of the network state.
     fn part(&self, id: NodeId) -> Option<Part>
         ensures { result ≡ part_of self.now id }
     {
-        if id == self.id {
-            return Some(Part {
-                number: self.number,
-                hash: self.own.get().hash(),
-            });
-        }
-        match self.table.get().get(id) {
-            Some(stored) => Some(stored.part()),
-            None => None,
-        }
+        let own = self.own_leaf();
+        self.table.get().known_of(&own, id)
     }
 
     /// The parts of the reachable nodes.

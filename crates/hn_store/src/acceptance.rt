@@ -50,8 +50,8 @@ fn has_wrong_hash(state: &State<'_>, hash: [u8; 8]) -> bool
 }
 
 impl Table {
-    /// What is known of a node: the router's own number and hash, or those held.
-    fn known_of(&self, own: &OwnLeaf, node: NodeId) -> Option<Part>
+    /// What is known of a node: the router's own number and hash, or those held. Never allocates.
+    pub fn known_of(&self, own: &OwnLeaf, node: NodeId) -> Option<Part>
         ensures { result ≡ known_of self.now.entries own.now node.0 }
     {
         if node == own.id {

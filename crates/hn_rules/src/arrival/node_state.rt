@@ -5,16 +5,15 @@ ghost use Rattle.hn_rules.specs.declared.answers.Subject.TheVariants.{NodeReques
 ghost use Rattle.hn_rules.specs.Answers.{with_answer};
 ghost use Rattle.hn_rules.specs.Rules.{Ran};
 ghost use Rattle.hn_rules.specs.Router.{IsRefreshed};
-ghost use Rattle.hn_rules.specs.NodeState.{own_leaf, touches, Takes, IsTaken, IsNodeState};
+ghost use Rattle.hn_rules.specs.NodeState.{touches, Takes, IsTaken, IsNodeState};
 
 use crate::answers::Subject;
 use crate::done::Note;
 use crate::running::Running;
-use crate::state::State;
 use hn_base::{NoMemory, NodeId};
 use hn_data::encode;
 use hn_io::Draw;
-use hn_store::{OwnLeaf, State as CarriedState, Took};
+use hn_store::{State as CarriedState, Took};
 use hn_typed::Item;
 use std::alloc::Global;
 
@@ -23,19 +22,6 @@ fn touches(how: Took) -> bool
     ensures { result ≡ touches how }
 {
     matches!(how, Took::Kept | Took::Renumbered | Took::Own)
-}
-
-impl State {
-    /// The own node, as the table compares it.
-    fn own_leaf(&self) -> OwnLeaf
-        ensures { result ≡ own_leaf self.now }
-    {
-        OwnLeaf {
-            id: self.id,
-            number: self.number,
-            hash: self.own.get().hash(),
-        }
-    }
 }
 
 impl Running {

@@ -3,26 +3,17 @@ use Rattle.std.specs.Prelude.{◌≡◌, ℕ, ◌-◌, ◌*◌, ◌<◌, ◌⊎�
 use Rattle.std.specs.Fmt.{decimal}
 use Rattle.hex.specs.Hex.{encode_lower}
 use Rattle.hn_tlv.specs.Grammar.{PlainTlv, HasTlvs}
-use Rattle.hn_typed.specs.Item.{PlainItem, RequestNetwork, RequestNode, NodeEndpoint, NetworkState, NodeState, Peer, KeepAlive, Version, External, Delegated, Assigned, Address, Other}
+use Rattle.hn_typed.specs.Item.{PlainItem, NodeState, Version, Other}
 use Rattle.hn_typed.specs.Table.{IsItem}
 use Rattle.hn_typed.specs.Fault.{IsItemFault}
+use Rattle.hn_typed.specs.Written.{tail_of}
 use Rattle.hn_decode.specs.ItemText.{item_text, bad_text}
 
 -- what lies within an item: its sub-TLVs (RFC 7787, section 7), or the data of a node (RFC 7787, section 7.2.3)
 abbrev pub within : PlainItem → List ℕ
-within (RequestNetwork subs) = subs
-within (RequestNode node subs) = subs
-within (NodeEndpoint node endpoint subs) = subs
-within (NetworkState hash subs) = subs
-within (NodeState node number age hash body) = body
-within (Peer peer peer_endpoint endpoint subs) = subs
-within (KeepAlive endpoint interval subs) = subs
 within (Version caps agent) = []
-within (External subs) = subs
-within (Delegated valid preferred prefix subs) = subs
-within (Assigned endpoint priority prefix subs) = subs
-within (Address endpoint address subs) = subs
 within (Other kind value) = []
+within item = tail_of item
 
 -- the item has the data of a node within, which may be no list of TLVs
 abbrev pub IsNodeState : PlainItem → Type 0

@@ -13,7 +13,7 @@ ghost use Rattle.hn_decode.specs.Nested.{Adds};
 use crate::item_text::{push_bad, push_item};
 use hn_base::Hex;
 use hn_tlv::{Tlv, check};
-use hn_typed::{Item, read};
+use hn_typed::{Item, after_fields, read};
 use std::alloc::AllocError;
 
 /// The last level whose TLVs have lines of their own.
@@ -23,19 +23,9 @@ pub(crate) const DEEPEST: u8 = 7;
 fn within<'a>(item: &Item<'a>) -> &'a [u8]
     ensures { result.now ≡ within (plain_item item.now) }
 {
-    match *item {
-        Item::RequestNetwork { subs }
-        | Item::RequestNode { subs, .. }
-        | Item::NodeEndpoint { subs, .. }
-        | Item::NetworkState { subs, .. }
-        | Item::Peer { subs, .. }
-        | Item::KeepAlive { subs, .. }
-        | Item::External { subs }
-        | Item::Delegated { subs, .. }
-        | Item::Assigned { subs, .. }
-        | Item::Address { subs, .. } => subs,
-        Item::NodeState { body, .. } => body,
+    match item {
         Item::Version { .. } | Item::Other { .. } => &[],
+        _ => after_fields(item),
     }
 }
 

@@ -28,4 +28,4 @@ pub use laws::{
     item_fault_is_unique, item_is_unique, item_or_fault, read_is_writable, written_is_read,
 };
 pub use reading::read;
-pub use writing::{value_len, write};
+pub use writing::{after_fields, value_len, write};

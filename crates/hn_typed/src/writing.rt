@@ -148,6 +148,17 @@ fn tail_of<'a>(item: &Item<'a>) -> Tail<'a>
     }
 }
 
+/// What stands after the item's fixed fields, as it is: its sub-TLVs, a node's data, the user agent, or the value of
+/// another kind. Never allocates.
+pub fn after_fields<'a>(item: &Item<'a>) -> &'a [u8]
+    ensures { result.now ≡ tail_of (plain_item item.now) }
+{
+    match tail_of(item) {
+        Tail::Subs(bytes) => bytes,
+        Tail::Bytes(bytes) => bytes,
+    }
+}
+
 // A value in parts: the fixed part, how many zeros, and what follows them.
 #[derive(Drop)]
 struct Parts<'a> {

@@ -19,7 +19,8 @@ use Rattle.hn_base.proofs.Passing.{map-one}
 use Rattle.hn_base.proofs.Fronts.{filter-front, filter-back}
 use Rattle.hn_own.specs.Ports.{ArePorts, is_port, is_attached, put_port, attached}
 
-abbrev number : Port → ℕ
+-- the number of an endpoint
+abbrev pub number : Port → ℕ
 number port = port.id.0
 
 abbrev numbers : List Port → List ℕ

@@ -22,6 +22,7 @@ use Rattle.hn_store.specs.Laws.{NoNodesAreTable}
 use Rattle.hn_base.proofs.AscendingNumbers.{ascending-filter, ascending-around, around-few}
 use Rattle.hn_rules.specs.declared.state.State.{State}
 use Rattle.hn_own.specs.Ports.{ArePorts, is_port, put_port, attached, detached}
+use Rattle.hn_own.proofs.PortLists.{number}
 use Rattle.hn_assign.specs.Facts.{IsInDelegated, HasOwnPriority, IsPast as IsAssignedPast}
 use Rattle.hn_assign.specs.declared.held.Held.{Held}
 use Rattle.hn_own.specs.Own.{PlainData, IsOwnData}
@@ -95,9 +96,6 @@ well_from s made = record {
 }
 
 -- ---- endpoints
-
-abbrev number : Port → ℕ
-number port = port.id.0
 
 put_numbers : (port : Port) (ports : List Port) → map number (put_port port ports) ≡ map number ports
 put_numbers port [] = refl

@@ -21,6 +21,7 @@ use Rattle.hn_rules.specs.declared.state.State.{State}
 use Rattle.hn_rules.specs.declared.running.Running.{Running}
 use Rattle.hn_own.specs.Own.{links_at, links_of}
 use Rattle.hn_own.specs.Ports.{ArePorts, is_port, port_at, put_port, endpoints_of}
+use Rattle.hn_own.proofs.PortLists.{number}
 use Rattle.hn_rules.specs.Nodes.{held_entry, own_entry}
 use Rattle.hn_rules.specs.Rules.{Rule, AtPort, with_port}
 use Rattle.hn_rules.specs.Refresh.{own_items, IsPublishing, IsReaching, network_state_hash, IsPortReset, IsHashing, IsRefresh}
@@ -31,9 +32,6 @@ use Rattle.hn_rules.proofs.Parts.{IsMade, are-put}
 use Rattle.hn_rules.proofs.Wells.{Keeps, Made, keeps_option, keeps_each, keeps_refresh, keeps_ports_tick}
 
 -- ---- endpoints that keep their number and what the router says of their peers
-
-abbrev number : Port → ℕ
-number port = port.id.0
 
 -- what is found has the number that was sought
 found_number : (at : EpId) (ports : List Port) (port : Port) → port_at at ports ≡ Some port → port.id.0 ≡ at.0

@@ -11,10 +11,7 @@ ghost use Rattle.hn_data.specs.Said.{version_of, interval_of, interval_at, keep_
 
 use crate::node_data::NodeData;
 use crate::said::{Interval, PeerLink};
-use hn_base::{Caps, EpId, NodeId, is_in_set};
-
-/// The keep-alive interval of a peer that says none, in milliseconds (RFC 7788, section 3).
-const DEFAULT_INTERVAL: u32 = 20_000;
+use hn_base::{Caps, EpId, KEEP_ALIVE_INTERVAL, NodeId, is_in_set};
 
 /// Whether endpoint `e` of node `x`, whose data is `a`, and endpoint `f` of node `y`, whose data is `b`, are linked:
 /// each has a Peer for the other (RFC 7787, section 4.6). Never allocates.
@@ -64,6 +61,6 @@ pub fn keep_alive(a: &NodeData, e: EpId) -> u32
     ensures each { (items : List PlainItem) → AreItems a.now items → result ≡ keep_alive_of (filter_map interval_of items) e.0 }
 {
     let intervals = a.kept().intervals.as_slice();
-    let every = interval_at(intervals, EpId(0)).unwrap_or(DEFAULT_INTERVAL);
+    let every = interval_at(intervals, EpId(0)).unwrap_or(KEEP_ALIVE_INTERVAL);
     interval_at(intervals, e).unwrap_or(every)
 }

@@ -11,11 +11,11 @@ ghost use Rattle.hn_rules.specs.Tick.{HasInterval, IsExpired, Without, IsPortExp
 
 use crate::running::Running;
 use crate::state::State;
-use hn_base::{EpId, NoMemory};
+use hn_base::{EpId, KEEP_ALIVE_INTERVAL, NoMemory};
 use hn_data::{encode, items_are_unique, keep_alive};
 use hn_dncp::{Neighbour, Peers, Port, pack};
 use hn_io::Draw;
-use hn_timers::{KEEP_ALIVE_INTERVAL, expired};
+use hn_timers::expired;
 use hn_typed::Item;
 use std::alloc::Global;
 

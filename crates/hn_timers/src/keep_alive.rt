@@ -1,10 +1,7 @@
 ghost use Rattle.std.specs.Prelude.{◌≡◌, ◌≤◌, ◌^◌};
 ghost use Rattle.hn_timers.specs.KeepAlive.{is_expired, is_silent};
 
-use hn_base::Moment;
-
-/// The longest time between two network states sent, in milliseconds (`DNCP_KEEPALIVE_INTERVAL` of RFC 7788, section 3).
-pub const KEEP_ALIVE_INTERVAL: u32 = 20_000;
+use hn_base::{KEEP_ALIVE_INTERVAL, Moment};
 
 /// Over `KEEP_ALIVE_MULTIPLIER_DENOMINATOR`, how many intervals of silence remove a peer: 2.1
 /// (`DNCP_KEEPALIVE_MULTIPLIER` of RFC 7788, section 3).

@@ -6,8 +6,7 @@ mod keep_alive;
 mod trickle;
 
 pub use keep_alive::{
-    KEEP_ALIVE_INTERVAL, KEEP_ALIVE_MULTIPLIER_DENOMINATOR, KEEP_ALIVE_MULTIPLIER_NUMERATOR,
-    expired, silent,
+    KEEP_ALIVE_MULTIPLIER_DENOMINATOR, KEEP_ALIVE_MULTIPLIER_NUMERATOR, expired, silent,
 };
 pub use trickle::{LONGEST_INTERVAL, SHORTEST_INTERVAL, Trickle};
 

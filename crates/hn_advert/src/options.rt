@@ -8,11 +8,8 @@ use crate::advert::{Info, Infos};
 use crate::fault::{OPTION_CUT, OTHER_SIZE, PREFIX_TOO_LONG, RaFault};
 use crate::layout::{HEADER_SIZE, PREFIX_INFORMATION, PREFIX_INFORMATION_UNITS, UNIT};
 use hn_base::NoMemory;
-use hn_prefix::Prefix;
+use hn_prefix::{LONGEST_PREFIX, Prefix};
 use std::alloc::Global;
-
-/// The longest prefix, in bits.
-const LONGEST: u8 = 128;
 
 /// The place of the prefix length in a Prefix Information option.
 const PREFIX_LENGTH_PLACE: usize = 2;
@@ -32,7 +29,7 @@ fn split_prefix(bytes: &[u8]) -> Result<(Info, &[u8]), RaFault>
         unreachable!()
     };
     let len = fields[PREFIX_LENGTH_PLACE];
-    if len > LONGEST {
+    if len > LONGEST_PREFIX {
         return Err(RaFault {
             place: PREFIX_LENGTH_PLACE,
             why: PREFIX_TOO_LONG,

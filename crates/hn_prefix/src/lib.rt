@@ -20,7 +20,7 @@ pub use laws::{
 };
 pub use parse::{BadText, parse_address};
 pub use prefix::{
-    BadPrefix, Prefix, inside_is_range, order_is_total, overlap_is_nesting, prefixes_are_ranges,
-    sub_prefixes_are_all, within_is_not_shorter,
+    BadPrefix, LONGEST_PREFIX, Prefix, inside_is_range, order_is_total, overlap_is_nesting,
+    prefixes_are_ranges, sub_prefixes_are_all, within_is_not_shorter,
 };
 pub use text::{PrefixText, address_text};

@@ -8,6 +8,9 @@ use std::error::Error;
 use std::fmt;
 use std::marker::Model;
 
+/// The longest prefix, in bits.
+pub const LONGEST_PREFIX: u8 = 128;
+
 /// An IPv6 prefix: an address and how many of its leftmost bits are the prefix, with no bit set past them
 /// (RFC 4291, section 2.3). Prefixes are ordered by their bits, and of equal bits the shorter comes first.
 ///
@@ -84,7 +87,7 @@ impl Prefix {
         ensures accepted { IsOk result ↔ IsPrefix (record { bits = bits; len = len }) }
         ensures value { IfOk result (λ p. p ≡ record { bits = bits; len = len }) }
     {
-        if len <= 128 && ends_in_zeros(bits, len) {
+        if len <= LONGEST_PREFIX && ends_in_zeros(bits, len) {
             Ok(Prefix { bits, len })
         } else {
             Err(BadPrefix)

@@ -7,10 +7,7 @@ ghost use Rattle.hn_typed.specs.Fields.{prefix_field, bytes_for};
 ghost use Rattle.hn_typed.specs.Fault.{IsPrefixFault};
 
 use crate::fault::{FIELDS_CUT, NO_PREFIX};
-use hn_prefix::Prefix;
-
-/// The longest prefix, in bits.
-const LONGEST: u8 = 128;
+use hn_prefix::{LONGEST_PREFIX, Prefix};
 
 /// How many bytes hold this many bits.
 pub(crate) fn bytes_for(bits: u8) -> usize
@@ -47,7 +44,7 @@ pub(crate) fn split_prefix(field: &[u8]) -> Result<(Prefix, &[u8]), u8>
     let Some((&len, after)) = field.split_first() else {
         return Err(FIELDS_CUT);
     };
-    if len > LONGEST {
+    if len > LONGEST_PREFIX {
         return Err(NO_PREFIX);
     }
     let count = bytes_for(len);

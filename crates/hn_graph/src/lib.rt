@@ -9,3 +9,4 @@ mod tests;
 
 pub use laws::{own_is_reachable, reachability_stays, reachable_is_a_node};
 pub use reachability::reach;
+pub use search::AGE_LIMIT;

@@ -14,7 +14,7 @@ use hn_data::{Entry, peer_place};
 use std::alloc::Global;
 
 /// From this age on, in milliseconds, the peers that a node says it has no longer count (RFC 7787, section 4.6).
-const AGE_LIMIT: u64 = (1 << 32) - (1 << 15);
+pub const AGE_LIMIT: u64 = (1 << 32) - (1 << 15);
 
 /// The places to which a path may go from the node.
 pub(crate) fn next_places(

@@ -12,7 +12,7 @@ use crate::nodes::age_at;
 use crate::running::Running;
 use crate::state::State;
 use hn_base::{EpId, NoMemory, Shared};
-use hn_graph::reachability_stays;
+use hn_graph::{AGE_LIMIT, reachability_stays};
 use hn_hash::network_of;
 use hn_io::Draw;
 use hn_own::{OwnData, OwnItems};
@@ -22,9 +22,6 @@ use std::alloc::Global;
 /// The age from which own node data is published again, in milliseconds: 2^16 before it can no longer be sent (RFC
 /// 7787, section 4.3).
 const OLDEST_OWN_DATA: u64 = (1 << 32) - (1 << 16);
-
-/// The age from which no path leads on from a node, in milliseconds (RFC 7787, section 4.6).
-const OLDEST_DATA: u64 = (1 << 32) - (1 << 15);
 
 impl State {
     /// The own items as they are now.
@@ -55,7 +52,7 @@ impl State {
     {
         let now = self.moment.get();
         for node in self.table.get().entries() {
-            if node.stored.lost.is_none() && age_at(now, &node.stored) >= OLDEST_DATA {
+            if node.stored.lost.is_none() && age_at(now, &node.stored) >= AGE_LIMIT {
                 return false;
             }
         }

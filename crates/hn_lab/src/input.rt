@@ -4,14 +4,13 @@ ghost use Rattle.hn_lab.specs.Input.{IsWhole};
 ghost use Rattle.hn_io.specs.Faults.{Counts, IsReliable};
 
 use hn_io::{IoFault, Source};
+use hn_script::SOURCE_LIMIT;
 use std::alloc::Global;
-
-/// The most bytes of a source, 2^24. One byte more is read, to see that there are more.
-pub const SOURCE_LIMIT: usize = 16_777_216;
 
 const CHUNK: usize = 4096;
 
-/// Reads a source to its end, or to one byte past the limit. The first call that fails ends the reading.
+/// Reads a source to its end, or to one byte past the limit, to see that there are more. The first call that fails ends
+/// the reading.
 pub fn read_all<S: Source>(alloc: Global, src: &mut S) -> Result<Vec<u8>, IoFault>
     ensures all { IfOk result (λ bytes. Consumes (S.left src.old) (S.left src.new) bytes.items) }
     ensures whole { IfOk result (λ bytes. length bytes.items ≤ SOURCE_LIMIT → IsWhole (S.left src.old) bytes.items) }

@@ -22,7 +22,7 @@ mod tests;
 mod treated;
 
 pub use end::End;
-pub use input::{SOURCE_LIMIT, read_all};
+pub use input::read_all;
 pub use law::{at_most_one_cut_play, at_most_one_play, cut_text_is_a_front, pieces_append};
 pub use output::{write_piece, write_refusal};
 pub use scripts::{DONE, NO_MEMORY, Played, REFUSED, SINK_FAILED, SOURCE_FAILED, lab, play};

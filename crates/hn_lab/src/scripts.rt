@@ -13,7 +13,7 @@ ghost use Rattle.hn_lab.specs.Lab.{play_status, Plays, IsLineWritten, IsLabOf, H
 ghost use Rattle.hn_lab.specs.Reports.{refused_line};
 
 use crate::end::End;
-use crate::input::{SOURCE_LIMIT, read_all};
+use crate::input::read_all;
 use crate::law::at_most_one_play;
 use crate::output::write_refusal;
 use crate::playing::Playing;

@@ -10,7 +10,7 @@ pub(crate) const UNKNOWN: u8 = 2;
 pub(crate) const COUNT: u8 = 3;
 
 /// A number, name, identifier, way or hexadecimal text is malformed or out of range.
-pub(crate) const MALFORMED: u8 = 4;
+pub const MALFORMED: u8 = 4;
 
 /// A line has more than 16,384 bytes.
 pub(crate) const LONG: u8 = 5;
@@ -18,5 +18,5 @@ pub(crate) const LONG: u8 = 5;
 /// A line has a byte that is none from 20 to 7E in hexadecimal.
 pub(crate) const FOREIGN: u8 = 6;
 
-/// The script has more than 2^24 bytes.
-pub(crate) const LARGE: u8 = 15;
+/// The source has more than 2^24 bytes.
+pub const LARGE: u8 = 15;

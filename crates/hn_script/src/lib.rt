@@ -22,6 +22,7 @@ mod texts;
 mod version;
 mod words;
 
+pub use code::{LARGE, MALFORMED};
 pub use fault::{ParseFault, ScriptFault};
 pub use fields::number_in;
 pub use laws::{
@@ -29,5 +30,5 @@ pub use laws::{
     soak_is_a_script,
 };
 pub use line::{How, Line, letter_text};
-pub use script::{Script, first_fault, parse, print};
+pub use script::{SOURCE_LIMIT, Script, first_fault, parse, print};
 pub use soak::soak_script;

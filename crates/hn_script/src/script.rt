@@ -15,8 +15,8 @@ use crate::version::version_of;
 use hn_base::{Bytes, NoMemory, Sequence, Version};
 use std::alloc::Global;
 
-/// The most bytes of a script.
-const MOST_BYTES: usize = 1 << 24;
+/// The most bytes of a script, 2^24.
+pub const SOURCE_LIMIT: usize = 16_777_216;
 
 /// A script: the version of its language, and its lines with their numbers. The first line of the bytes, which tells
 /// the version, has number 1 and is not among the lines; nor are those that are skipped.
@@ -56,12 +56,12 @@ pub fn first_fault(bytes: &[u8]) -> Option<ScriptFault>
 
 /// The version that the first line tells, and the bytes after that line.
 fn opening(bytes: &[u8]) -> Result<(Version, &[u8]), ScriptFault>
-    ensures small { IfOk result (λ _. length bytes.now ≤ MOST_BYTES) }
+    ensures small { IfOk result (λ _. length bytes.now ≤ SOURCE_LIMIT) }
     ensures shorter { IfOk result (λ found. length found.1.now ≤ length bytes.now) }
     ensures opened { IfOk result (λ found. lines_of bytes.now ≡ first_line found.0 ∷ lines_of found.1.now) }
     ensures refused { IfErr result (λ fault. IsFirstFault fault bytes.now) }
 {
-    if bytes.len() > MOST_BYTES {
+    if bytes.len() > SOURCE_LIMIT {
         return Err(ScriptFault {
             line: 0,
             code: LARGE,
@@ -90,7 +90,7 @@ fn first_line_of(text: &[u8]) -> Result<Version, u8>
 
 /// The lines of these bytes, of which the first has number 2.
 fn read_lines(alloc: Global, bytes: &[u8]) -> Result<Sequence<(u32, Line)>, ParseFault>
-    requires { length bytes.now ≤ MOST_BYTES }
+    requires { length bytes.now ≤ SOURCE_LIMIT }
     ensures lines { IfOk result (λ lines. AreLines 2 (lines_of bytes.now) lines) }
     ensures fault { (fault : AScriptFault) → result ≡ Err (ParseFault.Script fault)
         → FaultFrom 2 (lines_of bytes.now) fault }
@@ -131,7 +131,7 @@ fn push_line(
 
 /// The first fault of the lines of these bytes, of which the first has number 2.
 fn fault_from(bytes: &[u8]) -> Option<ScriptFault>
-    requires { length bytes.now ≤ MOST_BYTES }
+    requires { length bytes.now ≤ SOURCE_LIMIT }
     ensures found { IfSome result (λ fault. FaultFrom 2 (lines_of bytes.now) fault) }
     ensures none { IfNone result ((lines : List (ℕ × ALine)) × AreLines 2 (lines_of bytes.now) lines) }
 {

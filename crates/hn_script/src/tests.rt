@@ -1,4 +1,4 @@
-use crate::{ParseFault, ScriptFault, first_fault, parse, print, soak_script};
+use crate::{ParseFault, SOURCE_LIMIT, ScriptFault, first_fault, parse, print, soak_script};
 use hn_base::Bytes;
 use std::alloc::{AllocError, Global};
 use std::test::Fail;
@@ -8,9 +8,6 @@ fn reprinted(alloc: Global, bytes: &[u8]) -> Result<Bytes, Fail> {
     let script = parse(alloc, bytes)?;
     Ok(print(alloc, &script)?)
 }
-
-/// The most bytes of a script.
-const MOST_BYTES: usize = 1 << 24;
 
 /// These bytes, and then so many bytes of this kind that all are `len`.
 fn filled(alloc: Global, begin: &str, len: usize, byte: u8) -> Result<Vec<u8>, AllocError> {
@@ -284,7 +281,7 @@ fn measures_lines(rt: HostRuntime) -> Result<(), Fail> {
 
 #[test]
 fn measures_scripts(rt: HostRuntime) -> Result<(), Fail> {
-    let bytes = filled(rt.alloc(), "hncp 2\t", MOST_BYTES + 1, b'\n')?;
+    let bytes = filled(rt.alloc(), "hncp 2\t", SOURCE_LIMIT + 1, b'\n')?;
     let large = ScriptFault { line: 0, code: 15 };
     assert_eq!(rt; first_fault(bytes.as_slice()), Some(large));
     Ok(())

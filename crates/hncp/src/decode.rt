@@ -11,14 +11,10 @@ use crate::report::malformed_line;
 use crate::status::{DONE, NO_MEMORY, REFUSED, SINK_FAILED, written_status};
 use hn_decode::{decode_text_exists, first_line, lines_go_on, lines_make_the_text, push_next};
 use hn_io::{IoFault, Sink};
-use hn_lab::{SOURCE_LIMIT, pieces_append, write_piece, write_refusal};
+use hn_lab::{pieces_append, write_piece, write_refusal};
+use hn_script::{LARGE, MALFORMED, SOURCE_LIMIT};
 use hn_tlv::{TlvFault, check, first_fault_is_unique, list_or_first_fault};
 use std::alloc::Global;
-
-/// The code of a source that is too long, in the line of number 0.
-const TOO_LONG: u8 = 15;
-/// The code of a source that is no hexadecimal text, in the line of number 0.
-const NO_HEX_TEXT: u8 = 4;
 
 /// Writes the line of octets that are no list of TLVs.
 fn write_malformed<K: Sink>(alloc: Global, fault: TlvFault, out: &mut K) -> Result<(), IoFault>
@@ -118,11 +114,11 @@ fn write_decoded<K: Sink>(alloc: Global, source: Vec<u8>, out: &mut K) -> u8
     ensures reliable { IsReliable (result ≡ SINK_FAILED) (K.never_fails out.old) (K.never_fails out.new) }
 {
     if source.len() > SOURCE_LIMIT {
-        return written_status(&write_refusal(alloc, out, 0, TOO_LONG), REFUSED);
+        return written_status(&write_refusal(alloc, out, 0, LARGE), REFUSED);
     }
     match octets_of(source) {
         Some(octets) => write_contents(alloc, &octets, out),
-        None => written_status(&write_refusal(alloc, out, 0, NO_HEX_TEXT), REFUSED),
+        None => written_status(&write_refusal(alloc, out, 0, MALFORMED), REFUSED),
     }
 }
 

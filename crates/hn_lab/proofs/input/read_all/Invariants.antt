@@ -1,6 +1,6 @@
 use Rattle.std.proofs.Common.{◌≡◌, ◌≤◌, ◌+◌, ◌-◌, length}
 use Rattle.std.specs.Io.KnownBytes.{Consumes}
-use Rattle.hn_lab.specs.declared.input.TheConstants.{SOURCE_LIMIT}
+use Rattle.hn_script.specs.declared.script.TheConstants.{SOURCE_LIMIT}
 use Rattle.hn_lab.proofs.input.read_all.Given as goal
 
 -- what was read so far

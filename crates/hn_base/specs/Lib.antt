@@ -1,5 +1,6 @@
 pub mod Addr
 pub mod Ascending
+pub mod Byte
 pub mod Caps
 pub mod Causes
 pub mod HexText

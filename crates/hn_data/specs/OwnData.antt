@@ -1,16 +1,17 @@
 -- Node data made of items: the set of their encodings in ascending order.
-use Rattle.std.specs.Prelude.{◌≡◌, ℕ, ◌^◌, ◌<◌, ◌↔◌, List, Contains, All}
+use Rattle.std.specs.Prelude.{◌≡◌, ℕ, ◌↔◌, List, Contains, All}
 use Rattle.std.specs.Ordering.{nat_cmp}
 use Rattle.std.specs.Cmp.Lexicographic.{slice_cmp}
 use Rattle.std.specs.List.{concat}
 use Rattle.std.specs.List.Sorted.{IsStrictlySortedBy}
+use Rattle.hn_base.specs.Byte.{IsByte}
 use Rattle.hn_tlv.specs.Grammar.{spelling}
 use Rattle.hn_typed.specs.Item.{PlainItem}
 use Rattle.hn_typed.specs.Written.{tlv_of, IsWritable}
 
 -- each has eight bits
 abbrev pub AreBytes : List ℕ → Type 0
-AreBytes bytes = All (λ byte. byte < 2 ^ 8) bytes
+AreBytes bytes = All IsByte bytes
 
 -- the bytes are the one TLV that is written for an item
 pub record IsEncoding (bytes : List ℕ) (item : PlainItem) : Type 0 where

@@ -17,7 +17,7 @@ use Rattle.hn_data.specs.OwnData.{AreBytes, IsEncoding, IsEncoded}
 use Rattle.hn_own.specs.declared.own_prefixes.OwnPrefix.{OwnPrefix}
 use Rattle.hn_own.specs.Lifetimes.{seconds_left}
 use Rattle.hn_own.specs.Own.{delegated_item, external_items, encodings}
-use Rattle.hn_tlv.proofs.SpelledBytes.{IsByte}
+use Rattle.hn_base.specs.Byte.{IsByte}
 
 -- ---- one more
 

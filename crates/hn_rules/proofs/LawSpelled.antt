@@ -19,7 +19,8 @@ use Rattle.hn_data.specs.declared.said.PeerLink.{PeerLink}
 use Rattle.hn_own.specs.declared.own.OwnItems.{OwnItems}
 use Rattle.hn_own.specs.declared.own_prefixes.OwnPrefix.{OwnPrefix}
 use Rattle.hn_own.specs.Own.{peer_item, external_items, assigned_item, items_of}
-use Rattle.hn_tlv.proofs.SpelledBytes.{IsByte, list_bytes}
+use Rattle.hn_base.specs.Byte.{IsByte}
+use Rattle.hn_tlv.proofs.SpelledBytes.{list_bytes}
 
 -- ---- own items
 

@@ -4,7 +4,8 @@ use Rattle.std.specs.Prelude.{All}
 use Rattle.std.proofs.lemmas.Bool.{cases_lt}
 use Rattle.std.proofs.lemmas.List.Elements.{All-nil, All-cons, All-head, All-tail}
 use Rattle.hn_tlv.specs.Grammar.{HasTlvs, FirstFault}
-use Rattle.hn_tlv.proofs.SpelledBytes.{IsByte, list_bytes}
+use Rattle.hn_base.specs.Byte.{IsByte}
+use Rattle.hn_tlv.proofs.SpelledBytes.{list_bytes}
 
 -- a fact that does not fail holds, where it holds or fails
 pub not_not : (P : Type 0) → P ⊎ (¬ P) → ¬ (¬ P) → P

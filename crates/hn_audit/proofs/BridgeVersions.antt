@@ -20,7 +20,8 @@ use Rattle.hn_base.proofs.Elements.{in_filter_map, from_filter_map}
 use Rattle.hn_audit.proofs.Lists.{from_flat_map}
 use Rattle.hn_audit.proofs.BridgeSets.{OwnVersions, OwnPeers}
 use Rattle.hn_rules.specs.Laws.{ItemsArePublished}
-use Rattle.hn_own.proofs.ItemLists.{all_given, by_parts, none_external, none_given}
+use Rattle.hn_base.proofs.Elements.{all_given, none_given}
+use Rattle.hn_own.proofs.ItemLists.{by_parts, none_external}
 
 -- ---- the version among own items
 

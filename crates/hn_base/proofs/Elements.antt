@@ -1,5 +1,5 @@
 -- Which elements lists have, and lists that grow by what an element gives.
-use Rattle.std.proofs.Common.{◌≡◌, ℕ, ◌+◌, ◌<◌, Bool, true, false, cond, Option, Some, None, List, [], ◌∷◌, ◌++◌, length, get_or, take, All, Contains, refl, sym, ap, ◌∙◌, subst, inl, inr, find, is_some, arith}
+use Rattle.std.proofs.Common.{◌≡◌, ℕ, ◌+◌, ◌<◌, Bool, true, false, cond, Option, Some, None, List, [], ◌∷◌, ◌++◌, length, get_or, take, All, Contains, refl, sym, ap, ◌∙◌, subst, inl, inr, find, is_some, map, arith}
 use Rattle.std.specs.List.{filter, filter_map, cons_option, list_any, AllPairs}
 use Rattle.std.proofs.lemmas.List.{take_more, append-nil, get_or_default}
 use Rattle.std.proofs.lemmas.List.Folds.{Any-from_list_any, list_any_at}
@@ -145,3 +145,16 @@ pub passed_next : {X Y : Type 0} (h : X → Option Y) (xs : List X) (i : ℕ) (x
 passed_next {X} {Y} h xs i x d ys zs within is gives so_far last =
     let more : take (i + 1) xs ≡ take i xs ++ x ∷ [] = take_more xs i d within ∙ ap (λ (v : X). take i xs ++ v ∷ []) (sym is) in
     last ∙ rw (so_far, more, filter_map-append h (take i xs) (x ∷ []), gives) (sym (append-nil _))
+
+-- ---- what is given by what is made of each element
+
+-- where it gives nothing
+pub none_given : {A X Y : Type 0} (given : Y → Option A) (item : X → Y) → ((x : X) → given (item x) ≡ None) → (xs : List X) → filter_map given (map item xs) ≡ []
+none_given given item none [] = refl
+none_given {A} given item none (x ∷ xs) = ap (λ (o : Option A). cons_option o (filter_map given (map item xs))) (none x) ∙ none_given given item none xs
+
+-- where it gives what it is made of
+pub all_given : {X Y : Type 0} (given : Y → Option X) (item : X → Y) → ((x : X) → given (item x) ≡ Some x) → (xs : List X) → filter_map given (map item xs) ≡ xs
+all_given given item all [] = refl
+all_given {X} given item all (x ∷ xs) =
+    ap (λ (o : Option X). cons_option o (filter_map given (map item xs))) (all x) ∙ ap (λ (rest : List X). x ∷ rest) (all_given given item all xs)

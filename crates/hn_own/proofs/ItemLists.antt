@@ -1,5 +1,5 @@
 -- What a router's own items have of one kind: each kind stands in one part of their list.
-use Rattle.std.proofs.Common.{◌≡◌, ◌∙◌, ℕ, List, [], ◌∷◌, ◌++◌, map, Option, Some, None, refl, ap}
+use Rattle.std.proofs.Common.{◌≡◌, ◌∙◌, ℕ, List, [], ◌∷◌, ◌++◌, map, Option, None, refl, ap}
 use Rattle.std.specs.List.{cons_option, filter_map}
 use Rattle.std.proofs.lemmas.List.Elements.{filter_map-append}
 use Rattle.hn_typed.specs.Item.{PlainItem, External}
@@ -8,11 +8,7 @@ use Rattle.hn_own.specs.declared.own_prefixes.OwnPrefix.{OwnPrefix}
 use Rattle.hn_own.specs.Own.{peer_item, external_items, assigned_item}
 
 module _ {A : Type 0} (given : PlainItem → Option A) where
-  -- where no item of a part gives something
-  pub none_given : {X : Type 0} (item : X → PlainItem) → ((x : X) → given (item x) ≡ None) → (xs : List X) → filter_map given (map item xs) ≡ []
-  none_given item none [] = refl
-  none_given item none (x ∷ xs) = ap (λ (o : Option A). cons_option o (filter_map given (map item xs))) (none x) ∙ none_given item none xs
-
+  -- where an External-Connection gives nothing
   pub none_external : ((subs : List ℕ) → given (External subs) ≡ None) → (now : ℕ) (list : List OwnPrefix) → filter_map given (external_items now list) ≡ []
   none_external none now [] = refl
   none_external none now (p ∷ ps) = ap (λ (o : Option A). cons_option o []) (none _)
@@ -24,9 +20,3 @@ module _ {A : Type 0} (given : PlainItem → Option A) where
       let links = map peer_item own.links in
       let external = external_items now own.delegated in
       filter_map-append given (links ++ external) (map assigned_item own.assigned) ∙ rw (filter_map-append given links external) refl
-
--- where each gives what it is made of
-pub all_given : {X : Type 0} (given : PlainItem → Option X) (item : X → PlainItem) → ((x : X) → given (item x) ≡ Some x) → (xs : List X) → filter_map given (map item xs) ≡ xs
-all_given given item all [] = refl
-all_given {X} given item all (x ∷ xs) =
-    ap (λ (o : Option X). cons_option o (filter_map given (map item xs))) (all x) ∙ ap (λ (rest : List X). x ∷ rest) (all_given given item all xs)

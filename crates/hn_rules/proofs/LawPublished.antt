@@ -14,9 +14,9 @@ use Rattle.hn_data.specs.declared.said.AssignedPrefix.{AssignedPrefix}
 use Rattle.hn_own.specs.declared.own.OwnItems.{OwnItems}
 use Rattle.hn_own.specs.Own.{PlainData, IsOwnData, peer_item, external_items, assigned_item, items_of}
 use Rattle.hn_rules.specs.Laws.{AssignedIsPublished, ItemsArePublished}
-use Rattle.hn_base.proofs.Elements.{in_filter_map, from_filter_map}
+use Rattle.hn_base.proofs.Elements.{in_filter_map, from_filter_map, all_given, none_given}
 use Rattle.hn_rules.proofs.LawSpelled.{AreRead, encoding, own_fit, are_read, same_encoded}
-use Rattle.hn_own.proofs.ItemLists.{all_given, by_parts, none_external, none_given}
+use Rattle.hn_own.proofs.ItemLists.{by_parts, none_external}
 
 -- ---- the Assigned-Prefixes among own items
 

@@ -1,9 +1,7 @@
 -- What the one outcome says of two readings of the same bytes.
 use Rattle.std.proofs.Common.{◌≡◌, ℕ, ◌+◌, ◌^◌, ◌<◌, Bool, true, false, List, [], ◌∷◌, ◌++◌, length, get_or, refl, sym, ap, subst, ◌∙◌, append_assoc, arith, inl, inr}
-use Rattle.std.specs.Int.{w16, to_be_bytes, from_be_bytes}
 use Rattle.std.proofs.lemmas.List.{length-append}
-use Rattle.std.proofs.lemmas.Nat.{from_be_bytes-to_be_bytes_2}
-use Rattle.hn_base.proofs.BigEndian.{same_words}
+use Rattle.hn_base.proofs.BigEndian.{same_two, same_words}
 use Rattle.hn_advert.specs.declared.advert.Advert.{Advert}
 use Rattle.hn_advert.specs.Layout.{Header, IsHeader, flags_byte, header_bytes, NdOption, IsNdOption, option_bytes}
 use Rattle.hn_advert.specs.Advert.{AreOptions, options_bytes, IsAdvert}
@@ -82,9 +80,6 @@ pub no_first_fault : (bytes : List ℕ) (place why : ℕ) → HasOptions bytes �
 no_first_fault bytes place why h f = no_options_then_fault f.options h.options f.rest f.offset why f.options_fit h.fit f.fault (sym f.parts ∙ h.parts)
 
 -- ---- headers
-
-same_two : (m n : ℕ) → m < 2 ^ 16 → n < 2 ^ 16 → to_be_bytes w16 m ≡ to_be_bytes w16 n → m ≡ n
-same_two m n p q e = sym (from_be_bytes-to_be_bytes_2 m p) ∙ ap (from_be_bytes w16) e ∙ from_be_bytes-to_be_bytes_2 n q
 
 same_flags : (m o n p : Bool) (r s : ℕ) → r < 2 ^ 6 → s < 2 ^ 6 → flags_byte m o r ≡ flags_byte n p s → (m ≡ n) × (o ≡ p) × (r ≡ s)
 same_flags true true true true r s few some e = (refl, refl, omega arith)

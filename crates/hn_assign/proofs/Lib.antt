@@ -1,5 +1,4 @@
 pub mod Ats
-pub mod Begins
 pub mod Bests
 pub mod Frees
 pub mod Fronts

@@ -17,8 +17,7 @@ use Rattle.hn_assign.specs.Step.{IsStep}
 use Rattle.hn_assign.specs.Subroutine.{AreSteps, IsSubroutine, with_marks}
 use Rattle.hn_assign.specs.Unassigned.{IsUnassigned, backoff_after}
 use Rattle.hn_assign.proofs.Ats.{has_one, updates_one, keeps_one}
-use Rattle.hn_base.proofs.FirstWords.{begins_front}
-use Rattle.hn_assign.proofs.Begins.{same_word}
+use Rattle.hn_base.proofs.FirstWords.{begins_front, same_word}
 use Rattle.hn_base.specs.Ascending.{HaveSame}
 use Rattle.hn_assign.proofs.Sames.{same_back, same_advertised, best_in, best_one, valid_in, free_in, first_one}
 

@@ -1,11 +1,10 @@
 -- Rules of which each has at most one result over one stream of words, and how they compose.
-use Rattle.std.proofs.Common.{◌≡◌, ◌∙◌, ◌⊎◌, ◌+◌, ℕ, List, [], ◌∷◌, ◌++◌, Option, Some, None, length, drop, get_or, ap, refl, sym, subst, inl, inr, arith}
-use Rattle.std.proofs.lemmas.Grind.{common_steps, same_number_lists}
+use Rattle.std.proofs.Common.{◌≡◌, ◌∙◌, ◌⊎◌, ◌+◌, ℕ, List, [], ◌∷◌, ◌++◌, Option, Some, None, length, get_or, ap, refl, sym, subst, inl, inr, arith}
+use Rattle.std.proofs.lemmas.Grind.{common_steps}
 use Rattle.std.proofs.lemmas.List.{append-nil, length-append}
-use Rattle.std.proofs.Math.Seq.{drop-append_seam}
 use Rattle.hn_io.specs.Words.{Begins}
 use Rattle.hn_base.specs.declared.ids.EpId.{EpId}
-use Rattle.hn_base.proofs.FirstWords.{begins_front}
+use Rattle.hn_base.proofs.FirstWords.{begins_front, same_taken}
 use Rattle.hn_dncp.specs.declared.port.Port.{Port}
 use Rattle.hn_rules.specs.declared.running.Running.{Running}
 use Rattle.hn_own.specs.Ports.{port_at}
@@ -18,15 +17,6 @@ pub begins_back : (xs ys : List ℕ) (stream : ℕ → ℕ) → Begins (xs ++ ys
 begins_back xs ys stream begins i within =
     let h = begins (length xs + i) (omega (arith, length-append xs ys)) in
     grind (arith, common_steps)
-
-same_begins : (xs ys : List ℕ) (stream : ℕ → ℕ) → length xs ≡ length ys → Begins xs stream → Begins ys stream → xs ≡ ys
-same_begins xs ys stream same a b = same_number_lists xs ys same (λ k within. a k within ∙ sym (b k (omega arith)))
-
--- as many words, taken from the same place
-same_words : (before xs ys : List ℕ) (stream : ℕ → ℕ) → length xs ≡ length ys → Begins (before ++ xs) stream → Begins (before ++ ys) stream → xs ≡ ys
-same_words before xs ys stream same a b =
-    let whole = same_begins (before ++ xs) (before ++ ys) stream (omega (arith, length-append before xs, length-append before ys)) a b in
-    sym (drop-append_seam before xs) ∙ ap (drop (length before)) whole ∙ drop-append_seam before ys
 
 pub begins_along : (xs ys : List ℕ) (stream : ℕ → ℕ) → xs ≡ ys → Begins xs stream → Begins ys stream
 begins_along xs ys stream same begins = subst (λ (ws : List ℕ). Begins ws stream) same begins
@@ -41,7 +31,7 @@ pub sole_drawn : (rule : Rule) (drawn : (r a : Running) → rule r a → List �
 sole_drawn rule drawn takes as_many gives = record {
   grows = λ stream r a h begins. begins_front r.done.words (drawn r a h) stream (begins_along a.done.words (r.done.words ++ drawn r a h) stream (takes r a h) begins);
   one = λ stream r a b h k at_a at_b.
-      gives r a b h k (same_words r.done.words (drawn r a h) (drawn r b k) stream (as_many r a b h k)
+      gives r a b h k (same_taken r.done.words (drawn r a h) (drawn r b k) stream (as_many r a b h k)
       (begins_along a.done.words (r.done.words ++ drawn r a h) stream (takes r a h) at_a)
       (begins_along b.done.words (r.done.words ++ drawn r b k) stream (takes r b k) at_b));
 }

@@ -1,13 +1,18 @@
--- The order of ranks, the greatest of some, and who is in view.
-use Rattle.std.proofs.Common.{◌≡◌, ℕ, Ordering, refl, ◌∙◌, ap}
+-- The order of ranks, and that at most one node is elected.
+use Rattle.std.proofs.Common.{◌≡◌, ℕ, List, Option, Some, None, Ordering, refl, ◌∙◌, ap}
+use Rattle.std.specs.Prelude.{MatchOption}
 use Rattle.std.specs.declared.cmp.Ordering.TheVariants.{Less, Equal, Greater}
 use Rattle.std.specs.Cmp.{IsTotalOrder}
 use Rattle.std.specs.Ordering.{on, then_cmp, nat_cmp, ordering_reverse}
 use Rattle.std.proofs.lemmas.Cmp.{on_total, then_total, nat_cmp_total}
 use Rattle.hn_base.specs.Ascending.{IsExact}
+use Rattle.hn_base.specs.declared.ids.NodeId.{NodeId}
+use Rattle.hn_base.specs.declared.ids.EpId.{EpId}
+use Rattle.hn_base.specs.declared.letter.Letter.{Letter}
 use Rattle.hn_base.proofs.AscendingLists.{exact_nat, exact_then}
+use Rattle.hn_data.specs.View.{PlainView}
 use Rattle.hn_link.specs.declared.rank.Rank.{Rank}
-use Rattle.hn_link.specs.Election.{rank_cmp}
+use Rattle.hn_link.specs.Election.{rank_of, rank_cmp, IsElected, HasNoCandidate}
 
 pub rank_total : IsTotalOrder rank_cmp
 rank_total = then_total (on_total (λ r. r.priority) nat_cmp_total) (then_total (on_total (λ r. r.combined) nat_cmp_total) (on_total (λ r. r.node.0) nat_cmp_total))
@@ -26,3 +31,18 @@ neither_below a b p q = by_case (rank_cmp a b) refl
     by_case Less e = absurd (p e)
     by_case Equal e = exact_rank a b e
     by_case Greater e = absurd (q (rank_total.antisymm b a ∙ ap ordering_reverse e))
+
+-- ---- who is elected
+
+pub one_elected : (view : PlainView) (common : List (NodeId × EpId)) (letter : Letter) (a b : NodeId) → IsElected view common letter a → IsElected view common letter b → a ≡ b
+one_elected view common letter a b p q =
+    let one = neither_below (rank_of letter p.caps a) (rank_of letter q.caps b) (p.greatest b q.caps q.candidate) (q.greatest a p.caps p.candidate) in
+    ap (λ (r : Rank). r.node) one
+
+-- somebody is elected, or nobody stands for election
+pub one_who : (view : PlainView) (common : List (NodeId × EpId)) (letter : Letter) (who other : Option NodeId)
+    → MatchOption who (HasNoCandidate view common letter) (IsElected view common letter) → MatchOption other (HasNoCandidate view common letter) (IsElected view common letter) → who ≡ other
+one_who view common letter None None is k = refl
+one_who view common letter None (Some b) is k = absurd (is b k.caps k.candidate)
+one_who view common letter (Some a) None is k = absurd (k a is.caps is.candidate)
+one_who view common letter (Some a) (Some b) is k = ap Some (one_elected view common letter a b is k)

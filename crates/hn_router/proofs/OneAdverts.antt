@@ -1,5 +1,5 @@
 -- A router advertises one thing on an endpoint.
-use Rattle.std.proofs.Common.{◌≡◌, ◌↔◌, ℕ, List, Option, Some, None, refl, sym, ◌∙◌, ap, subst, ⊎_elim, Contains}
+use Rattle.std.proofs.Common.{◌≡◌, ◌↔◌, ℕ, List, Option, sym, ◌∙◌, ap, subst, ⊎_elim, Contains}
 use Rattle.std.specs.Prelude.{is_some, MatchOption}
 use Rattle.std.specs.Ordering.{on}
 use Rattle.std.proofs.lemmas.Cmp.{on_total}
@@ -21,6 +21,7 @@ use Rattle.hn_rules.specs.declared.state.State.{State}
 use Rattle.hn_rules.specs.Seen.{seen_by, IsElectedAt}
 use Rattle.hn_router.specs.Advertising.{IsInfoOf, AreInfos, IsLifetime, IsAdvertAt, IsAdvertBytes}
 use Rattle.hn_prefix.proofs.Prefixes.{prefix_total}
+use Rattle.hn_link.proofs.Elections.{one_who}
 
 -- the laws of hn_deleg and hn_link: a view has one list of usable prefixes, and an endpoint one Common Link
 abbrev pub OneUsable : Type 0
@@ -30,17 +31,11 @@ abbrev pub OneCommonLink : Type 0
 OneCommonLink = (view : PlainView) (e : ℕ) (a b : List (NodeId × EpId)) → IsCommonLink view e a → IsCommonLink view e b → a ≡ b
 
 -- somebody is elected or nobody
-one_flag : (view : PlainView) (common : List (NodeId × EpId)) (letter : Letter) (a b : Option NodeId) → MatchOption a (HasNoCandidate view common letter) (IsElected view common letter)
-    → MatchOption b (HasNoCandidate view common letter) (IsElected view common letter) → is_some a ≡ is_some b
-one_flag view common letter None None f g = refl
-one_flag view common letter None (Some y) f g = absurd (f y g.caps g.candidate)
-one_flag view common letter (Some x) None f g = absurd (g x f.caps f.candidate)
-one_flag view common letter (Some x) (Some y) f g = refl
-
-one_elected : OneCommonLink → (s : State) (e : EpId) (letter : Letter) (a b : Option NodeId) → IsElectedAt s e letter a → IsElectedAt s e letter b → is_some a ≡ is_some b
-one_elected one_link s e letter a b f g =
+one_flag : OneCommonLink → (s : State) (e : EpId) (letter : Letter) (a b : Option NodeId) → IsElectedAt s e letter a → IsElectedAt s e letter b → is_some a ≡ is_some b
+one_flag one_link s e letter a b f g =
     let same : g.common ≡ f.common = one_link (seen_by s) e.0 g.common f.common g.is_common f.is_common in
-    one_flag (seen_by s) f.common letter a b f.is_elected (subst (λ (c : List (NodeId × EpId)). MatchOption b (HasNoCandidate (seen_by s) c letter) (IsElected (seen_by s) c letter)) same g.is_elected)
+    let who = one_who (seen_by s) f.common letter a b f.is_elected (subst (λ (c : List (NodeId × EpId)). MatchOption b (HasNoCandidate (seen_by s) c letter) (IsElected (seen_by s) c letter)) same g.is_elected) in
+    ap (λ (o : Option NodeId). is_some o) who
 
 one_lifetime : (s : State) (m n : ℕ) → IsLifetime s m → IsLifetime s n → m ≡ n
 one_lifetime s m n f g =
@@ -59,7 +54,7 @@ one_infos one_usable s e a b f g =
 
 one_advert : OneUsable → OneCommonLink → (s : State) (e : EpId) (a b : Advert) → IsAdvertAt s e a → IsAdvertAt s e b → a ≡ b
 one_advert one_usable one_link s e a b f g =
-    let who : is_some f.who ≡ is_some g.who = one_elected one_link s e H f.who g.who f.is_elected g.is_elected in
+    let who : is_some f.who ≡ is_some g.who = one_flag one_link s e H f.who g.who f.is_elected g.is_elected in
     let managed : a.managed ≡ b.managed = f.managed ∙ who ∙ sym g.managed in
     let other : a.other ≡ b.other = f.other ∙ who ∙ sym g.other in
     let lifetime : a.lifetime ≡ b.lifetime = one_lifetime s a.lifetime b.lifetime f.lifetime g.lifetime in

@@ -8,7 +8,6 @@ returns c =
       agreements = c.agreement_is_unique.ensures;
       usable = c.usable_is_unique.ensures;
       common = c.common_link_is_unique.ensures;
-      elected = c.elected_is_unique.ensures;
       adverts = c.router_has_one_advert.ensures;
     } in
     one_cut c.step_is_unique.ensures reports c.each_event_is_entered.ensures.entered

@@ -8,7 +8,6 @@ returns c =
       agreements = c.agreement_is_unique.ensures;
       usable = c.usable_is_unique.ensures;
       common = c.common_link_is_unique.ensures;
-      elected = c.elected_is_unique.ensures;
       adverts = c.router_has_one_advert.ensures;
     } in
     one_play c.step_is_unique.ensures reports

@@ -11,6 +11,7 @@ use Rattle.hn_base.proofs.Decisions.{option_decided}
 use Rattle.hn_base.proofs.Fields.{same_caps}
 use Rattle.hn_prefix.proofs.Prefixes.{prefix_decided}
 use Rattle.hn_prefix.specs.Prefix.{PlainPrefix}
+use Rattle.hn_data.specs.Peers.{peer_link}
 use Rattle.hn_data.specs.declared.said.PeerLink.{PeerLink}
 use Rattle.hn_data.specs.declared.said.AssignedPrefix.{AssignedPrefix}
 use Rattle.hn_own.specs.declared.own.OwnItems.{OwnItems}
@@ -28,12 +29,9 @@ caps_decided a b =
 
 -- ---- links
 
-abbrev link_with : ℕ → ℕ → ℕ → PeerLink
-link_with endpoint peer peer_endpoint = record { endpoint = record { 0 = endpoint }; peer = record { 0 = peer }; peer_endpoint = record { 0 = peer_endpoint } }
-
 same_link : (a b : PeerLink) → a.endpoint.0 ≡ b.endpoint.0 → a.peer.0 ≡ b.peer.0 → a.peer_endpoint.0 ≡ b.peer_endpoint.0 → a ≡ b
 same_link a b same_endpoint same_peer same_other =
-    ap (λ (n : ℕ). link_with n a.peer.0 a.peer_endpoint.0) same_endpoint ∙ ap (λ (n : ℕ). link_with b.endpoint.0 n a.peer_endpoint.0) same_peer ∙ ap (λ (n : ℕ). link_with b.endpoint.0 b.peer.0 n) same_other
+    ap (λ (n : ℕ). peer_link a.peer.0 a.peer_endpoint.0 n) same_endpoint ∙ ap (λ (n : ℕ). peer_link n a.peer_endpoint.0 b.endpoint.0) same_peer ∙ ap (λ (n : ℕ). peer_link b.peer.0 n b.endpoint.0) same_other
 
 pub link_decided : (a b : PeerLink) → Decides (a.endpoint.0 == b.endpoint.0 && (a.peer.0 == b.peer.0 && a.peer_endpoint.0 == b.peer_endpoint.0)) (a ≡ b)
 link_decided a b =

@@ -15,7 +15,8 @@ use Rattle.hn_prefix.specs.Prefix.{PlainPrefix, prefix_cmp}
 use Rattle.hn_own.specs.declared.own_prefixes.OwnPrefix.{OwnPrefix}
 use Rattle.hn_own.specs.OwnPrefixes.{AreOwnPrefixes, is_prefix, is_before, delegated_with, delegated_without}
 
-abbrev own_cmp : OwnPrefix → OwnPrefix → Ordering
+-- their order
+abbrev pub own_cmp : OwnPrefix → OwnPrefix → Ordering
 own_cmp = on (λ p. p.prefix) prefix_cmp
 
 -- ---- none, and some of them
@@ -44,13 +45,13 @@ filter_within p q within (x ∷ xs) = by_tests (p x) (q x) refl refl (filter_wit
     by_tests false true is also rest = rw (also, is) rest
     by_tests false false is also rest = rw (also, is) rest
 
--- ---- their order
+-- ---- which comes first
 
 -- it is that prefix where neither comes before the other
-is_prefix-cmp : (p q : PlainPrefix) → (p.bits == q.bits && p.len == q.len) ≡ is_eq (prefix_cmp p q)
+pub is_prefix-cmp : (p q : PlainPrefix) → (p.bits == q.bits && p.len == q.len) ≡ is_eq (prefix_cmp p q)
 is_prefix-cmp p q = search (comparing, rules)
 
-is_before-less : (p q : PlainPrefix) → is_before p q ≡ true → prefix_cmp p q ≡ Less
+pub is_before-less : (p q : PlainPrefix) → is_before p q ≡ true → prefix_cmp p q ≡ Less
 is_before-less p q = by_order (prefix_cmp p q)
   where
     by_order : (r : Ordering) → match_ordering r true false false ≡ true → r ≡ Less

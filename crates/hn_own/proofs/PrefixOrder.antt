@@ -1,9 +1,7 @@
 -- A router's own delegated prefixes stay in ascending order and few when one is added and when some go.
-use Rattle.std.proofs.Common.{◌≡◌, ◌≤◌, ◌+◌, ◌∙◌, suc, Bool, true, false, Ordering, List, ◌∷◌, length, filter, refl, sym, inl, inr, rules, arith, length-append}
+use Rattle.std.proofs.Common.{◌≡◌, ◌≤◌, ◌+◌, ◌∙◌, suc, Bool, true, false, List, ◌∷◌, length, filter, refl, sym, inl, inr, arith, length-append}
 use Rattle.std.specs.Prelude.{All, ◌==◌, ◌&&◌, nat_lt}
-use Rattle.std.specs.declared.cmp.Ordering.TheVariants.{Less, Equal, Greater}
-use Rattle.std.specs.Cmp.Rules.{comparing}
-use Rattle.std.specs.Ordering.{on, is_eq, match_ordering}
+use Rattle.std.specs.declared.cmp.Ordering.TheVariants.{Less, Equal}
 use Rattle.std.specs.List.Sorted.{IsStrictlySortedBy}
 use Rattle.std.proofs.lemmas.Bool.{ltb-true, or_cases}
 use Rattle.std.proofs.lemmas.Cmp.{on_total}
@@ -15,10 +13,8 @@ use Rattle.hn_base.proofs.Around.{few_apart, fewer_apart, sorted_around}
 use Rattle.hn_prefix.proofs.Prefixes.{prefix_total}
 use Rattle.hn_prefix.specs.Prefix.{PlainPrefix, prefix_cmp}
 use Rattle.hn_own.specs.declared.own_prefixes.OwnPrefix.{OwnPrefix}
+use Rattle.hn_own.proofs.PrefixLists.{own_cmp, is_prefix-cmp, is_before-less}
 use Rattle.hn_own.specs.OwnPrefixes.{AreOwnPrefixes, is_prefix, is_delegated, may_delegate, is_before, delegated_with}
-
-abbrev own_cmp : OwnPrefix → OwnPrefix → Ordering
-own_cmp = on (λ p. p.prefix) prefix_cmp
 
 -- ---- some of them
 
@@ -30,19 +26,11 @@ own-filter stays list are = record {
 
 -- ---- one prefix comes before another, after it, or is it
 
-less_from_before : (p q : PlainPrefix) → is_before p q ≡ true → prefix_cmp p q ≡ Less
-less_from_before p q = by_order (prefix_cmp p q)
-  where
-    by_order : (r : Ordering) → match_ordering r true false false ≡ true → r ≡ Less
-    by_order Less is = refl
-    by_order Equal is = absurd cc
-    by_order Greater is = absurd cc
-
 equal_from_same : (p q : PlainPrefix) → (p.bits == q.bits && p.len == q.len) ≡ true → prefix_cmp p q ≡ Equal
-equal_from_same p q same = let tests : (p.bits == q.bits && p.len == q.len) ≡ is_eq (prefix_cmp p q) = search (comparing, rules) in equal_from_is_eq (prefix_cmp p q) (sym tests ∙ same)
+equal_from_same p q same = equal_from_is_eq (prefix_cmp p q) (sym (is_prefix-cmp p q) ∙ same)
 
 not_after : (p q : PlainPrefix) → is_before p q ≡ true → is_before q p ≡ false
-not_after p q before = rw (prefix_total.antisymm q p, less_from_before p q before) refl
+not_after p q before = rw (prefix_total.antisymm q p, is_before-less p q before) refl
 
 neither : (p q : PlainPrefix) → (p.bits == q.bits && p.len == q.len) ≡ true → (is_before p q ≡ false) × (is_before q p ≡ false)
 neither p q same =
@@ -60,8 +48,8 @@ module _ (own : OwnPrefix) where
 
   with_ascending : (list : List OwnPrefix) → IsStrictlySortedBy own_cmp list → IsStrictlySortedBy own_cmp (delegated_with own list)
   with_ascending list up =
-      let below : All (λ p. own_cmp p own ≡ Less) (filter lower_than list) = All-weaker (λ p. lower_than p ≡ true) (λ p. own_cmp p own ≡ Less) (λ p is. less_from_before p.prefix own.prefix is) (filter lower_than list) (filter_passes lower_than list) in
-      let above : All (λ p. own_cmp own p ≡ Less) (filter higher_than list) = All-weaker (λ p. higher_than p ≡ true) (λ p. own_cmp own p ≡ Less) (λ p is. less_from_before own.prefix p.prefix is) (filter higher_than list) (filter_passes higher_than list) in
+      let below : All (λ p. own_cmp p own ≡ Less) (filter lower_than list) = All-weaker (λ p. lower_than p ≡ true) (λ p. own_cmp p own ≡ Less) (λ p is. is_before-less p.prefix own.prefix is) (filter lower_than list) (filter_passes lower_than list) in
+      let above : All (λ p. own_cmp own p ≡ Less) (filter higher_than list) = All-weaker (λ p. higher_than p ≡ true) (λ p. own_cmp own p ≡ Less) (λ p is. is_before-less own.prefix p.prefix is) (filter higher_than list) (filter_passes higher_than list) in
       sorted_around own_cmp (on_total (λ p. p.prefix) prefix_total) (filter lower_than list) own (filter higher_than list)
       (IsStrictlySortedBy-filter own_cmp lower_than list up) (recursion_from_All (λ p. own_cmp p own ≡ Less) (filter lower_than list) below)
       (IsStrictlySortedBy-filter own_cmp higher_than list up) (recursion_from_All (λ p. own_cmp own p ≡ Less) (filter higher_than list) above)

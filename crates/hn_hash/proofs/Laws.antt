@@ -1,5 +1,5 @@
 -- Equal network hashes are those of equal leaves, or show a collision.
-use Rattle.std.proofs.Common.{◌≡◌, ℕ, suc, ◌^◌, ◌<◌, Bool, false, not, List, [], ◌∷◌, refl, sym, ap, ◌∙◌, inl, inr, ◌⊎◌, arith}
+use Rattle.std.proofs.Common.{◌≡◌, ℕ, suc, Bool, false, not, List, [], ◌∷◌, refl, sym, ap, ◌∙◌, inl, inr, ◌⊎◌, arith}
 use Rattle.std.specs.List.{AllByRecursion}
 use Rattle.std.specs.Str.{bytes_eq}
 use Rattle.std.proofs.lemmas.Bool.{not-false}
@@ -10,11 +10,9 @@ use Rattle.hn_hash.specs.Network.{leaf_text, bodies, AreNumbered}
 use Rattle.hn_hash.specs.Agreement.{body_at, CollidesInPlace, IsFirstDifference, IsExhibited, EqualHashesAgreeOrCollide}
 use Rattle.hn_hash.specs.declared.leaf.Leaf.{Leaf}
 use Rattle.hn_base.proofs.BigEndian.{same_words}
+use Rattle.hn_hash.proofs.Parts.{HasNumber}
 use Rattle.hn_hash.proofs.Leaves.{IsAlike, IsAlike-from_texts, IsAlike-tail, IsAlike-head, same_hash_at}
 use Rattle.hn_base.proofs.Decisions.{texts_cases}
-
-abbrev HasNumber : Leaf → Type 0
-HasNumber leaf = leaf.number < 2 ^ 32
 
 pub same_leaf : (x y : Leaf) → x.number ≡ y.number → x.body ≡ y.body → x ≡ y
 same_leaf x y number_is body_is =

@@ -14,13 +14,14 @@ part_text-map (x ∷ xs) = ap (λ rest. entry_of x ++ rest) (part_text-map xs)
 abbrev PartHasNumber : Part → Type 0
 PartHasNumber part = part.number < 2 ^ 32
 
-abbrev LeafHasNumber : Leaf → Type 0
-LeafHasNumber leaf = leaf.number < 2 ^ 32
+-- the sequence number has 32 bits
+abbrev pub HasNumber : Leaf → Type 0
+HasNumber leaf = leaf.number < 2 ^ 32
 
-numbers_of_leaves : (leaves : List Leaf) → AllByRecursion PartHasNumber (map part_of leaves) → AllByRecursion LeafHasNumber leaves
+numbers_of_leaves : (leaves : List Leaf) → AllByRecursion PartHasNumber (map part_of leaves) → AllByRecursion HasNumber leaves
 numbers_of_leaves [] fits = tt
 numbers_of_leaves (x ∷ xs) fits = (fits.0, numbers_of_leaves xs fits.1)
 
 pub AreNumbered-from_parts : (parts : List Part) (leaves : List Leaf) → All (λ (part : Part). part.number < 2 ^ 32) parts → ArePartsOf parts leaves → AreNumbered leaves
 AreNumbered-from_parts parts leaves fits are =
-    All-from_recursion LeafHasNumber leaves (numbers_of_leaves leaves (subst (AllByRecursion PartHasNumber) are (recursion_from_All PartHasNumber parts fits)))
+    All-from_recursion HasNumber leaves (numbers_of_leaves leaves (subst (AllByRecursion PartHasNumber) are (recursion_from_All PartHasNumber parts fits)))

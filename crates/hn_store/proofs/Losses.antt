@@ -1,5 +1,5 @@
 -- Who is among the reachable nodes, and what a mark changes.
-use Rattle.std.proofs.Common.{◌≡◌, ◌<◌, ◌≤◌, ℕ, ◌+◌, inl, inr, Bool, true, false, cond, not, List, [], ◌∷◌, ◌++◌, length, map, filter, take, drop, get_or, subst, Result, Ok, Err, is_ok, Option, Some, None, refl, sym, ap, arith}
+use Rattle.std.proofs.Common.{◌≡◌, ◌<◌, ℕ, ◌+◌, inl, inr, Bool, true, false, cond, not, List, [], ◌∷◌, ◌++◌, length, map, filter, take, drop, get_or, subst, Result, Ok, Err, is_ok, Option, Some, None, refl, sym, ap, arith}
 use Rattle.std.specs.Prelude.{is_some, is_none, ◌==◌, count_by, IsTrue}
 use Rattle.std.specs.List.{list_any, AllAdjacentBelow, IsAllAdjacentAnswer}
 use Rattle.std.specs.List.Sorted.{IsNonDecreasingBy, IsStrictlySortedBy, IsSearchInRange, IsBinarySearchResult}
@@ -7,7 +7,6 @@ use Rattle.std.specs.declared.cmp.Ordering.TheVariants.{Less, Equal, Greater}
 use Rattle.std.specs.Ordering.{nat_cmp, is_le, ordering_index}
 use Rattle.std.specs.Cmp.{ranked}
 use Rattle.std.proofs.lemmas.Bool.{eq-eqb, ne_eqb, cases_lt, or_parts}
-use Rattle.std.proofs.lemmas.Bool.Decides.{nat_tests}
 use Rattle.std.proofs.lemmas.Map.Keys.{le_from_is_le}
 use Rattle.std.proofs.lemmas.List.Sorted.{IsNonDecreasingBy-from_all_adjacent}
 use Rattle.std.proofs.lemmas.List.Folds.{list_any_at, list_any_none}
@@ -19,6 +18,7 @@ use Rattle.std.proofs.lemmas.List.Elements.{All-map, All-weaker}
 use Rattle.std.proofs.lemmas.List.Filters.{length-filter_both}
 use Rattle.std.proofs.lemmas.List.Sums.{length-filter}
 use Rattle.hn_store.specs.Nodes.{IsTable, IsSound, ids_of}
+use Rattle.hn_store.proofs.Places.{order_rises}
 use Rattle.hn_store.specs.Loss.{is_among, lost_after, marked_node, is_to_mark, is_forgotten}
 
 rises_from_test : (ids : List NodeId) → AllAdjacentBelow (λ x y. is_le (nat_cmp x.0 y.0) ≡ true) ids (length ids) → IsNonDecreasingBy (λ id. id.0) ids
@@ -30,10 +30,7 @@ rises_from_answer ids true adjacent is = rises_from_test ids adjacent
 rises_from_answer ids false adjacent is = absurd (cc)
 
 searchable_ids : (ids : List NodeId) (node : ℕ) → IsNonDecreasingBy (λ id. id.0) ids → IsNonDecreasingBy (λ y. ordering_index (nat_cmp y.0 node)) ids
-searchable_ids ids node up i j d le lt = ordered (get_or ids i d).0 (get_or ids j d).0 node (up i j d le lt)
-  where
-    ordered : (a b id : ℕ) → a ≤ b → ordering_index (nat_cmp a id) ≤ ordering_index (nat_cmp b id)
-    ordered a b id le = grind (arith, nat_tests)
+searchable_ids ids node up i j d le lt = order_rises (get_or ids i d).0 (get_or ids j d).0 node (up i j d le lt)
 
 pub among_from_search : (ids : List NodeId) (node : ℕ) (r : Result ℕ ℕ) → IsNonDecreasingBy (λ id. id.0) ids → IsSearchInRange r (length ids)
     → IsBinarySearchResult (λ y. nat_cmp y.0 node) ids r → is_ok r ≡ is_among ids node

@@ -20,6 +20,10 @@ use Rattle.hn_store.specs.Place.{IsPlaceOf, IsGapFor}
 
 -- ---- binary search
 
+-- as numbers rise, so does their order to another
+pub order_rises : (a b id : ℕ) → a ≤ b → ordering_index (nat_cmp a id) ≤ ordering_index (nat_cmp b id)
+order_rises a b id le = grind (arith, nat_tests)
+
 -- nodes in ascending order rise from place to place
 pub rises : (xs : List HeldNode) → IsStrictlySortedBy nat_cmp (ids_of xs) → (i j : ℕ) (d : HeldNode) → i < j → j < length xs → (get_or xs i d).id.0 < (get_or xs j d).id.0
 rises xs up i j d lt within =
@@ -32,12 +36,9 @@ rises xs up i j d lt within =
 searchable : (xs : List HeldNode) (id : ℕ) → IsStrictlySortedBy nat_cmp (ids_of xs) → IsNonDecreasingBy (λ y. ordering_index (nat_cmp y.id.0 id)) xs
 searchable xs id up i j d le within =
     elim (cases_lt i j) [
-      | inl lt ↦ ordered (get_or xs i d).id.0 (get_or xs j d).id.0 id (let less = rises xs up i j d lt within in omega arith)
+      | inl lt ↦ order_rises (get_or xs i d).id.0 (get_or xs j d).id.0 id (let less = rises xs up i j d lt within in omega arith)
       | inr ge ↦ let same : i ≡ j = omega arith in rw same (omega arith)
     ]
-  where
-    ordered : (a b id : ℕ) → a ≤ b → ordering_index (nat_cmp a id) ≤ ordering_index (nat_cmp b id)
-    ordered a b id le = grind (arith, nat_tests)
 
 pub searched : (xs : List HeldNode) (id : ℕ) (r : Result ℕ ℕ) → IsStrictlySortedBy nat_cmp (ids_of xs) → IsSearchInRange r (length xs)
     → IsBinarySearchResult (λ y. nat_cmp y.id.0 id) xs r → IfOk r (IsPlaceOf xs id) × IfErr r (IsGapFor xs id)

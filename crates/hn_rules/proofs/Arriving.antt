@@ -27,7 +27,7 @@ use Rattle.hn_rules.specs.Refresh.{Publishes, IsRefresh}
 use Rattle.hn_rules.specs.Arrival.{IsTlvRule, IsTlvs, IsAnswering, IsArrival}
 use Rattle.hn_rules.proofs.Rans.{ran_plain, ran_both, ran_more, each_words, at_port_words}
 
-some_answer_words : (about : Subject) (item : Option PlainItem) (r : Running) → (with_some_answer about item r).done.words ≡ r.done.words
+pub some_answer_words : (about : Subject) (item : Option PlainItem) (r : Running) → (with_some_answer about item r).done.words ≡ r.done.words
 some_answer_words about None r = refl
 some_answer_words about (Some item) r = refl
 
@@ -52,7 +52,7 @@ one_of_four words false true c x y z w is_x is_y is_z is_w = is_y
 one_of_four words false false true x y z w is_x is_y is_z is_w = is_z
 one_of_four words false false false x y z w is_x is_y is_z is_w = is_w
 
-node_endpoint_words : (from : Origin) (node : NodeId) (endpoint : EpId) (port : Port) (r : Running) → (node_endpoint from node endpoint port r).done.words ≡ r.done.words
+pub node_endpoint_words : (from : Origin) (node : NodeId) (endpoint : EpId) (port : Port) (r : Running) → (node_endpoint from node endpoint port r).done.words ≡ r.done.words
 node_endpoint_words from node endpoint port r =
     let after = greeting_port from node endpoint r.state.moment port in
     one_of_four r.done.words (endpoint.0 == 0) (node.0 == r.state.id.0) (is_some r.sender)

@@ -1,5 +1,5 @@
 -- Each rule of a router has at most one result over one stream of words.
-use Rattle.std.proofs.Common.{◌≡◌, ◌∙◌, ◌<◌, ◌+◌, ◌%◌, ◌^◌, ℕ, Bool, true, false, List, [], ◌∷◌, ◌++◌, Option, Some, None, length, map, slice_index, if◌then◌else◌, ◌==◌, is_some, ap, refl, sym, subst, inl, inr, arith}
+use Rattle.std.proofs.Common.{◌≡◌, ◌∙◌, ◌<◌, ◌+◌, ◌%◌, ◌^◌, ℕ, Bool, true, false, List, [], ◌∷◌, ◌++◌, Some, None, length, map, slice_index, if◌then◌else◌, ap, refl, sym, subst, inl, inr, arith}
 use Rattle.std.specs.Prelude.{◌≢◌, ◌↔◌, Contains, IsTrue}
 use Rattle.std.specs.Str.{bytes_eq}
 use Rattle.std.specs.Ordering.{on}
@@ -29,10 +29,6 @@ use Rattle.hn_assign.specs.Subroutine.{IsSubroutine}
 use Rattle.hn_dncp.specs.declared.peers.Neighbour.{Neighbour}
 use Rattle.hn_dncp.specs.declared.port.Port.{Port}
 use Rattle.hn_dncp.specs.Port.{begun}
-use Rattle.hn_dncp.specs.declared.greet.Greet.{Greet}
-use Rattle.hn_dncp.specs.declared.greet.Greet.TheVariants as greet
-use Rattle.hn_dncp.specs.Greet.{greeting}
-use Rattle.hn_dncp.specs.Ask.{may_ask, asked}
 use Rattle.hn_dncp.specs.Hash.{asks_for_state}
 use Rattle.hn_dncp.specs.Packing.{IsPacking}
 use Rattle.hn_dncp.specs.Tick.{ticked, tick_sends}
@@ -46,7 +42,6 @@ use Rattle.hn_rules.specs.declared.state.State.{State}
 use Rattle.hn_rules.specs.declared.running.Running.{Running}
 use Rattle.hn_rules.specs.declared.running.Origin.{Origin}
 use Rattle.hn_rules.specs.declared.done.Note.TheVariants as note
-use Rattle.hn_rules.specs.declared.answers.Subject.{Subject}
 use Rattle.hn_rules.specs.declared.answers.Subject.TheVariants as subject
 use Rattle.hn_own.specs.Own.{PlainData, IsOwnData}
 use Rattle.hn_own.specs.Ports.{endpoints_of, attached}
@@ -56,10 +51,10 @@ use Rattle.hn_rules.specs.Refresh.{Publishes, IsPublished, next_number, IsPublis
 use Rattle.hn_rules.specs.Answers.{with_answer}
 use Rattle.hn_rules.specs.Assigning.{AreAsked, IsAssigned, IsAssigning}
 use Rattle.hn_rules.specs.Seen.{seen_by}
-use Rattle.hn_rules.specs.NodeEndpoint.{met, greeting_port, named, node_endpoint}
+use Rattle.hn_rules.specs.NodeEndpoint.{node_endpoint}
 use Rattle.hn_rules.specs.NetworkState.{network_state}
 use Rattle.hn_base.proofs.Decisions.{not_both}
-use Rattle.hn_rules.specs.Requests.{state_item, with_some_answer, is_reached, with_state, IsNetworkRequest, request_node}
+use Rattle.hn_rules.specs.Requests.{state_item, is_reached, with_state, IsNetworkRequest, request_node}
 use Rattle.hn_rules.specs.Claim.{IsFirstFree, IsFirstClaim, IsSecondClaim, IsClaim, is_taken}
 use Rattle.hn_rules.specs.NodeState.{took_noted, IsTaken, IsNodeState}
 use Rattle.hn_rules.specs.Arrival.{IsItemRule, IsTlvRule, IsTlvs, IsAnswering, IsArrival}
@@ -67,6 +62,7 @@ use Rattle.hn_rules.specs.Tick.{IsExpired, Without, IsPortExpiry, IsExpiry, IsSt
 use Rattle.hn_rules.specs.Events.{IsAttaching, IsPortRestart, emptied, IsRestarting}
 use Rattle.hn_assign.proofs.Orders.{pair_total}
 use Rattle.hn_base.proofs.FirstWords.{begins_front}
+use Rattle.hn_rules.proofs.Arriving.{some_answer_words, node_endpoint_words}
 use Rattle.hn_rules.proofs.Sole.{begins_back, begins_along, sole_drawn, sole_given, sole_plain, sole_both, sole_each, sole_word, sole_from, sole_start, sole_after, sole_at, sole_or, sole_where, sole_some}
 
 -- the laws of the crates below on which it rests
@@ -184,39 +180,17 @@ if_words : (b : Bool) (x y r : Running) → x.done.words ≡ r.done.words → y.
 if_words true x y r one other = one
 if_words false x y r one other = other
 
-some_words : (about : Subject) (said : Option PlainItem) (r : Running) → (with_some_answer about said r).done.words ≡ r.done.words
-some_words about None r = refl
-some_words about (Some said) r = refl
-
-met_words : (greet : Greet) (port : Port) (r : Running) → (met greet port r).done.words ≡ r.done.words
-met_words greet.Full port r = refl
-met_words greet.Unknown port r = if_words (may_ask r.state.moment port.asked) (with_answer subject.NetworkRequest (item.RequestNetwork []) (with_port (asked r.state.moment port) r)) r r refl refl
-met_words _ port r = refl
-
-named_words : (from : Origin) (node : NodeId) (endpoint : EpId) (port : Port) (r : Running) → (named from node endpoint port r).done.words ≡ r.done.words
-named_words from node endpoint port r =
-    let after = greeting_port from node endpoint r.state.moment port in
-    met_words (greeting node endpoint from.multicast port.peers) after (with_port after (record r { sender = Some (node, endpoint) }))
-
-node_endpoint_words : (from : Origin) (node : NodeId) (endpoint : EpId) (port : Port) (r : Running) → (node_endpoint from node endpoint port r).done.words ≡ r.done.words
-node_endpoint_words from node endpoint port r =
-    let fresh : Running = if is_some r.sender then noted (note.Ignored 3 5) r else named from node endpoint port r in
-    let other : Running = if node.0 == r.state.id.0 then noted (note.Ignored 3 6) r else fresh in
-    if_words (endpoint.0 == 0) (noted (note.Ignored 3 7) r) other r refl
-    (if_words (node.0 == r.state.id.0) (noted (note.Ignored 3 6) r) fresh r refl
-    (if_words (is_some r.sender) (noted (note.Ignored 3 5) r) (named from node endpoint port r) r refl (named_words from node endpoint port r)))
-
 network_state_words : (hash : List ℕ) (port : Port) (r : Running) → (network_state hash port r).done.words ≡ r.done.words
 network_state_words hash port r = if_words (asks_for_state (bytes_eq hash r.state.net) r.state.moment port) _ _ r refl refl
 
 request_node_words : (id : NodeId) (r : Running) → (request_node id r).done.words ≡ r.done.words
-request_node_words id r = if_words (is_reached id r.state.reach) _ _ r (some_words (subject.NodeData id) (state_item true r.state id) r) refl
+request_node_words id r = if_words (is_reached id r.state.reach) _ _ r (some_answer_words (subject.NodeData id) (state_item true r.state id) r) refl
 
 sole_network_request : IsSole IsNetworkRequest
 sole_network_request =
     sole_start (λ s r a. Each (λ id b c. c ≡ with_state id b) s.state.reach (with_answer subject.NetworkState (item.NetworkState s.state.net []) r) a)
     (λ s. sole_after (with_answer subject.NetworkState (item.NetworkState s.state.net [])) (Each (λ id b c. c ≡ with_state id b) s.state.reach) (λ r. refl)
-    (sole_each (λ id b c. c ≡ with_state id b) (λ id. sole_plain (with_state id) (λ r. some_words (subject.NodeState id) (state_item false r.state id) r)) s.state.reach))
+    (sole_each (λ id b c. c ≡ with_state id b) (λ id. sole_plain (with_state id) (λ r. some_answer_words (subject.NodeState id) (state_item false r.state id) r)) s.state.reach))
 
 sole_taken : HasLaws → (carried : PlainState) (how : Took) → IsSole (IsTaken carried how)
 sole_taken laws carried took.Own = sole_after (noted (note.Own carried.number)) (IsClaim carried.number) (λ r. refl) (sole_claim laws carried.number)

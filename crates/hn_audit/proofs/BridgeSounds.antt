@@ -1,5 +1,5 @@
 -- What is sound of the home of a settled and quiet set is sound of its routers.
-use Rattle.std.proofs.Common.{◌≡◌, ◌≢◌, ◌∙◌, ◌↔◌, ◌⊎◌, ℕ, List, Option, Some, None, IsSome, is_some, Contains, IsTrue, not, inl, inr, refl, sym, ap, subst, true, false}
+use Rattle.std.proofs.Common.{◌≡◌, ◌≢◌, ◌∙◌, ◌↔◌, ◌⊎◌, ℕ, List, Option, is_some, Contains, IsTrue, not, inl, inr, refl, sym, ap, subst, true, false}
 use Rattle.std.specs.List.{slice_get}
 use Rattle.std.proofs.lemmas.Bool.{cases_Bool, not_from_false}
 use Rattle.hn_base.specs.declared.ids.EpId.{EpId}
@@ -23,6 +23,7 @@ use Rattle.hn_audit.proofs.BridgeUsed.{is_unwanted, to_unwanted, place_of, deleg
 use Rattle.hn_audit.proofs.BridgeHomes.{home_of, IsEndOf, IsPlugged, to_end, of_end, to_has, of_has, port_is_numbered, on_link_is_attached}
 use Rattle.hn_audit.proofs.BridgePremises.{IsCase, uses_same, for_used, is_inside}
 use Rattle.hn_audit.proofs.BridgeSeen.{gathered_is_published}
+use Rattle.hn_audit.proofs.PairRests.{its_priority}
 use Rattle.hn_own.proofs.AttachedPorts.{attached_is_port}
 
 -- an endpoint of a router on a link
@@ -45,10 +46,6 @@ to_there w r known link s e reached on = record {
   on_link = on.1;
   of_set = record { router = s; reached = reached; endpoint = e; on_link = on.1 };
 }
-
-some_one : (o : Option ℕ) → IsSome o → (q : ℕ) × (o ≡ Some q)
-some_one None is = absurd cc
-some_one (Some q) is = (q, refl)
 
 module _ (w : Parts) (r : Member) (usable : List Delegated) (case : IsCase w r usable)
     (exact : (h : Home) (a : Advertised) → Contains (advertised h) a ↔ IsAdvertised h a)
@@ -89,7 +86,7 @@ module _ (w : Parts) (r : Member) (usable : List Delegated) (case : IsCase w r u
         published = ap (λ (o : Option ℕ). is_some o) is.published.published;
         no_other = λ s e c there has some.
             let has_too = to_has w r case.known usable s (end_on s e link) d c (an_end link s e there) has in
-            let priority = some_one c.published some in
+            let priority = its_priority c.published some in
             let same = is.no_other (end_on s e link) c priority.0 refl (record { has = has_too; published = priority.1 }) in
             let node : s.router.id ≡ by.0.router.id = ap (λ (x : Endpoint). x.node) same.0 ∙ by.1.of_node in
             (one_member w r case.known s by.0 (reached_there w r case.known link s e there) by.1.reached node, ap (λ (x : Endpoint). x.id) same.0, same.1);

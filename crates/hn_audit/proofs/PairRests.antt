@@ -20,7 +20,7 @@ not_idle at best is rest = rest.no_best best is.candidate
 
 -- ---- without a best prefix
 
-its_priority : (o : Option ℕ) → IsSome o → (priority : ℕ) × (o ≡ Some priority)
+pub its_priority : (o : Option ℕ) → IsSome o → (priority : ℕ) × (o ≡ Some priority)
 its_priority (Some p) some = (p, refl)
 its_priority None some = absurd (cc)
 

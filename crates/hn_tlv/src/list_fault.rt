@@ -5,7 +5,7 @@ use hn_base::NoMemory;
 use std::error::Error;
 use std::fmt;
 
-/// Why bytes were not read as a list of TLVs.
+/// Why bytes were not read as a list of TLVs, where the reading takes memory.
 #[derive(Clone, Copy, Debug, PartialEq, Eq)]
 pub enum ListFault {
     /// They are no list of TLVs (RFC 7787, section 7): the first fault.

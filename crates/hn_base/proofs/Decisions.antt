@@ -1,11 +1,18 @@
 -- Tests that decide whether values are the same, and what a test says of an option.
-use Rattle.std.proofs.Common.{◌≡◌, ◌≢◌, ◌⊎◌, ◌∙◌, ℕ, Bool, true, false, List, Option, Some, None, Decides, inl, inr, refl, sym, ap}
+use Rattle.std.proofs.Common.{◌≡◌, ◌≢◌, ◌⊎◌, ◌∙◌, ℕ, Bool, true, false, List, Option, Some, None, Ordering, Decides, inl, inr, refl, sym, ap}
+use Rattle.std.specs.Cmp.{IsTotalOrder}
 use Rattle.std.specs.Prelude.{◌==◌, ◌&&◌, is_none, nat_eq}
 use Rattle.std.specs.Option.{option_eq, option_or}
+use Rattle.std.specs.Ordering.{eq_by_cmp, is_eq}
 use Rattle.std.specs.Str.{bytes_eq}
+use Rattle.std.specs.declared.cmp.Ordering.TheVariants.{Equal}
 use Rattle.std.proofs.lemmas.Bool.{cases_Bool, false≢true}
 use Rattle.std.proofs.lemmas.Bool.Decides.{Decides-and, Decides-like, Decides-eqb, not_from_Decides}
+use Rattle.std.proofs.lemmas.Cmp.{tied_itself}
 use Rattle.std.proofs.lemmas.Slice.Eq.{bytes_eq-Decides}
+use Rattle.hn_base.specs.Ascending.{IsExact}
+use Rattle.hn_base.proofs.AscendingLists.{equal_from_is_eq}
+use Rattle.hn_base.specs.Codes.{unless_there}
 
 -- a value that two numbers tell is the same where they are
 pub numbers_decide : {A : Type 0} (f g : A → ℕ) → ((a b : A) → f a ≡ f b → g a ≡ g b → a ≡ b) → (a b : A) → Decides (f a == f b && g a == g b) (a ≡ b)
@@ -29,6 +36,23 @@ texts_cases xs ys =
       | inr other ↦ inr (not_from_Decides (bytes_eq xs ys) (bytes_eq-Decides xs ys) other)
     ]
 
+-- a total and exact order decides whether values are the same
+pub order_decides : {K : Type 0} (R : K → K → Ordering) → IsTotalOrder R → IsExact R → (a b : K) → Decides (eq_by_cmp R a b) (a ≡ b)
+order_decides {K} R total exact a b = (
+  λ is. exact a b (equal_from_is_eq (R a b) is),
+  λ e. let tied : R b b ≡ Equal = tied_itself total b in
+      let turned : R a b ≡ R b b = ap (λ (x : K). R x b) e in
+      ap is_eq (turned ∙ tied),
+)
+
+-- so by it two values are the same, or not
+pub cases_by : {K : Type 0} (R : K → K → Ordering) → IsTotalOrder R → IsExact R → (a b : K) → (a ≡ b) ⊎ (¬ (a ≡ b))
+cases_by R total exact a b =
+    elim (cases_Bool (eq_by_cmp R a b)) [
+      | inl same ↦ inl ((order_decides R total exact a b).0 same)
+      | inr other ↦ inr (not_from_Decides (eq_by_cmp R a b) (order_decides R total exact a b) other)
+    ]
+
 -- a test does not both hold and fail
 pub not_both : (b : Bool) → b ≡ true → b ≡ false → ⊥
 not_both b holds fails = false≢true (sym fails ∙ holds)
@@ -42,3 +66,8 @@ from_is_none (Some x) is = absurd cc
 pub neither_given : {A : Type 0} (a b : Option A) → option_or a b ≡ None → (a ≡ None) × (b ≡ None)
 neither_given None b none = (refl, none)
 neither_given (Some x) b none = absurd cc
+
+-- where no code comes, something is there, and none comes of what is asked of it
+pub some_there : {A : Type 0} (code : ℕ) (asked : A → Option ℕ) (o : Option A) → unless_there code asked o ≡ None → (x : A) × (o ≡ Some x) × (asked x ≡ None)
+some_there code asked None accepted = absurd cc
+some_there code asked (Some x) accepted = (x, refl, accepted)

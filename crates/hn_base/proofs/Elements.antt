@@ -158,3 +158,13 @@ pub all_given : {X Y : Type 0} (given : Y → Option X) (item : X → Y) → ((x
 all_given given item all [] = refl
 all_given {X} given item all (x ∷ xs) =
     ap (λ (o : Option X). cons_option o (filter_map given (map item xs))) (all x) ∙ ap (λ (rest : List X). x ∷ rest) (all_given given item all xs)
+
+-- what the parts of a list give
+pub given_by_parts : {A Y : Type 0} (given : Y → Option A) (xs ys zs : List Y) → filter_map given (xs ++ ys ++ zs) ≡ filter_map given xs ++ filter_map given ys ++ filter_map given zs
+given_by_parts given xs ys zs = filter_map-append given (xs ++ ys) zs ∙ rw (filter_map-append given xs ys) refl
+
+-- ---- a list has no elements or some
+
+pub none_or_some : {X : Type 0} (P : List X → Type 0) → P [] → ((x : X) (xs : List X) → P (x ∷ xs)) → (xs : List X) → P xs
+none_or_some P none some [] = none
+none_or_some P none some (x ∷ xs) = some x xs

@@ -1,6 +1,7 @@
+pub mod Around
 pub mod AscendingLists
 pub mod AscendingNumbers
-pub mod Around
+pub mod Ats
 pub mod BigEndian
 pub mod Causes
 pub mod Decisions
@@ -18,7 +19,11 @@ pub mod NumeralLemmas
 pub mod Parts
 pub mod Passing
 pub mod Pigeonhole
+pub mod Prefixes
+pub mod Rans
 pub mod Recursions
 pub mod Results
+pub mod Soles
 pub mod SplitLemmas
+pub mod WholeSources
 pub mod Zeros

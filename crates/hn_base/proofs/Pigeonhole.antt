@@ -1,29 +1,17 @@
 -- A list without repetition whose elements are all in another list is no longer than that.
-use Rattle.std.proofs.Common.{◌≡◌, ◌≤◌, Bool, List, length, Contains, Decides, Ordering, ◌∙◌, ap}
+use Rattle.std.proofs.Common.{◌≡◌, ◌≤◌, Bool, List, length, Contains, Decides, Ordering}
 use Rattle.std.specs.Cmp.{IsEquivalence, IsTotalOrder, eq_by_cmp_equiv}
 use Rattle.std.specs.List.{IsDistinct}
 use Rattle.std.proofs.lemmas.Map.Made.{length-le_from_is_member, is_member-Decides}
-use Rattle.std.specs.declared.cmp.Ordering.TheVariants.{Equal}
 use Rattle.std.specs.List.Sorted.{IsStrictlySortedBy}
-use Rattle.std.specs.Ordering.{eq_by_cmp, is_eq}
-use Rattle.std.proofs.lemmas.Cmp.{tied_itself}
 use Rattle.std.proofs.lemmas.Map.Keys.{IsDistinct-from_sorted}
 use Rattle.hn_base.specs.Ascending.{IsExact}
-use Rattle.hn_base.proofs.AscendingLists.{equal_from_is_eq}
+use Rattle.hn_base.proofs.Decisions.{order_decides}
 
 pub length-le_from_Contains : {K : Type 0} {eq : K → K → Bool} → IsEquivalence eq → ((a b : K) → Decides (eq a b) (a ≡ b)) → (xs ys : List K) → IsDistinct eq xs
     → ((x : K) → Contains xs x → Contains ys x) → length xs ≤ length ys
 length-le_from_Contains {K} {eq} laws same xs ys once each =
     length-le_from_is_member laws xs ys once (λ q is. (is_member-Decides same ys q).1 (each q ((is_member-Decides same xs q).0 is)))
-
--- an exact order decides whether elements are the same
-order_decides : {K : Type 0} (R : K → K → Ordering) → IsTotalOrder R → IsExact R → (a b : K) → Decides (eq_by_cmp R a b) (a ≡ b)
-order_decides {K} R total exact a b = (
-  λ is. exact a b (equal_from_is_eq (R a b) is),
-  λ e. let tied : R b b ≡ Equal = tied_itself total b in
-      let turned : R a b ≡ R b b = ap (λ (x : K). R x b) e in
-      ap is_eq (turned ∙ tied),
-)
 
 -- so it is with a list in ascending order
 pub no_longer : {K : Type 0} (R : K → K → Ordering) → IsTotalOrder R → IsExact R → (xs ys : List K) → IsStrictlySortedBy R xs → ((x : K) → Contains xs x → Contains ys x) → length xs ≤ length ys

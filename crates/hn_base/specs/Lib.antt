@@ -3,12 +3,17 @@ pub mod Ascending
 pub mod Byte
 pub mod Caps
 pub mod Causes
+pub mod Codes
 pub mod HexText
+pub mod Input
 pub mod Key
 pub mod Name
 pub mod NameText
 pub mod NodeIds
 pub mod Numeral
 pub mod Order
+pub mod Prefix
+pub mod Rules
 pub mod Shared
 pub mod Splits
+pub mod Words

@@ -1,0 +1,31 @@
+-- Rules, and how they compose. A rule relates what there is before something happens, and after it.
+use Rattle.std.specs.Prelude.{◌≡◌, ℕ, List, [], ◌∷◌, Option, Some, None}
+use Rattle.hn_base.specs.Words.{Drew, Begins}
+
+abbrev pub RuleOf : Type 0 → Type 1
+RuleOf S = S → S → Type 0
+
+-- one rule after another
+abbrev pub Then : {S : Type 0} → RuleOf S → RuleOf S → RuleOf S
+Then {S} first second before after = (between : S) × first before between × second between after
+
+-- a rule for each element, in order
+abbrev pub Each : {S A : Type 0} → (A → RuleOf S) → List A → RuleOf S
+Each rule [] before after = after ≡ before
+Each rule (x ∷ xs) before after = Then (rule x) (Each rule xs) before after
+
+-- the rule of an element, if there is one; if there is none, nothing happens
+abbrev pub OnSome : {S A : Type 0} → (A → RuleOf S) → Option A → RuleOf S
+OnSome rule None before after = after ≡ before
+OnSome rule (Some x) before after = rule x before after
+
+-- Where the words that were taken so far are known, a rule ran, and a draw that told these words before and after moved
+-- by exactly the words that the rule took.
+pub record RanBy {S : Type 0} (words : S → List ℕ) (rule : RuleOf S) (told told_after : Option (ℕ → ℕ)) (before after : S) : Type 0 where
+  pub holds : rule before after
+  pub drew : Drew told (words before) told_after (words after)
+
+-- Such a rule gives no word back, and over one stream of words it has at most one result.
+pub record IsSoleBy {S : Type 0} (words : S → List ℕ) (rule : RuleOf S) : Type 0 where
+  pub grows : (stream : ℕ → ℕ) (r a : S) → rule r a → Begins (words a) stream → Begins (words r) stream
+  pub one : (stream : ℕ → ℕ) (r a b : S) → rule r a → rule r b → Begins (words a) stream → Begins (words b) stream → a ≡ b

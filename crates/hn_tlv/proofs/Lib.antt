@@ -4,5 +4,4 @@ pub mod Places
 pub mod PadBytes
 pub mod Split
 pub mod Covered
-pub mod Told
-pub mod SpelledBytes
+mod SpelledBytes

@@ -3,6 +3,7 @@
 //! Each is the contract of a function that does nothing: call it to know its law.
 
 ghost use Rattle.std.specs.Prelude.{◌≡◌, ◌⊎◌, ℕ, ◌+◌, ◌-◌, ◌^◌, ◌<◌, ◌≤◌, All, List, [], ◌∷◌, ◌++◌, length, take, drop};
+ghost use Rattle.hn_base.specs.Byte.{IsByte};
 ghost use Rattle.hn_tlv.specs.Grammar.{PlainTlv, IsTlv, tlv_size, spelling, IsTlvList, HasTlvs, IsTlvAt, IsFault, FirstFault};
 
 /// No spelling of a TLV is a proper prefix of another's.
@@ -15,6 +16,11 @@ pub fn spelling_is_prefix_free()
 pub fn list_is_unique()
     ensures { (a b : List PlainTlv) (bytes : List ℕ) → IsTlvList a bytes → IsTlvList b bytes
         → a ≡ b }
+{}
+
+/// A text that decodes to a list of TLVs consists of bytes.
+pub fn list_is_of_bytes()
+    ensures { (tlvs : List PlainTlv) (bytes : List ℕ) → IsTlvList tlvs bytes → All IsByte bytes }
 {}
 
 /// The bytes of two lists, one after the other, are those of the two lists joined.

@@ -15,8 +15,8 @@ mod writing;
 pub use fault::{HEADER_CUT, PADDING_CUT, PADDING_NOT_ZERO, TlvFault, VALUE_CUT};
 pub use laws::{
     fault_after_list, fault_is_unique, first_fault_is_unique, list_continues, list_grows,
-    list_is_unique, list_or_first_fault, lists_join, spelling_is_prefix_free, spelling_is_read,
-    tlv_is_unique,
+    list_is_of_bytes, list_is_unique, list_or_first_fault, lists_join, spelling_is_prefix_free,
+    spelling_is_read, tlv_is_unique,
 };
 pub use list_fault::ListFault;
 pub use reading::{Tlv, check, next};

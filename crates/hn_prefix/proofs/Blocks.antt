@@ -3,7 +3,7 @@ use Rattle.std.proofs.Math.Nat.{le_refl, div-add-mod, div-eq_of_lt-le}
 use Rattle.std.proofs.lemmas.Nat.{pow_below, pow_pos, pow-add, mul-le, shr_below}
 use Rattle.std.proofs.lemmas.Bool.{cases_lt}
 use Rattle.hn_base.proofs.LeadingBits.{alike_in_shorter}
-use Rattle.hn_prefix.specs.Prefix.{PlainPrefix, IsPrefix, IsInside, IsWithin, Overlaps, last_address}
+use Rattle.hn_base.specs.Prefix.{PlainPrefix, IsPrefix, IsInside, IsWithin, Overlaps, last_address}
 
 -- a number in one block with a multiple of the blocks' size is not below the multiple, nor a size above it
 from_same_block : (a b size : ℕ) → b % size ≡ 0 → a / size ≡ b / size → 0 < size → (b ≤ a) × (a < b + size)

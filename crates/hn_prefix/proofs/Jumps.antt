@@ -4,7 +4,7 @@ use Rattle.std.proofs.Math.Nat.{mod-eq_of_lt, add-mod_left}
 use Rattle.std.proofs.lemmas.Bool.{cases_lt}
 use Rattle.std.proofs.lemmas.Bool.Decides.{nat_tests}
 use Rattle.std.proofs.lemmas.List.Sums.{sum_by-le-sum_by, sum_by-remove, count_by-le-length}
-use Rattle.hn_prefix.specs.Prefix.{PlainPrefix, last_address}
+use Rattle.hn_base.specs.Prefix.{PlainPrefix, last_address}
 use Rattle.hn_prefix.specs.Free.{sub_prefix_count, next_place}
 
 -- how many taken prefixes reach beyond a place

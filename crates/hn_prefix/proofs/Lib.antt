@@ -4,7 +4,6 @@ mod Jumps
 mod Masks
 mod OneRead
 mod Places
-pub mod Prefixes
 mod ReadLemmas
 mod Rounds
 mod WriteLemmas

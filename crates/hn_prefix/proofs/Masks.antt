@@ -1,7 +1,7 @@
 use Rattle.std.proofs.Common.{◌≡◌, ℕ, ◌+◌, ◌-◌, ◌*◌, ◌/◌, ◌^◌, ◌%◌, ◌<◌, ◌≤◌, bit_and, arith, ap, ◌∙◌}
 use Rattle.std.proofs.lemmas.Nat.{and_mask}
 use Rattle.std.proofs.Math.Nat.{mul-mod_left, mod-add-div'}
-use Rattle.hn_prefix.specs.Prefix.{IsPrefix, prefix_containing}
+use Rattle.hn_base.specs.Prefix.{IsPrefix, prefix_containing}
 
 -- a mask of k ones keeps what is left by a division by 2 ^ k
 pub and_host_mask : (bits mask k : ℕ) → mask + 1 ≡ 2 ^ k → bit_and bits mask ≡ bits % 2 ^ k

@@ -4,7 +4,7 @@ use Rattle.hn_base.specs.Splits.{SplitsAt}
 use Rattle.hn_base.proofs.NumeralLemmas.{same_number}
 use Rattle.hn_base.proofs.SplitLemmas.{same_split, no_split}
 use Rattle.hn_prefix.specs.AddressText.{IsGroups, IsGroupsText, IsAddressText, address_of}
-use Rattle.hn_prefix.specs.Prefix.{PlainPrefix}
+use Rattle.hn_base.specs.Prefix.{PlainPrefix}
 use Rattle.hn_prefix.specs.PrefixText.{IsPrefixText}
 use Rattle.hn_prefix.proofs.ReadLemmas.{HasNoGap-front, Lacks-group, empty_groups, groups_no_gap, elided, without_gap, with_gap, prefix_parts, address_lacks_slash, plain_prefix}
 

@@ -1,7 +1,7 @@
 use Rattle.std.proofs.Common.{◌≡◌, ℕ, ◌+◌, ◌-◌, ◌*◌, ◌/◌, ◌%◌, ◌^◌, ◌<◌, ◌≤◌, ◌↔◌, refl, arith, ap, ◌∙◌, sym, subst}
 use Rattle.std.proofs.Math.Nat.{le_refl, div-add-mod, div-mul-le_self, add-mul-mod_self_right}
 use Rattle.std.proofs.lemmas.Nat.{pow_pos, pow-add, mul-le, mod-pow-add, le-div, shl-shr}
-use Rattle.hn_prefix.specs.Prefix.{PlainPrefix, IsPrefix, IsWithin, Overlaps, last_address}
+use Rattle.hn_base.specs.Prefix.{PlainPrefix, IsPrefix, IsWithin, Overlaps, last_address}
 use Rattle.hn_prefix.specs.Free.{sub_prefix, sub_prefix_count, next_place, IsSubPrefix, IsPrefixInside}
 use Rattle.hn_prefix.proofs.Blocks.{block_fits, within_range, overlap_range}
 

@@ -8,7 +8,7 @@ use Rattle.hn_base.proofs.NumeralLemmas.{Lacks-digits, same_number}
 use Rattle.hn_base.proofs.SplitLemmas.{Lacks-append, same_split, no_split}
 use Rattle.hn_prefix.specs.Gap.{HasNoGap, SplitsAtGap}
 use Rattle.hn_prefix.specs.AddressText.{IsGroupText, IsGroups, IsGroupsText, IsAddressText}
-use Rattle.hn_prefix.specs.Prefix.{PlainPrefix}
+use Rattle.hn_base.specs.Prefix.{PlainPrefix}
 use Rattle.hn_prefix.specs.PrefixText.{IsPrefixText}
 
 -- ---- the cut at the first `::`

@@ -3,7 +3,7 @@ use Rattle.std.proofs.Math.Nat.{div-add-mod, mod-add-mod, add-mod-mod}
 use Rattle.std.proofs.lemmas.Nat.{mod-mul-add, mod_below}
 use Rattle.std.proofs.lemmas.Bool.{cases_lt}
 use Rattle.std.specs.Prelude.{Contains}
-use Rattle.hn_prefix.specs.Prefix.{PlainPrefix, IsPrefix, Overlaps, last_address}
+use Rattle.hn_base.specs.Prefix.{PlainPrefix, IsPrefix, Overlaps, last_address}
 use Rattle.hn_prefix.specs.Free.{sub_prefix, sub_prefix_count, sub_prefix_after, next_place, IsFree, IsTaken, IsFull}
 use Rattle.hn_prefix.proofs.Places.{IsPlace, Blocks, overlaps_between}
 

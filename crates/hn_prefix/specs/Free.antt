@@ -1,5 +1,5 @@
 use Rattle.std.specs.Prelude.{◌≡◌, ℕ, ◌+◌, ◌-◌, ◌*◌, ◌/◌, ◌%◌, ◌^◌, ◌<◌, min, List, All, Any}
-use Rattle.hn_prefix.specs.Prefix.{PlainPrefix, IsPrefix, IsWithin, Overlaps}
+use Rattle.hn_base.specs.Prefix.{PlainPrefix, IsPrefix, IsWithin, Overlaps}
 
 -- the prefixes of one length inside a prefix are numbered from 0, in ascending order
 abbrev pub sub_prefix : PlainPrefix → ℕ → ℕ → PlainPrefix

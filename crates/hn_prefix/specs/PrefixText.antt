@@ -1,6 +1,6 @@
 -- The texts of IPv6 prefixes: an address, `/` and a length (RFC 4291, section 2.3).
 use Rattle.std.specs.Prelude.{◌≡◌, ℕ, List, ◌∷◌, ◌++◌, Option, None, Some}
-use Rattle.hn_prefix.specs.Prefix.{PlainPrefix, IsPrefix}
+use Rattle.hn_base.specs.Prefix.{PlainPrefix, IsPrefix}
 use Rattle.std.specs.Fmt.{decimal}
 use Rattle.hn_base.specs.Numeral.{IsShortNumeral}
 use Rattle.hn_prefix.specs.AddressText.{address_text_of, IsAddressText}

@@ -1,5 +1,5 @@
 ghost use Rattle.std.specs.Prelude.{◌≡◌, ◌↔◌, ℕ, ◌+◌, ◌-◌, ◌^◌, ◌<◌, ◌≤◌, Contains, IfSome, IfNone, IsNone};
-ghost use Rattle.hn_prefix.specs.Prefix.{Overlaps, IsWithin};
+ghost use Rattle.hn_base.specs.Prefix.{Overlaps, IsWithin};
 ghost use Rattle.hn_prefix.specs.Free.{sub_prefix, sub_prefix_count, next_place, IsFree, IsFull, IsFirstFree};
 
 use crate::prefix::Prefix;

@@ -3,7 +3,7 @@
 
 ghost use Rattle.std.specs.Prelude.{◌≡◌, ℕ, ◌^◌, ◌<◌, List, length};
 ghost use Rattle.std.specs.List.{AllByRecursion};
-ghost use Rattle.hn_prefix.specs.Prefix.{PlainPrefix, IsPrefix};
+ghost use Rattle.hn_base.specs.Prefix.{PlainPrefix, IsPrefix};
 ghost use Rattle.hn_prefix.specs.AddressText.{groups, address_of, address_text_of, IsAddressText, IsWrittenForm};
 ghost use Rattle.hn_prefix.specs.PrefixText.{prefix_text_of, IsPrefixText};
 

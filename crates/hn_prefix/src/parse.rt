@@ -41,7 +41,7 @@ pub fn parse_address(text: &[u8]) -> Result<u128, BadText>
 }
 
 impl Prefix {
-    ghost use Rattle.hn_prefix.specs.Prefix.{PlainPrefix, IsPrefix};
+    ghost use Rattle.hn_base.specs.Prefix.{PlainPrefix, IsPrefix};
     ghost use Rattle.hn_prefix.specs.PrefixText.{prefix_text_of, IsPrefixText};
 
     /// The prefix that a text decodes to: an address as `parse_address` reads it, `/`, and the length in one to three

@@ -1,7 +1,7 @@
 ghost use Rattle.std.specs.Prelude.{◌≡◌, ◌↔◌, ◌⊎◌, ℕ, ◌+◌, ◌-◌, ◌*◌, ◌/◌, ◌%◌, ◌^◌, ◌<◌, ◌≤◌, Some, codes, IsTrue, IsOk, IfOk};
 ghost use Rattle.std.specs.Cmp.{IsTotalOrder};
 ghost use Rattle.hn_prefix.specs.Free.{sub_prefix, sub_prefix_count, IsPrefixInside, IsSubPrefix};
-ghost use Rattle.hn_prefix.specs.Prefix.{PlainPrefix, IsPrefix, IsInside, IsWithin, Overlaps, prefix_containing, last_address, prefix_cmp};
+ghost use Rattle.hn_base.specs.Prefix.{PlainPrefix, IsPrefix, IsInside, IsWithin, Overlaps, prefix_containing, last_address, prefix_cmp};
 
 use std::cmp::Ordering;
 use std::error::Error;
@@ -35,7 +35,7 @@ impl Model for Prefix {
 impl Ord for Prefix {
     ghost use Rattle.std.proofs.Common.{rules};
     ghost use Rattle.std.specs.Cmp.Rules.{comparing};
-    ghost use Rattle.hn_prefix.specs.Prefix.{prefix_cmp};
+    ghost use Rattle.hn_base.specs.Prefix.{prefix_cmp};
 
     ghost cmp = { prefix_cmp };
 
@@ -55,7 +55,7 @@ impl PartialOrd for Prefix {
     ghost use Rattle.std.specs.Cmp.{partial_order_from_own_ties};
     ghost use Rattle.std.specs.Cmp.Rules.{comparing};
     ghost use Rattle.std.specs.Ordering.{as_partial_cmp};
-    ghost use Rattle.hn_prefix.specs.Prefix.{prefix_cmp};
+    ghost use Rattle.hn_base.specs.Prefix.{prefix_cmp};
 
     ghost partial_cmp = { as_partial_cmp prefix_cmp };
 

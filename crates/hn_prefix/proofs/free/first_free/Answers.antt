@@ -1,6 +1,6 @@
 use Rattle.std.proofs.Common.{◌≡◌, ℕ, ◌+◌, ◌%◌, ◌<◌, ap, subst, sym, ◌∙◌, arith}
 use Rattle.std.proofs.lemmas.Nat.{mod_below}
-use Rattle.hn_prefix.specs.Prefix.{PlainPrefix, IsWithin, last_address}
+use Rattle.hn_base.specs.Prefix.{PlainPrefix, IsWithin, last_address}
 use Rattle.hn_prefix.specs.Free.{sub_prefix, sub_prefix_count, next_place, IsTaken}
 use Rattle.hn_prefix.proofs.Jumps.{few_jumps, jump_counts}
 use Rattle.hn_prefix.proofs.Places.{blocked, sub_prefix_is_within, reaches, later_place}

@@ -3,7 +3,7 @@ use Rattle.hn_base.proofs.NumeralLemmas.{same_number}
 use Rattle.hn_base.proofs.Results.{not_ok, same_ok, ok_with}
 use Rattle.hn_prefix.proofs.ReadLemmas.{prefix_parts, no_slash, plain_prefix}
 use Rattle.hn_prefix.proofs.WriteLemmas.{prefix_text_is_read}
-use Rattle.hn_prefix.specs.Prefix.{PlainPrefix, IsPrefix}
+use Rattle.hn_base.specs.Prefix.{PlainPrefix, IsPrefix}
 use Rattle.hn_prefix.specs.PrefixText.{prefix_text_of, IsPrefixText}
 use Rattle.hn_prefix.proofs.prefix.Prefix.parse.Goals as goal
 

@@ -1,5 +1,5 @@
 ghost use Rattle.std.specs.Prelude.{ℕ, List, ◌++◌, Option};
-ghost use Rattle.hn_io.specs.Words.{Took};
+ghost use Rattle.hn_base.specs.Words.{Took};
 
 /// Two calls, one after the other, take the words of the first and then those of the second. The function does nothing:
 /// call it to know its law.

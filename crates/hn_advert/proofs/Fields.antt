@@ -5,7 +5,7 @@ use Rattle.std.proofs.lemmas.List.{take-append-drop, get_or-take, length-take-le
 use Rattle.std.proofs.lemmas.Nat.{be_bytes_4}
 use Rattle.std.proofs.lemmas.Nat.Bits.{and_pow}
 use Rattle.std.proofs.lemmas.Bool.{eq-eqb, ne_eqb}
-use Rattle.hn_prefix.specs.Prefix.{prefix_containing}
+use Rattle.hn_base.specs.Prefix.{prefix_containing}
 use Rattle.hn_base.proofs.BigEndian.{Bytes-from_reads, Bytes-take, Bytes-drop, whole_is, front_small, AreOctets, octets, two_bytes, two_small}
 use Rattle.hn_advert.specs.declared.advert.Info.{Info}
 use Rattle.hn_advert.specs.declared.header.Fixed.{Fixed}

@@ -1,7 +1,7 @@
 -- Which bytes are which Router Advertisement (RFC 4861, sections 4.2 and 4.6.2).
 use Rattle.std.specs.Prelude.{◌≡◌, ℕ, ◌^◌, ◌<◌, List, ◌++◌, map, Option, Some, None}
 use Rattle.std.specs.List.{AllByRecursion, filter_map, flat_map}
-use Rattle.hn_prefix.specs.Prefix.{IsPrefix, prefix_containing}
+use Rattle.hn_base.specs.Prefix.{IsPrefix, prefix_containing}
 use Rattle.hn_advert.specs.declared.advert.Info.{Info}
 use Rattle.hn_advert.specs.declared.advert.Advert.{Advert}
 use Rattle.hn_advert.specs.Layout.{Header, IsHeader, header_bytes, NdOption, PrefixOption, OtherOption, IsNdOption, option_bytes}

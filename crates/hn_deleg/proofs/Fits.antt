@@ -5,7 +5,7 @@ use Rattle.std.proofs.lemmas.Bool.{cases_lt}
 use Rattle.std.proofs.lemmas.Bool.Decides.{nat_tests}
 use Rattle.hn_base.proofs.AscendingLists.{Contains-cases, nothing_in}
 use Rattle.hn_base.proofs.Elements.{from_filter_map}
-use Rattle.hn_prefix.specs.Prefix.{PlainPrefix, IsPrefix}
+use Rattle.hn_base.specs.Prefix.{PlainPrefix, IsPrefix}
 use Rattle.hn_tlv.specs.Grammar.{PlainTlv}
 use Rattle.hn_typed.specs.Item.{PlainItem, RequestNetwork, RequestNode, NodeEndpoint, NetworkState, NodeState, Peer, KeepAlive, Version, External, Delegated as DelegatedItem, Assigned, Address, Other}
 use Rattle.hn_typed.specs.Table.{InRange, IsItem}

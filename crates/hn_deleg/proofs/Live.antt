@@ -5,7 +5,7 @@ use Rattle.std.specs.List.{filter_map, cons_option}
 use Rattle.std.proofs.lemmas.Option.{same_Some, none-some}
 use Rattle.std.proofs.lemmas.Bool.Decides.{nat_tests}
 use Rattle.std.proofs.lemmas.List.Elements.{All-push, filter_map-append, Contains-push, Contains-push_cases, Contains-append_left, Contains-append_right, Contains-append_cases}
-use Rattle.hn_prefix.specs.Prefix.{IsPrefix}
+use Rattle.hn_base.specs.Prefix.{IsPrefix}
 use Rattle.std.proofs.lemmas.List.{append-nil}
 use Rattle.hn_base.proofs.AscendingLists.{nothing_in}
 use Rattle.hn_base.proofs.Elements.{in_filter_map, from_filter_map}

@@ -7,9 +7,9 @@ use Rattle.std.specs.Ordering.{nat_cmp, ordering_then}
 use Rattle.std.proofs.lemmas.Bool.Decides.{not_from_Decides}
 use Rattle.std.proofs.lemmas.Nat.{pow_pos, pow_below}
 use Rattle.hn_base.proofs.AscendingLists.{exact_nat}
-use Rattle.hn_prefix.specs.Prefix.{PlainPrefix, IsPrefix, IsWithin, Overlaps, last_address, prefix_cmp}
+use Rattle.hn_base.specs.Prefix.{PlainPrefix, IsPrefix, IsWithin, Overlaps, last_address, prefix_cmp}
 use Rattle.hn_base.proofs.AscendingNumbers.{lt_from_less}
-use Rattle.hn_prefix.proofs.Prefixes.{is_one_prefix, prefix_decided}
+use Rattle.hn_base.proofs.Prefixes.{is_one_prefix, prefix_decided}
 
 -- the laws of hn_prefix: a prefix is within another where its range of addresses is
 abbrev pub WithinIsRange : Type 0

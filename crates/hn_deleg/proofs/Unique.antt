@@ -5,7 +5,7 @@ use Rattle.std.specs.declared.cmp.Ordering.TheVariants.{Less}
 use Rattle.std.proofs.lemmas.List.{length-append, length-map}
 use Rattle.std.proofs.lemmas.List.Elements.{All-contains, Contains-push_cases}
 use Rattle.hn_base.proofs.AscendingLists.{ascending_unique, Contains-head, Contains-tail, Contains-from_map, sorted_push, not_both}
-use Rattle.hn_prefix.specs.Prefix.{PlainPrefix, IsWithin, Overlaps, prefix_cmp}
+use Rattle.hn_base.specs.Prefix.{PlainPrefix, IsWithin, Overlaps, prefix_cmp}
 use Rattle.hn_data.specs.View.{PlainView}
 use Rattle.hn_data.specs.declared.said.Delegation.{Delegation}
 use Rattle.hn_deleg.specs.declared.delegated.Delegated.{Delegated}
@@ -13,7 +13,7 @@ use Rattle.hn_deleg.specs.Live.{IsGreatest}
 use Rattle.hn_deleg.specs.Used.{prefixes_of, IsOutermost, HasLifetimes, AreUsable}
 use Rattle.hn_base.proofs.Pigeonhole.{no_longer}
 use Rattle.hn_deleg.proofs.Prefixes.{OverlapIsNesting}
-use Rattle.hn_prefix.proofs.Prefixes.{prefix_total, exact_prefix}
+use Rattle.hn_base.proofs.Prefixes.{prefix_total, exact_prefix}
 
 pub outermost_of : (view : PlainView) (list : List Delegated) (p : PlainPrefix) → AreUsable view list → Contains (prefixes_of list) p → IsOutermost view p
 outermost_of view list p are h =

@@ -1,6 +1,6 @@
 -- Delegated prefixes that are announced and live (RFC 7788, sections 6.2 and 10.2.1).
 use Rattle.std.specs.Prelude.{◌≡◌, ℕ, ◌*◌, ◌-◌, ◌^◌, ◌<◌, ◌≤◌, ◌==◌, if◌then◌else◌, Contains}
-use Rattle.hn_prefix.specs.Prefix.{PlainPrefix}
+use Rattle.hn_base.specs.Prefix.{PlainPrefix}
 use Rattle.hn_data.specs.Delegations.{HasDelegation}
 use Rattle.hn_data.specs.Said.{HasVersion}
 use Rattle.hn_data.specs.declared.said.Delegation.{Delegation}

@@ -2,7 +2,7 @@
 use Rattle.std.specs.Prelude.{◌≡◌, ℕ, ◌<◌, ◌≤◌, ◌↔◌, ◌&&◌, if◌then◌else◌, nat_le, nat_lt, List, All, Contains, min, Option, Some, None}
 use Rattle.std.specs.declared.cmp.Ordering.TheVariants.{Less}
 use Rattle.std.specs.List.Sorted.{IsStrictlySortedBy}
-use Rattle.hn_prefix.specs.Prefix.{PlainPrefix, IsPrefix, IsWithin, prefix_cmp}
+use Rattle.hn_base.specs.Prefix.{PlainPrefix, IsPrefix, IsWithin, prefix_cmp}
 use Rattle.hn_data.specs.Said.{HasVersion}
 use Rattle.hn_data.specs.Delegations.{HasDelegation, HasExternal}
 use Rattle.hn_data.specs.declared.said.Delegation.{Delegation}

@@ -2,7 +2,7 @@
 use Rattle.std.specs.Prelude.{◌≡◌, ℕ, ◌-◌, ◌/◌, ◌^◌, ◌==◌, if◌then◌else◌, ◌<◌, ◌≤◌, ◌⊎◌, List, length, map, min, All, Contains, slice_get, Some}
 use Rattle.std.specs.declared.cmp.Ordering.TheVariants.{Less}
 use Rattle.std.specs.List.Sorted.{IsStrictlySortedBy}
-use Rattle.hn_prefix.specs.Prefix.{PlainPrefix, IsWithin, prefix_cmp}
+use Rattle.hn_base.specs.Prefix.{PlainPrefix, IsWithin, prefix_cmp}
 use Rattle.hn_data.specs.Said.{HasVersion}
 use Rattle.hn_data.specs.Delegations.{HasExternal}
 use Rattle.hn_data.specs.declared.view.Entry.{Entry}

@@ -2,7 +2,7 @@
 
 ghost use Rattle.std.specs.Prelude.{◌≡◌, ◌↔◌, ◌⊎◌, ◌++◌, Contains, OnOk, IfOk, IfSome};
 ghost use Rattle.std.specs.List.{filter_map};
-ghost use Rattle.hn_prefix.specs.Prefix.{IsPrefix};
+ghost use Rattle.hn_base.specs.Prefix.{IsPrefix};
 ghost use Rattle.hn_deleg.specs.Live.{remaining};
 ghost use Rattle.hn_deleg.specs.Steps.{live_of, HasPrefixes, IsLiveAt, IsLiveIn};
 ghost use Rattle.hn_deleg.specs.declared.delegated.Delegated.{Delegated};

@@ -2,7 +2,7 @@
 
 ghost use Rattle.std.specs.Prelude.{◌≡◌, ◌<◌, ◌^◌, List, Contains};
 ghost use Rattle.std.specs.declared.cmp.Ordering.TheVariants.{Less};
-ghost use Rattle.hn_prefix.specs.Prefix.{PlainPrefix, IsPrefix, IsWithin, Overlaps, prefix_cmp};
+ghost use Rattle.hn_base.specs.Prefix.{PlainPrefix, IsPrefix, IsWithin, Overlaps, prefix_cmp};
 ghost use Rattle.hn_data.specs.View.{PlainView};
 ghost use Rattle.hn_deleg.specs.Used.{AreUsable, HasLifetimes, prefixes_of, whole_seconds};
 ghost use Rattle.hn_deleg.specs.declared.delegated.Delegated.{Delegated};

@@ -2,7 +2,7 @@
 
 ghost use Rattle.std.specs.Prelude.{◌≡◌, ◌↔◌, All, IfOk, IsTrue};
 ghost use Rattle.std.specs.List.Sorted.{IsStrictlySortedBy};
-ghost use Rattle.hn_prefix.specs.Prefix.{IsPrefix, prefix_cmp};
+ghost use Rattle.hn_base.specs.Prefix.{IsPrefix, prefix_cmp};
 ghost use Rattle.hn_deleg.specs.Steps.{AreOutermost, IsCovered, IsReadyFor};
 ghost use Rattle.hn_deleg.specs.Used.{prefixes_of};
 

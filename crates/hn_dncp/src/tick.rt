@@ -1,6 +1,6 @@
 ghost use Rattle.std.specs.Prelude.{◌≡◌, ◌++◌, ◌-◌, ◌^◌, ◌≤◌, is_some, unwrap_or, length, replicate};
 ghost use Rattle.std.specs.Option.{option_to_list};
-ghost use Rattle.hn_io.specs.Words.{Took};
+ghost use Rattle.hn_base.specs.Words.{Took};
 ghost use Rattle.hn_timers.specs.Interval.{has_to_send, has_ended};
 ghost use Rattle.hn_timers.specs.KeepAlive.{is_silent};
 ghost use Rattle.hn_dncp.specs.Tick.{after_firing, after_interval, after_keep_alive, tick_words, ticked, tick_sends, words_of};

@@ -7,7 +7,7 @@ use Rattle.hn_base.specs.declared.ids.NodeId.{NodeId}
 use Rattle.hn_base.specs.declared.letter.Letter.{Letter}
 use Rattle.hn_base.specs.declared.letter.Letter.TheVariants.{M}
 use Rattle.hn_base.specs.declared.name.Name.{Name}
-use Rattle.hn_prefix.specs.Prefix.{PlainPrefix}
+use Rattle.hn_base.specs.Prefix.{PlainPrefix}
 use Rattle.hn_script.specs.Fault.{IsUnknown}
 use Rattle.hn_script.specs.Line.{spelling}
 use Rattle.hn_script.specs.declared.line.How.{How}

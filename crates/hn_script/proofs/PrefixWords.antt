@@ -3,7 +3,7 @@ use Rattle.std.proofs.Common.{◌≡◌, ℕ, ◌<◌, ◌≤◌, List, [], ◌�
 use Rattle.hn_base.specs.Numeral.{IsShortNumeral}
 use Rattle.hn_base.proofs.Recursions.{AllByRecursion-append}
 use Rattle.hn_prefix.specs.AddressText.{IsGroups, IsGroupsText}
-use Rattle.hn_prefix.specs.Prefix.{PlainPrefix, IsPrefix}
+use Rattle.hn_base.specs.Prefix.{PlainPrefix, IsPrefix}
 use Rattle.hn_prefix.specs.PrefixText.{IsPrefixText, prefix_text_of}
 use Rattle.hn_script.proofs.HexTexts.{IsWord-digits}
 use Rattle.hn_script.proofs.WordBytes.{IsWordByte, IsWord}

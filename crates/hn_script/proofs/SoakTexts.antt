@@ -15,7 +15,7 @@ use Rattle.hn_base.specs.NameText.{IsNameText, is_name_byte}
 use Rattle.hn_base.specs.declared.name.Name.{Name}
 use Rattle.hn_base.proofs.NumeralLemmas.{decimal_is_short}
 use Rattle.hn_prefix.specs.AddressText.{groups, address_text_of}
-use Rattle.hn_prefix.specs.Prefix.{PlainPrefix, IsPrefix}
+use Rattle.hn_base.specs.Prefix.{PlainPrefix, IsPrefix}
 use Rattle.hn_prefix.specs.PrefixText.{prefix_text_of}
 use Rattle.hn_script.specs.Field.{Field, Named, Node, Endpoint, Number, Prefixed, IsInRange, IsNameWord, field_text}
 use Rattle.hn_script.specs.Line.{spelling, line_text}

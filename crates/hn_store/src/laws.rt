@@ -4,7 +4,7 @@
 
 ghost use Rattle.hn_store.specs.Laws.{PutChangesOneNode, AcceptanceIsUnique, OthersStay, OwnStays, HeldIsOfAnEntry, NoNodesAreTable, AcceptanceKeepsTable, MarksKeepTable, ForgettingKeepsTable};
 
-use hn_tlv::{first_fault_is_unique, list_or_first_fault};
+use hn_tlv::{first_fault_is_unique, list_is_of_bytes, list_or_first_fault};
 
 /// To put an entry changes what is held of its node, and of no other.
 pub fn put_changes_one_node()
@@ -35,6 +35,7 @@ pub fn own_stays()
 pub fn acceptance_keeps_table()
     ensures { AcceptanceKeepsTable }
 {
+    list_is_of_bytes();
     list_or_first_fault();
     first_fault_is_unique();
 }

@@ -2,7 +2,7 @@
 use Rattle.std.proofs.Common.{◌≡◌, ℕ, ◌+◌, ◌-◌, ◌%◌, ◌^◌, ◌<◌, ◌≤◌, List, ◌++◌, length, take, drop, refl, sym, ap, subst, ◌∙◌, append_assoc, arith, inl, inr}
 use Rattle.std.specs.Int.{w128, to_be_bytes, from_be_bytes}
 use Rattle.std.proofs.lemmas.List.{length-append, length-take-le, drop_at, take_at}
-use Rattle.hn_prefix.specs.Prefix.{PlainPrefix, IsPrefix}
+use Rattle.hn_base.specs.Prefix.{PlainPrefix, IsPrefix}
 use Rattle.hn_typed.specs.Fields.{prefix_field, bytes_for, ThenSubs, HasSubs}
 use Rattle.hn_typed.specs.Fault.{Subs, PrefixAndSubs, layout, prefix_size, prefix_bits, IsPrefixTooLong, HasBitPastPrefix, LacksSubs, IsFirstCause}
 use Rattle.hn_typed.proofs.Prefixes.{prefix_again}

@@ -9,7 +9,7 @@ use Rattle.std.proofs.lemmas.List.Elements.{All-from_recursion, recursion_from_A
 use Rattle.std.proofs.lemmas.Str.{IsUtf8-from_is_utf8, is_utf8-from_IsUtf8}
 use Rattle.hn_base.proofs.BigEndian.{Bytes, Bytes-take, Bytes-drop, word_is, word_small, whole_is, front_small}
 use Rattle.hn_tlv.specs.Grammar.{PlainTlv, IsTlv, padding, HasTlvs, FirstFault}
-use Rattle.hn_prefix.specs.Prefix.{PlainPrefix, IsPrefix}
+use Rattle.hn_base.specs.Prefix.{PlainPrefix, IsPrefix}
 use Rattle.hn_typed.specs.Item.{PlainItem, RequestNetwork, RequestNode, NodeEndpoint, NetworkState, NodeState, Peer, KeepAlive, Version, External, Delegated, Assigned, Address, Other}
 use Rattle.hn_typed.specs.Fields.{word, two_in_byte, prefix_field, bytes_for, ThenSubs, HasSubs, IsHash}
 use Rattle.hn_typed.specs.Table.{table_kinds, IsItem}

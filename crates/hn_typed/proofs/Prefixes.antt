@@ -2,7 +2,7 @@
 use Rattle.std.proofs.Common.{◌≡◌, ℕ, ◌-◌, ◌*◌, ◌≤◌, List, ◌∷◌, ◌++◌, length, take, drop, sym, ap, ◌∙◌, arith}
 use Rattle.std.specs.Int.{w128, to_be_bytes, from_be_bytes}
 use Rattle.std.proofs.lemmas.List.{take-append-drop}
-use Rattle.hn_prefix.specs.Prefix.{PlainPrefix, IsPrefix}
+use Rattle.hn_base.specs.Prefix.{PlainPrefix, IsPrefix}
 use Rattle.hn_typed.specs.Fields.{prefix_field, bytes_for}
 use Rattle.hn_base.proofs.BigEndian.{Bytes, front_is, front_again, zeros_below}
 

@@ -5,7 +5,7 @@ use Rattle.std.specs.Str.{IsUtf8}
 use Rattle.std.proofs.lemmas.Bool.{ne_eqb}
 use Rattle.std.proofs.lemmas.List.{length-append, drop_at}
 use Rattle.hn_tlv.specs.Grammar.{PlainTlv}
-use Rattle.hn_prefix.specs.Prefix.{PlainPrefix, IsPrefix}
+use Rattle.hn_base.specs.Prefix.{PlainPrefix, IsPrefix}
 use Rattle.hn_typed.specs.Item.{PlainItem, RequestNetwork, RequestNode, NodeEndpoint, NetworkState, NodeState, Peer, KeepAlive, Version, External, Delegated, Assigned, Address, Other}
 use Rattle.hn_typed.specs.Fields.{word, two_in_byte, prefix_field, ThenSubs, HasSubs}
 use Rattle.hn_typed.specs.Table.{IsOtherKind, IsItem}

@@ -2,7 +2,7 @@
 use Rattle.std.specs.Prelude.{◌≡◌, ℕ, ◌+◌, ◌*◌, ◌/◌, ◌<◌, ◌^◌, ◌⊎◌, List, [], ◌∷◌, ◌++◌, length, take, replicate, All}
 use Rattle.std.specs.Int.{w32, w128, to_be_bytes}
 use Rattle.hn_tlv.specs.Grammar.{padding, HasTlvs}
-use Rattle.hn_prefix.specs.Prefix.{PlainPrefix}
+use Rattle.hn_base.specs.Prefix.{PlainPrefix}
 
 -- a number of 4 bytes
 abbrev pub word : ℕ → List ℕ

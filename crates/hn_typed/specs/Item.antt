@@ -1,7 +1,7 @@
 -- The items of RFC 7787, section 7, and RFC 7788, section 10, as contracts see them.
 use Rattle.std.specs.Prelude.{ℕ, List}
 pub use Rattle.hn_base.specs.Caps.{PlainCaps}
-use Rattle.hn_prefix.specs.Prefix.{PlainPrefix}
+use Rattle.hn_base.specs.Prefix.{PlainPrefix}
 
 -- An item without where it lies in memory: its fields as numbers, and what follows them as bytes. In each, subs are
 -- the bytes of the TLVs within.

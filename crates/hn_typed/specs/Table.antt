@@ -4,7 +4,7 @@ use Rattle.std.specs.Int.{w128, to_be_bytes}
 use Rattle.std.specs.List.{AllByRecursion}
 use Rattle.std.specs.Str.{IsUtf8}
 use Rattle.hn_tlv.specs.Grammar.{PlainTlv}
-use Rattle.hn_prefix.specs.Prefix.{PlainPrefix, IsPrefix}
+use Rattle.hn_base.specs.Prefix.{PlainPrefix, IsPrefix}
 use Rattle.hn_typed.specs.Item.{PlainCaps, PlainItem, RequestNetwork, RequestNode, NodeEndpoint, NetworkState, NodeState, Peer, KeepAlive, Version, External, Delegated, Assigned, Address, Other}
 use Rattle.hn_typed.specs.Fields.{word, two_in_byte, prefix_field, HasSubs, IsHash}
 

@@ -1,5 +1,5 @@
 ghost use Rattle.std.specs.Prelude.{◌≡◌, ◌+◌, ◌≤◌, ◌++◌, List, ℕ, [], length, take};
-ghost use Rattle.hn_prefix.specs.Prefix.{IsPrefix};
+ghost use Rattle.hn_base.specs.Prefix.{IsPrefix};
 ghost use Rattle.hn_typed.specs.Fields.{word, prefix_field, IsHash};
 
 use crate::prefix::bytes_for;

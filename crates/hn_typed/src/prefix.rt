@@ -2,7 +2,7 @@
 
 ghost use Rattle.std.specs.Prelude.{◌≡◌, ◌-◌, ◌≤◌, ◌++◌, length, replicate, IfOk, IfErr};
 ghost use Rattle.std.specs.Int.{w128, from_be_bytes};
-ghost use Rattle.hn_prefix.specs.Prefix.{IsPrefix};
+ghost use Rattle.hn_base.specs.Prefix.{IsPrefix};
 ghost use Rattle.hn_typed.specs.Fields.{prefix_field, bytes_for};
 ghost use Rattle.hn_typed.specs.Fault.{IsPrefixFault};
 

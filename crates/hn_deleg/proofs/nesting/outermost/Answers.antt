@@ -1,7 +1,7 @@
 use Rattle.std.proofs.Common.{◌≡◌, subst, sym, refl, List, length, Some, slice_get}
 use Rattle.std.proofs.lemmas.Option.{slice_get_read}
 use Rattle.std.proofs.lemmas.List.{take_all}
-use Rattle.hn_prefix.specs.Prefix.{PlainPrefix}
+use Rattle.hn_base.specs.Prefix.{PlainPrefix}
 use Rattle.hn_deleg.specs.Steps.{IsCovered}
 use Rattle.hn_deleg.proofs.Filtered.{IsFiltered, filtered_none, filtered_same_at, filtered_more_at, ready_at, outermost_from_filtered}
 use Rattle.hn_deleg.proofs.nesting.outermost.Goals as goal

@@ -1,7 +1,7 @@
 use Rattle.std.proofs.Common.{◌≡◌, ◌∙◌, List, subst, take}
 use Rattle.std.specs.Prelude.{All}
 use Rattle.hn_data.specs.View.{plain_view}
-use Rattle.hn_prefix.specs.Prefix.{PlainPrefix}
+use Rattle.hn_base.specs.Prefix.{PlainPrefix}
 use Rattle.hn_deleg.specs.declared.delegated.Delegated.{Delegated}
 use Rattle.hn_deleg.specs.Steps.{AreOutermost, HasLifetimesIn}
 use Rattle.hn_deleg.specs.Used.{prefixes_of}

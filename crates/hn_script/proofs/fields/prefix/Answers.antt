@@ -1,7 +1,7 @@
 -- What is read is the prefix of the word; where nothing is, the word writes no prefix.
 use Rattle.std.proofs.Common.{◌≡◌, ℕ, List, Result, Ok, Err, MatchResult, IfOk, rules}
 use Rattle.std.specs.Result.{IsErrAnd}
-use Rattle.hn_prefix.specs.Prefix.{PlainPrefix}
+use Rattle.hn_base.specs.Prefix.{PlainPrefix}
 use Rattle.hn_prefix.specs.PrefixText.{IsPrefixText}
 use Rattle.hn_prefix.specs.declared.parse.BadText.{BadText}
 use Rattle.hn_script.specs.Field.{Prefixed}

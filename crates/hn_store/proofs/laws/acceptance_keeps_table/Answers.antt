@@ -3,4 +3,4 @@ use Rattle.hn_store.proofs.Tables.{table_stays}
 use Rattle.hn_store.proofs.laws.acceptance_keeps_table.Goals as goal
 
 pub returns : goal.returns
-returns c = table_stays (listed_or_not c.list_or_first_fault.ensures c.first_fault_is_unique.ensures.no_list)
+returns c = table_stays (listed_or_not c.list_is_of_bytes.ensures c.list_or_first_fault.ensures c.first_fault_is_unique.ensures.no_list)

@@ -1,5 +1,5 @@
 use Rattle.std.proofs.Common.{◌≡◌, ◌∷◌, ◌++◌, ℕ, length, take, drop, subst, ap, sym, ◌∙◌, arith}
-use Rattle.hn_prefix.specs.Prefix.{PlainPrefix}
+use Rattle.hn_base.specs.Prefix.{PlainPrefix}
 use Rattle.hn_typed.specs.Fields.{prefix_field, bytes_for}
 use Rattle.hn_base.proofs.BigEndian.{Bytes, Bytes-from_reads, Bytes-take}
 use Rattle.hn_typed.proofs.Prefixes.{prefix_read}

@@ -1,26 +1,27 @@
-use Rattle.std.proofs.Common.{refl}
+use Rattle.std.proofs.Common.{refl, sym}
 use Rattle.std.proofs.lemmas.Result.{err_from_is_err_and}
-use Rattle.hn_tlv.proofs.Told.{tells_first, tells_other}
+use Rattle.hn_base.proofs.Results.{not_ok, tells_passed}
+use Rattle.hn_tlv.specs.declared.fault.TlvFault.{TlvFault}
+use Rattle.hn_tlv.specs.declared.list_fault.ListFault.TheVariants.{Malformed}
+use Rattle.hn_tlv.specs.Grammar.{FirstFault}
 use Rattle.hn_data.proofs.node_data.NodeData.from_bytes.Goals as goal
 
 pub returns-in_err-check-clause-refused : goal.returns-in_err-check-clause-refused
-returns-in_err-check-clause-refused c =
+returns-in_err-check-clause-refused c = λ place why.
     let passed = err_from_is_err_and c.from_residual.result c.from_residual.ensures.1 in
-    tells_first c.args.bytes.now c.from_residual.result c.in_err-check.field-0.0 (rw (passed.1, passed.2) refl) c.in_err-check.ensures.fault
+    tells_passed Malformed (λ (f : TlvFault). FirstFault c.args.bytes.now f.place f.why) (λ f g e. cc) c.from_residual.result c.in_err-check.field-0.0 (rw (passed.1, passed.2) refl) c.in_err-check.ensures.fault
+    (λ f. c.in_err-check.ensures.at_fault f.place f.why) (record { place = place; why = why })
 
 pub returns-in_err-copy-clause-refused : goal.returns-in_err-copy-clause-refused
-returns-in_err-copy-clause-refused c =
+returns-in_err-copy-clause-refused c = λ place why.
     let passed = err_from_is_err_and c.from_residual-in_err-copy.result c.from_residual-in_err-copy.ensures.1 in
-    let count = c.in_ok-check.ensures.count in
-    tells_other c.args.bytes.now c.from_residual-in_err-copy.result (count.0, count.1) (λ fault e. cc)
+    (λ e. absurd cc, λ first. absurd (not_ok _ _ (sym (c.in_ok-check.ensures.at_fault place why first))))
 
 pub returns-in_err-read_data-clause-refused : goal.returns-in_err-read_data-clause-refused
-returns-in_err-read_data-clause-refused c =
+returns-in_err-read_data-clause-refused c = λ place why.
     let passed = err_from_is_err_and c.from_residual-in_err-read_data.result c.from_residual-in_err-read_data.ensures.1 in
-    let count = c.in_ok-check.ensures.count in
-    tells_other c.args.bytes.now c.from_residual-in_err-read_data.result (count.0, count.1) (λ fault e. cc)
+    (λ e. absurd cc, λ first. absurd (not_ok _ _ (sym (c.in_ok-check.ensures.at_fault place why first))))
 
 pub returns-clause-refused : goal.returns-clause-refused
-returns-clause-refused c =
-    let count = c.in_ok-check.ensures.count in
-    tells_other c.args.bytes.now _ (count.0, count.1) (λ fault e. cc)
+returns-clause-refused c = λ place why.
+    (λ e. absurd cc, λ first. absurd (not_ok _ _ (sym (c.in_ok-check.ensures.at_fault place why first))))

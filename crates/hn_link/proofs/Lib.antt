@@ -1,4 +1,4 @@
-pub mod Elections
+mod Elections
 mod InView
 mod Candidates
 mod Joined

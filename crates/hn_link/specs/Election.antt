@@ -1,5 +1,5 @@
 -- Who is elected on a Common Link (RFC 7788, sections 4 and 6.1).
-use Rattle.std.specs.Prelude.{◌≡◌, ℕ, ◌+◌, ◌*◌, ◌<◌, List, Some, Contains}
+use Rattle.std.specs.Prelude.{◌≡◌, ℕ, ◌+◌, ◌*◌, ◌<◌, List, Option, Some, Contains, MatchOption}
 use Rattle.std.specs.Ordering.{on, then_cmp, nat_cmp}
 use Rattle.std.specs.declared.cmp.Ordering.{Ordering}
 use Rattle.std.specs.declared.cmp.Ordering.TheVariants.{Less}
@@ -52,3 +52,10 @@ pub record IsElected (view : PlainView) (common : List (NodeId × EpId)) (letter
 -- nobody stands for election
 abbrev pub HasNoCandidate : PlainView → List (NodeId × EpId) → Letter → Type 0
 HasNoCandidate view common letter = (id : NodeId) (caps : PlainCaps) → ¬ (IsCandidate view common letter id caps)
+
+-- who is elected, or that nobody stands for election, has one answer over one view and Common Link
+abbrev pub HasOneAnswer : Type 0
+HasOneAnswer =
+    (view : PlainView) (common : List (NodeId × EpId)) (letter : Letter) (who other : Option NodeId)
+    → MatchOption who (HasNoCandidate view common letter) (IsElected view common letter)
+    → MatchOption other (HasNoCandidate view common letter) (IsElected view common letter) → who ≡ other

@@ -6,15 +6,16 @@ ghost use Rattle.hn_base.specs.declared.ids.EpId.{EpId};
 ghost use Rattle.hn_base.specs.declared.letter.Letter.{Letter};
 ghost use Rattle.hn_data.specs.View.{PlainView};
 ghost use Rattle.hn_link.specs.CommonLink.{IsCommonLink};
-ghost use Rattle.hn_link.specs.Election.{IsElected};
+ghost use Rattle.hn_link.specs.Election.{IsElected, HasOneAnswer};
 
 /// An endpoint has one Common Link.
 pub fn common_link_is_unique()
     ensures { (view : PlainView) (e : ℕ) (a b : List (NodeId × EpId)) → IsCommonLink view e a → IsCommonLink view e b → a ≡ b }
 {}
 
-/// At most one node is elected.
+/// At most one node is elected, and who is elected, or that nobody is, has one answer.
 pub fn elected_is_unique()
-    ensures { (view : PlainView) (common : List (NodeId × EpId)) (letter : Letter) (a b : NodeId)
+    ensures one { (view : PlainView) (common : List (NodeId × EpId)) (letter : Letter) (a b : NodeId)
         → IsElected view common letter a → IsElected view common letter b → a ≡ b }
+    ensures answer { HasOneAnswer }
 {}

@@ -1,45 +1,28 @@
 -- What lists that ascend by pairs have for a pair.
-use Rattle.std.proofs.Common.{◌≡◌, ◌∙◌, ◌↔◌, ◌⊎◌, List, [], ◌∷◌, Contains, Option, None, Some, Ordering, refl, sym, ap, subst, inl, inr, ⊎_elim}
-use Rattle.std.specs.declared.cmp.Ordering.TheVariants.{Less, Equal, Greater}
-use Rattle.std.specs.Ordering.{on, ordering_reverse}
+use Rattle.std.proofs.Common.{◌≡◌, ◌∙◌, ◌↔◌, ◌⊎◌, List, Contains, Option, None, Some, sym, subst, ⊎_elim}
+use Rattle.std.specs.Ordering.{on}
 use Rattle.std.proofs.lemmas.Cmp.{on_total}
-use Rattle.hn_base.proofs.AscendingLists.{not_below_itself, nothing_in, Contains-head, Contains-tail, Contains-cases, ascending_unique}
+use Rattle.hn_base.proofs.AscendingLists.{ascending_unique}
+use Rattle.hn_base.proofs.Ats as base
+use Rattle.hn_base.proofs.Decisions.{cases_by}
 use Rattle.hn_assign.specs.declared.assigned.Wish.{Wish}
 use Rattle.hn_assign.specs.declared.pair.Pair.{Pair}
-use Rattle.hn_assign.specs.Pair.{pair_cmp, IsAscending, HasAt, Updates, KeepsWished}
+use Rattle.hn_base.specs.Ascending.{HasAt}
+use Rattle.hn_assign.specs.Pair.{pair_cmp, IsAscending, Updates, KeepsWished}
 use Rattle.hn_assign.proofs.Orders.{pair_total, pair_exact}
-use Rattle.hn_base.proofs.Parts.{one_of_ascending}
 
 -- two pairs are the same, or not
 pub pair_cases : (p q : Pair) → (p ≡ q) ⊎ (¬ (p ≡ q))
-pair_cases p q = by_order (pair_cmp p q) refl
-  where
-    by_order : (o : Ordering) → pair_cmp p q ≡ o → (p ≡ q) ⊎ (¬ (p ≡ q))
-    by_order Less e = inr (λ same. not_below_itself pair_cmp pair_total p q same e)
-    by_order Equal e = inl (pair_exact p q e)
-    by_order Greater e = inr (λ same. not_below_itself pair_cmp pair_total q p (sym same) (pair_total.antisymm q p ∙ ap ordering_reverse e))
+pair_cases p q = cases_by pair_cmp pair_total pair_exact p q
 
 module _ {A : Type 0} (key : A → Pair) where
-  -- a pair has one element at most
-  pub one_of : (xs : List A) (x y : A) → IsAscending key xs → Contains xs x → Contains xs y → key x ≡ key y → x ≡ y
-  one_of xs x y up hx hy same = one_of_ascending key pair_cmp pair_total xs up x y hx hy same
-
   -- a list has an element for a pair, or none
   pub has_some : (pair : Pair) (xs : List A) → (o : Option A) × HasAt key pair o xs
-  has_some pair [] = (None, λ x there is. nothing_in x there)
-  has_some pair (y ∷ xs) = by_cases (pair_cases (key y) pair) (has_some pair xs)
-    where
-      by_cases : (key y ≡ pair) ⊎ (¬ (key y ≡ pair)) → (o : Option A) × HasAt key pair o xs → (o : Option A) × HasAt key pair o (y ∷ xs)
-      by_cases (inl is) rest = (Some y, (Contains-head y xs, is))
-      by_cases (inr not) (Some x, has) = (Some x, (Contains-tail y xs x has.0, has.1))
-      by_cases (inr not) (None, none) = (None, λ x there is. ⊎_elim (λ (here : y ≡ x). not (ap key here ∙ is)) (λ (later : Contains xs x). none x later is) (Contains-cases y xs x there))
+  has_some pair xs = base.has_some key pair_cmp pair_total pair_exact pair xs
 
   -- what a list has for a pair is one
   pub has_one : (pair : Pair) (xs : List A) (a b : Option A) → IsAscending key xs → HasAt key pair a xs → HasAt key pair b xs → a ≡ b
-  has_one pair xs None None up a b = refl
-  has_one pair xs None (Some y) up a b = absurd (a y b.0 b.1)
-  has_one pair xs (Some x) None up a b = absurd (b x a.0 a.1)
-  has_one pair xs (Some x) (Some y) up a b = ap Some (one_of xs x y up a.0 b.0 (a.1 ∙ sym b.1))
+  has_one pair xs a b up has also = base.has_one key pair_cmp pair_total pair xs a b up has also
 
   -- an element of the pair is what the list has for it
   pub is_had : (pair : Pair) (xs : List A) (a : Option A) (x : A) → IsAscending key xs → HasAt key pair a xs → Contains xs x → key x ≡ pair → a ≡ Some x

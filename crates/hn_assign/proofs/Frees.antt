@@ -1,7 +1,7 @@
 -- Free prefixes among the advertised ones.
 use Rattle.std.proofs.Common.{◌≡◌, ◌↔◌, ℕ, ◌+◌, ◌%◌, ◌<◌, ◌≤◌, List, map, Option, None, Some, IfSome, IfNone, IsNone, refl, sym, subst, arith}
 use Rattle.std.proofs.lemmas.List.Elements.{All-contains}
-use Rattle.hn_prefix.specs.Prefix.{PlainPrefix, IsPrefix, IsWithin, Overlaps}
+use Rattle.hn_base.specs.Prefix.{PlainPrefix, IsPrefix, IsWithin, Overlaps}
 use Rattle.hn_prefix.specs.Free.{IsFree, IsTaken, IsFull, IsFirstFree, IsSubPrefix, IsPrefixInside, sub_prefix_count}
 use Rattle.hn_base.proofs.AscendingLists.{Contains-map, Contains-from_map}
 use Rattle.hn_assign.specs.declared.assigned.Advertised.{Advertised}

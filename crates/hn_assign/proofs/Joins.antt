@@ -13,7 +13,8 @@ use Rattle.std.proofs.lemmas.Map.Keys.{sorted_head, sorted_tail, Less-from_sorte
 use Rattle.hn_base.proofs.AscendingLists.{not_below_itself, Contains-head, Contains-tail, Contains-cases}
 use Rattle.hn_base.proofs.Recursions.{AllByRecursion-append, AllByRecursion-weaker}
 use Rattle.hn_assign.specs.declared.pair.Pair.{Pair}
-use Rattle.hn_assign.specs.Pair.{pair_cmp, IsAscending, IsPlace, HasAt, Updates}
+use Rattle.hn_base.specs.Ascending.{HasAt}
+use Rattle.hn_assign.specs.Pair.{pair_cmp, IsAscending, IsPlace, Updates}
 use Rattle.hn_assign.proofs.Orders.{pair_total, pair_exact}
 
 greater_is_above : (p q : Pair) → pair_cmp p q ≡ Greater → pair_cmp q p ≡ Less

@@ -3,7 +3,7 @@ use Rattle.std.proofs.Common.{◌≡◌, ◌∙◌, ◌⊎◌, ℕ, ◌-◌, ◌
 use Rattle.std.specs.Prelude.{All}
 use Rattle.std.proofs.lemmas.List.Elements.{All-contains, Contains-get_or}
 use Rattle.hn_data.specs.View.{PlainView}
-use Rattle.hn_prefix.specs.Prefix.{PlainPrefix, IsWithin}
+use Rattle.hn_base.specs.Prefix.{PlainPrefix, IsWithin}
 use Rattle.hn_base.proofs.AscendingLists.{Contains-from_map}
 use Rattle.hn_assign.specs.declared.assigned.Advertised.{Advertised}
 use Rattle.hn_assign.specs.declared.assigned.Assigned.{Assigned}
@@ -13,7 +13,8 @@ use Rattle.hn_assign.specs.declared.held.Ran.{Ran}
 use Rattle.hn_assign.specs.declared.slot.Slot.{Slot}
 use Rattle.hn_assign.specs.Lines.{IfValid, IsLine, IsTurn}
 use Rattle.hn_assign.specs.Marks.{marked}
-use Rattle.hn_assign.specs.Pair.{assigned_pair, wish_pair, HasAt}
+use Rattle.hn_base.specs.Ascending.{HasAt}
+use Rattle.hn_assign.specs.Pair.{assigned_pair, wish_pair}
 use Rattle.hn_assign.specs.Scene.{PlainScene, IsBestFor, new_assigned, scene_of}
 use Rattle.hn_assign.specs.Step.{IsStep}
 use Rattle.hn_assign.specs.Subroutine.{AreSteps, IsSubroutine}

@@ -1,4 +1,4 @@
-pub mod Ats
+mod Ats
 pub mod Bests
 pub mod Frees
 pub mod Fronts
@@ -9,7 +9,7 @@ pub mod Keeping
 pub mod Keeps
 pub mod Leaves
 pub mod Marking
-pub mod Orders
+mod Orders
 pub mod RestRuns
 pub mod Rests
 pub mod Sames

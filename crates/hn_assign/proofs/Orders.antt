@@ -8,12 +8,12 @@ use Rattle.hn_base.specs.Ascending.{IsExact}
 use Rattle.hn_base.specs.Key.{key_cmp}
 use Rattle.hn_base.proofs.AscendingLists.{exact_nat, exact_then}
 use Rattle.hn_base.proofs.Keys.{key_total, exact_key}
-use Rattle.hn_prefix.specs.Prefix.{prefix_cmp}
+use Rattle.hn_base.specs.Prefix.{prefix_cmp}
 use Rattle.hn_assign.specs.declared.assigned.Advertised.{Advertised}
 use Rattle.hn_assign.specs.declared.pair.Pair.{Pair}
 use Rattle.hn_assign.specs.Advertised.{advertised_cmp}
 use Rattle.hn_assign.specs.Pair.{pair_cmp}
-use Rattle.hn_prefix.proofs.Prefixes.{exact_prefix}
+use Rattle.hn_base.proofs.Prefixes.{exact_prefix}
 
 pub advertised_total : IsTotalOrder advertised_cmp
 advertised_total = then_total (on_total (λ (a : Advertised). a.key) key_total) (search (comparing, rules))

@@ -17,7 +17,8 @@ use Rattle.hn_assign.specs.declared.slot.Slot.{Slot}
 use Rattle.hn_assign.specs.Fixed.{IsUnchanged, AreDue, AreAtRest, IsDueRun}
 use Rattle.hn_assign.specs.Gathered.{AreAdvertised}
 use Rattle.hn_assign.specs.Lines.{IsTurn}
-use Rattle.hn_assign.specs.Pair.{assigned_pair, backoff_pair, wish_pair, pair_cmp, IsAscending, IsWished, HasAt, Updates}
+use Rattle.hn_base.specs.Ascending.{HasAt}
+use Rattle.hn_assign.specs.Pair.{assigned_pair, backoff_pair, wish_pair, pair_cmp, IsAscending, IsWished, Updates}
 use Rattle.hn_assign.specs.Rest.{IsAtRest}
 use Rattle.hn_assign.specs.Scene.{scene_of}
 use Rattle.hn_assign.specs.Step.{IsStep}

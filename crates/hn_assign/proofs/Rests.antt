@@ -3,7 +3,7 @@ use Rattle.std.proofs.Common.{◌≡◌, ◌∙◌, ◌⊎◌, ℕ, ◌<◌, IsT
 use Rattle.std.specs.Option.{option_map}
 use Rattle.hn_base.proofs.AscendingLists.{Contains-map, Contains-from_map, Contains-head, Contains-tail}
 use Rattle.hn_data.specs.View.{PlainView}
-use Rattle.hn_prefix.specs.Prefix.{PlainPrefix}
+use Rattle.hn_base.specs.Prefix.{PlainPrefix}
 use Rattle.hn_assign.specs.declared.assigned.Advertised.{Advertised}
 use Rattle.hn_assign.specs.declared.assigned.Assigned.{Assigned}
 use Rattle.hn_assign.specs.declared.assigned.Wish.{Wish}
@@ -19,14 +19,14 @@ use Rattle.hn_assign.specs.Fixed.{unmarked, IsUnchanged, AreAtRest}
 use Rattle.hn_assign.specs.Gathered.{AreAdvertised}
 use Rattle.hn_assign.specs.Lines.{IfValid, IsAhead, IsLine}
 use Rattle.hn_assign.specs.Marks.{marked}
-use Rattle.hn_assign.specs.Pair.{assigned_pair, wish_pair, IsAscending, IsWished, HasAt, Updates, KeepsWished}
+use Rattle.hn_assign.specs.Pair.{assigned_pair, wish_pair, IsAscending, IsWished, Updates, KeepsWished}
 use Rattle.hn_assign.specs.Rest.{IsIdle, IsAheadOfBest, IsAtRest}
 use Rattle.hn_assign.specs.Scene.{PlainScene, IsBestFor, IsValidFor, IsFreeFor, scene_of}
 use Rattle.hn_assign.specs.Step.{IsStep}
 use Rattle.hn_assign.specs.Subroutine.{AreSteps, IsSubroutine}
 use Rattle.hn_assign.proofs.Ats.{is_had, same_list, updates_none}
 use Rattle.hn_assign.proofs.Marking.{marked_is}
-use Rattle.hn_base.specs.Ascending.{HaveSame}
+use Rattle.hn_base.specs.Ascending.{HaveSame, HasAt}
 use Rattle.hn_assign.proofs.Sames.{same_advertised, best_in, best_one, valid_in, none_in}
 use Rattle.std.proofs.lemmas.Option.{same_Some}
 

@@ -5,7 +5,7 @@ use Rattle.std.specs.Ordering.{ordering_reverse}
 use Rattle.std.proofs.lemmas.Bool.{cases_lt}
 use Rattle.std.proofs.lemmas.List.Elements.{All-contains}
 use Rattle.hn_data.specs.View.{PlainView}
-use Rattle.hn_prefix.specs.Prefix.{PlainPrefix, Overlaps}
+use Rattle.hn_base.specs.Prefix.{PlainPrefix, Overlaps}
 use Rattle.hn_prefix.specs.Free.{IsFree, IsTaken, IsFirstFree, sub_prefix_after}
 use Rattle.hn_base.proofs.AscendingLists.{Contains-map, Contains-from_map}
 use Rattle.hn_assign.specs.declared.assigned.Advertised.{Advertised}

@@ -1,8 +1,8 @@
 -- A line of the table, a step and the subroutine have at most one result over one stream of words.
 use Rattle.std.proofs.Common.{◌≡◌, ◌∙◌, ◌⊎◌, ℕ, ◌<◌, ◌≤◌, ◌%◌, IsTrue, List, [], ◌∷◌, ◌++◌, Option, None, Some, sym, ap, subst, inl, inr, arith}
 use Rattle.hn_data.specs.View.{PlainView}
-use Rattle.hn_io.specs.Words.{Begins}
-use Rattle.hn_prefix.specs.Prefix.{PlainPrefix}
+use Rattle.hn_base.specs.Words.{Begins}
+use Rattle.hn_base.specs.Prefix.{PlainPrefix}
 use Rattle.hn_assign.specs.declared.assigned.Advertised.{Advertised}
 use Rattle.hn_assign.specs.declared.assigned.Assigned.{Assigned}
 use Rattle.hn_assign.specs.declared.assigned.Wish.{Wish}

@@ -16,7 +16,8 @@ use Rattle.hn_assign.specs.declared.held.Ran.{Ran}
 use Rattle.hn_assign.specs.declared.pair.Pair.{Pair}
 use Rattle.hn_assign.specs.Fixed.{unmarked, IsUnchanged, AreDue, AreAtRest}
 use Rattle.hn_assign.specs.Gathered.{AreAdvertised}
-use Rattle.hn_assign.specs.Pair.{assigned_pair, backoff_pair, wish_pair, pair_cmp, IsAscending, IsWished, HasAt, Updates}
+use Rattle.hn_base.specs.Ascending.{HasAt}
+use Rattle.hn_assign.specs.Pair.{assigned_pair, backoff_pair, wish_pair, pair_cmp, IsAscending, IsWished, Updates}
 use Rattle.hn_assign.specs.Rest.{IsAtRest}
 use Rattle.hn_assign.specs.Step.{IsStep}
 use Rattle.hn_assign.specs.Subroutine.{AreSteps, IsSubroutine}

@@ -1,7 +1,7 @@
 -- Steps one after another.
 use Rattle.std.proofs.Common.{ℕ, List, [], ◌∷◌, ◌++◌, Option, refl, sym, subst}
 use Rattle.hn_data.specs.View.{PlainView}
-use Rattle.hn_io.specs.Words.{Took}
+use Rattle.hn_base.specs.Words.{Took}
 use Rattle.hn_assign.specs.declared.assigned.Wish.{Wish}
 use Rattle.hn_assign.specs.declared.held.Ran.{Ran}
 use Rattle.hn_assign.specs.Step.{IsStep, StepTook}

@@ -2,7 +2,8 @@
 use Rattle.std.proofs.Common.{◌≡◌, ◌↔◌, ◌⊎◌, List, [], Contains, Option, None, Some, subst, inl, inr, ⊎_elim, arith}
 use Rattle.hn_assign.specs.declared.assigned.Wish.{Wish}
 use Rattle.hn_assign.specs.Facts.{IsFitting, AreWishes}
-use Rattle.hn_assign.specs.Pair.{wish_pair, HasAt, Updates}
+use Rattle.hn_base.specs.Ascending.{HasAt}
+use Rattle.hn_assign.specs.Pair.{wish_pair, Updates}
 use Rattle.hn_assign.proofs.Ats.{pair_cases, is_had}
 use Rattle.hn_assign.proofs.Joins.{ascending_nil}
 use Rattle.hn_assign.proofs.Keeps.{each_all, all_each}

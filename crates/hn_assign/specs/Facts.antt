@@ -1,6 +1,6 @@
 -- What holds of a router's wishes and assignments at each moment.
 use Rattle.std.specs.Prelude.{◌≡◌, ℕ, ◌≤◌, List, Some, All}
-use Rattle.hn_prefix.specs.Prefix.{IsWithin}
+use Rattle.hn_base.specs.Prefix.{IsWithin}
 use Rattle.hn_assign.specs.declared.assigned.Assigned.{Assigned}
 use Rattle.hn_assign.specs.declared.assigned.Wish.{Wish}
 use Rattle.hn_assign.specs.Pair.{IsAscending, wish_pair}

@@ -1,11 +1,12 @@
 -- Pairs of a delegated prefix and an endpoint, and what lists have for them.
-use Rattle.std.specs.Prelude.{◌≡◌, ◌↔◌, ℕ, ◌<◌, ◌≤◌, List, length, Contains, Option, Some, None, Result, Ok, Err}
+use Rattle.std.specs.Prelude.{◌≡◌, ◌↔◌, ℕ, ◌<◌, ◌≤◌, List, length, Contains, Option, Result, Ok, Err}
 use Rattle.std.specs.declared.cmp.Ordering.{Ordering}
 use Rattle.std.specs.declared.cmp.Ordering.TheVariants.{Less, Greater}
 use Rattle.std.specs.Ordering.{on, then_cmp, nat_cmp}
 use Rattle.std.specs.List.{HoldsAt}
 use Rattle.std.specs.List.Sorted.{IsStrictlySortedBy, IsPartitionPoint}
-use Rattle.hn_prefix.specs.Prefix.{prefix_cmp}
+use Rattle.hn_base.specs.Ascending.{HasAt}
+use Rattle.hn_base.specs.Prefix.{prefix_cmp}
 use Rattle.hn_assign.specs.declared.assigned.Assigned.{Assigned}
 use Rattle.hn_assign.specs.declared.assigned.Wish.{Wish}
 use Rattle.hn_assign.specs.declared.backoff.Backoff.{Backoff}
@@ -32,11 +33,6 @@ IsWished wishes pair = (wish : Wish) × Contains wishes wish × (wish_pair wish 
 -- strictly ascending by their pairs, so that a pair has one element at most
 abbrev pub IsAscending : {A : Type 0} → (A → Pair) → List A → Type 0
 IsAscending pair_of xs = IsStrictlySortedBy (on pair_of pair_cmp) xs
-
--- what a list has for a pair, if it has something
-abbrev pub HasAt : {A : Type 0} → (A → Pair) → Pair → Option A → List A → Type 0
-HasAt {A} pair_of pair None xs = (x : A) → Contains xs x → ¬ (pair_of x ≡ pair)
-HasAt pair_of pair (Some x) xs = Contains xs x × (pair_of x ≡ pair)
 
 -- afterwards a list has this for a pair, or nothing, and for other pairs what it had before
 pub record Updates {A : Type 0} (pair_of : A → Pair) (pair : Pair) (has : Option A) (before after : List A) : Type 0 where

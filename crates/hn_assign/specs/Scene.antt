@@ -1,7 +1,7 @@
 -- What a pair is judged by.
 use Rattle.std.specs.Prelude.{ℕ, List, map, Option, false}
 use Rattle.hn_data.specs.View.{PlainView}
-use Rattle.hn_prefix.specs.Prefix.{PlainPrefix}
+use Rattle.hn_base.specs.Prefix.{PlainPrefix}
 use Rattle.hn_prefix.specs.Free.{IsFirstFree}
 use Rattle.hn_assign.specs.declared.assigned.Advertised.{Advertised}
 use Rattle.hn_assign.specs.declared.assigned.Assigned.{Assigned}

@@ -2,7 +2,8 @@
 use Rattle.hn_assign.specs.declared.held.Held.{Held}
 use Rattle.hn_assign.specs.declared.pair.Pair.{Pair}
 use Rattle.hn_assign.specs.declared.slot.Slot.{Slot}
-use Rattle.hn_assign.specs.Pair.{assigned_pair, backoff_pair, HasAt}
+use Rattle.hn_base.specs.Ascending.{HasAt}
+use Rattle.hn_assign.specs.Pair.{assigned_pair, backoff_pair}
 
 -- what is held for a pair
 pub record IsSlot (pair : Pair) (held : Held) (slot : Slot) : Type 0 where

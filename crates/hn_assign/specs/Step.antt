@@ -1,7 +1,7 @@
 -- One pair of the assignment subroutine (RFC 7695, section 4.1).
 use Rattle.std.specs.Prelude.{◌≡◌, ℕ, List, ◌++◌, Option}
 use Rattle.hn_data.specs.View.{PlainView}
-use Rattle.hn_io.specs.Words.{Took}
+use Rattle.hn_base.specs.Words.{Took}
 use Rattle.hn_assign.specs.declared.assigned.Advertised.{Advertised}
 use Rattle.hn_assign.specs.declared.assigned.Wish.{Wish}
 use Rattle.hn_assign.specs.declared.held.Ran.{Ran}

@@ -1,7 +1,8 @@
 //! Lists that are strictly ascending by their pairs.
 
 ghost use Rattle.std.specs.Prelude.{◌≡◌, ◌↔◌, IsTrue, IfSome, IfOk, OnOk, is_ok};
-ghost use Rattle.hn_assign.specs.Pair.{IsAscending, IsWished, IsPlace, HasAt, Updates, KeepsWished, wish_pair};
+ghost use Rattle.hn_base.specs.Ascending.{HasAt};
+ghost use Rattle.hn_assign.specs.Pair.{IsAscending, IsWished, IsPlace, Updates, KeepsWished, wish_pair};
 
 use crate::assigned::Wish;
 use crate::pair::{Pair, Paired};

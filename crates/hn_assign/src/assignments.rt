@@ -1,5 +1,6 @@
 ghost use Rattle.std.specs.Prelude.{◌≡◌, [], map, false, IfOk, OnOk, IfSome};
-ghost use Rattle.hn_assign.specs.Pair.{IsAscending, HasAt, Updates, KeepsWished, assigned_pair, wish_pair};
+ghost use Rattle.hn_base.specs.Ascending.{HasAt};
+ghost use Rattle.hn_assign.specs.Pair.{IsAscending, Updates, KeepsWished, assigned_pair, wish_pair};
 ghost use Rattle.hn_assign.specs.Marks.{marked};
 
 use crate::ascending::{find, put, wished};

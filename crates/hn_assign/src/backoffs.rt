@@ -1,5 +1,6 @@
 ghost use Rattle.std.specs.Prelude.{◌≡◌, [], false, IfOk, OnOk, IfSome};
-ghost use Rattle.hn_assign.specs.Pair.{IsAscending, HasAt, Updates, KeepsWished, backoff_pair, wish_pair};
+ghost use Rattle.hn_base.specs.Ascending.{HasAt};
+ghost use Rattle.hn_assign.specs.Pair.{IsAscending, Updates, KeepsWished, backoff_pair, wish_pair};
 
 use crate::ascending::{find, put, wished};
 use crate::assigned::Wish;

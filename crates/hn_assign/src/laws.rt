@@ -1,9 +1,11 @@
-//! Laws of the assignment subroutine (RFC 7695, section 4.1).
+//! Laws of the assignment subroutine (RFC 7695, section 4.1), and of the order of pairs.
 //!
 //! Each is the contract of a function that does nothing: call it to know its law.
 
 ghost use Rattle.std.specs.Prelude.{◌≡◌, ◌≤◌, ◌↔◌, ℕ, List, [], Option, Some, All};
-ghost use Rattle.hn_io.specs.Words.{Begins};
+ghost use Rattle.std.specs.Cmp.{IsTotalOrder};
+ghost use Rattle.hn_base.specs.Ascending.{IsExact};
+ghost use Rattle.hn_base.specs.Words.{Begins};
 ghost use Rattle.hn_data.specs.View.{PlainView};
 ghost use Rattle.hn_assign.specs.declared.assigned.Advertised.{Advertised};
 ghost use Rattle.hn_assign.specs.declared.assigned.Assigned.{Assigned};
@@ -15,9 +17,15 @@ ghost use Rattle.hn_assign.specs.Facts.{IsInDelegated, IsPast, HasOwnPriority};
 ghost use Rattle.hn_assign.specs.Fixed.{IsUnchanged, AreDue, AreAtRest, IsDueRun};
 ghost use Rattle.hn_assign.specs.Gathered.{AreAdvertised};
 ghost use Rattle.hn_assign.specs.Lines.{IsKept, IsAdopted, IsKeptAhead, IsYielded, IsReplaced};
-ghost use Rattle.hn_assign.specs.Pair.{IsAscending, IsWished, assigned_pair, backoff_pair, wish_pair};
+ghost use Rattle.hn_assign.specs.Pair.{IsAscending, IsWished, assigned_pair, backoff_pair, pair_cmp, wish_pair};
 ghost use Rattle.hn_assign.specs.Scene.{PlainScene, IsBestFor};
 ghost use Rattle.hn_assign.specs.Subroutine.{IsSubroutine};
+
+/// The order of pairs is total, and only equal ones are equal by it.
+pub fn pairs_are_ordered()
+    ensures total { IsTotalOrder pair_cmp }
+    ensures exact { IsExact pair_cmp }
+{}
 
 /// At most one line of the table applies to a pair: its best prefix is one, and the lines that are for the same best
 /// prefix and assignment exclude each other.

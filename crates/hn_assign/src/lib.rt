@@ -31,8 +31,8 @@ pub use gathering::{AdvertisedPrefixes, gather};
 pub use held::{Held, Ran};
 pub use known::Known;
 pub use laws::{
-    lines_exclude_each_other, rest_has_a_run, rest_is_unchanged, subroutine_has_one_result,
-    subroutine_keeps, subroutine_leaves,
+    lines_exclude_each_other, pairs_are_ordered, rest_has_a_run, rest_is_unchanged,
+    subroutine_has_one_result, subroutine_keeps, subroutine_leaves,
 };
 pub use pair::Pair;
 pub use precedence::{PRIORITY, best, valid};

@@ -1,7 +1,7 @@
 ghost use Rattle.std.specs.Prelude.{◌≡◌, ◌≢◌, ◌↔◌, IsTrue, MatchOption, if◌then◌else◌};
 ghost use Rattle.std.specs.Ordering.{is_lt};
 ghost use Rattle.hn_base.specs.Key.{IsAbove};
-ghost use Rattle.hn_prefix.specs.Prefix.{IsWithin, Overlaps};
+ghost use Rattle.hn_base.specs.Prefix.{IsWithin, Overlaps};
 ghost use Rattle.hn_assign.specs.Advertised.{IsOnLink, advertised_cmp};
 ghost use Rattle.hn_assign.specs.Best.{IsBestIfAny, IsValid};
 

@@ -1,5 +1,5 @@
 ghost use Rattle.std.specs.Prelude.{◌^◌, ◌≤◌, All, IfOk};
-ghost use Rattle.hn_io.specs.Words.{Took};
+ghost use Rattle.hn_base.specs.Words.{Took};
 ghost use Rattle.hn_data.specs.View.{plain_view, IsNetwork};
 ghost use Rattle.hn_assign.specs.Facts.{AreWishes, IsInDelegated, IsPast, HasOwnPriority};
 ghost use Rattle.hn_assign.specs.Pair.{IsAscending, assigned_pair, backoff_pair, wish_pair};

@@ -2,7 +2,7 @@
 
 ghost use Rattle.std.specs.Prelude.{◌≡◌, ◌^◌, ◌≤◌, ◌⊎◌, Some, None, []};
 ghost use Rattle.std.specs.Option.{option_to_list};
-ghost use Rattle.hn_io.specs.Words.{Took};
+ghost use Rattle.hn_base.specs.Words.{Took};
 ghost use Rattle.hn_assign.specs.Scene.{plain_scene};
 ghost use Rattle.hn_assign.specs.Lines.{IsKept, IsAdopted, IsKeptAhead, IsYielded, IsReplaced, IsTurn};
 

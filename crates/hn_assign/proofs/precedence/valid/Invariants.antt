@@ -1,6 +1,6 @@
 use Rattle.std.proofs.Common.{take, Contains}
 use Rattle.hn_base.specs.Key.{IsAbove}
-use Rattle.hn_prefix.specs.Prefix.{Overlaps}
+use Rattle.hn_base.specs.Prefix.{Overlaps}
 use Rattle.hn_assign.specs.declared.assigned.Advertised.{Advertised}
 use Rattle.hn_assign.specs.Advertised.{IsOnLink}
 use Rattle.hn_assign.proofs.precedence.valid.Given as goal

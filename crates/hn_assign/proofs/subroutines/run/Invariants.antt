@@ -1,6 +1,6 @@
 use Rattle.std.proofs.Common.{take}
 use Rattle.hn_data.specs.View.{plain_view}
-use Rattle.hn_io.specs.Words.{Took}
+use Rattle.hn_base.specs.Words.{Took}
 use Rattle.hn_assign.specs.Gathered.{AreAdvertised}
 use Rattle.hn_assign.specs.Subroutine.{AreSteps}
 use Rattle.hn_assign.proofs.subroutines.run.Given as goal

@@ -8,9 +8,9 @@ use Rattle.hn_base.specs.declared.ids.NodeId.{NodeId}
 use Rattle.hn_base.specs.declared.ids.EpId.{EpId}
 use Rattle.hn_base.specs.Key.{key_cmp}
 use Rattle.hn_base.proofs.Keys.{same_node, same_id, key_total}
-use Rattle.hn_prefix.specs.Prefix.{PlainPrefix}
+use Rattle.hn_base.specs.Prefix.{PlainPrefix}
 use Rattle.hn_sound.specs.Home.{Endpoint}
-use Rattle.hn_prefix.proofs.Prefixes.{same_prefix}
+use Rattle.hn_base.proofs.Prefixes.{same_prefix}
 
 pub same_endpoint : (e f : Endpoint) → e.node ≡ f.node → e.id ≡ f.id → e.link ≡ f.link → e ≡ f
 same_endpoint e f node id link = λ i. record { node = node i; id = id i; link = link i }

@@ -13,7 +13,7 @@ use Rattle.hn_base.specs.declared.ids.EpId.{EpId}
 use Rattle.hn_base.specs.declared.key.Key.{Key}
 use Rattle.hn_base.specs.Key.{key_cmp}
 use Rattle.hn_base.proofs.Keys.{same_node, key_total, exact_key}
-use Rattle.hn_prefix.specs.Prefix.{PlainPrefix, IsWithin, Overlaps, prefix_cmp}
+use Rattle.hn_base.specs.Prefix.{PlainPrefix, IsWithin, Overlaps, prefix_cmp}
 use Rattle.hn_assign.specs.declared.assigned.Advertised.{Advertised}
 use Rattle.hn_assign.specs.declared.assigned.Assigned.{Assigned}
 use Rattle.hn_assign.specs.Advertised.{key_of, IsOnLink, advertised_cmp}

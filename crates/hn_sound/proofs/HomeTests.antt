@@ -5,7 +5,7 @@ use Rattle.std.specs.List.{list_all, list_any, filter}
 use Rattle.std.proofs.lemmas.Bool.{eqb-true, eq-eqb, leb-true, and_parts, and_from, or_cases}
 use Rattle.hn_base.proofs.Keys.{same_node, same_id}
 use Rattle.hn_base.proofs.AscendingLists.{nothing_in, Contains-head, Contains-cases}
-use Rattle.hn_prefix.specs.Prefix.{PlainPrefix, IsWithin}
+use Rattle.hn_base.specs.Prefix.{PlainPrefix, IsWithin}
 use Rattle.hn_assign.specs.declared.assigned.Advertised.{Advertised}
 use Rattle.hn_assign.specs.declared.assigned.Assigned.{Assigned}
 use Rattle.hn_assign.specs.declared.assigned.Wish.{Wish}
@@ -14,7 +14,7 @@ use Rattle.hn_sound.specs.Home.{Home, Endpoint, Held, HasAssignment, advertised,
 use Rattle.hn_sound.specs.Premises.{Premise, Meets, IsHome, IsHomeBut}
 use Rattle.hn_sound.specs.Premises.Premise.{OneLink, OnceOnLink, UsedApart, ForUsed, PublishedInside, OneEach, PriorityTwo}
 use Rattle.hn_base.proofs.Elements.{in_filter, from_filter}
-use Rattle.hn_prefix.proofs.Prefixes.{is_one_prefix, prefix_decided}
+use Rattle.hn_base.proofs.Prefixes.{is_one_prefix, prefix_decided}
 use Rattle.hn_base.proofs.Elements.{any_of}
 use Rattle.hn_sound.proofs.Tests.{implies, then_true, each_passes, is_within, within_from, may_overlap, to_may_overlap}
 

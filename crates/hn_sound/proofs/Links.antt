@@ -9,7 +9,7 @@ use Rattle.hn_base.specs.declared.ids.EpId.{EpId}
 use Rattle.hn_base.specs.declared.key.Key.{Key}
 use Rattle.hn_base.specs.Key.{key_cmp, IsAbove}
 use Rattle.hn_base.proofs.Keys.{key_total}
-use Rattle.hn_prefix.specs.Prefix.{PlainPrefix, IsWithin, Overlaps}
+use Rattle.hn_base.specs.Prefix.{PlainPrefix, IsWithin, Overlaps}
 use Rattle.hn_assign.specs.declared.assigned.Assigned.{Assigned}
 use Rattle.hn_assign.specs.Advertised.{key_of, IsOnLink}
 use Rattle.hn_assign.specs.Best.{IsValid}

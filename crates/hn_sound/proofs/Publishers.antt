@@ -7,7 +7,7 @@ use Rattle.std.specs.Ordering.{ordering_then}
 use Rattle.hn_base.specs.declared.key.Key.{Key}
 use Rattle.hn_base.specs.Key.{key_cmp}
 use Rattle.hn_base.proofs.Keys.{key_total}
-use Rattle.hn_prefix.specs.Prefix.{PlainPrefix}
+use Rattle.hn_base.specs.Prefix.{PlainPrefix}
 use Rattle.hn_assign.specs.declared.assigned.Advertised.{Advertised}
 use Rattle.hn_assign.specs.declared.assigned.Assigned.{Assigned}
 use Rattle.hn_assign.specs.Best.{IsCandidate, HasNoBest, HasNoFree}

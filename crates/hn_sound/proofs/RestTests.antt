@@ -10,7 +10,7 @@ use Rattle.hn_base.specs.declared.ids.NodeId.{NodeId}
 use Rattle.hn_base.specs.declared.ids.EpId.{EpId}
 use Rattle.hn_base.specs.Key.{key_cmp, IsAbove}
 use Rattle.hn_base.proofs.Keys.{same_node, same_id}
-use Rattle.hn_prefix.specs.Prefix.{PlainPrefix}
+use Rattle.hn_base.specs.Prefix.{PlainPrefix}
 use Rattle.hn_assign.specs.declared.assigned.Advertised.{Advertised}
 use Rattle.hn_assign.specs.declared.assigned.Assigned.{Assigned}
 use Rattle.hn_assign.specs.declared.assigned.Wish.{Wish}
@@ -19,7 +19,7 @@ use Rattle.hn_assign.specs.Best.{IsCandidate, IsBest, HasNoBest, IsValid, HasNoF
 use Rattle.hn_assign.specs.Rest.{IsAtRest, IsIdle, IsAlone, IsAheadOfBest, IsFollowing}
 use Rattle.hn_sound.specs.Conditions.{Condition, MeetsRest, IsAtRestBut}
 use Rattle.hn_sound.specs.Conditions.Condition.{NothingToDo, Published, Valid, GreaterKey, Unpublished, BestPrefix}
-use Rattle.hn_prefix.proofs.Prefixes.{is_one_prefix, prefix_decided}
+use Rattle.hn_base.proofs.Prefixes.{is_one_prefix, prefix_decided}
 use Rattle.hn_base.proofs.Elements.{any_of, any_from}
 use Rattle.hn_sound.proofs.Tests.{implies, then_true, each_passes, begins_with, to_begins_with, is_within, within_from, may_overlap, to_may_overlap}
 use Rattle.hn_base.proofs.Decisions.{from_is_none}

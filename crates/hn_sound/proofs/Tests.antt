@@ -6,7 +6,7 @@ use Rattle.std.proofs.lemmas.Bool.{cases_lt, eqb-true, eq-eqb, leb-true, and_par
 use Rattle.std.proofs.lemmas.List.Elements.{All-contains}
 use Rattle.std.proofs.lemmas.List.Sums.{AllPass-from_list_all}
 use Rattle.hn_base.proofs.LeadingBits.{alike_in_shorter}
-use Rattle.hn_prefix.specs.Prefix.{PlainPrefix, IsInside, IsWithin, Overlaps}
+use Rattle.hn_base.specs.Prefix.{PlainPrefix, IsInside, IsWithin, Overlaps}
 
 -- ---- words
 

@@ -1,7 +1,7 @@
 -- What a sound home cannot have.
 use Rattle.std.proofs.Common.{◌≡◌, ℕ, inl, inr, refl, sym, ◌∙◌}
 use Rattle.std.specs.Prelude.{Contains, IsTrue}
-use Rattle.hn_prefix.specs.Prefix.{PlainPrefix}
+use Rattle.hn_base.specs.Prefix.{PlainPrefix}
 use Rattle.hn_assign.specs.declared.assigned.Assigned.{Assigned}
 use Rattle.hn_assign.specs.Best.{IsFreeIn}
 use Rattle.hn_sound.specs.Home.{Home, Endpoint, HasAssignment, HasPublished, advertised}

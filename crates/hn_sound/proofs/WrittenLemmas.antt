@@ -2,7 +2,7 @@
 use Rattle.std.proofs.Common.{◌≡◌, ℕ, Option, Some, [], refl, ap, subst, arith}
 use Rattle.std.specs.Prelude.{Contains}
 use Rattle.hn_base.proofs.AscendingLists.{nothing_in}
-use Rattle.hn_prefix.specs.Prefix.{PlainPrefix, Overlaps}
+use Rattle.hn_base.specs.Prefix.{PlainPrefix, Overlaps}
 use Rattle.hn_assign.specs.declared.assigned.Assigned.{Assigned}
 use Rattle.hn_sound.specs.Home.{Home, Endpoint, HasAssignment, HasPublished}
 use Rattle.hn_sound.specs.Homes.{first, second}

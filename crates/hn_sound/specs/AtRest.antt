@@ -1,6 +1,6 @@
 -- A home at rest: no router would make, change or destroy an assignment.
 use Rattle.std.specs.Prelude.{ℕ, List, Option, Some, None, Contains}
-use Rattle.hn_prefix.specs.Prefix.{PlainPrefix}
+use Rattle.hn_base.specs.Prefix.{PlainPrefix}
 use Rattle.hn_assign.specs.declared.assigned.Advertised.{Advertised}
 use Rattle.hn_assign.specs.declared.assigned.Assigned.{Assigned}
 use Rattle.hn_assign.specs.declared.assigned.Wish.{Wish}

@@ -4,7 +4,7 @@ use Rattle.std.specs.Prelude.{◌≡◌, ℕ, ◌==◌, Bool, Option, Some, opti
 use Rattle.hn_base.specs.declared.ids.NodeId.{NodeId}
 use Rattle.hn_base.specs.declared.ids.EpId.{EpId}
 use Rattle.hn_base.specs.declared.key.Key.{Key}
-use Rattle.hn_prefix.specs.Prefix.{PlainPrefix}
+use Rattle.hn_base.specs.Prefix.{PlainPrefix}
 use Rattle.hn_assign.specs.declared.assigned.Advertised.{Advertised}
 use Rattle.hn_assign.specs.declared.assigned.Assigned.{Assigned}
 use Rattle.hn_assign.specs.declared.assigned.Wish.{Wish}

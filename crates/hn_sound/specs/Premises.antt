@@ -1,7 +1,7 @@
 -- What a home must be for the laws. Each premise is needed. None speaks of an assignment whose endpoint is not in the
 -- home: if it is published, it is advertised, and no more.
 use Rattle.std.specs.Prelude.{◌≡◌, ◌≢◌, ℕ, ◌≤◌, Contains}
-use Rattle.hn_prefix.specs.Prefix.{PlainPrefix, IsWithin, Overlaps}
+use Rattle.hn_base.specs.Prefix.{PlainPrefix, IsWithin, Overlaps}
 use Rattle.hn_assign.specs.declared.assigned.Assigned.{Assigned}
 use Rattle.hn_sound.specs.Home.{Home, Endpoint, HasAssignment, HasPublished}
 

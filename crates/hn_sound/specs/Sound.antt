@@ -2,7 +2,7 @@
 -- prefixes of different links never overlap.
 use Rattle.std.specs.Prelude.{◌≡◌, ◌≢◌, ℕ, ◌⊎◌, IsTrue, Contains}
 use Rattle.hn_base.specs.Key.{IsAbove}
-use Rattle.hn_prefix.specs.Prefix.{PlainPrefix, Overlaps}
+use Rattle.hn_base.specs.Prefix.{PlainPrefix, Overlaps}
 use Rattle.hn_assign.specs.declared.assigned.Assigned.{Assigned}
 use Rattle.hn_assign.specs.Best.{HasNoFree}
 use Rattle.hn_sound.specs.Home.{Home, Endpoint, HasAssignment, HasPublished, advertised, key_at}

@@ -1,6 +1,6 @@
 -- A home of three routers on three links, each router on two of them.
 use Rattle.std.specs.Prelude.{◌==◌, not, Some, None, [], ◌∷◌}
-use Rattle.hn_prefix.specs.Prefix.{PlainPrefix}
+use Rattle.hn_base.specs.Prefix.{PlainPrefix}
 use Rattle.hn_sound.specs.Home.{Home}
 use Rattle.hn_sound.specs.Written.{delegated, subnet, endpoint, has, home_of}
 

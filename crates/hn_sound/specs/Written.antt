@@ -1,6 +1,6 @@
 -- Words for homes that are written out.
 use Rattle.std.specs.Prelude.{ℕ, ◌+◌, ◌*◌, ◌^◌, true, false, Option, List}
-use Rattle.hn_prefix.specs.Prefix.{PlainPrefix}
+use Rattle.hn_base.specs.Prefix.{PlainPrefix}
 use Rattle.hn_sound.specs.Home.{Home, Endpoint, Held}
 
 -- 2001:db8::/48, and 2001:db8::/56 inside it

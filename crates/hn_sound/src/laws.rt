@@ -5,7 +5,7 @@
 ghost use Rattle.std.specs.Prelude.{◌≡◌, ◌≢◌, ◌⊎◌, ◌↔◌, ℕ, IsTrue, Option, List, Contains};
 ghost use Rattle.hn_base.specs.declared.ids.NodeId.{NodeId};
 ghost use Rattle.hn_base.specs.declared.ids.EpId.{EpId};
-ghost use Rattle.hn_prefix.specs.Prefix.{PlainPrefix, IsWithin, Overlaps};
+ghost use Rattle.hn_base.specs.Prefix.{PlainPrefix, IsWithin, Overlaps};
 ghost use Rattle.hn_assign.specs.declared.assigned.Advertised.{Advertised};
 ghost use Rattle.hn_assign.specs.declared.assigned.Assigned.{Assigned};
 ghost use Rattle.hn_assign.specs.declared.assigned.Wish.{Wish};

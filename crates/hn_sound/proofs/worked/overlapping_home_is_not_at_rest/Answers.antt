@@ -1,5 +1,5 @@
 use Rattle.std.proofs.Common.{refl, arith, Some}
-use Rattle.hn_prefix.specs.Prefix.{PlainPrefix}
+use Rattle.hn_base.specs.Prefix.{PlainPrefix}
 use Rattle.hn_sound.specs.AtRest.{IsHomeAtRest}
 use Rattle.hn_sound.specs.Home.{HasAssignment}
 use Rattle.hn_sound.specs.Premises.{IsHome}

@@ -1,10 +1,8 @@
-pub mod AttachedPorts
-pub mod ItemLists
 mod OwnPieces
 mod OwnSame
 mod OwnSizes
 mod OwnSums
 mod PairLists
-pub mod PortLists
-pub mod PrefixLists
+mod PortLists
+mod PrefixLists
 mod PrefixOrder

@@ -8,7 +8,7 @@ use Rattle.std.proofs.lemmas.List.{map_more, map_push, take_more, append-nil}
 use Rattle.std.proofs.lemmas.List.Concat.{flat_map-append}
 use Rattle.std.proofs.lemmas.List.Elements.{All-append, All-cons, All-nil, All-push, All-take, All-head, All-tail, All-map}
 use Rattle.hn_base.proofs.BigEndian.{number_bytes}
-use Rattle.hn_prefix.specs.Prefix.{IsPrefix}
+use Rattle.hn_base.specs.Prefix.{IsPrefix}
 use Rattle.hn_tlv.specs.Grammar.{IsTlv, IsTlvList, HasTlvs, spelling}
 use Rattle.hn_typed.specs.Fields.{word, bytes_for, prefix_field}
 use Rattle.hn_typed.specs.Item.{PlainItem, External}

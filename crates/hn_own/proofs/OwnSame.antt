@@ -9,8 +9,8 @@ use Rattle.std.proofs.lemmas.Slice.Eq.{slice_eq-Decides}
 use Rattle.hn_base.specs.declared.caps.Caps.{Caps}
 use Rattle.hn_base.proofs.Decisions.{option_decided}
 use Rattle.hn_base.proofs.Fields.{same_caps}
-use Rattle.hn_prefix.proofs.Prefixes.{prefix_decided}
-use Rattle.hn_prefix.specs.Prefix.{PlainPrefix}
+use Rattle.hn_base.proofs.Prefixes.{prefix_decided}
+use Rattle.hn_base.specs.Prefix.{PlainPrefix}
 use Rattle.hn_data.specs.Peers.{peer_link}
 use Rattle.hn_data.specs.declared.said.PeerLink.{PeerLink}
 use Rattle.hn_data.specs.declared.said.AssignedPrefix.{AssignedPrefix}

@@ -12,7 +12,7 @@ use Rattle.std.proofs.lemmas.List.Sums.{sum_by-append, sum_by-cons, sum_by-le}
 use Rattle.std.proofs.lemmas.Map.Keys.{IsDistinct-from_sorted}
 use Rattle.hn_base.specs.Caps.{plain_caps}
 use Rattle.hn_base.proofs.AscendingLists.{exact_nat, exact_lists, equal_from_is_eq}
-use Rattle.hn_prefix.specs.Prefix.{PlainPrefix}
+use Rattle.hn_base.specs.Prefix.{PlainPrefix}
 use Rattle.hn_tlv.specs.Grammar.{PlainTlv, spelling}
 use Rattle.hn_typed.specs.Fields.{prefix_field, bytes_for}
 use Rattle.hn_typed.specs.Item.{PlainItem, Version, External}

@@ -17,14 +17,10 @@ use Rattle.hn_dncp.specs.declared.port.Port.{Port}
 use Rattle.hn_base.proofs.AscendingNumbers.{ascending-filter}
 use Rattle.hn_base.proofs.Passing.{map-one}
 use Rattle.hn_base.proofs.Fronts.{filter-front, filter-back}
-use Rattle.hn_own.specs.Ports.{ArePorts, is_port, is_attached, put_port, attached}
-
--- the number of an endpoint
-abbrev pub number : Port → ℕ
-number port = port.id.0
+use Rattle.hn_own.specs.Ports.{number, ArePorts, is_port, is_attached, put_port, attached}
 
 abbrev numbers : List Port → List ℕ
-numbers ports = map (λ p. p.id.0) ports
+numbers ports = map number ports
 
 -- ---- one more number at its place
 

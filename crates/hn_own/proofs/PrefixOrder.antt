@@ -10,8 +10,8 @@ use Rattle.std.proofs.lemmas.List.Kept.{IsStrictlySortedBy-filter}
 use Rattle.std.proofs.lemmas.List.Sums.{length-filter, count_by-le-length}
 use Rattle.hn_base.proofs.AscendingLists.{equal_from_is_eq}
 use Rattle.hn_base.proofs.Around.{few_apart, fewer_apart, sorted_around}
-use Rattle.hn_prefix.proofs.Prefixes.{prefix_total}
-use Rattle.hn_prefix.specs.Prefix.{PlainPrefix, prefix_cmp}
+use Rattle.hn_base.proofs.Prefixes.{prefix_total}
+use Rattle.hn_base.specs.Prefix.{PlainPrefix, prefix_cmp}
 use Rattle.hn_own.specs.declared.own_prefixes.OwnPrefix.{OwnPrefix}
 use Rattle.hn_own.proofs.PrefixLists.{own_cmp, is_prefix-cmp, is_before-less}
 use Rattle.hn_own.specs.OwnPrefixes.{AreOwnPrefixes, is_prefix, is_delegated, may_delegate, is_before, delegated_with}

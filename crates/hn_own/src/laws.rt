@@ -1,9 +1,11 @@
-//! Laws of a router's own delegated prefixes and node data. Each is the contract of a function that does nothing: call it to know its law.
+//! Laws of a router's endpoints, own delegated prefixes and node data. Each is the contract of a function that does
+//! nothing: call it to know its law.
 
-ghost use Rattle.std.specs.Prelude.{◌≡◌, Bool, true, List, filter};
+ghost use Rattle.std.specs.Prelude.{◌≡◌, Bool, true, List, [], filter};
 ghost use Rattle.hn_own.specs.declared.own_prefixes.OwnPrefix.{OwnPrefix};
 ghost use Rattle.hn_own.specs.Own.{PlainData, IsOwnData};
 ghost use Rattle.hn_own.specs.OwnPrefixes.{AreOwnPrefixes, may_delegate, delegated_with};
+ghost use Rattle.hn_own.specs.Ports.{ArePorts};
 
 use hn_data::ascending_set_is_unique;
 
@@ -13,6 +15,12 @@ pub fn own_data_is_unique()
 {
     ascending_set_is_unique();
 }
+
+/// No endpoints are endpoints of a router, and no prefixes are own delegated prefixes.
+pub fn none_are_well()
+    ensures endpoints { ArePorts [] }
+    ensures prefixes { AreOwnPrefixes [] }
+{}
 
 /// Own delegated prefixes stay such where one is added that may be, and where only some of them stay.
 pub fn own_prefixes_stay()

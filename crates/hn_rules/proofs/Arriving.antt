@@ -2,7 +2,7 @@
 use Rattle.std.proofs.Common.{◌≡◌, ◌≤◌, ◌∙◌, ℕ, Bool, true, false, cond, List, [], ◌∷◌, ◌++◌, length, take, Option, Some, None, ap, refl, subst, sym}
 use Rattle.std.specs.Prelude.{◌==◌, is_some}
 use Rattle.std.proofs.lemmas.Bool.{cond_both}
-use Rattle.hn_io.specs.Words.{Drew}
+use Rattle.hn_base.specs.Words.{Drew}
 use Rattle.hn_base.specs.declared.ids.NodeId.{NodeId}
 use Rattle.hn_base.specs.declared.ids.EpId.{EpId}
 use Rattle.hn_dncp.specs.declared.port.Port.{Port}
@@ -12,6 +12,7 @@ use Rattle.hn_dncp.specs.Greet.{greeting}
 use Rattle.hn_dncp.specs.Ask.{may_ask, asked}
 use Rattle.hn_tlv.specs.Grammar.{PlainTlv, IsTlvList, IsTlvAt}
 use Rattle.hn_typed.specs.Item.{PlainItem}
+use Rattle.hn_own.specs.Ports.{port_at}
 use Rattle.hn_rules.specs.declared.answers.Subject.{Subject}
 use Rattle.hn_rules.specs.declared.answers.Subject.TheVariants as subject
 use Rattle.hn_typed.specs.Item as item
@@ -21,11 +22,12 @@ use Rattle.hn_rules.specs.Answers.{with_answer}
 use Rattle.hn_rules.specs.Requests.{state_item, with_some_answer, with_state, IsNetworkRequest}
 use Rattle.hn_rules.specs.declared.done.Note.TheVariants.{Ignored}
 use Rattle.hn_rules.specs.Claim.{IsFirstFree, IsSecondClaim}
-use Rattle.hn_rules.specs.Rules.{Then, AtPort, Ran, noted, with_port, with_words}
+use Rattle.hn_base.specs.Rules.{Then}
+use Rattle.hn_rules.specs.Rules.{AtPort, Ran, noted, with_port, with_words, words_of}
 use Rattle.hn_rules.specs.NodeEndpoint.{met, greeting_port, named, node_endpoint}
 use Rattle.hn_rules.specs.Refresh.{Publishes, IsRefresh}
 use Rattle.hn_rules.specs.Arrival.{IsTlvRule, IsTlvs, IsAnswering, IsArrival}
-use Rattle.hn_rules.proofs.Rans.{ran_plain, ran_both, ran_more, each_words, at_port_words}
+use Rattle.hn_base.proofs.Rans.{ran_plain, ran_both, ran_more, each_words, on_some_words}
 
 pub some_answer_words : (about : Subject) (item : Option PlainItem) (r : Running) → (with_some_answer about item r).done.words ≡ r.done.words
 some_answer_words about None r = refl
@@ -34,8 +36,8 @@ some_answer_words about (Some item) r = refl
 -- a request for the network state takes no word
 pub ran_network_request : (told : Option (ℕ → ℕ)) (before after : Running) → IsNetworkRequest before after → Ran IsNetworkRequest told told before after
 ran_network_request told before after holds =
-    ran_plain IsNetworkRequest told before after holds
-    (each_words (λ id b a. a ≡ with_state id b) before.state.reach (with_answer subject.NetworkState (item.NetworkState before.state.net []) before) after
+    ran_plain words_of IsNetworkRequest told before after holds
+    (each_words words_of (λ id b a. a ≡ with_state id b) before.state.reach (with_answer subject.NetworkState (item.NetworkState before.state.net []) before) after
     (λ id b a is. ap (λ (r : Running). r.done.words) is ∙ some_answer_words (subject.NodeState id) (state_item false b.state id) b) holds)
 
 -- a Node Endpoint takes no word
@@ -63,8 +65,8 @@ pub ran_node_endpoint : (from : Origin) (node : NodeId) (endpoint : EpId) (told 
     → AtPort from.endpoint (λ port b a. a ≡ node_endpoint from node endpoint port b) before after
     → Ran (AtPort from.endpoint (λ port b a. a ≡ node_endpoint from node endpoint port b)) told told before after
 ran_node_endpoint from node endpoint told before after holds =
-    ran_plain (AtPort from.endpoint (λ port b a. a ≡ node_endpoint from node endpoint port b)) told before after holds
-    (at_port_words (λ port b a. a ≡ node_endpoint from node endpoint port b) from.endpoint before after
+    ran_plain words_of (AtPort from.endpoint (λ port b a. a ≡ node_endpoint from node endpoint port b)) told before after holds
+    (on_some_words words_of (λ port b a. a ≡ node_endpoint from node endpoint port b) (port_at from.endpoint before.state.ports) before after
     (λ port b a is. ap (λ (r : Running). r.done.words) is ∙ node_endpoint_words from node endpoint port b) holds)
 
 -- the second claim takes one word
@@ -98,10 +100,10 @@ read_more from bytes place next tlv told told_between told_after before between 
   within = here.within;
   seen = read.seen ++ tlv ∷ [];
   list = grows read.seen read.list;
-  ran = ran_more (λ tlv. Then (IsTlvRule from tlv) IsRefresh) read.seen tlv told told_between told_after before between after read.ran ran;
+  ran = ran_more words_of (λ tlv. Then (IsTlvRule from tlv) IsRefresh) read.seen tlv told told_between told_after before between after read.ran ran;
 }
 
 -- the TLVs of a datagram, and then the answers, which take no word
 pub ran_arrival : (from : Origin) (tlvs : List PlainTlv) (told told_after : Option (ℕ → ℕ)) (before read after : Running) → Ran (IsTlvs from tlvs) told told_after before read → IsAnswering from read after → Ran (IsArrival from tlvs) told told_after before after
 ran_arrival from tlvs told told_after before read after ran answering =
-    ran_both (IsTlvs from tlvs) (IsAnswering from) told told_after told_after before read after ran (ran_plain (IsAnswering from) told_after read after answering (ap (λ (r : Running). r.done.words) answering.gives))
+    ran_both words_of (IsTlvs from tlvs) (IsAnswering from) told told_after told_after before read after ran (ran_plain words_of (IsAnswering from) told_after read after answering (ap (λ (r : Running). r.done.words) answering.gives))

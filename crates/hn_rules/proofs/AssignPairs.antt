@@ -1,9 +1,12 @@
 -- What is asked for attached endpoints, and what the subroutine makes of it.
 use Rattle.std.proofs.Common.{◌≡◌, ◌↔◌, ℕ, List, Contains, Result, Ok, Err, sym, subst}
 use Rattle.std.specs.Prelude.{All, IfOk}
+use Rattle.std.specs.Cmp.{IsTotalOrder}
 use Rattle.std.proofs.lemmas.List.Elements.{All-contains}
 use Rattle.hn_base.specs.declared.ids.EpId.{EpId}
+use Rattle.hn_base.proofs.Keys.{id_is_found, found_is_id}
 use Rattle.hn_base.specs.declared.memory.NoMemory.{NoMemory}
+use Rattle.hn_base.specs.Ascending.{IsExact}
 use Rattle.hn_data.specs.View.{PlainView}
 use Rattle.hn_deleg.specs.declared.delegated.Delegated.{Delegated}
 use Rattle.hn_deleg.specs.Used.{AreUsable}
@@ -12,7 +15,7 @@ use Rattle.hn_assign.specs.declared.assigned.Wish.{Wish}
 use Rattle.hn_assign.specs.declared.held.Held.{Held}
 use Rattle.hn_assign.specs.declared.held.Ran.{Ran}
 use Rattle.hn_assign.specs.Facts.{AreWishes, IsInDelegated, HasOwnPriority}
-use Rattle.hn_assign.specs.Pair.{assigned_pair, backoff_pair, IsAscending, IsWished}
+use Rattle.hn_assign.specs.Pair.{assigned_pair, backoff_pair, pair_cmp, IsAscending, IsWished}
 use Rattle.hn_assign.specs.Subroutine.{IsSubroutine}
 use Rattle.hn_own.specs.HeldPairs.{AreHeldPairs}
 use Rattle.hn_own.specs.Ports.{ArePorts, endpoints_of}
@@ -20,7 +23,6 @@ use Rattle.hn_rules.specs.declared.state.State.{State}
 use Rattle.hn_rules.specs.Seen.{seen_by}
 use Rattle.hn_rules.specs.Assigning.{IsWishAt, AreAsked, IsAssigned}
 use Rattle.hn_rules.proofs.LawPairs.{wished_few}
-use Rattle.hn_own.proofs.AttachedPorts.{attached_is_port, port_is_attached}
 
 -- ---- what is asked
 
@@ -32,9 +34,9 @@ are_asked view usable ports endpoints wishes are same exact = record {
     λ there. let found = (exact wish).0 there in record {
       place = found.0;
       asked = found.1;
-      attached = port_is_attached ports wish.endpoint (subst (λ (es : List EpId). Contains es wish.endpoint) same found.2);
+      attached = id_is_found (λ (p : Port). p.id) ports wish.endpoint (subst (λ (es : List EpId). Contains es wish.endpoint) same found.2);
     },
-    λ is. (exact wish).1 (is.place, is.asked, subst (λ (es : List EpId). Contains es wish.endpoint) (sym same) (attached_is_port ports wish.endpoint is.attached)),
+    λ is. (exact wish).1 (is.place, is.asked, subst (λ (es : List EpId). Contains es wish.endpoint) (sym same) (found_is_id (λ (p : Port). p.id) ports wish.endpoint is.attached)),
   );
 }
 
@@ -55,14 +57,14 @@ assigned_of s view usable wishes held (Ok ran) same_view same_held are asked run
   is_subroutine = subst (λ (h : Held). IsSubroutine (seen_by s) wishes h ran) same_held (subst (λ (v : PlainView). IsSubroutine v wishes held ran) same_view run);
 }
 
-pub kept_of : LeavesWished → (s : State) (r : Result Ran NoMemory) → ArePorts s.ports → IfOk r (IsAssigned s)
+pub kept_of : IsTotalOrder pair_cmp → IsExact pair_cmp → LeavesWished → (s : State) (r : Result Ran NoMemory) → ArePorts s.ports → IfOk r (IsAssigned s)
     → IfOk r (λ ran. IsAscending assigned_pair ran.held.assigned × IsAscending backoff_pair ran.held.backoffs)
     → IfOk r (λ ran. All IsInDelegated ran.held.assigned) → IfOk r (λ ran. All HasOwnPriority ran.held.assigned) → IfOk r (λ ran. AreHeldPairs ran.held)
-kept_of leaves s (Err e) ports is up inside priority = tt
-kept_of leaves s (Ok ran) ports is up inside priority = record {
+kept_of total exact leaves s (Err e) ports is up inside priority = tt
+kept_of total exact leaves s (Ok ran) ports is up inside priority = record {
   assigned = up.0;
   backoffs = up.1;
-  few = wished_few (seen_by s) is.usable s.ports is.wishes is.are_asked assigned_pair ran.held.assigned is.are_usable.few ports.few up.0
+  few = wished_few (seen_by s) is.usable s.ports is.wishes is.are_asked assigned_pair total exact ran.held.assigned is.are_usable.few ports.few up.0
       (λ c there. All-contains (λ c. IsWished is.wishes (assigned_pair c)) ran.held.assigned c (leaves (seen_by s) is.wishes s.held ran is.is_subroutine) there);
   inside = inside;
   priority = priority;

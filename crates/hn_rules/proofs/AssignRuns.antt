@@ -8,7 +8,7 @@ use Rattle.std.proofs.Math.Bool.{beq}
 use Rattle.std.proofs.lemmas.Bool.Decides.{Decides-and, Decides-like, Decides-eqb}
 use Rattle.std.proofs.lemmas.Slice.Eq.{slice_eq-Decides}
 use Rattle.hn_base.proofs.Decisions.{option_decided}
-use Rattle.hn_io.specs.Words.{Drew, Took}
+use Rattle.hn_base.specs.Words.{Drew, Took}
 use Rattle.hn_assign.specs.declared.assigned.Assigned.{Assigned}
 use Rattle.hn_assign.specs.declared.held.Held.{Held}
 use Rattle.hn_assign.specs.declared.held.Ran.{Ran as Left}
@@ -17,7 +17,7 @@ use Rattle.hn_rules.specs.declared.state.State.{State}
 use Rattle.hn_rules.specs.Assigning.{IsAssigned, IsAssigning}
 use Rattle.hn_rules.specs.Rules.{Ran, with_words}
 use Rattle.hn_rules.specs.Router.{IsRefreshed}
-use Rattle.hn_prefix.proofs.Prefixes.{is_one_prefix, prefix_decided}
+use Rattle.hn_base.proofs.Prefixes.{is_one_prefix, prefix_decided}
 
 -- ---- when assignments are the same
 

@@ -28,7 +28,8 @@ use Rattle.hn_rules.specs.declared.answers.Subject.{Subject}
 use Rattle.hn_rules.specs.declared.answers.Subject.TheVariants as subject
 use Rattle.hn_rules.specs.Answers.{with_answer}
 use Rattle.hn_own.specs.Ports.{is_port, put_port, endpoints_of}
-use Rattle.hn_rules.specs.Rules.{Rule, Then, Each, AtPort, noted, with_port}
+use Rattle.hn_base.specs.Rules.{Then, Each}
+use Rattle.hn_rules.specs.Rules.{Rule, AtPort, noted, with_port}
 use Rattle.hn_rules.specs.Refresh.{Publishes, next_number, IsPublishing, IsReaching, network_state_hash, IsPortReset, IsHashing, IsRefresh}
 use Rattle.hn_rules.specs.NodeEndpoint.{asking, met, greeting_port, named, node_endpoint}
 use Rattle.hn_rules.specs.Requests.{with_some_answer, state_item, with_state, is_reached, request_node, IsNetworkRequest}

@@ -1,13 +1,15 @@
 -- Assignments and backoffs stay what a router holds when prefixes are assigned.
 use Rattle.std.proofs.Common.{List, sym, subst}
 use Rattle.std.specs.Prelude.{All}
+use Rattle.std.specs.Cmp.{IsTotalOrder}
 use Rattle.std.proofs.lemmas.List.Elements.{All-contains}
+use Rattle.hn_base.specs.Ascending.{IsExact}
 use Rattle.hn_data.specs.View.{PlainView}
 use Rattle.hn_assign.specs.declared.assigned.Wish.{Wish}
 use Rattle.hn_assign.specs.declared.held.Held.{Held}
 use Rattle.hn_assign.specs.declared.held.Ran.{Ran as Assigned}
 use Rattle.hn_assign.specs.Facts.{IsInDelegated, HasOwnPriority, IsPast}
-use Rattle.hn_assign.specs.Pair.{IsAscending, IsWished, assigned_pair, backoff_pair}
+use Rattle.hn_assign.specs.Pair.{IsAscending, IsWished, assigned_pair, backoff_pair, pair_cmp}
 use Rattle.hn_assign.specs.Subroutine.{IsSubroutine}
 use Rattle.hn_own.specs.Ports.{ArePorts}
 use Rattle.hn_rules.specs.declared.state.State.{State}
@@ -18,7 +20,7 @@ use Rattle.hn_rules.proofs.LawPairs.{wished_few}
 use Rattle.hn_rules.proofs.Parts.{AreHeldWell, made_from, well_from}
 use Rattle.hn_rules.proofs.Wells.{Made}
 
--- the laws of the subroutine on which it rests
+-- the laws of the subroutine, and of the order of pairs, on which it rests
 pub record AssignLaws : Type 0 where
   pub inside : (view : PlainView) (wishes : List Wish) (held : Held) (ran : Assigned) → IsSubroutine view wishes held ran → All IsInDelegated held.assigned → All IsInDelegated ran.held.assigned
   pub past : (view : PlainView) (wishes : List Wish) (held : Held) (ran : Assigned) → IsSubroutine view wishes held ran → All (IsPast view.now) held.assigned → All (IsPast view.now) ran.held.assigned
@@ -26,6 +28,8 @@ pub record AssignLaws : Type 0 where
   pub assigned : (view : PlainView) (wishes : List Wish) (held : Held) (ran : Assigned) → IsSubroutine view wishes held ran → IsAscending assigned_pair ran.held.assigned
   pub backoffs : (view : PlainView) (wishes : List Wish) (held : Held) (ran : Assigned) → IsSubroutine view wishes held ran → IsAscending backoff_pair ran.held.backoffs
   pub wished : (view : PlainView) (wishes : List Wish) (held : Held) (ran : Assigned) → IsSubroutine view wishes held ran → All (λ c. IsWished wishes (assigned_pair c)) ran.held.assigned
+  pub pairs_total : IsTotalOrder pair_cmp
+  pub pairs_exact : IsExact pair_cmp
 
 module _ (laws : AssignLaws) where
   pub held-assigned : (s : State) (ran : Assigned) → IsAssigned s ran → ArePorts s.ports → AreHeldWell s.moment s.held → AreHeldWell s.moment ran.held
@@ -39,7 +43,7 @@ module _ (laws : AssignLaws) where
         are = record {
           assigned = ascending;
           backoffs = laws.backoffs view wishes s.held ran sub;
-          few = wished_few view is.usable s.ports wishes is.are_asked assigned_pair ran.held.assigned is.are_usable.few ports.few ascending
+          few = wished_few view is.usable s.ports wishes is.are_asked assigned_pair laws.pairs_total laws.pairs_exact ran.held.assigned is.are_usable.few ports.few ascending
               (λ c there. All-contains (λ c. IsWished wishes (assigned_pair c)) ran.held.assigned c wished there);
           inside = laws.inside view wishes s.held ran sub well.are.inside;
           priority = laws.priority view wishes s.held ran sub well.are.priority;

@@ -1,12 +1,14 @@
 -- Pairs of a delegated prefix and an endpoint, and those for which a router has a wish.
 use Rattle.std.proofs.Common.{◌≡◌, ◌≤◌, ◌*◌, ◌∙◌, List, [], ◌∷◌, length, map, ⊎_elim, sym, subst, arith, length-append}
 use Rattle.std.specs.Prelude.{Contains, flat_map}
+use Rattle.std.specs.Cmp.{IsTotalOrder}
 use Rattle.std.proofs.lemmas.Bool.{eqb-true}
 use Rattle.std.proofs.lemmas.List.{length-map}
 use Rattle.std.proofs.lemmas.List.Elements.{Contains-append_left, Contains-append_right}
 use Rattle.hn_base.proofs.AscendingLists.{Contains-cases, Contains-map, Contains-from_map, nothing_in, sorted_parts}
 use Rattle.hn_base.proofs.Keys.{same_id}
-use Rattle.hn_prefix.specs.Prefix.{PlainPrefix}
+use Rattle.hn_base.specs.Ascending.{IsExact}
+use Rattle.hn_base.specs.Prefix.{PlainPrefix}
 use Rattle.hn_data.specs.View.{PlainView}
 use Rattle.hn_deleg.specs.declared.delegated.Delegated.{Delegated}
 use Rattle.hn_dncp.specs.declared.port.Port.{Port}
@@ -16,7 +18,6 @@ use Rattle.hn_assign.specs.Pair.{pair_cmp, wish_pair, IsWished, IsAscending}
 use Rattle.hn_own.specs.Ports.{is_port}
 use Rattle.hn_base.proofs.Pigeonhole.{no_longer}
 use Rattle.hn_rules.specs.Assigning.{AreAsked}
-use Rattle.hn_assign.proofs.Orders.{pair_exact, pair_total}
 use Rattle.hn_base.proofs.Parts.{contains_at}
 use Rattle.hn_base.proofs.Elements.{found_there}
 
@@ -57,11 +58,12 @@ module _ (view : PlainView) (usable : List Delegated) (ports : List Port) (wishe
       subst (Contains (pairs_of usable ports)) (same ∙ is) (pair_there usable ports u found.0 (contains_at usable for.place u for.asked.at) found.1)
 
   -- so a list that has at most one element for each pair, and none for a pair without a wish, has at most 512 elements
-  pub wished_few : {A : Type 0} (pair_of : A → Pair) (xs : List A) → length usable ≤ 32 → length ports ≤ 16 → IsAscending pair_of xs → ((x : A) → Contains xs x → IsWished wishes (pair_of x)) → length xs ≤ 512
-  wished_few pair_of xs few_usable few_ports up all =
+  pub wished_few : {A : Type 0} (pair_of : A → Pair) → IsTotalOrder pair_cmp → IsExact pair_cmp → (xs : List A) → length usable ≤ 32 → length ports ≤ 16
+      → IsAscending pair_of xs → ((x : A) → Contains xs x → IsWished wishes (pair_of x)) → length xs ≤ 512
+  wished_few pair_of total exact xs few_usable few_ports up all =
       let pairs : List Pair = map pair_of xs in
       let each : (pair : Pair) → Contains pairs pair → Contains (pairs_of usable ports) pair =
       λ pair there. let from = Contains-from_map pair_of xs pair there in subst (Contains (pairs_of usable ports)) from.2 (wished_there (pair_of from.0) (all from.0 from.1))
       in
-      let no_more = no_longer pair_cmp pair_total pair_exact pairs (pairs_of usable ports) ((sorted_parts pair_of pair_cmp xs).0 up) each in
+      let no_more = no_longer pair_cmp total exact pairs (pairs_of usable ports) ((sorted_parts pair_of pair_cmp xs).0 up) each in
       omega (arith, length-map xs pair_of, pairs_few usable ports few_ports)

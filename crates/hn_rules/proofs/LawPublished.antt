@@ -1,9 +1,10 @@
 -- The Assigned-Prefixes of a router's node data are those of the assignments that it publishes.
-use Rattle.std.proofs.Common.{◌≡◌, ◌↔◌, ◌∙◌, ℕ, List, ◌++◌, map, refl, sym, ap, subst}
-use Rattle.std.specs.Prelude.{Contains}
+use Rattle.std.proofs.Common.{◌≡◌, ◌↔◌, ◌∙◌, ℕ, List, [], ◌++◌, map, refl, sym, ap, subst}
+use Rattle.std.specs.Prelude.{All, Contains}
 use Rattle.std.specs.List.{filter_map}
 use Rattle.std.proofs.lemmas.List.Elements.{All-contains, All-contains_itself, All-weaker, Contains-append_right}
 use Rattle.hn_base.proofs.AscendingLists.{Contains-tail, Contains-map, Contains-from_map}
+use Rattle.hn_base.specs.Byte.{IsByte}
 use Rattle.hn_tlv.specs.Grammar.{PlainTlv, IsTlv, IsTlvList, spelling}
 use Rattle.hn_typed.specs.Item.{PlainItem}
 use Rattle.hn_typed.specs.Table.{IsItem}
@@ -12,19 +13,21 @@ use Rattle.hn_data.specs.Items.{AreItems}
 use Rattle.hn_data.specs.Said.{assigned_of, HasAssigned}
 use Rattle.hn_data.specs.declared.said.AssignedPrefix.{AssignedPrefix}
 use Rattle.hn_own.specs.declared.own.OwnItems.{OwnItems}
+use Rattle.hn_own.specs.declared.own_prefixes.OwnPrefix.{OwnPrefix}
 use Rattle.hn_own.specs.Own.{PlainData, IsOwnData, peer_item, external_items, assigned_item, items_of}
 use Rattle.hn_rules.specs.Laws.{AssignedIsPublished, ItemsArePublished}
-use Rattle.hn_base.proofs.Elements.{in_filter_map, from_filter_map, all_given, none_given}
+use Rattle.hn_base.proofs.Elements.{in_filter_map, from_filter_map, all_given, none_given, given_by_parts, none_or_some}
 use Rattle.hn_rules.proofs.LawSpelled.{AreRead, encoding, own_fit, are_read, same_encoded}
-use Rattle.hn_own.proofs.ItemLists.{by_parts, none_external}
 
 -- ---- the Assigned-Prefixes among own items
 
 assigned_among : (now : ℕ) (own : OwnItems) → filter_map assigned_of (items_of now own) ≡ own.assigned
 assigned_among now own =
     let links = none_given assigned_of peer_item (λ _. refl) own.links in
-    let external = none_external assigned_of (λ _. refl) now own.delegated in
-    by_parts assigned_of now own ∙ rw (links, external) (all_given assigned_of assigned_item (λ _. refl) own.assigned)
+    let external : filter_map assigned_of (external_items now own.delegated) ≡ [] =
+    none_or_some (λ (list : List OwnPrefix). filter_map assigned_of (external_items now list) ≡ []) refl (λ p ps. refl) own.delegated in
+    let parts = given_by_parts assigned_of (map peer_item own.links) (external_items now own.delegated) (map assigned_item own.assigned) in
+    parts ∙ rw (links, external) (all_given assigned_of assigned_item (λ _. refl) own.assigned)
 
 assigned_there : (now : ℕ) (own : OwnItems) (a : AssignedPrefix) → Contains own.assigned a → Contains (items_of now own) (assigned_item a)
 assigned_there now own a there =
@@ -36,6 +39,7 @@ assigned_there now own a there =
 
 -- the laws of TLVs, of items and of node data on which it rests
 pub record ReadLaws : Type 0 where
+  pub of_bytes : (tlvs : List PlainTlv) (bytes : List ℕ) → IsTlvList tlvs bytes → All IsByte bytes
   pub same_begin : (t u : PlainTlv) (x y : List ℕ) → IsTlv t → IsTlv u → spelling t ++ x ≡ spelling u ++ y → (t ≡ u) × (x ≡ y)
   pub same_item : (tlv : PlainTlv) (item other : PlainItem) → IsItem tlv item → IsItem tlv other → item ≡ other
   pub written_is_item : (item : PlainItem) → IsWritable item → IsItem (tlv_of item) item
@@ -48,7 +52,7 @@ module _ (laws : ReadLaws) (own : PlainData) (is : IsOwnData own) where
   read_is : AreRead items is.encoded.ascending
   read_is =
       let ascending = is.encoded.ascending in
-      are_read laws.same_begin laws.same_item laws.written_is_item items is.writable (own_fit own.born own.items) ascending
+      are_read laws.same_begin laws.same_item laws.written_is_item items is.writable (own_fit laws.of_bytes own.born own.items) ascending
       (All-weaker (Contains ascending) (Contains (map encoding items)) (λ piece there. (is.encoded.same piece).0 there) ascending (All-contains_itself ascending))
 
   are_items : AreItems own.body read_is.read
@@ -66,7 +70,7 @@ module _ (laws : ReadLaws) (own : PlainData) (is : IsOwnData own) where
       let piece : Contains is.encoded.ascending (encoding item) = (is.encoded.same (encoding item)).1 (Contains-map encoding items item there) in
       let from = Contains-from_map encoding read_is.read (encoding item) (subst (λ (pieces : List (List ℕ)). Contains pieces (encoding item)) (sym read_is.encoded) piece) in
       let among : Contains items from.0 = All-contains (Contains items) read_is.read from.0 read_is.of_items from.1 in
-      let same : from.0 ≡ item = same_encoded laws.same_begin laws.same_item laws.written_is_item items is.writable (own_fit own.born own.items) from.0 item among there from.2 in
+      let same : from.0 ≡ item = same_encoded laws.same_begin laws.same_item laws.written_is_item items is.writable (own_fit laws.of_bytes own.born own.items) from.0 item among there from.2 in
       subst (Contains read_is.read) same from.1
 
   pub assigned_in : (a : AssignedPrefix) → HasAssigned own.body a ↔ Contains own.items.assigned a

@@ -20,7 +20,6 @@ use Rattle.hn_own.specs.declared.own.OwnItems.{OwnItems}
 use Rattle.hn_own.specs.declared.own_prefixes.OwnPrefix.{OwnPrefix}
 use Rattle.hn_own.specs.Own.{peer_item, external_items, assigned_item, items_of}
 use Rattle.hn_base.specs.Byte.{IsByte}
-use Rattle.hn_tlv.proofs.SpelledBytes.{list_bytes}
 
 -- ---- own items
 
@@ -55,14 +54,6 @@ peer_fit link is =
           (All-append IsByte (peer ++ there) here (All-append IsByte peer there (number_bytes 4 link.peer.0) (number_bytes 4 link.peer_endpoint.0)) (number_bytes 4 link.endpoint.0)) none) none;
     }
 
-external_fit : (subs : List ℕ) → IsFit (External subs)
-external_fit [] is = record { kind_fits = omega arith; length_fits = omega arith; bytes = All-nil IsByte }
-external_fit (byte ∷ subs) is = record {
-  kind_fits = omega arith;
-  length_fits = let short = is.short in omega arith;
-  bytes = list_bytes is.tlvs_after.0 (byte ∷ subs) is.tlvs_after.1;
-}
-
 assigned_fit : (a : AssignedPrefix) → IsFit (assigned_item a)
 assigned_fit a is =
     let endpoint = word a.endpoint.0 in
@@ -81,19 +72,29 @@ assigned_fit a is =
           (All-append IsByte (endpoint ++ after) [] (All-append IsByte endpoint after (number_bytes 4 a.endpoint.0) (All-cons IsByte (16 * 0 + a.priority) (prefix_field a.prefix) priority field)) none) none;
     }
 
-externals_fit : (now : ℕ) (list : List OwnPrefix) → All IsFit (external_items now list)
-externals_fit now [] = All-nil IsFit
-externals_fit now (p ∷ ps) = All-cons IsFit (External _) [] (external_fit _) (All-nil IsFit)
+-- the law that a list of TLVs is one of bytes
+module _ (of_bytes : (tlvs : List PlainTlv) (bytes : List ℕ) → IsTlvList tlvs bytes → All IsByte bytes) where
+  external_fit : (subs : List ℕ) → IsFit (External subs)
+  external_fit [] is = record { kind_fits = omega arith; length_fits = omega arith; bytes = All-nil IsByte }
+  external_fit (byte ∷ subs) is = record {
+    kind_fits = omega arith;
+    length_fits = let short = is.short in omega arith;
+    bytes = of_bytes is.tlvs_after.0 (byte ∷ subs) is.tlvs_after.1;
+  }
 
-pub own_fit : (now : ℕ) (own : OwnItems) → All IsFit (items_of now own)
-own_fit now own =
-    let links = map peer_item own.links in
-    let external = external_items now own.delegated in
-    let assigned = map assigned_item own.assigned in
-    All-cons IsFit (Version (plain_caps own.caps) (codes "hncp")) ((links ++ external) ++ assigned) (version_fit (plain_caps own.caps))
-    (All-append IsFit (links ++ external) assigned
-    (All-append IsFit links external (All-map IsFit peer_item own.links (λ k d within. peer_fit (get_or own.links k d))) (externals_fit now own.delegated))
-    (All-map IsFit assigned_item own.assigned (λ k d within. assigned_fit (get_or own.assigned k d))))
+  externals_fit : (now : ℕ) (list : List OwnPrefix) → All IsFit (external_items now list)
+  externals_fit now [] = All-nil IsFit
+  externals_fit now (p ∷ ps) = All-cons IsFit (External _) [] (external_fit _) (All-nil IsFit)
+
+  pub own_fit : (now : ℕ) (own : OwnItems) → All IsFit (items_of now own)
+  own_fit now own =
+      let links = map peer_item own.links in
+      let external = external_items now own.delegated in
+      let assigned = map assigned_item own.assigned in
+      All-cons IsFit (Version (plain_caps own.caps) (codes "hncp")) ((links ++ external) ++ assigned) (version_fit (plain_caps own.caps))
+      (All-append IsFit (links ++ external) assigned
+      (All-append IsFit links external (All-map IsFit peer_item own.links (λ k d within. peer_fit (get_or own.links k d))) (externals_fit now own.delegated))
+      (All-map IsFit assigned_item own.assigned (λ k d within. assigned_fit (get_or own.assigned k d))))
 
 -- ---- pieces that are the encodings of some of the items
 

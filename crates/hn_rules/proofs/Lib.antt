@@ -2,7 +2,7 @@ mod Arriving
 mod AssignPairs
 mod AssignRuns
 mod Endpoints
-pub mod Entries
+mod Entries
 mod Finding
 mod Forgetting
 mod FreeIds
@@ -17,13 +17,12 @@ mod NodeLists
 mod OneResults
 mod Parts
 mod PortFacts
-pub mod Rans
+mod AtPorts
 mod Recent
 mod Refreshes
 mod Refreshing
 mod Restarting
 mod Routers
-pub mod Sole
 mod Ticking
 mod Touched
 mod Wells

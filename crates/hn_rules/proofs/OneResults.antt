@@ -2,6 +2,7 @@
 use Rattle.std.proofs.Common.{◌≡◌, ◌∙◌, ◌<◌, ◌+◌, ◌%◌, ◌^◌, ℕ, Bool, true, false, List, [], ◌∷◌, ◌++◌, Some, None, length, map, slice_index, if◌then◌else◌, ap, refl, sym, subst, inl, inr, arith}
 use Rattle.std.specs.Prelude.{◌≢◌, ◌↔◌, Contains, IsTrue}
 use Rattle.std.specs.Str.{bytes_eq}
+use Rattle.std.specs.Cmp.{IsTotalOrder}
 use Rattle.std.specs.Ordering.{on}
 use Rattle.std.proofs.lemmas.Bool.{cases_lt}
 use Rattle.std.proofs.lemmas.Cmp.{on_total}
@@ -10,7 +11,7 @@ use Rattle.hn_base.specs.NodeIds.{node_cmp}
 use Rattle.hn_base.specs.declared.ids.NodeId.{NodeId}
 use Rattle.hn_base.specs.declared.ids.EpId.{EpId}
 use Rattle.hn_base.proofs.AscendingLists.{ascending_unique}
-use Rattle.hn_io.specs.Words.{Begins}
+use Rattle.hn_base.specs.Words.{Begins}
 use Rattle.hn_tlv.specs.Grammar.{PlainTlv, spelling, IsTlvList, HasTlvs, FirstFault}
 use Rattle.hn_typed.specs.Item.{PlainItem}
 use Rattle.hn_typed.specs.Item as item
@@ -44,9 +45,10 @@ use Rattle.hn_rules.specs.declared.running.Origin.{Origin}
 use Rattle.hn_rules.specs.declared.done.Note.TheVariants as note
 use Rattle.hn_rules.specs.declared.answers.Subject.TheVariants as subject
 use Rattle.hn_own.specs.Own.{PlainData, IsOwnData}
-use Rattle.hn_own.specs.Ports.{endpoints_of, attached}
+use Rattle.hn_own.specs.Ports.{endpoints_of, port_at, attached}
 use Rattle.hn_rules.specs.Nodes.{IsReach, own_leaf}
-use Rattle.hn_rules.specs.Rules.{Then, Each, AtPort, with_words, with_port, noted, IsSole}
+use Rattle.hn_base.specs.Rules.{Then, Each}
+use Rattle.hn_rules.specs.Rules.{Rule, AtPort, with_words, with_port, noted, IsSole, words_of}
 use Rattle.hn_rules.specs.Refresh.{Publishes, IsPublished, next_number, IsPublishing, IsReaching, IsHashing, IsPortReset, IsReset, IsRefresh, network_state_hash}
 use Rattle.hn_rules.specs.Answers.{with_answer}
 use Rattle.hn_rules.specs.Assigning.{AreAsked, IsAssigned, IsAssigning}
@@ -60,10 +62,9 @@ use Rattle.hn_rules.specs.NodeState.{took_noted, IsTaken, IsNodeState}
 use Rattle.hn_rules.specs.Arrival.{IsItemRule, IsTlvRule, IsTlvs, IsAnswering, IsArrival}
 use Rattle.hn_rules.specs.Tick.{IsExpired, Without, IsPortExpiry, IsExpiry, IsStateSending, IsPortMoving, IsPortSending, IsPortTick, IsPortsTick}
 use Rattle.hn_rules.specs.Events.{IsAttaching, IsPortRestart, emptied, IsRestarting}
-use Rattle.hn_assign.proofs.Orders.{pair_total}
-use Rattle.hn_base.proofs.FirstWords.{begins_front}
+use Rattle.hn_base.proofs.FirstWords.{begins_front, begins_back, begins_along}
 use Rattle.hn_rules.proofs.Arriving.{some_answer_words, node_endpoint_words}
-use Rattle.hn_rules.proofs.Sole.{begins_back, begins_along, sole_drawn, sole_given, sole_plain, sole_both, sole_each, sole_word, sole_from, sole_start, sole_after, sole_at, sole_or, sole_where, sole_some}
+use Rattle.hn_base.proofs.Soles.{sole_drawn, sole_given, sole_plain, sole_both, sole_each, sole_word, sole_from, sole_start, sole_after, sole_on, sole_or, sole_where, sole_some}
 
 -- the laws of the crates below on which it rests
 pub record HasLaws : Type 0 where
@@ -80,6 +81,11 @@ pub record HasLaws : Type 0 where
   pub one_usable : (view : PlainView) (a b : List Delegated) → AreUsable view a → AreUsable view b → a ≡ b
   pub one_subroutine : (view : PlainView) (wishes : List Wish) (held : Held) (a b : Assigned) (stream : ℕ → ℕ) → IsSubroutine view wishes held a → IsSubroutine view wishes held b
       → Begins a.words stream → Begins b.words stream → a ≡ b
+  pub pairs_total : IsTotalOrder pair_cmp
+
+-- the rule of an endpoint
+sole_at : (at : EpId) (rule : Port → Rule) → ((port : Port) → IsSole (rule port)) → IsSole (AtPort at rule)
+sole_at at = sole_on words_of (λ r. port_at at r.state.ports)
 
 -- ---- a refresh
 
@@ -97,13 +103,13 @@ published_words : (number : ℕ) (r a : Running) → Publishes number r a → a.
 published_words number r a h = ap (λ (x : Running). x.done.words) h.gives
 
 sole_publishes : HasLaws → (number : ℕ) → IsSole (Publishes number)
-sole_publishes laws number = sole_given (Publishes number) (published_words number) (one_published laws number)
+sole_publishes laws number = sole_given words_of (Publishes number) (published_words number) (one_published laws number)
 
 sole_publishing : HasLaws → IsSole IsPublishing
 sole_publishing laws =
-    sole_or (λ r a. IsPublished r.state × (a ≡ r)) (λ r a. ¬ (IsPublished r.state) × Publishes (next_number r.state.number) r a)
-    (sole_where (λ r. IsPublished r.state) (λ r a. a ≡ r) (sole_plain (λ r. r) (λ r. refl)))
-    (sole_where (λ r. ¬ (IsPublished r.state)) (λ r a. Publishes (next_number r.state.number) r a) (sole_start (λ s. Publishes (next_number s.state.number)) (λ s. sole_publishes laws (next_number s.state.number))))
+    sole_or words_of (λ r a. IsPublished r.state × (a ≡ r)) (λ r a. ¬ (IsPublished r.state) × Publishes (next_number r.state.number) r a)
+    (sole_where words_of (λ r. IsPublished r.state) (λ r a. a ≡ r) (sole_plain words_of (λ r. r) (λ r. refl)))
+    (sole_where words_of (λ r. ¬ (IsPublished r.state)) (λ r a. Publishes (next_number r.state.number) r a) (sole_start words_of (λ s. Publishes (next_number s.state.number)) (λ s. sole_publishes laws (next_number s.state.number))))
     (λ r a b h k. k.0 h.0)
 
 one_reach : HasLaws → (s : State) (xs ys : List NodeId) → IsReach s xs → IsReach s ys → xs ≡ ys
@@ -111,30 +117,30 @@ one_reach laws s xs ys a b = laws.one_order xs ys a.ascending b.ascending (λ id
 
 sole_reaching : HasLaws → IsSole IsReaching
 sole_reaching laws =
-    sole_given IsReaching (λ r a h. ap (λ (x : Running). x.done.words) h.gives)
+    sole_given words_of IsReaching (λ r a h. ap (λ (x : Running). x.done.words) h.gives)
     (λ r a b h k. h.gives ∙ ap (λ (reach : List NodeId). record r { state = record r.state { reach = reach; table = marked reach r.state.moment r.state.table } }) (one_reach laws r.state h.reach k.reach h.is_reach k.is_reach) ∙ sym k.gives)
 
 sole_port_reset : (port : Port) → IsSole (IsPortReset port)
 sole_port_reset port =
     let reset : ℕ → Running → Running = λ word r. with_words (word ∷ []) (with_port (record port { trickle = started r.state.moment 200 word }) r) in
-    sole_or (λ r a. (port.trickle.len ≡ 200) × (a ≡ r)) (λ r a. (port.trickle.len ≢ 200) × ((word : ℕ) × (a ≡ reset word r)))
-    (sole_where (λ r. port.trickle.len ≡ 200) (λ r a. a ≡ r) (sole_plain (λ r. r) (λ r. refl)))
-    (sole_where (λ r. port.trickle.len ≢ 200) (λ r a. (word : ℕ) × (a ≡ reset word r)) (sole_word reset (λ word r. refl)))
+    sole_or words_of (λ r a. (port.trickle.len ≡ 200) × (a ≡ r)) (λ r a. (port.trickle.len ≢ 200) × ((word : ℕ) × (a ≡ reset word r)))
+    (sole_where words_of (λ r. port.trickle.len ≡ 200) (λ r a. a ≡ r) (sole_plain words_of (λ r. r) (λ r. refl)))
+    (sole_where words_of (λ r. port.trickle.len ≢ 200) (λ r a. (word : ℕ) × (a ≡ reset word r)) (sole_word words_of reset (λ word r. refl)))
     (λ r a b h k. k.0 h.0)
 
 sole_reset : IsSole IsReset
-sole_reset = sole_start (λ s. Each (λ at. AtPort at IsPortReset) (endpoints_of s.state.ports)) (λ s. sole_each (λ at. AtPort at IsPortReset) (λ at. sole_at at IsPortReset sole_port_reset) (endpoints_of s.state.ports))
+sole_reset = sole_start words_of (λ s. Each (λ at. AtPort at IsPortReset) (endpoints_of s.state.ports)) (λ s. sole_each words_of (λ at. AtPort at IsPortReset) (λ at. sole_at at IsPortReset sole_port_reset) (endpoints_of s.state.ports))
 
 sole_hashing : IsSole IsHashing
 sole_hashing =
-    sole_or (λ r a. (network_state_hash r.state ≡ r.state.net) × (a ≡ r)) (λ r a. (network_state_hash r.state ≢ r.state.net) × IsReset (record r { state = record r.state { net = network_state_hash r.state } }) a)
-    (sole_where (λ r. network_state_hash r.state ≡ r.state.net) (λ r a. a ≡ r) (sole_plain (λ r. r) (λ r. refl)))
-    (sole_where (λ r. network_state_hash r.state ≢ r.state.net) (λ r a. IsReset (record r { state = record r.state { net = network_state_hash r.state } }) a)
-    (sole_after (λ r. record r { state = record r.state { net = network_state_hash r.state } }) IsReset (λ r. refl) sole_reset))
+    sole_or words_of (λ r a. (network_state_hash r.state ≡ r.state.net) × (a ≡ r)) (λ r a. (network_state_hash r.state ≢ r.state.net) × IsReset (record r { state = record r.state { net = network_state_hash r.state } }) a)
+    (sole_where words_of (λ r. network_state_hash r.state ≡ r.state.net) (λ r a. a ≡ r) (sole_plain words_of (λ r. r) (λ r. refl)))
+    (sole_where words_of (λ r. network_state_hash r.state ≢ r.state.net) (λ r a. IsReset (record r { state = record r.state { net = network_state_hash r.state } }) a)
+    (sole_after words_of (λ r. record r { state = record r.state { net = network_state_hash r.state } }) IsReset (λ r. refl) sole_reset))
     (λ r a b h k. k.0 h.0)
 
 pub sole_refresh : HasLaws → IsSole IsRefresh
-sole_refresh laws = sole_both IsPublishing (Then IsReaching IsHashing) (sole_publishing laws) (sole_both IsReaching IsHashing (sole_reaching laws) sole_hashing)
+sole_refresh laws = sole_both words_of IsPublishing (Then IsReaching IsHashing) (sole_publishing laws) (sole_both words_of IsReaching IsHashing (sole_reaching laws) sole_hashing)
 
 -- ---- a claim
 
@@ -165,11 +171,11 @@ one_second_claim laws r a b h k same =
 
 sole_claim : HasLaws → (number : ℕ) → IsSole (IsClaim number)
 sole_claim laws number =
-    sole_or (IsFirstClaim number) IsSecondClaim
-    (sole_given (IsFirstClaim number)
+    sole_or words_of (IsFirstClaim number) IsSecondClaim
+    (sole_given words_of (IsFirstClaim number)
     (λ r a h. published_words ((number + 1000) % 2 ^ 32) (record r { state = record r.state { claimed = true } }) a h.publishes)
     (λ r a b h k. one_published laws ((number + 1000) % 2 ^ 32) (record r { state = record r.state { claimed = true } }) a b h.publishes k.publishes))
-    (sole_drawn IsSecondClaim (λ r a h. h.word ∷ [])
+    (sole_drawn words_of IsSecondClaim (λ r a h. h.word ∷ [])
     (λ r a h. published_words 1 (with_words (h.word ∷ []) (record r { state = record r.state { id = record { 0 = h.id }; claimed = false } })) a h.publishes)
     (λ r a b h k. refl) (one_second_claim laws))
     (λ r a b h k. let clash : false ≡ true = sym h.none_before ∙ k.one_before in absurd cc)
@@ -188,14 +194,14 @@ request_node_words id r = if_words (is_reached id r.state.reach) _ _ r (some_ans
 
 sole_network_request : IsSole IsNetworkRequest
 sole_network_request =
-    sole_start (λ s r a. Each (λ id b c. c ≡ with_state id b) s.state.reach (with_answer subject.NetworkState (item.NetworkState s.state.net []) r) a)
-    (λ s. sole_after (with_answer subject.NetworkState (item.NetworkState s.state.net [])) (Each (λ id b c. c ≡ with_state id b) s.state.reach) (λ r. refl)
-    (sole_each (λ id b c. c ≡ with_state id b) (λ id. sole_plain (with_state id) (λ r. some_answer_words (subject.NodeState id) (state_item false r.state id) r)) s.state.reach))
+    sole_start words_of (λ s r a. Each (λ id b c. c ≡ with_state id b) s.state.reach (with_answer subject.NetworkState (item.NetworkState s.state.net []) r) a)
+    (λ s. sole_after words_of (with_answer subject.NetworkState (item.NetworkState s.state.net [])) (Each (λ id b c. c ≡ with_state id b) s.state.reach) (λ r. refl)
+    (sole_each words_of (λ id b c. c ≡ with_state id b) (λ id. sole_plain words_of (with_state id) (λ r. some_answer_words (subject.NodeState id) (state_item false r.state id) r)) s.state.reach))
 
 sole_taken : HasLaws → (carried : PlainState) (how : Took) → IsSole (IsTaken carried how)
-sole_taken laws carried took.Own = sole_after (noted (note.Own carried.number)) (IsClaim carried.number) (λ r. refl) (sole_claim laws carried.number)
-sole_taken laws carried took.Ask = sole_plain (λ r. with_answer (subject.NodeRequest (record { 0 = carried.node })) (item.RequestNode carried.node []) (took_noted carried took.Ask r)) (λ r. refl)
-sole_taken laws carried how = sole_plain (took_noted carried how) (λ r. refl)
+sole_taken laws carried took.Own = sole_after words_of (noted (note.Own carried.number)) (IsClaim carried.number) (λ r. refl) (sole_claim laws carried.number)
+sole_taken laws carried took.Ask = sole_plain words_of (λ r. with_answer (subject.NodeRequest (record { 0 = carried.node })) (item.RequestNode carried.node []) (took_noted carried took.Ask r)) (λ r. refl)
+sole_taken laws carried how = sole_plain words_of (took_noted carried how) (λ r. refl)
 
 with_table : Running → Nodes → Running
 with_table r table = record r { state = record r.state { table = table } }
@@ -213,31 +219,31 @@ sole_node_state laws carried = record {
 sole_item : HasLaws → (from : Origin) (i : PlainItem) → IsSole (IsItemRule from i)
 sole_item laws from (item.NodeEndpoint node endpoint subs) =
     sole_at from.endpoint (λ port b a. a ≡ node_endpoint from (record { 0 = node }) (record { 0 = endpoint }) port b)
-    (λ port. sole_plain (node_endpoint from (record { 0 = node }) (record { 0 = endpoint }) port) (node_endpoint_words from (record { 0 = node }) (record { 0 = endpoint }) port))
+    (λ port. sole_plain words_of (node_endpoint from (record { 0 = node }) (record { 0 = endpoint }) port) (node_endpoint_words from (record { 0 = node }) (record { 0 = endpoint }) port))
 sole_item laws from (item.RequestNetwork subs) = sole_network_request
-sole_item laws from (item.RequestNode node subs) = sole_plain (request_node (record { 0 = node })) (request_node_words (record { 0 = node }))
-sole_item laws from (item.NetworkState hash subs) = sole_at from.endpoint (λ port b a. a ≡ network_state hash port b) (λ port. sole_plain (network_state hash port) (network_state_words hash port))
+sole_item laws from (item.RequestNode node subs) = sole_plain words_of (request_node (record { 0 = node })) (request_node_words (record { 0 = node }))
+sole_item laws from (item.NetworkState hash subs) = sole_at from.endpoint (λ port b a. a ≡ network_state hash port b) (λ port. sole_plain words_of (network_state hash port) (network_state_words hash port))
 sole_item laws from (item.NodeState node number age hash body) = sole_node_state laws (record { node = node; number = number; age = age; hash = hash; body = body })
-sole_item laws from _ = sole_plain (λ r. r) (λ r. refl)
+sole_item laws from _ = sole_plain words_of (λ r. r) (λ r. refl)
 
 sole_tlv : HasLaws → (from : Origin) (tlv : PlainTlv) → IsSole (IsTlvRule from tlv)
 sole_tlv laws from tlv =
-    sole_or (λ r a. (i : PlainItem) × IsItem tlv i × IsItemRule from i r a) (λ r a. (why : ℕ) × IsItemFault tlv why × (a ≡ noted (note.Ignored tlv.kind why) r))
-    (sole_some (IsItem tlv) (IsItemRule from) (laws.one_item tlv) (sole_item laws from))
-    (sole_some (IsItemFault tlv) (λ why r a. a ≡ noted (note.Ignored tlv.kind why) r) (laws.one_fault tlv) (λ why. sole_plain (noted (note.Ignored tlv.kind why)) (λ r. refl)))
+    sole_or words_of (λ r a. (i : PlainItem) × IsItem tlv i × IsItemRule from i r a) (λ r a. (why : ℕ) × IsItemFault tlv why × (a ≡ noted (note.Ignored tlv.kind why) r))
+    (sole_some words_of (IsItem tlv) (IsItemRule from) (laws.one_item tlv) (sole_item laws from))
+    (sole_some words_of (IsItemFault tlv) (λ why r a. a ≡ noted (note.Ignored tlv.kind why) r) (laws.one_fault tlv) (λ why. sole_plain words_of (noted (note.Ignored tlv.kind why)) (λ r. refl)))
     (λ r a b h k. laws.no_item tlv h.0 k.0 h.1 k.1)
 
 sole_tlvs : HasLaws → (from : Origin) (tlvs : List PlainTlv) → IsSole (IsTlvs from tlvs)
-sole_tlvs laws from tlvs = sole_each (λ tlv. Then (IsTlvRule from tlv) IsRefresh) (λ tlv. sole_both (IsTlvRule from tlv) IsRefresh (sole_tlv laws from tlv) (sole_refresh laws)) tlvs
+sole_tlvs laws from tlvs = sole_each words_of (λ tlv. Then (IsTlvRule from tlv) IsRefresh) (λ tlv. sole_both words_of (IsTlvRule from tlv) IsRefresh (sole_tlv laws from tlv) (sole_refresh laws)) tlvs
 
 sole_answering : HasLaws → (from : Origin) → IsSole (IsAnswering from)
 sole_answering laws from =
-    sole_given (IsAnswering from) (λ r a h. ap (λ (x : Running). x.done.words) h.gives)
+    sole_given words_of (IsAnswering from) (λ r a h. ap (λ (x : Running). x.done.words) h.gives)
     (λ r a b h k. h.gives ∙ ap (λ (datagrams : List (List ℕ)). record r { done = record r.done { sends = r.done.sends ++ map (λ bytes. record { endpoint = from.endpoint; to = Some from.from; bytes = bytes }) datagrams } })
     (laws.one_packing r.state.id from.endpoint (map (λ a. a.tlv) r.answers) h.datagrams k.datagrams h.packed k.packed) ∙ sym k.gives)
 
 pub sole_arrival : HasLaws → (from : Origin) (tlvs : List PlainTlv) → IsSole (IsArrival from tlvs)
-sole_arrival laws from tlvs = sole_both (IsTlvs from tlvs) (IsAnswering from) (sole_tlvs laws from tlvs) (sole_answering laws from)
+sole_arrival laws from tlvs = sole_both words_of (IsTlvs from tlvs) (IsAnswering from) (sole_tlvs laws from tlvs) (sole_answering laws from)
 
 -- ---- a tick
 
@@ -250,40 +256,40 @@ one_without P (x ∷ xs) kept other (inr h) (inr k) = h.3 ∙ ap (λ l. x ∷ l)
 
 sole_port_expiry : (port : Port) → IsSole (IsPortExpiry port)
 sole_port_expiry port =
-    sole_given (IsPortExpiry port) (λ r a h. ap (λ (x : Running). x.done.words) h.gives)
+    sole_given words_of (IsPortExpiry port) (λ r a h. ap (λ (x : Running). x.done.words) h.gives)
     (λ r a b h k. h.gives ∙ ap (λ (peers : List Neighbour). with_port (record port { peers = peers }) r) (one_without (IsExpired r.state) port.peers h.peers k.peers h.without k.without) ∙ sym k.gives)
 
 pub sole_expiry : IsSole IsExpiry
-sole_expiry = sole_start (λ s. Each (λ at. AtPort at IsPortExpiry) (endpoints_of s.state.ports)) (λ s. sole_each (λ at. AtPort at IsPortExpiry) (λ at. sole_at at IsPortExpiry sole_port_expiry) (endpoints_of s.state.ports))
+sole_expiry = sole_start words_of (λ s. Each (λ at. AtPort at IsPortExpiry) (endpoints_of s.state.ports)) (λ s. sole_each words_of (λ at. AtPort at IsPortExpiry) (λ at. sole_at at IsPortExpiry sole_port_expiry) (endpoints_of s.state.ports))
 
 sole_port_moving : (port : Port) → IsSole (IsPortMoving port)
 sole_port_moving port =
-    sole_drawn (IsPortMoving port) (λ r a h. h.words) (λ r a h. ap (λ (x : Running). x.done.words) h.gives) (λ r a b h k. h.as_many ∙ sym k.as_many)
+    sole_drawn words_of (IsPortMoving port) (λ r a h. h.words) (λ r a h. ap (λ (x : Running). x.done.words) h.gives) (λ r a b h k. h.as_many ∙ sym k.as_many)
     (λ r a b h k same. h.gives ∙ ap (λ (words : List ℕ). with_words words (with_port (ticked r.state.moment words port) r)) same ∙ sym k.gives)
 
 sole_state_sending : HasLaws → (at : EpId) → IsSole (IsStateSending at)
 sole_state_sending laws at =
-    sole_given (IsStateSending at) (λ r a h. ap (λ (x : Running). x.done.words) h.gives)
+    sole_given words_of (IsStateSending at) (λ r a h. ap (λ (x : Running). x.done.words) h.gives)
     (λ r a b h k. h.gives ∙ ap (λ (datagrams : List (List ℕ)). record r { done = record r.done { sends = r.done.sends ++ map (λ bytes. record { endpoint = at; to = None; bytes = bytes }) datagrams } })
     (laws.one_packing r.state.id at (spelling (tlv_of (item.NetworkState r.state.net [])) ∷ []) h.datagrams k.datagrams h.packed k.packed) ∙ sym k.gives)
 
 sole_port_sending : HasLaws → (port : Port) → IsSole (IsPortSending port)
 sole_port_sending laws port =
-    sole_or (λ r a. IsTrue (tick_sends r.state.moment port) × IsStateSending port.id r a) (λ r a. (tick_sends r.state.moment port ≡ false) × (a ≡ r))
-    (sole_where (λ r. IsTrue (tick_sends r.state.moment port)) (IsStateSending port.id) (sole_state_sending laws port.id))
-    (sole_where (λ r. tick_sends r.state.moment port ≡ false) (λ r a. a ≡ r) (sole_plain (λ r. r) (λ r. refl)))
+    sole_or words_of (λ r a. IsTrue (tick_sends r.state.moment port) × IsStateSending port.id r a) (λ r a. (tick_sends r.state.moment port ≡ false) × (a ≡ r))
+    (sole_where words_of (λ r. IsTrue (tick_sends r.state.moment port)) (IsStateSending port.id) (sole_state_sending laws port.id))
+    (sole_where words_of (λ r. tick_sends r.state.moment port ≡ false) (λ r a. a ≡ r) (sole_plain words_of (λ r. r) (λ r. refl)))
     (λ r a b h k. not_both _ h.0 k.0)
 
 pub sole_ports_tick : HasLaws → IsSole IsPortsTick
 sole_ports_tick laws =
-    sole_start (λ s. Each (λ at. AtPort at IsPortTick) (endpoints_of s.state.ports))
-    (λ s. sole_each (λ at. AtPort at IsPortTick) (λ at. sole_at at IsPortTick (λ port. sole_both (IsPortMoving port) (IsPortSending port) (sole_port_moving port) (sole_port_sending laws port))) (endpoints_of s.state.ports))
+    sole_start words_of (λ s. Each (λ at. AtPort at IsPortTick) (endpoints_of s.state.ports))
+    (λ s. sole_each words_of (λ at. AtPort at IsPortTick) (λ at. sole_at at IsPortTick (λ port. sole_both words_of (IsPortMoving port) (IsPortSending port) (sole_port_moving port) (sole_port_sending laws port))) (endpoints_of s.state.ports))
 
 -- ---- prefixes are assigned
 
-one_wishes : (view : PlainView) (usable : List Delegated) (ports : List Port) (a b : List Wish) → AreAsked view usable ports a → AreAsked view usable ports b → a ≡ b
-one_wishes view usable ports a b h k =
-    ascending_unique (on wish_pair pair_cmp) (on_total wish_pair pair_total) a b h.are_wishes.ascending k.are_wishes.ascending
+one_wishes : HasLaws → (view : PlainView) (usable : List Delegated) (ports : List Port) (a b : List Wish) → AreAsked view usable ports a → AreAsked view usable ports b → a ≡ b
+one_wishes laws view usable ports a b h k =
+    ascending_unique (on wish_pair pair_cmp) (on_total wish_pair laws.pairs_total) a b h.are_wishes.ascending k.are_wishes.ascending
     (λ wish. let p = h.exact wish in let q = k.exact wish in (λ x. q.1 (p.0 x), λ y. p.1 (q.0 y)))
 
 assigned_words : (r a : Running) (h : IsAssigning r a) → a.done.words ≡ r.done.words ++ h.ran.words
@@ -295,7 +301,7 @@ module _ (laws : HasLaws) (s : State) where
       let view = seen_by s in
       let usable : h.usable ≡ k.usable = laws.one_usable view h.usable k.usable h.are_usable k.are_usable in
       let asked : AreAsked view k.usable s.ports h.wishes = subst (λ (list : List Delegated). AreAsked view list s.ports h.wishes) usable h.are_asked in
-      let wishes : h.wishes ≡ k.wishes = one_wishes view k.usable s.ports h.wishes k.wishes asked k.are_asked in
+      let wishes : h.wishes ≡ k.wishes = one_wishes laws view k.usable s.ports h.wishes k.wishes asked k.are_asked in
       laws.one_subroutine view k.wishes s.held a b stream (subst (λ (list : List Wish). IsSubroutine view list s.held a) wishes h.is_subroutine) k.is_subroutine at_a at_b
 
 pub sole_assigning : HasLaws → IsSole IsAssigning
@@ -315,16 +321,16 @@ sole_assigning laws = record {
 pub sole_attaching : (at : EpId) → IsSole (IsAttaching at)
 sole_attaching at =
     let rule : ℕ → Running → Running = λ word r. with_words (word ∷ []) (record r { state = record r.state { ports = attached (begun at r.state.moment word) r.state.ports } }) in
-    sole_from (IsAttaching at) (λ r a. (word : ℕ) × (a ≡ rule word r)) (λ r a h. (h.word, h.gives)) (sole_word rule (λ word r. refl))
+    sole_from words_of (IsAttaching at) (λ r a. (word : ℕ) × (a ≡ rule word r)) (λ r a h. (h.word, h.gives)) (sole_word words_of rule (λ word r. refl))
 
 sole_port_restart : (port : Port) → IsSole (IsPortRestart port)
 sole_port_restart port =
     let rule : ℕ → Running → Running = λ word r. with_words (word ∷ []) (with_port (begun port.id r.state.moment word) r) in
-    sole_from (IsPortRestart port) (λ r a. (word : ℕ) × (a ≡ rule word r)) (λ r a h. (h.word, h.gives)) (sole_word rule (λ word r. refl))
+    sole_from words_of (IsPortRestart port) (λ r a. (word : ℕ) × (a ≡ rule word r)) (λ r a h. (h.word, h.gives)) (sole_word words_of rule (λ word r. refl))
 
 pub sole_restarting : HasLaws → IsSole IsRestarting
 sole_restarting laws =
-    sole_start (λ s r a. Then (Each (λ at. AtPort at IsPortRestart) (endpoints_of s.state.ports)) (Publishes 1) (emptied r) a)
-    (λ s. sole_after emptied (Then (Each (λ at. AtPort at IsPortRestart) (endpoints_of s.state.ports)) (Publishes 1)) (λ r. refl)
-    (sole_both (Each (λ at. AtPort at IsPortRestart) (endpoints_of s.state.ports)) (Publishes 1)
-    (sole_each (λ at. AtPort at IsPortRestart) (λ at. sole_at at IsPortRestart sole_port_restart) (endpoints_of s.state.ports)) (sole_publishes laws 1)))
+    sole_start words_of (λ s r a. Then (Each (λ at. AtPort at IsPortRestart) (endpoints_of s.state.ports)) (Publishes 1) (emptied r) a)
+    (λ s. sole_after words_of emptied (Then (Each (λ at. AtPort at IsPortRestart) (endpoints_of s.state.ports)) (Publishes 1)) (λ r. refl)
+    (sole_both words_of (Each (λ at. AtPort at IsPortRestart) (endpoints_of s.state.ports)) (Publishes 1)
+    (sole_each words_of (λ at. AtPort at IsPortRestart) (λ at. sole_at at IsPortRestart sole_port_restart) (endpoints_of s.state.ports)) (sole_publishes laws 1)))

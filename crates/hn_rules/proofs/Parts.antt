@@ -21,8 +21,7 @@ use Rattle.hn_store.specs.Loss.{is_among, lost_after, marked_node, marked, is_fo
 use Rattle.hn_store.specs.Laws.{NoNodesAreTable}
 use Rattle.hn_base.proofs.AscendingNumbers.{ascending-filter, ascending-around, around-few}
 use Rattle.hn_rules.specs.declared.state.State.{State}
-use Rattle.hn_own.specs.Ports.{ArePorts, is_port, put_port, attached, detached}
-use Rattle.hn_own.proofs.PortLists.{number}
+use Rattle.hn_own.specs.Ports.{number, ArePorts, is_port, put_port, attached, detached}
 use Rattle.hn_assign.specs.Facts.{IsInDelegated, HasOwnPriority, IsPast as IsAssignedPast}
 use Rattle.hn_assign.specs.declared.held.Held.{Held}
 use Rattle.hn_own.specs.Own.{PlainData, IsOwnData}

@@ -20,8 +20,7 @@ use Rattle.hn_store.specs.Loss.{is_among, lost_after, marked_node}
 use Rattle.hn_rules.specs.declared.state.State.{State}
 use Rattle.hn_rules.specs.declared.running.Running.{Running}
 use Rattle.hn_own.specs.Own.{links_at, links_of}
-use Rattle.hn_own.specs.Ports.{ArePorts, is_port, port_at, put_port, endpoints_of}
-use Rattle.hn_own.proofs.PortLists.{number}
+use Rattle.hn_own.specs.Ports.{number, ArePorts, is_port, port_at, put_port, endpoints_of}
 use Rattle.hn_rules.specs.Nodes.{held_entry, own_entry}
 use Rattle.hn_rules.specs.Rules.{Rule, AtPort, with_port}
 use Rattle.hn_rules.specs.Refresh.{own_items, IsPublishing, IsReaching, network_state_hash, IsPortReset, IsHashing, IsRefresh}

@@ -1,15 +1,16 @@
 -- A restart, and the words that it takes.
 use Rattle.std.proofs.Common.{◌≡◌, ◌∙◌, ℕ, true, List, [], ◌∷◌, Option, Some, None, is_some, ap, refl, sym, subst}
 use Rattle.hn_base.specs.declared.ids.EpId.{EpId}
-use Rattle.hn_io.specs.Words.{Drew}
+use Rattle.hn_base.specs.Words.{Drew}
 use Rattle.hn_dncp.specs.declared.port.Port.{Port}
 use Rattle.hn_dncp.specs.Port.{begun}
 use Rattle.hn_rules.specs.declared.running.Running.{Running}
 use Rattle.hn_own.specs.Ports.{port_at, endpoints_of}
-use Rattle.hn_rules.specs.Rules.{Then, Each, AtPort, Ran, with_words, with_port}
+use Rattle.hn_base.specs.Rules.{Then, Each}
+use Rattle.hn_rules.specs.Rules.{AtPort, Ran, with_words, with_port}
 use Rattle.hn_rules.specs.Refresh.{Publishes}
 use Rattle.hn_rules.specs.Events.{IsPortRestart, emptied, IsRestarting}
-use Rattle.hn_rules.proofs.Rans.{at_port, found_id}
+use Rattle.hn_rules.proofs.AtPorts.{at_port, found_id}
 
 -- an endpoint that is attached begins anew
 pub restart_one : (at : EpId) (ports : List Port) (port : Port) (now word : ℕ) (told told_after : Option (ℕ → ℕ)) (before between after : Running)

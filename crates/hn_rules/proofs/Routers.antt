@@ -2,7 +2,7 @@
 use Rattle.std.proofs.Common.{◌≡◌, List, sym, subst}
 use Rattle.hn_base.specs.declared.caps.Caps.{Caps}
 use Rattle.hn_base.specs.declared.ids.EpId.{EpId}
-use Rattle.hn_prefix.specs.Prefix.{PlainPrefix}
+use Rattle.hn_base.specs.Prefix.{PlainPrefix}
 use Rattle.hn_tlv.specs.Grammar.{PlainTlv}
 use Rattle.hn_store.specs.Laws.{NoNodesAreTable}
 use Rattle.hn_rules.specs.declared.running.Running.{Running}
@@ -14,7 +14,8 @@ use Rattle.hn_rules.specs.Events.{detaching, setting_caps, IsRestarting}
 use Rattle.hn_rules.specs.Laws.{KeepsRouter, KeepsWell, RefreshMakesRouter, RouterStaysLater, DelegatingKeeps, AttachingKeeps}
 use Rattle.hn_rules.specs.Refresh.{IsRefresh}
 use Rattle.hn_rules.specs.Router.{IsRouter}
-use Rattle.hn_rules.specs.Rules.{Rule, Then}
+use Rattle.hn_base.specs.Rules.{Then}
+use Rattle.hn_rules.specs.Rules.{Rule}
 use Rattle.hn_rules.specs.Tick.{IsExpiry, forgetting, IsPortsTick}
 use Rattle.hn_rules.proofs.Forgetting.{refreshed_forgetting}
 use Rattle.hn_rules.proofs.Known.{KnownLaws}

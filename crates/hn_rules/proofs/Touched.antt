@@ -25,7 +25,8 @@ use Rattle.hn_rules.specs.declared.answers.Subject.TheVariants as subject
 use Rattle.hn_rules.specs.Answers.{with_answer}
 use Rattle.hn_own.specs.Ports.{ArePorts, is_port, port_at, put_port}
 use Rattle.hn_own.specs.Own.{link_at, links_at}
-use Rattle.hn_rules.specs.Rules.{OnPort, AtPort, with_port}
+use Rattle.hn_base.specs.Rules.{OnSome}
+use Rattle.hn_rules.specs.Rules.{AtPort, with_port}
 use Rattle.hn_rules.specs.NodeEndpoint.{greeting_port, named}
 use Rattle.hn_rules.specs.NodeEndpoint as rule
 use Rattle.hn_rules.specs.NetworkState.{network_state}
@@ -218,7 +219,7 @@ put_same port (p ∷ ports) one =
 pub none_expire : (at : EpId) (r : Running) → ArePorts r.state.ports → ((port : Port) → port_at at r.state.ports ≡ Some port → All (λ peer. ¬ (IsExpired r.state peer)) port.peers) → AtPort at IsPortExpiry r r
 none_expire at r are none = by_port (port_at at r.state.ports) refl
   where
-    by_port : (o : Option Port) → port_at at r.state.ports ≡ o → OnPort IsPortExpiry o r r
+    by_port : (o : Option Port) → port_at at r.state.ports ≡ o → OnSome IsPortExpiry o r r
     by_port None found = refl
     by_port (Some port) found = record {
       peers = port.peers;

@@ -6,7 +6,7 @@ use Rattle.std.proofs.lemmas.Bool.{cond_both, or_parts}
 use Rattle.hn_base.specs.declared.caps.Caps.{Caps}
 use Rattle.hn_base.specs.declared.ids.NodeId.{NodeId}
 use Rattle.hn_base.specs.declared.ids.EpId.{EpId}
-use Rattle.hn_prefix.specs.Prefix.{PlainPrefix}
+use Rattle.hn_base.specs.Prefix.{PlainPrefix}
 use Rattle.hn_tlv.specs.Grammar.{PlainTlv}
 use Rattle.hn_timers.specs.Interval.{started}
 use Rattle.hn_typed.specs.Item.{PlainItem}
@@ -36,7 +36,8 @@ use Rattle.hn_own.specs.Ports.{port_at, endpoints_of}
 use Rattle.hn_own.specs.Lifetimes.{has_ended}
 use Rattle.hn_own.specs.OwnPrefixes.{AreOwnPrefixes, is_prefix, may_delegate, delegated_with, delegated_without, delegated_after, own_prefix}
 use Rattle.hn_own.specs.declared.own_prefixes.OwnPrefix.{OwnPrefix}
-use Rattle.hn_rules.specs.Rules.{Rule, Then, Each, OnPort, AtPort, noted, with_port, with_words}
+use Rattle.hn_base.specs.Rules.{Then, Each, OnSome}
+use Rattle.hn_rules.specs.Rules.{Rule, AtPort, noted, with_port, with_words}
 use Rattle.hn_rules.specs.Refresh.{Publishes, next_number, IsPublishing, IsReaching, network_state_hash, IsPortReset, IsHashing, IsRefresh}
 use Rattle.hn_rules.specs.NodeEndpoint.{asking, met, greeting_port, named, node_endpoint}
 use Rattle.hn_rules.specs.Requests.{with_some_answer, state_item, with_state, is_reached, request_node, IsNetworkRequest}
@@ -72,7 +73,7 @@ module _ (P : Running → Type 0) where
   pub keeps_option : (at : EpId) (rule : Port → Rule) → ((port : Port) (r a : Running) → port_at at r.state.ports ≡ Some port → rule port r a → P r → P a) → Keeps (AtPort at rule)
   keeps_option at rule one r a h p = by_option (port_at at r.state.ports) refl h
     where
-      by_option : (o : Option Port) → port_at at r.state.ports ≡ o → OnPort rule o r a → P a
+      by_option : (o : Option Port) → port_at at r.state.ports ≡ o → OnSome rule o r a → P a
       by_option None none same = subst P (sym same) p
       by_option (Some port) found holds = one port r a found holds p
 

@@ -13,7 +13,7 @@ use Rattle.std.proofs.lemmas.Option.{slice_get_within, slice_get-map, get_or_fro
 use Rattle.hn_base.proofs.AscendingLists.{Contains-head, Contains-cases, nothing_in, not_below_itself}
 use Rattle.hn_base.specs.declared.ids.NodeId.{NodeId}
 use Rattle.hn_base.specs.declared.ids.EpId.{EpId}
-use Rattle.hn_prefix.specs.Prefix.{PlainPrefix, prefix_cmp}
+use Rattle.hn_base.specs.Prefix.{PlainPrefix, prefix_cmp}
 use Rattle.hn_data.specs.View.{PlainView}
 use Rattle.hn_deleg.specs.declared.delegated.Delegated.{Delegated}
 use Rattle.hn_deleg.specs.Used.{IsUnwanted, prefixes_of}
@@ -22,7 +22,7 @@ use Rattle.hn_assign.specs.declared.assigned.Wish.{Wish}
 use Rattle.hn_assign.specs.declared.pair.Pair.{Pair}
 use Rattle.hn_assign.specs.Pair.{IsWished, wish_pair}
 use Rattle.hn_rules.specs.Assigning.{IsWishAt}
-use Rattle.hn_prefix.proofs.Prefixes.{prefix_total}
+use Rattle.hn_base.proofs.Prefixes.{prefix_total}
 
 -- an endpoint has one Common Link
 abbrev pub OneLink : Type 0

@@ -9,7 +9,8 @@ use Rattle.hn_dncp.specs.Packing.{IsPacking}
 use Rattle.hn_rules.specs.declared.running.Running.{Running}
 use Rattle.hn_rules.specs.declared.running.Origin.{Origin}
 use Rattle.hn_rules.specs.declared.done.Note.TheVariants as note
-use Rattle.hn_rules.specs.Rules.{Rule, Then, Each, AtPort, noted}
+use Rattle.hn_base.specs.Rules.{Then, Each}
+use Rattle.hn_rules.specs.Rules.{Rule, AtPort, noted}
 use Rattle.hn_rules.specs.NodeEndpoint.{node_endpoint}
 use Rattle.hn_rules.specs.Requests.{IsNetworkRequest, request_node}
 use Rattle.hn_rules.specs.NetworkState.{network_state}

@@ -1,6 +1,6 @@
 -- A router's own delegated prefixes come and go (RFC 7788, sections 6.2 and 10.2).
 use Rattle.std.specs.Prelude.{ℕ}
-use Rattle.hn_prefix.specs.Prefix.{PlainPrefix}
+use Rattle.hn_base.specs.Prefix.{PlainPrefix}
 use Rattle.hn_rules.specs.declared.running.Running.{Running}
 use Rattle.hn_own.specs.OwnPrefixes.{own_prefix, delegated_with, delegated_without, delegated_after}
 

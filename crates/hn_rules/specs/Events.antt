@@ -7,7 +7,8 @@ use Rattle.hn_dncp.specs.Port.{begun}
 use Rattle.hn_rules.specs.declared.running.Running.{Running}
 use Rattle.hn_own.specs.HeldPairs.{no_pairs}
 use Rattle.hn_own.specs.Ports.{attached, detached, endpoints_of}
-use Rattle.hn_rules.specs.Rules.{Rule, Then, Each, AtPort, with_words, with_port}
+use Rattle.hn_base.specs.Rules.{Then, Each}
+use Rattle.hn_rules.specs.Rules.{Rule, AtPort, with_words, with_port}
 use Rattle.hn_rules.specs.Refresh.{Publishes}
 
 -- an endpoint is attached, with a word for its first interval

@@ -1,23 +1,27 @@
 -- Laws of the rules, and of what holds of a router.
-use Rattle.std.specs.Prelude.{◌≡◌, ◌↔◌, ℕ, ◌<◌, ◌≤◌, true, length, Contains}
+use Rattle.std.specs.Prelude.{◌≡◌, ◌↔◌, ℕ, ◌<◌, ◌≤◌, true, length, Contains, Some}
 use Rattle.hn_base.specs.declared.ids.EpId.{EpId}
-use Rattle.hn_prefix.specs.Prefix.{PlainPrefix}
+use Rattle.hn_base.specs.declared.ids.NodeId.{NodeId}
+use Rattle.hn_base.specs.Prefix.{PlainPrefix}
 use Rattle.hn_hash.specs.Network.{network_hash, AreNumbered}
 use Rattle.hn_typed.specs.Item.{PlainItem}
 use Rattle.hn_data.specs.Items.{Reads}
 use Rattle.hn_data.specs.Said.{HasAssigned}
 use Rattle.hn_data.specs.View.{IsNetwork}
 use Rattle.hn_data.specs.declared.said.AssignedPrefix.{AssignedPrefix}
+use Rattle.hn_data.specs.declared.view.Entry.{Entry}
 use Rattle.hn_own.specs.HeldPairs.{published_in}
 use Rattle.hn_own.specs.Own.{items_of}
 use Rattle.hn_own.specs.OwnPrefixes.{may_delegate}
 use Rattle.hn_own.specs.Ports.{endpoints_of}
+use Rattle.hn_store.specs.Nodes.{held}
+use Rattle.hn_store.specs.declared.stored.Stored.{Stored}
 use Rattle.hn_rules.specs.declared.running.Running.{Running}
 use Rattle.hn_rules.specs.declared.state.State.{State}
 use Rattle.hn_rules.specs.Assigning.{IsAssigning}
 use Rattle.hn_rules.specs.Delegating.{delegating}
 use Rattle.hn_rules.specs.Events.{IsAttaching}
-use Rattle.hn_rules.specs.Nodes.{leaves_of, view_of}
+use Rattle.hn_rules.specs.Nodes.{held_entry, own_entry, entry_of, leaves_of, view_of}
 use Rattle.hn_rules.specs.Refresh.{IsRefresh}
 use Rattle.hn_rules.specs.Router.{IsWell, IsRouter}
 use Rattle.hn_rules.specs.Rules.{Rule}
@@ -43,6 +47,26 @@ ItemsArePublished =
 -- The nodes that a router sees are a network with its own node.
 abbrev pub ViewIsNetwork : Type 0
 ViewIsNetwork = (s : State) → IsRouter s → IsNetwork s.id.0 (view_of s)
+
+-- What a router knows of its own identifier is its own node.
+abbrev pub OwnIsKnown : Type 0
+OwnIsKnown = (s : State) (id : NodeId) → id.0 ≡ s.id.0 → entry_of s id ≡ Some (own_entry s)
+
+-- What it knows of another identifier is what it holds of it.
+abbrev pub HeldIsKnown : Type 0
+HeldIsKnown =
+    (s : State) (id : NodeId) (stored : Stored) → ¬ (id.0 ≡ s.id.0) → held s.table.entries id.0 ≡ Some stored
+    → entry_of s id ≡ Some (held_entry s.moment (record { id = id; stored = stored }))
+
+-- What it knows of an identifier has that identifier.
+abbrev pub KnownIsNamed : Type 0
+KnownIsNamed = (s : State) (id : NodeId) (n : Entry) → entry_of s id ≡ Some n → n.id ≡ id
+
+-- what a router knows of an identifier
+pub record EntriesAreAsKnown : Type 0 where
+  pub own : OwnIsKnown
+  pub held : HeldIsKnown
+  pub named : KnownIsNamed
 
 -- While time passes and nothing happens, a router stays one.
 abbrev pub RouterStaysLater : Type 0

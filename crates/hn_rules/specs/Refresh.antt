@@ -14,7 +14,8 @@ use Rattle.hn_own.specs.Own.{links_of, IsOwnData, PlainData}
 use Rattle.hn_own.specs.HeldPairs.{published_in}
 use Rattle.hn_own.specs.Ports.{endpoints_of}
 use Rattle.hn_rules.specs.Nodes.{IsReach, parts_of}
-use Rattle.hn_rules.specs.Rules.{Rule, Then, Each, AtPort, with_words, with_port}
+use Rattle.hn_base.specs.Rules.{Then, Each}
+use Rattle.hn_rules.specs.Rules.{Rule, AtPort, with_words, with_port}
 
 -- the own items as they are now: the capabilities, a Peer for each peer of each endpoint, the own delegated prefixes, and
 -- the assignments that are published

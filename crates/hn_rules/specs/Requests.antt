@@ -12,7 +12,8 @@ use Rattle.hn_rules.specs.declared.running.Running.{Running}
 use Rattle.hn_rules.specs.declared.answers.Subject.{Subject}
 use Rattle.hn_rules.specs.declared.answers.Subject.TheVariants.{NetworkState, NodeState, NodeData}
 use Rattle.hn_rules.specs.Nodes.{age_at}
-use Rattle.hn_rules.specs.Rules.{Rule, Each}
+use Rattle.hn_base.specs.Rules.{Each}
+use Rattle.hn_rules.specs.Rules.{Rule}
 use Rattle.hn_rules.specs.Answers.{with_answer}
 
 -- the age that is sent is at most 2^32 - 1 ms

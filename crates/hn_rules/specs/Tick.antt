@@ -19,7 +19,8 @@ use Rattle.hn_store.specs.declared.stored.Stored.{Stored}
 use Rattle.hn_rules.specs.declared.state.State.{State}
 use Rattle.hn_rules.specs.declared.running.Running.{Running}
 use Rattle.hn_own.specs.Ports.{endpoints_of}
-use Rattle.hn_rules.specs.Rules.{Rule, Then, Each, AtPort, with_words, with_port}
+use Rattle.hn_base.specs.Rules.{Then, Each}
+use Rattle.hn_rules.specs.Rules.{Rule, AtPort, with_words, with_port}
 
 -- the keep-alive interval of a peer: by its held data, and 20,000 ms where none is held (RFC 7787, section 6.1.5; RFC
 -- 7788, section 3)

@@ -3,7 +3,7 @@
 ghost use Rattle.std.specs.Prelude.{◌≡◌, ◌<◌, ◌⊎◌, ◌↔◌, ℕ, false, length, Contains, IfOk, OnOk};
 ghost use Rattle.hn_data.specs.View.{IsNetwork, plain_view};
 ghost use Rattle.hn_deleg.specs.Used.{AreUsable};
-ghost use Rattle.hn_io.specs.Words.{Took};
+ghost use Rattle.hn_base.specs.Words.{Took};
 ghost use Rattle.hn_assign.specs.declared.assigned.Wish.{Wish};
 ghost use Rattle.hn_assign.specs.Subroutine.{IsSubroutine};
 ghost use Rattle.hn_rules.specs.Nodes.{view_of};
@@ -17,7 +17,7 @@ ghost use Rattle.hn_rules.specs.Assigning.{IsWishAt, AreAsked, IsAssigned, IsAss
 use crate::laws::view_is_a_network;
 use crate::running::Running;
 use crate::state::State;
-use hn_assign::{Wish, Wishes, subroutine, subroutine_leaves};
+use hn_assign::{Wish, Wishes, pairs_are_ordered, subroutine, subroutine_leaves};
 use hn_base::{EpId, NoMemory, Shared};
 use hn_data::View;
 use hn_deleg::{Delegated, used, wanted};
@@ -121,6 +121,7 @@ impl State {
         ensures drew { IfOk result (λ ran. Took (D.words draw.old) ran.words (D.words draw.new)) }
     {
         view_is_a_network();
+        pairs_are_ordered();
         subroutine_leaves();
         let nodes = self.seen(alloc)?;
         let view = self.view(nodes.as_slice());

@@ -2,7 +2,8 @@
 
 ghost use Rattle.std.specs.Prelude.{◌≡◌, ◌<◌, false, length, OnOk};
 ghost use Rattle.hn_own.specs.Ports.{is_attached, endpoints_of};
-ghost use Rattle.hn_rules.specs.Rules.{AtPort, Each, Ran};
+ghost use Rattle.hn_base.specs.Rules.{Each};
+ghost use Rattle.hn_rules.specs.Rules.{AtPort, Ran};
 ghost use Rattle.hn_rules.specs.Events.{IsAttaching, detaching, setting_caps, IsPortRestart, emptied, IsRestarting};
 
 use crate::running::Running;

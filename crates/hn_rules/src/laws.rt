@@ -4,19 +4,21 @@
 ghost use Rattle.std.specs.Prelude.{◌≡◌, List};
 ghost use Rattle.hn_base.specs.declared.caps.Caps.{Caps};
 ghost use Rattle.hn_base.specs.declared.ids.EpId.{EpId};
-ghost use Rattle.hn_prefix.specs.Prefix.{PlainPrefix};
+ghost use Rattle.hn_base.specs.Prefix.{PlainPrefix};
 ghost use Rattle.hn_tlv.specs.Grammar.{PlainTlv};
 ghost use Rattle.hn_rules.specs.declared.running.Origin.{Origin};
 ghost use Rattle.hn_rules.specs.Arrival.{IsArrival};
 ghost use Rattle.hn_rules.specs.Assigning.{IsAssigning};
 ghost use Rattle.hn_rules.specs.Delegating.{withdrawing, ending};
 ghost use Rattle.hn_rules.specs.Events.{IsAttaching, detaching, setting_caps, IsRestarting};
-ghost use Rattle.hn_rules.specs.Laws.{HashIsOfLeaves, AssignedIsPublished, ItemsArePublished, ViewIsNetwork, RouterStaysLater, KeepsRouter, KeepsWell, KeepsEndpoints, RefreshMakesRouter, AssigningKeeps, DelegatingKeeps, AttachingKeeps};
+ghost use Rattle.hn_rules.specs.Laws.{HashIsOfLeaves, AssignedIsPublished, ItemsArePublished, ViewIsNetwork, EntriesAreAsKnown, RouterStaysLater, KeepsRouter, KeepsWell, KeepsEndpoints, RefreshMakesRouter, AssigningKeeps, DelegatingKeeps, AttachingKeeps};
 ghost use Rattle.hn_rules.specs.Refresh.{IsRefresh};
 ghost use Rattle.hn_rules.specs.Rules.{IsSole};
 ghost use Rattle.hn_rules.specs.Tick.{IsExpiry, forgetting, IsPortsTick};
 
-use hn_assign::{subroutine_has_one_result, subroutine_keeps, subroutine_leaves};
+use hn_assign::{
+    pairs_are_ordered, subroutine_has_one_result, subroutine_keeps, subroutine_leaves,
+};
 use hn_base::{NodeId, ascending_is_unique};
 use hn_data::items_are_unique;
 use hn_deleg::usable_is_unique;
@@ -26,7 +28,7 @@ use hn_own::{own_data_is_unique, own_prefixes_stay};
 use hn_store::{
     acceptance_is_unique, acceptance_keeps_table, held_is_of_an_entry, loss_keeps_table, own_stays,
 };
-use hn_tlv::{first_fault_is_unique, list_is_unique, spelling_is_prefix_free};
+use hn_tlv::{first_fault_is_unique, list_is_of_bytes, list_is_unique, spelling_is_prefix_free};
 use hn_typed::{item_fault_is_unique, item_is_unique, written_is_read};
 
 /// The network state hash of a router is that of the leaves of the nodes that it reaches.
@@ -41,6 +43,7 @@ pub fn hash_is_of_leaves()
 pub fn assigned_is_published()
     ensures { AssignedIsPublished }
 {
+    list_is_of_bytes();
     spelling_is_prefix_free();
     item_is_unique();
     written_is_read();
@@ -51,6 +54,7 @@ pub fn assigned_is_published()
 pub fn items_are_published()
     ensures { ItemsArePublished }
 {
+    list_is_of_bytes();
     spelling_is_prefix_free();
     item_is_unique();
     written_is_read();
@@ -63,6 +67,11 @@ pub fn view_is_a_network()
 {
     own_is_reachable();
 }
+
+/// What a router knows of an identifier has that identifier: it is its own node, or what it holds of another.
+pub fn entries_are_as_known()
+    ensures { EntriesAreAsKnown }
+{}
 
 /// While time passes and nothing happens, a router stays one.
 pub fn router_stays_later()
@@ -109,6 +118,7 @@ pub fn rules_keep_the_rest()
 {
     loss_keeps_table();
     own_prefixes_stay();
+    pairs_are_ordered();
     subroutine_keeps();
     subroutine_leaves();
 }
@@ -132,6 +142,7 @@ pub fn rules_have_one_result()
     acceptance_is_unique();
     packing_is_unique();
     usable_is_unique();
+    pairs_are_ordered();
     subroutine_has_one_result();
 }
 

@@ -22,9 +22,9 @@ pub use answers::{Answer, Subject};
 pub use assigning::LINK_LENGTH;
 pub use done::{Done, Note, Outgoing, Publication};
 pub use laws::{
-    assigned_is_published, hash_is_of_leaves, items_are_published, refresh_makes_a_router,
-    router_stays_later, rules_have_one_result, rules_keep_a_router, rules_keep_the_endpoints,
-    rules_keep_the_rest, view_is_a_network,
+    assigned_is_published, entries_are_as_known, hash_is_of_leaves, items_are_published,
+    refresh_makes_a_router, router_stays_later, rules_have_one_result, rules_keep_a_router,
+    rules_keep_the_endpoints, rules_keep_the_rest, view_is_a_network,
 };
 pub use present::Present;
 pub use running::{Origin, Running};

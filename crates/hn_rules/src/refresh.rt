@@ -2,7 +2,8 @@
 
 ghost use Rattle.std.specs.Prelude.{◌≡◌, ◌≤◌, ◌<◌, ◌-◌, ◌^◌, ◌↔◌, false, None, All, length, IsTrue, IfOk, OnOk};
 ghost use Rattle.hn_own.specs.Own.{AreFew};
-ghost use Rattle.hn_rules.specs.Rules.{Ran, AtPort, Each};
+ghost use Rattle.hn_base.specs.Rules.{Each};
+ghost use Rattle.hn_rules.specs.Rules.{Ran, AtPort};
 ghost use Rattle.hn_rules.specs.Nodes.{age_at};
 ghost use Rattle.hn_rules.specs.Router.{IsRefreshed};
 ghost use Rattle.hn_rules.specs.Refresh.{own_items, Publishes, IsPublished, IsPublishing, IsReaching, network_state_hash, IsPortReset, IsReset, IsHashing, IsRefresh};

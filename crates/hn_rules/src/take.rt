@@ -1,5 +1,5 @@
 ghost use Rattle.std.specs.Prelude.{◌≡◌, ◌∷◌, [], IfOk, OnOk};
-ghost use Rattle.hn_io.specs.Words.{Drew};
+ghost use Rattle.hn_base.specs.Words.{Drew};
 ghost use Rattle.hn_rules.specs.Rules.{with_words};
 
 use crate::running::Running;

@@ -4,6 +4,7 @@ use Rattle.hn_rules.proofs.laws.assigned_is_published.Goals as goal
 pub returns : goal.returns
 returns c =
     let laws : ReadLaws = record {
+      of_bytes = c.list_is_of_bytes.ensures;
       same_begin = c.spelling_is_prefix_free.ensures;
       same_item = c.item_is_unique.ensures;
       written_is_item = c.written_is_read.ensures;

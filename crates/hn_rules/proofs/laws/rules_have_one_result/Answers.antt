@@ -16,6 +16,7 @@ returns c =
       one_packing = c.packing_is_unique.ensures;
       one_usable = c.usable_is_unique.ensures;
       one_subroutine = c.subroutine_has_one_result.ensures;
+      pairs_total = c.pairs_are_ordered.ensures.total;
     } in
     record {
       refresh = sole_refresh laws;

@@ -11,6 +11,8 @@ returns c =
       assigned = c.subroutine_leaves.ensures.assigned;
       backoffs = c.subroutine_leaves.ensures.backoffs;
       wished = c.subroutine_leaves.ensures.wished;
+      pairs_total = c.pairs_are_ordered.ensures.total;
+      pairs_exact = c.pairs_are_ordered.ensures.exact;
     } in
     record {
       expiry = expiry_keeps;

@@ -1,7 +1,7 @@
 use Rattle.std.proofs.Common.{◌∙◌, refl}
 use Rattle.hn_rules.specs.Rules.{AtPort}
 use Rattle.hn_rules.specs.Tick.{IsPortExpiry}
-use Rattle.hn_rules.proofs.Rans.{each_next}
+use Rattle.hn_base.proofs.Rans.{each_next}
 use Rattle.hn_rules.proofs.Touched.{neither}
 use Rattle.hn_rules.proofs.running.Running.expire_ports.Goals as goal
 

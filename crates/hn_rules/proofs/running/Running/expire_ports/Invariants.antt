@@ -1,5 +1,6 @@
 use Rattle.std.proofs.Common.{take, ◌≡◌, false}
-use Rattle.hn_rules.specs.Rules.{AtPort, Each}
+use Rattle.hn_base.specs.Rules.{Each}
+use Rattle.hn_rules.specs.Rules.{AtPort}
 use Rattle.hn_rules.specs.Tick.{IsPortExpiry}
 use Rattle.hn_rules.proofs.running.Running.expire_ports.Given as goal
 

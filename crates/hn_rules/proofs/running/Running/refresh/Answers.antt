@@ -1,8 +1,9 @@
 use Rattle.std.proofs.Common.{refl, subst}
 use Rattle.std.proofs.lemmas.Result.{on_ok_weaker}
+use Rattle.hn_rules.specs.Rules.{words_of}
 use Rattle.hn_own.specs.Ports.{ArePorts}
 use Rattle.hn_rules.specs.Refresh.{IsRefresh}
-use Rattle.hn_rules.proofs.Rans.{ran_plain}
+use Rattle.hn_base.proofs.Rans.{ran_plain}
 use Rattle.hn_rules.proofs.Recent.{same_refresh}
 use Rattle.hn_rules.proofs.Refreshes.{fresh_refresh}
 use Rattle.hn_rules.proofs.Refreshing.{ran_refresh}
@@ -13,7 +14,7 @@ returns-then-is_recent-clause-ran g c =
     let r = c.args.self.now in
     let recent = c.is_recent.ensures in
     let same = same_refresh c.reachability_stays.ensures r (c.requires c.if-not-touched.true) (recent.young c.if-is_recent.true) (recent.leads c.if-is_recent.true) in
-    ran_plain IsRefresh _ r r same refl
+    ran_plain words_of IsRefresh _ r r same refl
 
 pub returns-clause-ran : goal.returns-clause-ran
 returns-clause-ran g c =

@@ -3,7 +3,7 @@ use Rattle.hn_typed.specs.Item.{NetworkState}
 use Rattle.hn_rules.specs.declared.answers.Subject.TheVariants as subject
 use Rattle.hn_rules.specs.Answers.{with_answer}
 use Rattle.hn_rules.specs.Requests.{with_state}
-use Rattle.hn_rules.specs.Rules.{Each}
+use Rattle.hn_base.specs.Rules.{Each}
 use Rattle.hn_rules.proofs.running.Running.request_network.Given as goal
 
 abbrev pub invariant-loop-id : goal.invariant-loop-id

@@ -1,10 +1,10 @@
 use Rattle.std.proofs.Common.{refl}
-use Rattle.hn_rules.specs.Rules.{AtPort}
+use Rattle.hn_rules.specs.Rules.{AtPort, words_of}
 use Rattle.hn_rules.specs.Tick.{IsPortTick}
-use Rattle.hn_rules.proofs.Rans.{ran_next}
+use Rattle.hn_base.proofs.Rans.{ran_next}
 use Rattle.hn_rules.proofs.running.Running.tick_ports.Goals as goal
 
 pub loop-at-preserved : goal.loop-at-preserved
 loop-at-preserved g c =
-    ran_next (λ at. AtPort at IsPortTick) c.deref-at-items.result.now c.loop-at.at-index _ (record { 0 = 0 }) _ _ _ c.args.self.now c.loop-at.self c.tick_port.new.self
+    ran_next words_of (λ at. AtPort at IsPortTick) c.deref-at-items.result.now c.loop-at.at-index _ (record { 0 = 0 }) _ _ _ c.args.self.now c.loop-at.self c.tick_port.new.self
     c.loop-at-test.true refl c.loop-at.invariant c.in_ok-tick_port.ensures

@@ -1,5 +1,6 @@
 use Rattle.std.proofs.Common.{take}
-use Rattle.hn_rules.specs.Rules.{Ran, AtPort, Each}
+use Rattle.hn_base.specs.Rules.{Each}
+use Rattle.hn_rules.specs.Rules.{Ran, AtPort}
 use Rattle.hn_rules.specs.Tick.{IsPortTick}
 use Rattle.hn_rules.proofs.running.Running.tick_ports.Given as goal
 

@@ -46,5 +46,6 @@ pub returns-clause-kept : goal.returns-clause-kept
 returns-clause-kept g c =
     let held = c.get-2.ensures in
     let priority = subst (λ (h : Held). All HasOwnPriority h.assigned) (sym held.held) held.kept.priority in
-    kept_of c.subroutine_leaves.ensures.wished c.args.self.now c.subroutine.result c.requires.well.ports (returns-clause-assigned g c)
+    kept_of c.pairs_are_ordered.ensures.total c.pairs_are_ordered.ensures.exact c.subroutine_leaves.ensures.wished
+    c.args.self.now c.subroutine.result c.requires.well.ports (returns-clause-assigned g c)
     c.subroutine.ensures.ascending c.subroutine.ensures.inside (c.subroutine.ensures.priority priority)

@@ -12,7 +12,7 @@ use Rattle.std.proofs.lemmas.Option.{get_or_from_slice_get, slice_get_within}
 use Rattle.hn_base.proofs.AscendingLists.{nothing_in, Contains-map, Contains-from_map, sorted_push, sorted_parts}
 use Rattle.hn_base.proofs.Parts.{contains_at, one_of_ascending}
 use Rattle.hn_base.specs.declared.ids.EpId.{EpId}
-use Rattle.hn_prefix.specs.Prefix.{PlainPrefix, IsPrefix, IsWithin, prefix_cmp}
+use Rattle.hn_base.specs.Prefix.{PlainPrefix, IsPrefix, IsWithin, prefix_cmp}
 use Rattle.hn_advert.specs.declared.advert.Info.{Info}
 use Rattle.hn_assign.specs.declared.assigned.Assigned.{Assigned}
 use Rattle.hn_assign.specs.Facts.{IsInDelegated}
@@ -24,7 +24,7 @@ use Rattle.hn_rules.specs.declared.state.State.{State}
 use Rattle.hn_rules.specs.Seen.{seen_by}
 use Rattle.hn_router.specs.Advertising.{AreInfos}
 use Rattle.hn_router.specs.Infos.{IsInfoFrom, HasNoInfo}
-use Rattle.hn_prefix.proofs.Prefixes.{prefix_total}
+use Rattle.hn_base.proofs.Prefixes.{prefix_total}
 use Rattle.hn_base.proofs.Fronts.{front_at}
 
 -- the law of hn_deleg: prefixes inside two usable prefixes are in the order of these

@@ -16,7 +16,8 @@ use Rattle.hn_rules.specs.Delegating.{ending}
 use Rattle.hn_rules.specs.Events.{IsRestarting}
 use Rattle.hn_rules.specs.Laws.{KeepsEndpoints}
 use Rattle.hn_rules.specs.Refresh.{IsRefresh}
-use Rattle.hn_rules.specs.Rules.{Rule, Then, begun_at}
+use Rattle.hn_base.specs.Rules.{Then}
+use Rattle.hn_rules.specs.Rules.{Rule, begun_at}
 use Rattle.hn_rules.specs.Tick.{IsExpiry, forgetting, IsPortsTick}
 use Rattle.hn_router.specs.Act.{PlainEvent, Arrive, Tick, Attach, Detach, External, Withdraw, SetCaps, Restart, is_refused, IsEventRule, IsEvent, Happened}
 use Rattle.hn_router.specs.Laws.{MomentIsNow, endpoints_by, EndpointsFollow}

@@ -23,8 +23,6 @@ use Rattle.hn_rules.specs.Nodes.{held_entry, own_entry, nodes_of}
 use Rattle.hn_rules.specs.Router.{IsPortPast, IsNodePast, IsWell, WasReach}
 use Rattle.hn_router.specs.Laws.{NewIsRouter}
 use Rattle.hn_base.proofs.AscendingLists.{Contains-one}
-use Rattle.hn_own.proofs.PortLists.{ArePorts-none}
-use Rattle.hn_own.proofs.PrefixLists.{AreOwnPrefixes-none}
 
 -- its own node is the only one
 module _ (own : ℕ) (node : Entry) (here : node.id.0 ≡ own) (own_is_reachable : (own : ℕ) (nodes : List Entry) → IsNetwork own nodes → IsReachable own nodes own)
@@ -49,18 +47,18 @@ nothing_held : AreHeldPairs no_pairs
 unfolding IsStrictlySortedBy
 nothing_held = record { assigned = tt; backoffs = tt; few = omega arith; inside = All-nil IsInDelegated; priority = All-nil HasOwnPriority }
 
-pub new_is_one : NoNodesAreTable → ((own : ℕ) (nodes : List Entry) → IsNetwork own nodes → IsReachable own nodes own)
+pub new_is_one : NoNodesAreTable → ArePorts [] → AreOwnPrefixes [] → ((own : ℕ) (nodes : List Entry) → IsNetwork own nodes → IsReachable own nodes own)
     → ((own : ℕ) (nodes : List Entry) (y : ℕ) → IsReachable own nodes y → Contains (ids_of nodes) y) → NewIsRouter
-new_is_one none own_is_reachable reachable_is_a_node id now s new =
+new_is_one none no_endpoints no_delegated own_is_reachable reachable_is_a_node id now s new =
     record { well = well; refreshed = record { published = sym new.items_are; reached = reached; lost = lost; hashed = new.net_is } }
   where
     well : IsWell s
     well = record {
-      ports = subst ArePorts (sym new.ports_are) ArePorts-none;
+      ports = subst ArePorts (sym new.ports_are) no_endpoints;
       peers = subst (λ (ports : List Port). All (λ port. ArePeers port.peers) ports) (sym new.ports_are) (All-nil (λ (port : Port). ArePeers port.peers));
       table = subst IsTable (sym new.table_is) (none 256 (inl refl));
       own = new.own_is;
-      delegated = subst AreOwnPrefixes (sym new.no_prefixes) AreOwnPrefixes-none;
+      delegated = subst AreOwnPrefixes (sym new.no_prefixes) no_delegated;
       pairs = subst AreHeldPairs (sym new.nothing_held) nothing_held;
       other = subst (λ (nodes : Nodes). held nodes.entries s.id.0 ≡ None) (sym new.table_is) refl;
       numbered = record {

@@ -8,7 +8,7 @@ use Rattle.hn_base.specs.declared.ids.EpId.{EpId}
 use Rattle.hn_base.specs.declared.ids.NodeId.{NodeId}
 use Rattle.hn_base.specs.declared.letter.Letter.{Letter}
 use Rattle.hn_base.specs.declared.letter.Letter.TheVariants.{H}
-use Rattle.hn_prefix.specs.Prefix.{prefix_cmp}
+use Rattle.hn_base.specs.Prefix.{prefix_cmp}
 use Rattle.hn_advert.specs.declared.advert.Advert.{Advert}
 use Rattle.hn_advert.specs.declared.advert.Info.{Info}
 use Rattle.hn_advert.specs.Advert.{advert_bytes}
@@ -16,12 +16,11 @@ use Rattle.hn_data.specs.View.{PlainView}
 use Rattle.hn_deleg.specs.declared.delegated.Delegated.{Delegated}
 use Rattle.hn_deleg.specs.Used.{AreUsable, IsOutside}
 use Rattle.hn_link.specs.CommonLink.{IsCommonLink}
-use Rattle.hn_link.specs.Election.{IsElected, HasNoCandidate}
+use Rattle.hn_link.specs.Election.{IsElected, HasNoCandidate, HasOneAnswer}
 use Rattle.hn_rules.specs.declared.state.State.{State}
 use Rattle.hn_rules.specs.Seen.{seen_by, IsElectedAt}
 use Rattle.hn_router.specs.Advertising.{IsInfoOf, AreInfos, IsLifetime, IsAdvertAt, IsAdvertBytes}
-use Rattle.hn_prefix.proofs.Prefixes.{prefix_total}
-use Rattle.hn_link.proofs.Elections.{one_who}
+use Rattle.hn_base.proofs.Prefixes.{prefix_total}
 
 -- the laws of hn_deleg and hn_link: a view has one list of usable prefixes, and an endpoint one Common Link
 abbrev pub OneUsable : Type 0
@@ -31,10 +30,10 @@ abbrev pub OneCommonLink : Type 0
 OneCommonLink = (view : PlainView) (e : ℕ) (a b : List (NodeId × EpId)) → IsCommonLink view e a → IsCommonLink view e b → a ≡ b
 
 -- somebody is elected or nobody
-one_flag : OneCommonLink → (s : State) (e : EpId) (letter : Letter) (a b : Option NodeId) → IsElectedAt s e letter a → IsElectedAt s e letter b → is_some a ≡ is_some b
-one_flag one_link s e letter a b f g =
+one_flag : OneCommonLink → HasOneAnswer → (s : State) (e : EpId) (letter : Letter) (a b : Option NodeId) → IsElectedAt s e letter a → IsElectedAt s e letter b → is_some a ≡ is_some b
+one_flag one_link one_answer s e letter a b f g =
     let same : g.common ≡ f.common = one_link (seen_by s) e.0 g.common f.common g.is_common f.is_common in
-    let who = one_who (seen_by s) f.common letter a b f.is_elected (subst (λ (c : List (NodeId × EpId)). MatchOption b (HasNoCandidate (seen_by s) c letter) (IsElected (seen_by s) c letter)) same g.is_elected) in
+    let who = one_answer (seen_by s) f.common letter a b f.is_elected (subst (λ (c : List (NodeId × EpId)). MatchOption b (HasNoCandidate (seen_by s) c letter) (IsElected (seen_by s) c letter)) same g.is_elected) in
     ap (λ (o : Option NodeId). is_some o) who
 
 one_lifetime : (s : State) (m n : ℕ) → IsLifetime s m → IsLifetime s n → m ≡ n
@@ -52,14 +51,14 @@ one_infos one_usable s e a b f g =
     ascending_unique (on (λ i. i.prefix) prefix_cmp) (on_total (λ i. i.prefix) prefix_total) a b ((sorted_parts (λ (i : Info). i.prefix) prefix_cmp a).1 f.ascending) ((sorted_parts (λ (i : Info). i.prefix) prefix_cmp b).1 g.ascending)
     (λ i. (λ h. (each i).1 ((f.each i).0 h), λ h. (f.each i).1 ((each i).0 h)))
 
-one_advert : OneUsable → OneCommonLink → (s : State) (e : EpId) (a b : Advert) → IsAdvertAt s e a → IsAdvertAt s e b → a ≡ b
-one_advert one_usable one_link s e a b f g =
-    let who : is_some f.who ≡ is_some g.who = one_flag one_link s e H f.who g.who f.is_elected g.is_elected in
+one_advert : OneUsable → OneCommonLink → HasOneAnswer → (s : State) (e : EpId) (a b : Advert) → IsAdvertAt s e a → IsAdvertAt s e b → a ≡ b
+one_advert one_usable one_link one_answer s e a b f g =
+    let who : is_some f.who ≡ is_some g.who = one_flag one_link one_answer s e H f.who g.who f.is_elected g.is_elected in
     let managed : a.managed ≡ b.managed = f.managed ∙ who ∙ sym g.managed in
     let other : a.other ≡ b.other = f.other ∙ who ∙ sym g.other in
     let lifetime : a.lifetime ≡ b.lifetime = one_lifetime s a.lifetime b.lifetime f.lifetime g.lifetime in
     let infos : a.infos ≡ b.infos = one_infos one_usable s e a.infos b.infos f.infos g.infos in
     λ k. record { managed = managed k; other = other k; lifetime = lifetime k; infos = infos k }
 
-pub one_bytes : OneUsable → OneCommonLink → (s : State) (e : EpId) (a b : List ℕ) → IsAdvertBytes s e a → IsAdvertBytes s e b → a ≡ b
-one_bytes one_usable one_link s e a b f g = f.2 ∙ ap advert_bytes (one_advert one_usable one_link s e f.0 g.0 f.1 g.1) ∙ sym g.2
+pub one_bytes : OneUsable → OneCommonLink → HasOneAnswer → (s : State) (e : EpId) (a b : List ℕ) → IsAdvertBytes s e a → IsAdvertBytes s e b → a ≡ b
+one_bytes one_usable one_link one_answer s e a b f g = f.2 ∙ ap advert_bytes (one_advert one_usable one_link one_answer s e f.0 g.0 f.1 g.1) ∙ sym g.2

@@ -6,7 +6,8 @@ use Rattle.hn_tlv.specs.Grammar.{PlainTlv, IsTlvList, HasTlvs, FirstFault}
 use Rattle.hn_rules.specs.declared.running.Running.{Running}
 use Rattle.hn_rules.specs.declared.running.Origin.{Origin}
 use Rattle.hn_rules.specs.declared.done.Note.TheVariants as note
-use Rattle.hn_rules.specs.Rules.{Then, IsSole, noted}
+use Rattle.hn_base.specs.Rules.{Then}
+use Rattle.hn_rules.specs.Rules.{IsSole, noted, words_of}
 use Rattle.hn_rules.specs.Arrival.{IsArrival}
 use Rattle.hn_rules.specs.Assigning.{IsAssigning}
 use Rattle.hn_rules.specs.Delegating.{delegating, withdrawing, ending}
@@ -15,7 +16,7 @@ use Rattle.hn_rules.specs.Refresh.{IsRefresh}
 use Rattle.hn_rules.specs.Tick.{IsExpiry, forgetting, IsPortsTick}
 use Rattle.hn_router.specs.Act.{PlainEvent, Arrive, Tick, Attach, Detach, External, Withdraw, SetCaps, Restart, IsFar, IsMalformed, IsRead, is_refused, IsEventRule, IsEvent}
 use Rattle.hn_router.specs.Ticks.{IsLosing, IsSettling, IsTick}
-use Rattle.hn_rules.proofs.Sole.{sole_given, sole_plain, sole_both, sole_from, sole_or, sole_where, sole_some}
+use Rattle.hn_base.proofs.Soles.{sole_given, sole_plain, sole_both, sole_from, sole_or, sole_where, sole_some}
 use Rattle.hn_base.proofs.Decisions.{not_both}
 
 -- what the laws say of lists of TLVs and of the rules
@@ -33,40 +34,40 @@ pub record HasLaws : Type 0 where
 
 sole_tick : HasLaws → IsSole IsTick
 sole_tick laws =
-    let losing = sole_both IsExpiry (Then (λ b a. a ≡ ending b) IsRefresh) laws.expiry (sole_both (λ b a. a ≡ ending b) IsRefresh (sole_plain ending (λ r. refl)) laws.refresh) in
-    let settling = sole_both IsAssigning IsRefresh laws.assigning laws.refresh in
-    sole_both IsLosing (Then (λ b a. a ≡ forgetting b) (Then IsSettling IsPortsTick)) losing
-    (sole_both (λ b a. a ≡ forgetting b) (Then IsSettling IsPortsTick) (sole_plain forgetting (λ r. refl))
-    (sole_both IsSettling IsPortsTick settling laws.ports))
+    let losing = sole_both words_of IsExpiry (Then (λ b a. a ≡ ending b) IsRefresh) laws.expiry (sole_both words_of (λ b a. a ≡ ending b) IsRefresh (sole_plain words_of ending (λ r. refl)) laws.refresh) in
+    let settling = sole_both words_of IsAssigning IsRefresh laws.assigning laws.refresh in
+    sole_both words_of IsLosing (Then (λ b a. a ≡ forgetting b) (Then IsSettling IsPortsTick)) losing
+    (sole_both words_of (λ b a. a ≡ forgetting b) (Then IsSettling IsPortsTick) (sole_plain words_of forgetting (λ r. refl))
+    (sole_both words_of IsSettling IsPortsTick settling laws.ports))
 
 sole_read : HasLaws → (from : Origin) (bytes : List ℕ) → IsSole (IsRead from bytes)
 sole_read laws from bytes =
-    sole_from (IsRead from bytes) (λ r a. (tlvs : List PlainTlv) × IsTlvList tlvs bytes × IsArrival from tlvs r a) (λ r a h. (h.tlvs, h.list, h.arrives))
-    (sole_some (λ tlvs. IsTlvList tlvs bytes) (IsArrival from) (λ x y. laws.one_list x y bytes) (laws.arrival from))
+    sole_from words_of (IsRead from bytes) (λ r a. (tlvs : List PlainTlv) × IsTlvList tlvs bytes × IsArrival from tlvs r a) (λ r a h. (h.tlvs, h.list, h.arrives))
+    (sole_some words_of (λ tlvs. IsTlvList tlvs bytes) (IsArrival from) (λ x y. laws.one_list x y bytes) (laws.arrival from))
 
 sole_malformed : HasLaws → (from : Origin) (bytes : List ℕ) → IsSole (IsMalformed from bytes)
 sole_malformed laws from bytes =
-    sole_given (IsMalformed from bytes) (λ r a h. ap (λ (x : Running). x.done.words) h.gives)
+    sole_given words_of (IsMalformed from bytes) (λ r a h. ap (λ (x : Running). x.done.words) h.gives)
     (λ r a b h k. let same = laws.one_place bytes h.place k.place h.why k.why h.fault k.fault in h.gives ∙ (λ i. noted (note.Malformed (same.0 i) (same.1 i)) r) ∙ sym k.gives)
 
 sole_rule : HasLaws → (event : PlainEvent) → IsSole (IsEventRule event)
 sole_rule laws (Arrive from bytes) =
-    sole_or (IsFar from) (λ r a. IsMalformed from bytes r a ⊎ IsRead from bytes r a)
-    (sole_given (IsFar from) (λ r a h. ap (λ (x : Running). x.done.words) h.gives) (λ r a b h k. h.gives ∙ sym k.gives))
-    (sole_or (IsMalformed from bytes) (IsRead from bytes) (sole_malformed laws from bytes) (sole_read laws from bytes) (λ r a b h k. laws.no_list bytes h.place h.why h.fault (k.tlvs, k.list)))
+    sole_or words_of (IsFar from) (λ r a. IsMalformed from bytes r a ⊎ IsRead from bytes r a)
+    (sole_given words_of (IsFar from) (λ r a h. ap (λ (x : Running). x.done.words) h.gives) (λ r a b h k. h.gives ∙ sym k.gives))
+    (sole_or words_of (IsMalformed from bytes) (IsRead from bytes) (sole_malformed laws from bytes) (sole_read laws from bytes) (λ r a b h k. laws.no_list bytes h.place h.why h.fault (k.tlvs, k.list)))
     (λ r a b h k. elim k [ inl m ↦ h.far m.near | inr m ↦ h.far m.near ])
 sole_rule laws Tick = sole_tick laws
-sole_rule laws (Attach at) = sole_both (IsAttaching at) IsRefresh (laws.attaching at) laws.refresh
-sole_rule laws (Detach at) = sole_both (λ b a. a ≡ detaching at b) IsRefresh (sole_plain (detaching at) (λ r. refl)) laws.refresh
+sole_rule laws (Attach at) = sole_both words_of (IsAttaching at) IsRefresh (laws.attaching at) laws.refresh
+sole_rule laws (Detach at) = sole_both words_of (λ b a. a ≡ detaching at b) IsRefresh (sole_plain words_of (detaching at) (λ r. refl)) laws.refresh
 sole_rule laws (External prefix valid preferred) =
-    sole_both (λ b a. a ≡ delegating prefix valid preferred b) IsRefresh (sole_plain (delegating prefix valid preferred) (λ r. refl)) laws.refresh
-sole_rule laws (Withdraw prefix) = sole_both (λ b a. a ≡ withdrawing prefix b) IsRefresh (sole_plain (withdrawing prefix) (λ r. refl)) laws.refresh
-sole_rule laws (SetCaps caps) = sole_both (λ b a. a ≡ setting_caps caps b) IsRefresh (sole_plain (setting_caps caps) (λ r. refl)) laws.refresh
-sole_rule laws Restart = sole_both IsRestarting IsRefresh laws.restarting laws.refresh
+    sole_both words_of (λ b a. a ≡ delegating prefix valid preferred b) IsRefresh (sole_plain words_of (delegating prefix valid preferred) (λ r. refl)) laws.refresh
+sole_rule laws (Withdraw prefix) = sole_both words_of (λ b a. a ≡ withdrawing prefix b) IsRefresh (sole_plain words_of (withdrawing prefix) (λ r. refl)) laws.refresh
+sole_rule laws (SetCaps caps) = sole_both words_of (λ b a. a ≡ setting_caps caps b) IsRefresh (sole_plain words_of (setting_caps caps) (λ r. refl)) laws.refresh
+sole_rule laws Restart = sole_both words_of IsRestarting IsRefresh laws.restarting laws.refresh
 
 pub sole_event : HasLaws → (event : PlainEvent) → IsSole (IsEvent event)
 sole_event laws event =
-    sole_or (λ r a. IsTrue (is_refused event r.state) × (a ≡ noted note.Refused r)) (λ r a. (is_refused event r.state ≡ false) × IsEventRule event r a)
-    (sole_where (λ r. IsTrue (is_refused event r.state)) (λ r a. a ≡ noted note.Refused r) (sole_plain (noted note.Refused) (λ r. refl)))
-    (sole_where (λ r. is_refused event r.state ≡ false) (IsEventRule event) (sole_rule laws event))
+    sole_or words_of (λ r a. IsTrue (is_refused event r.state) × (a ≡ noted note.Refused r)) (λ r a. (is_refused event r.state ≡ false) × IsEventRule event r a)
+    (sole_where words_of (λ r. IsTrue (is_refused event r.state)) (λ r a. a ≡ noted note.Refused r) (sole_plain words_of (noted note.Refused) (λ r. refl)))
+    (sole_where words_of (λ r. is_refused event r.state ≡ false) (IsEventRule event) (sole_rule laws event))
     (λ r a b h k. not_both _ h.0 k.0)

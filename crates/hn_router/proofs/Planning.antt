@@ -1,6 +1,6 @@
 -- What was planned is what happens.
 use Rattle.std.proofs.Common.{◌≡◌, ℕ, Option, refl, subst}
-use Rattle.hn_io.specs.Words.{Drew, Took}
+use Rattle.hn_base.specs.Words.{Drew, Took}
 use Rattle.hn_rules.specs.declared.state.State.{State}
 use Rattle.hn_rules.specs.declared.running.Running.{Running}
 use Rattle.hn_router.specs.Act.{PlainEvent, IsEvent, Happened, HasRun}

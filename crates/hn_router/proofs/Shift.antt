@@ -2,7 +2,7 @@
 use Rattle.std.proofs.Common.{◌≡◌, ◌<◌, ◌+◌, ◌-◌, ◌∙◌, ℕ, List, [], ◌++◌, Option, Some, length, ap, refl, subst, inl, inr, arith, zero-add, add_assoc, length-append}
 use Rattle.std.proofs.lemmas.Bool.{cases_lt}
 use Rattle.std.proofs.lemmas.List.{get_or_append_left, get_or-append_right}
-use Rattle.hn_io.specs.Words.{Begins, IsAt, Drew, Took}
+use Rattle.hn_base.specs.Words.{Begins, IsAt, Drew, Took}
 
 -- the words of a stream, and then those of the stream that goes on after them
 begins_both : (before words : List ℕ) (stream : ℕ → ℕ) → Begins before stream → Begins words (λ i. stream (length before + i)) → Begins (before ++ words) stream

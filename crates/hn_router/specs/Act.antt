@@ -3,7 +3,7 @@ use Rattle.std.specs.Prelude.{◌≡◌, ℕ, ◌==◌, ◌||◌, IsTrue, false,
 use Rattle.hn_base.specs.declared.ids.EpId.{EpId}
 use Rattle.hn_base.specs.declared.caps.Caps.{Caps}
 use Rattle.hn_base.specs.Addr.{IsLinkLocal}
-use Rattle.hn_prefix.specs.Prefix.{PlainPrefix}
+use Rattle.hn_base.specs.Prefix.{PlainPrefix}
 use Rattle.hn_tlv.specs.Grammar.{PlainTlv, IsTlvList, FirstFault}
 use Rattle.hn_router.specs.declared.event.Event.{Event}
 use Rattle.hn_router.specs.declared.event.Event.TheVariants as event
@@ -14,7 +14,8 @@ use Rattle.hn_rules.specs.declared.done.Done.{Done}
 use Rattle.hn_rules.specs.declared.done.Note.TheVariants as note
 use Rattle.hn_own.specs.Ports.{is_attached}
 use Rattle.hn_own.specs.OwnPrefixes.{may_delegate}
-use Rattle.hn_rules.specs.Rules.{Rule, Then, Ran, begun_at, noted}
+use Rattle.hn_base.specs.Rules.{Then}
+use Rattle.hn_rules.specs.Rules.{Rule, Ran, begun_at, noted}
 use Rattle.hn_rules.specs.Refresh.{IsRefresh}
 use Rattle.hn_rules.specs.Arrival.{IsArrival}
 use Rattle.hn_router.specs.Ticks.{IsTick}

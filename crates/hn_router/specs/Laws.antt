@@ -2,7 +2,7 @@
 use Rattle.std.specs.Prelude.{◌≡◌, ℕ, ◌≤◌, ◌==◌, nat_lt, not, if◌then◌else◌, List, ◌∷◌, ◌++◌, filter}
 use Rattle.hn_base.specs.declared.ids.EpId.{EpId}
 use Rattle.hn_base.specs.declared.ids.NodeId.{NodeId}
-use Rattle.hn_io.specs.Words.{Begins}
+use Rattle.hn_base.specs.Words.{Begins}
 use Rattle.hn_rules.specs.declared.state.State.{State}
 use Rattle.hn_rules.specs.declared.done.Done.{Done}
 use Rattle.hn_router.specs.New.{IsNew}

@@ -1,7 +1,8 @@
 -- A tick: silent peers, ended delegated prefixes and lost nodes go, prefixes are assigned, and then each endpoint sends
 -- what is due (RFC 7787, sections 4.3, 4.6 and 6.1; RFC 7788, section 6.3; RFC 6206, section 4.2).
 use Rattle.std.specs.Prelude.{◌≡◌}
-use Rattle.hn_rules.specs.Rules.{Rule, Then}
+use Rattle.hn_base.specs.Rules.{Then}
+use Rattle.hn_rules.specs.Rules.{Rule}
 use Rattle.hn_rules.specs.Refresh.{IsRefresh}
 use Rattle.hn_rules.specs.Delegating.{ending}
 use Rattle.hn_rules.specs.Assigning.{IsAssigning}

@@ -1,7 +1,7 @@
 //! What a router advertises on an endpoint (RFC 4861, sections 4.2 and 4.6.2; RFC 7788, section 7).
 
 ghost use Rattle.std.specs.Prelude.{◌≡◌, ◌≢◌, ◌^◌, ◌<◌, All, Contains, IfOk, IfSome, IfNone};
-ghost use Rattle.hn_prefix.specs.Prefix.{IsPrefix};
+ghost use Rattle.hn_base.specs.Prefix.{IsPrefix};
 ghost use Rattle.hn_deleg.specs.Used.{whole_seconds};
 ghost use Rattle.hn_router.specs.Advertising.{AreInfos, IsLifetime, IsAdvertBytes};
 ghost use Rattle.hn_router.specs.Infos.{FitsFields, IsInfoFrom, HasNoInfo};

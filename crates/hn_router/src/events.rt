@@ -6,7 +6,8 @@ ghost use Rattle.hn_own.specs.Ports.{is_attached};
 ghost use Rattle.hn_rules.specs.Delegating.{delegating, withdrawing};
 ghost use Rattle.hn_rules.specs.Events.{IsAttaching, detaching, setting_caps, IsRestarting};
 ghost use Rattle.hn_rules.specs.Refresh.{IsRefresh};
-ghost use Rattle.hn_rules.specs.Rules.{Ran, Then};
+ghost use Rattle.hn_base.specs.Rules.{Then};
+ghost use Rattle.hn_rules.specs.Rules.{Ran};
 
 use hn_base::{Caps, EpId, NoMemory};
 use hn_io::Draw;

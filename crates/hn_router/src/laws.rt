@@ -8,8 +8,8 @@ ghost use Rattle.hn_router.specs.Laws.{OneResult, NewIsUnique, NewIsRouter, Rout
 
 use hn_deleg::usable_is_unique;
 use hn_graph::{own_is_reachable, reachable_is_a_node};
-use hn_link::common_link_is_unique;
-use hn_own::own_data_is_unique;
+use hn_link::{common_link_is_unique, elected_is_unique};
+use hn_own::{none_are_well, own_data_is_unique};
 use hn_rules::{
     refresh_makes_a_router, router_stays_later, rules_have_one_result, rules_keep_a_router,
     rules_keep_the_endpoints, rules_keep_the_rest,
@@ -40,6 +40,7 @@ pub fn new_is_router()
     own_is_reachable();
     reachable_is_a_node();
     loss_keeps_table();
+    none_are_well();
 }
 
 /// What an event leaves of a router is one.
@@ -72,4 +73,5 @@ pub fn router_has_one_advert()
 {
     usable_is_unique();
     common_link_is_unique();
+    elected_is_unique();
 }

@@ -1,7 +1,7 @@
 ghost use Rattle.std.specs.Prelude.{◌≡◌, ◌≤◌, ◌^◌, [], ◌∷◌, nat_lt, length, IfOk, OnErr, IsTrue, ◌↔◌};
 ghost use Rattle.hn_base.specs.Caps.{plain_caps};
 ghost use Rattle.hn_assign.specs.Gathered.{AreAdvertised};
-ghost use Rattle.hn_io.specs.Words.{Took};
+ghost use Rattle.hn_base.specs.Words.{Took};
 ghost use Rattle.hn_own.specs.Ports.{is_attached, endpoints_of};
 ghost use Rattle.hn_rules.specs.Nodes.{leaves_of};
 ghost use Rattle.hn_own.specs.OwnPrefixes.{may_delegate};

@@ -1,7 +1,8 @@
 use Rattle.std.proofs.Common.{◌∙◌, ap, inl, inr, sym}
 use Rattle.std.proofs.lemmas.Result.{on_ok_weaker}
+use Rattle.hn_rules.specs.Rules.{words_of}
 use Rattle.hn_rules.specs.declared.running.Running.{Running}
-use Rattle.hn_rules.proofs.Rans.{ran_plain}
+use Rattle.hn_base.proofs.Rans.{ran_plain}
 use Rattle.hn_router.specs.Act.{plain_event, IsEvent, HasRun}
 use Rattle.hn_router.proofs.act.run.Goals as goal
 
@@ -10,7 +11,7 @@ unfolding HasRun
 returns-then-refuses g c =
     let event = plain_event c.args.event.now in
     on_ok_weaker c.note.result
-    (λ noted. ran_plain (IsEvent event) _ c.args.running.now c.note.new.self (inl (sym c.refuses.ensures ∙ c.if-refuses.true, noted)) (ap (λ (r : Running). r.done.words) noted))
+    (λ noted. ran_plain words_of (IsEvent event) _ c.args.running.now c.note.new.self (inl (sym c.refuses.ensures ∙ c.if-refuses.true, noted)) (ap (λ (r : Running). r.done.words) noted))
     c.note.ensures
 
 pub returns : goal.returns

@@ -1,10 +1,11 @@
 use Rattle.std.proofs.Common.{refl}
 use Rattle.std.proofs.lemmas.Result.{on_ok_weaker}
+use Rattle.hn_rules.specs.Rules.{words_of}
 use Rattle.hn_rules.specs.Delegating.{delegating}
 use Rattle.hn_rules.specs.Refresh.{IsRefresh}
-use Rattle.hn_rules.proofs.Rans.{ran_after}
+use Rattle.hn_base.proofs.Rans.{ran_after}
 use Rattle.hn_router.proofs.events.delegate.Goals as goal
 
 pub returns : goal.returns
 returns g c =
-    on_ok_weaker c.refresh.result (λ ran. ran_after (delegating c.args.prefix c.args.valid c.args.preferred) IsRefresh _ _ c.args.running.now c.put_prefix.new.self c.refresh.new.self c.in_ok-put_prefix.ensures refl ran) c.refresh.ensures.ran
+    on_ok_weaker c.refresh.result (λ ran. ran_after words_of (delegating c.args.prefix c.args.valid c.args.preferred) IsRefresh _ _ c.args.running.now c.put_prefix.new.self c.refresh.new.self c.in_ok-put_prefix.ensures refl ran) c.refresh.ensures.ran

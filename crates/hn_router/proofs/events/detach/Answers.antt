@@ -1,10 +1,11 @@
 use Rattle.std.proofs.Common.{refl}
 use Rattle.std.proofs.lemmas.Result.{on_ok_weaker}
+use Rattle.hn_rules.specs.Rules.{words_of}
 use Rattle.hn_rules.specs.Events.{detaching}
 use Rattle.hn_rules.specs.Refresh.{IsRefresh}
-use Rattle.hn_rules.proofs.Rans.{ran_after}
+use Rattle.hn_base.proofs.Rans.{ran_after}
 use Rattle.hn_router.proofs.events.detach.Goals as goal
 
 pub returns : goal.returns
 returns g c =
-    on_ok_weaker c.refresh.result (λ ran. ran_after (detaching c.args.at) IsRefresh _ _ c.args.running.now c.remove_port.new.self c.refresh.new.self c.in_ok-remove_port.ensures refl ran) c.refresh.ensures.ran
+    on_ok_weaker c.refresh.result (λ ran. ran_after words_of (detaching c.args.at) IsRefresh _ _ c.args.running.now c.remove_port.new.self c.refresh.new.self c.in_ok-remove_port.ensures refl ran) c.refresh.ensures.ran

@@ -1,9 +1,10 @@
 use Rattle.std.proofs.lemmas.Result.{on_ok_weaker}
+use Rattle.hn_rules.specs.Rules.{words_of}
 use Rattle.hn_rules.specs.Events.{IsRestarting}
 use Rattle.hn_rules.specs.Refresh.{IsRefresh}
-use Rattle.hn_rules.proofs.Rans.{ran_both}
+use Rattle.hn_base.proofs.Rans.{ran_both}
 use Rattle.hn_router.proofs.events.restart.Goals as goal
 
 pub returns : goal.returns
 returns g c =
-    on_ok_weaker c.refresh.result (λ ran. ran_both IsRestarting IsRefresh _ _ _ c.args.running.now c.restart.new.self c.refresh.new.self c.in_ok-restart.ensures ran) c.refresh.ensures.ran
+    on_ok_weaker c.refresh.result (λ ran. ran_both words_of IsRestarting IsRefresh _ _ _ c.args.running.now c.restart.new.self c.refresh.new.self c.in_ok-restart.ensures ran) c.refresh.ensures.ran

@@ -1,5 +1,5 @@
 use Rattle.std.proofs.Common.{◌∙◌, ap, sym, subst}
-use Rattle.hn_io.specs.Words.{Begins}
+use Rattle.hn_base.specs.Words.{Begins}
 use Rattle.hn_rules.specs.declared.done.Done.{Done}
 use Rattle.hn_rules.specs.declared.running.Running.{Running}
 use Rattle.hn_rules.specs.Rules.{begun_at}

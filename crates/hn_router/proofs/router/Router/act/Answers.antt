@@ -1,5 +1,5 @@
 use Rattle.std.proofs.Common.{sym, subst}
-use Rattle.hn_io.specs.Words.{Took}
+use Rattle.hn_base.specs.Words.{Took}
 use Rattle.hn_rules.specs.declared.done.Done.{Done}
 use Rattle.hn_router.proofs.router.Router.act.Goals as goal
 

@@ -22,9 +22,9 @@ pub fn first_line(alloc: Global, count: usize) -> Result<String, NoMemory>
 /// lies within it below, two spaces further in. A line is the place of the TLV in the datagram, its type, the length of
 /// its value, the name of its item and the item's fields; each line ends with LF.
 ///
-/// Sub-TLVs have lines down to level 7, where the level of the datagram's own TLVs is 0. A node state's body is shown
-/// as they are if it is a list of TLVs. If there are no such lines, `subs=` or `body=` at the end of the line shows the
-/// bytes, if there are any.
+/// Sub-TLVs have lines down to level 7, where the level of the datagram's own TLVs is 0. So have the TLVs of a Node
+/// State's node data, if these are a list of TLVs. If there are no such lines, `subs=` or `body=` at the end of the line
+/// shows the bytes, if there are any.
 pub fn push_next(out: &mut String, bytes: &[u8], at: usize) -> Result<usize, NoMemory>
     requires inside { at < length bytes.now }
     requires list { HasTlvs (drop at bytes.now) }

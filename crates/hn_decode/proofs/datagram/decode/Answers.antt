@@ -1,25 +1,27 @@
-use Rattle.std.proofs.Common.{List, ℕ, ◌++◌, refl, ap, ◌∙◌, append_assoc}
+use Rattle.std.proofs.Common.{List, ℕ, ◌++◌, refl, sym, ap, ◌∙◌, append_assoc}
 use Rattle.std.proofs.lemmas.Result.{err_from_is_err_and}
+use Rattle.hn_base.proofs.Results.{not_ok, tells_passed}
+use Rattle.hn_tlv.specs.declared.fault.TlvFault.{TlvFault}
+use Rattle.hn_tlv.specs.declared.list_fault.ListFault.TheVariants.{Malformed}
+use Rattle.hn_tlv.specs.Grammar.{FirstFault}
 use Rattle.hn_decode.specs.Nested.{first_line}
-use Rattle.hn_tlv.proofs.Told.{tells_first, tells_other}
 use Rattle.hn_decode.proofs.datagram.decode.Goals as goal
 
 pub returns-in_err-count-clause-malformed : goal.returns-in_err-count-clause-malformed
-returns-in_err-count-clause-malformed c =
+returns-in_err-count-clause-malformed c = λ place why.
     let passed = err_from_is_err_and c.from_residual.result c.from_residual.ensures.1 in
-    tells_first c.args.bytes.now c.from_residual.result c.in_err-count.field-0.0 (rw (passed.1, passed.2) refl) c.in_err-count.ensures.fault
+    tells_passed Malformed (λ (f : TlvFault). FirstFault c.args.bytes.now f.place f.why) (λ f g e. cc) c.from_residual.result c.in_err-count.field-0.0 (rw (passed.1, passed.2) refl) c.in_err-count.ensures.fault
+    (λ f. c.in_err-count.ensures.at_fault f.place f.why) (record { place = place; why = why })
 
 pub returns-in_err-out-clause-malformed : goal.returns-in_err-out-clause-malformed
-returns-in_err-out-clause-malformed c =
+returns-in_err-out-clause-malformed c = λ place why.
     let passed = err_from_is_err_and c.from_residual-in_err-out.result c.from_residual-in_err-out.ensures.1 in
-    let count = c.in_ok-count.ensures.count in
-    tells_other c.args.bytes.now c.from_residual-in_err-out.result (count.0, count.1) (λ fault e. cc)
+    (λ e. absurd cc, λ first. absurd (not_ok _ _ (sym (c.in_ok-count.ensures.at_fault place why first))))
 
 pub returns-in_err-at-clause-malformed : goal.returns-in_err-at-clause-malformed
-returns-in_err-at-clause-malformed c =
+returns-in_err-at-clause-malformed c = λ place why.
     let passed = err_from_is_err_and c.from_residual-in_err-at.result c.from_residual-in_err-at.ensures.1 in
-    let count = c.in_ok-count.ensures.count in
-    tells_other c.args.bytes.now c.from_residual-in_err-at.result (count.0, count.1) (λ fault e. cc)
+    (λ e. absurd cc, λ first. absurd (not_ok _ _ (sym (c.in_ok-count.ensures.at_fault place why first))))
 
 pub loop-at-preserved : goal.loop-at-preserved
 loop-at-preserved c =
@@ -32,6 +34,5 @@ loop-at-preserved c =
     )
 
 pub returns-clause-malformed : goal.returns-clause-malformed
-returns-clause-malformed c =
-    let count = c.in_ok-count.ensures.count in
-    tells_other c.args.bytes.now _ (count.0, count.1) (λ fault e. cc)
+returns-clause-malformed c = λ place why.
+    (λ e. absurd cc, λ first. absurd (not_ok _ _ (sym (c.in_ok-count.ensures.at_fault place why first))))

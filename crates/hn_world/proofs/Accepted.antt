@@ -1,34 +1,21 @@
 -- What an accepted event says.
-use Rattle.std.proofs.Common.{◌≡◌, ◌<◌, ℕ, Bool, true, false, not, List, Option, Some, None, length, nat_lt, nat_le, slice_get, refl}
+use Rattle.std.proofs.Common.{◌≡◌, ◌<◌, ℕ, Bool, true, false, not, List, None, length, nat_lt, nat_le, slice_get, refl}
 use Rattle.std.proofs.lemmas.Bool.{leb-false}
 use Rattle.hn_base.specs.Name.{name_text}
 use Rattle.hn_base.specs.declared.ids.EpId.{EpId}
-use Rattle.hn_prefix.specs.Prefix.{PlainPrefix}
+use Rattle.hn_base.specs.Prefix.{PlainPrefix}
 use Rattle.hn_world.specs.declared.copies.MailCopy.{MailCopy}
 use Rattle.hn_world.specs.declared.event.WEvent.{WEvent}
 use Rattle.hn_world.specs.declared.event.WEvent.TheVariants as event
 use Rattle.hn_world.specs.declared.member.Member.{Member}
 use Rattle.hn_world.specs.declared.parts.Parts.{Parts}
 use Rattle.hn_world.specs.Names.{is_taken, member_named, link_place}
-use Rattle.hn_world.specs.Refusal.{code_if, of_router, of_link, of_copy, unless_running, unless_attached, unless_free, unless_apart, unless_full_of_endpoints, unless_full_of_events, unless_full_of_mail, unless_acts, unless_detached, unless_ticked, unless_received, unless_joined, unless_new, copy_at, refusal, unless_full_of_prefixes, unless_delegated}
-use Rattle.hn_base.proofs.Decisions.{neither_given}
+use Rattle.hn_world.specs.Refusal.{code_if, of_router, of_link, unless_running, unless_attached, unless_free, unless_apart, unless_full_of_endpoints, unless_full_of_events, unless_full_of_mail, unless_acts, unless_detached, unless_ticked, unless_received, unless_joined, unless_new, copy_at, refusal, unless_full_of_prefixes, unless_delegated}
+use Rattle.hn_base.proofs.Decisions.{neither_given, some_there}
 
 pub not_so : (code : ℕ) (b : Bool) → code_if code b ≡ None → b ≡ false
 not_so code true none = absurd cc
 not_so code false none = refl
-
--- what is asked of a router, a link or a copy, which is there
-pub some_router : (asked : Member → Option ℕ) (o : Option Member) → of_router asked o ≡ None → (m : Member) × (o ≡ Some m) × (asked m ≡ None)
-some_router asked None accepted = absurd cc
-some_router asked (Some m) accepted = (m, refl, accepted)
-
-some_link : (asked : ℕ → Option ℕ) (o : Option ℕ) → of_link asked o ≡ None → (link : ℕ) × (o ≡ Some link) × (asked link ≡ None)
-some_link asked None accepted = absurd cc
-some_link asked (Some link) accepted = (link, refl, accepted)
-
-pub some_copy : (asked : MailCopy → Option ℕ) (o : Option MailCopy) → of_copy asked o ≡ None → (c : MailCopy) × (o ≡ Some c) × (asked c ≡ None)
-some_copy asked None accepted = absurd cc
-some_copy asked (Some c) accepted = (c, refl, accepted)
 
 -- ---- there is room for one more event
 
@@ -70,36 +57,36 @@ room : (w : Parts) (event : WEvent) → refusal w event ≡ None → HasRoom w
 room w (event.Router name id) accepted = room_to_define w (name_text name) _ accepted
 room w (event.Link name) accepted = room_to_define w (name_text name) _ accepted
 room w (event.Attach name endpoint link) accepted =
-    let router = some_router (λ m. of_link (unless_joined w endpoint m) (link_place (name_text link) w)) (member_named (name_text name) w) accepted in
-    let at = some_link (unless_joined w endpoint router.0) (link_place (name_text link) w) router.2 in
+    let router = some_there 7 (λ (m : Member). of_link (unless_joined w endpoint m) (link_place (name_text link) w)) (member_named (name_text name) w) accepted in
+    let at = some_there 7 (unless_joined w endpoint router.0) (link_place (name_text link) w) router.2 in
     room_to_join w endpoint router.0 at.0 at.2
 room w (event.Detach name endpoint) accepted =
-    let router = some_router (unless_detached w endpoint) (member_named (name_text name) w) accepted in
+    let router = some_there 7 (unless_detached w endpoint) (member_named (name_text name) w) accepted in
     room_to_detach w endpoint router.0 router.2
 room w (event.External name prefix valid preferred) accepted =
-    let router = some_router (unless_delegated w prefix) (member_named (name_text name) w) accepted in
+    let router = some_there 7 (unless_delegated w prefix) (member_named (name_text name) w) accepted in
     room_to_delegate w prefix router.0 router.2
 room w (event.Withdraw name prefix) accepted =
-    let router = some_router (unless_acts w) (member_named (name_text name) w) accepted in
+    let router = some_there 7 (unless_acts w) (member_named (name_text name) w) accepted in
     room_to_act w router.0 router.2
 room w (event.Caps name caps) accepted =
-    let router = some_router (unless_acts w) (member_named (name_text name) w) accepted in
+    let router = some_there 7 (unless_acts w) (member_named (name_text name) w) accepted in
     room_to_act w router.0 router.2
 room w (event.Stop name) accepted =
-    let router = some_router (unless_acts w) (member_named (name_text name) w) accepted in
+    let router = some_there 7 (unless_acts w) (member_named (name_text name) w) accepted in
     room_to_act w router.0 router.2
-room w (event.Start name) accepted = (some_router (λ m. unless_full_of_events w) (member_named (name_text name) w) accepted).2
+room w (event.Start name) accepted = (some_there 7 (λ (m : Member). unless_full_of_events w) (member_named (name_text name) w) accepted).2
 room w (event.Time moment) accepted = (neither_given (code_if 10 (nat_lt moment w.moment)) (unless_full_of_events w) accepted).1
 room w (event.Tick name) accepted =
-    let router = some_router (unless_ticked w) (member_named (name_text name) w) accepted in
+    let router = some_there 7 (unless_ticked w) (member_named (name_text name) w) accepted in
     room_to_tick w router.0 router.2
 room w (event.Deliver copy) accepted =
-    let mail = some_copy (λ c. of_router (unless_received w c.to.endpoint) (slice_get w.members c.to.place)) (copy_at w copy) accepted in
-    let router = some_router (unless_received w mail.0.to.endpoint) (slice_get w.members mail.0.to.place) mail.2 in
+    let mail = some_there 13 (λ (c : MailCopy). of_router (unless_received w c.to.endpoint) (slice_get w.members c.to.place)) (copy_at w copy) accepted in
+    let router = some_there 7 (unless_received w mail.0.to.endpoint) (slice_get w.members mail.0.to.place) mail.2 in
     room_to_receive w mail.0.to.endpoint router.0 router.2
-room w (event.Drop copy) accepted = (some_copy (λ c. unless_full_of_events w) (copy_at w copy) accepted).2
+room w (event.Drop copy) accepted = (some_there 13 (λ (c : MailCopy). unless_full_of_events w) (copy_at w copy) accepted).2
 room w (event.Inject name endpoint from multicast bytes) accepted =
-    let router = some_router (unless_received w endpoint) (member_named (name_text name) w) accepted in
+    let router = some_there 7 (unless_received w endpoint) (member_named (name_text name) w) accepted in
     room_to_receive w endpoint router.0 router.2
 
 pub fewer_events : (w : Parts) (event : WEvent) → refusal w event ≡ None → length w.trace < 1000000

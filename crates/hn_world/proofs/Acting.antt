@@ -3,12 +3,13 @@ use Rattle.std.proofs.Common.{◌≡◌, ◌∙◌, ℕ, ◌<◌, ◌≤◌, ◌
 use Rattle.std.proofs.lemmas.List.{append-nil}
 use Rattle.std.proofs.lemmas.Option.{slice_get_within, slice_get-get_or, same_Some}
 use Rattle.std.proofs.lemmas.Grind.{common_steps}
+use Rattle.hn_base.proofs.Decisions.{some_there}
 use Rattle.hn_base.proofs.Fronts.{find-none}
 use Rattle.hn_base.proofs.Passing.{none_passes}
 use Rattle.hn_base.specs.Name.{name_text}
 use Rattle.hn_base.specs.declared.ids.NodeId.{NodeId}
 use Rattle.hn_base.specs.declared.name.Name.{Name}
-use Rattle.hn_io.specs.Words.{Took, Drew}
+use Rattle.hn_base.specs.Words.{Took, Drew}
 use Rattle.hn_router.specs.Act.{PlainEvent, Arrive}
 use Rattle.hn_router.specs.New.{IsNew}
 use Rattle.hn_rules.specs.declared.done.Note.{Note}
@@ -27,7 +28,6 @@ use Rattle.hn_world.specs.Names.{is_named, router_place, member_named}
 use Rattle.hn_world.specs.Prepared.{IsPrepared}
 use Rattle.hn_world.specs.Refusal.{refusal, of_router, of_link, of_copy, unless_full_of_events, copy_at}
 use Rattle.hn_world.specs.Replay.{IsSound, IsSoundMember}
-use Rattle.hn_world.proofs.Accepted.{some_router, some_copy}
 use Rattle.hn_world.proofs.Places.{got_set, got_front, within, place_kept}
 use Rattle.hn_world.proofs.Sounds.{all_at}
 use Rattle.hn_world.specs.Step.{ActsAt, Acts, Changes, Does, Step, IsStep, IsInRange, acted, entered, with_member, taken}
@@ -171,7 +171,7 @@ pub receiver_within : (asked : MailCopy → Member → Option ℕ) (copy : ℕ) 
     → copy_at w copy ≡ Some c → c.to.place < length w.members
 receiver_within asked copy w c accepted found =
     let accepts : of_router (asked c) (slice_get w.members c.to.place) ≡ None = subst (λ (o : Option MailCopy). of_copy (λ c. of_router (asked c) (slice_get w.members c.to.place)) o ≡ None) found accepted in
-    let m = some_router (asked c) (slice_get w.members c.to.place) accepts in
+    let m = some_there 7 (asked c) (slice_get w.members c.to.place) accepts in
     slice_get_within w.members c.to.place m.0 m.1
 
 abbrev pub arrival_of : MailCopy → PlainEvent
@@ -253,7 +253,7 @@ pub dropped_step : (copy : ℕ) (before : Parts) (copies : List MailCopy) (trace
     → ((d : MailCopy) → slice_get before.copies (copy - 1) ≡ Some d → copies ≡ slice_set before.copies (copy - 1) (record d { waiting = false }))
     → Step (record { event = event.Drop copy; words = [] }) [] before (record before { copies = copies; trace = trace })
 dropped_step copy before copies trace t accepted event entered takes =
-    let c = some_copy (λ _. unless_full_of_events before) (copy_at before copy) accepted in
+    let c = some_there 13 (λ (_ : MailCopy). unless_full_of_events before) (copy_at before copy) accepted in
     let at = (copy_there copy before c.0 c.1).1 in
     record {
       accepted = accepted;

@@ -1,4 +1,4 @@
-pub mod Accepted
+mod Accepted
 pub mod Acting
 pub mod Agreeing
 pub mod Attached

@@ -1,7 +1,7 @@
 -- What was prepared before an event at a router happens.
 use Rattle.std.specs.Prelude.{◌≡◌, ℕ, true, Option, Some, All}
 use Rattle.std.specs.List.{slice_get}
-use Rattle.hn_io.specs.Words.{Took}
+use Rattle.hn_base.specs.Words.{Took}
 use Rattle.hn_router.specs.Act.{PlainEvent, Happened}
 use Rattle.hn_world.specs.declared.finish.Prepared.{Prepared}
 use Rattle.hn_world.specs.declared.member.Member.{Member}

@@ -2,9 +2,10 @@
 use Rattle.std.specs.Prelude.{ℕ, ◌+◌, ◌-◌, ◌^◌, Bool, ◌||◌, ◌==◌, not, nat_lt, nat_le, if◌then◌else◌, List, length, Option, None, Some}
 use Rattle.std.specs.List.{list_any, slice_get}
 use Rattle.std.specs.Option.{option_or}
+use Rattle.hn_base.specs.Codes.{unless_there}
 use Rattle.hn_base.specs.Name.{name_text}
 use Rattle.hn_base.specs.declared.ids.EpId.{EpId}
-use Rattle.hn_prefix.specs.Prefix.{PlainPrefix}
+use Rattle.hn_base.specs.Prefix.{PlainPrefix}
 use Rattle.hn_own.specs.Ports.{is_attached}
 use Rattle.hn_own.specs.OwnPrefixes.{may_delegate}
 use Rattle.hn_world.specs.declared.copies.MailCopy.{MailCopy}
@@ -22,12 +23,10 @@ code_if code so = if so then Some code else None
 
 -- 7: a name is unknown or names the other kind. What is asked then of the router of a name, or of the place of a link.
 abbrev pub of_router : (Member → Option ℕ) → Option Member → Option ℕ
-of_router asked None = Some 7
-of_router asked (Some m) = asked m
+of_router asked router = unless_there 7 asked router
 
 abbrev pub of_link : (ℕ → Option ℕ) → Option ℕ → Option ℕ
-of_link asked None = Some 7
-of_link asked (Some link) = asked link
+of_link asked link = unless_there 7 asked link
 
 -- 12: the router is stopped
 abbrev pub unless_running : Member → Option ℕ
@@ -86,8 +85,7 @@ unless_joined w endpoint m link =
 
 -- 13: there is no copy of that number; what is asked then of a copy. Numbers of copies begin with 1.
 abbrev pub of_copy : (MailCopy → Option ℕ) → Option MailCopy → Option ℕ
-of_copy asked None = Some 13
-of_copy asked (Some copy) = asked copy
+of_copy asked copy = unless_there 13 asked copy
 
 abbrev pub copy_at : Parts → ℕ → Option MailCopy
 copy_at w copy = if copy == 0 then None else slice_get w.copies (copy - 1)

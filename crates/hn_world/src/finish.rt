@@ -2,7 +2,7 @@
 
 ghost use Rattle.std.specs.Prelude.{◌≡◌, ◌++◌, ◌∷◌, ◌≤◌, ◌^◌, ◌<◌, [], true, All, length, IfOk, OnOk, OnErr, Some};
 ghost use Rattle.std.specs.List.{slice_get};
-ghost use Rattle.hn_io.specs.Words.{Took};
+ghost use Rattle.hn_base.specs.Words.{Took};
 ghost use Rattle.hn_router.specs.Act.{plain_event, PlainEvent, Happened};
 ghost use Rattle.hn_world.specs.declared.member.Member.{Member};
 ghost use Rattle.hn_world.specs.Mail.{copies_of};

@@ -1,6 +1,7 @@
 -- On one link the routers of a settled set elect the same.
-use Rattle.std.proofs.Common.{◌≡◌, ◌∙◌, ◌↔◌, ◌<◌, ◌==◌, ◌&&◌, nat_lt, ℕ, Bool, List, Option, Some, None, Contains, filter, inl, inr, refl, sym, ap, subst}
+use Rattle.std.proofs.Common.{◌≡◌, ◌∙◌, ◌↔◌, ◌<◌, ◌==◌, ◌&&◌, nat_lt, ℕ, Bool, List, Option, Some, None, Contains, filter, inl, inr, refl, sym, ap, subst, rules}
 use Rattle.std.specs.Cmp.{IsTotalOrder}
+use Rattle.std.specs.Cmp.Rules.{comparing}
 use Rattle.std.specs.List.{list_any}
 use Rattle.std.specs.Option.{MatchOption}
 use Rattle.std.specs.Ordering.{on, nat_cmp}
@@ -37,7 +38,6 @@ use Rattle.hn_audit.proofs.BridgeHomes.{home_of, set_of, in_set, of_set, IsEndOf
 use Rattle.hn_audit.proofs.BridgePremises.{IsCase}
 use Rattle.hn_audit.proofs.BridgeSeen.{common_is_link}
 use Rattle.hn_audit.proofs.BridgeSounds.{end_on, reached_there, plugged_there}
-use Rattle.hn_link.proofs.Elections.{rank_total}
 use Rattle.hn_base.proofs.Greatest.{greatest_of}
 
 -- ---- orders
@@ -59,7 +59,9 @@ abbrev member_cmp : Letter → Member → Member → Ordering
 member_cmp letter m n = rank_cmp (rank_of letter (caps_of m) m.router.id) (rank_of letter (caps_of n) n.router.id)
 
 member_total : (letter : Letter) → IsTotalOrder (member_cmp letter)
-member_total letter = on_total (λ (m : Member). rank_of letter (caps_of m) m.router.id) rank_total
+member_total letter =
+    let ranks : IsTotalOrder rank_cmp = search (comparing, rules) in
+    on_total (λ (m : Member). rank_of letter (caps_of m) m.router.id) ranks
 
 -- whether it stands for election on a Common Link
 abbrev is_at : Member → NodeId × EpId → Bool

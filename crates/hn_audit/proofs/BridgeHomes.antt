@@ -6,10 +6,10 @@ use Rattle.std.proofs.lemmas.Bool.{and_from, and_parts, eqb-true, eq-eqb}
 use Rattle.std.proofs.lemmas.List.Elements.{All-contains}
 use Rattle.std.proofs.lemmas.Option.{same_Some}
 use Rattle.hn_base.proofs.AscendingLists.{Contains-map, Contains-from_map}
-use Rattle.hn_base.proofs.Keys.{same_node, same_id}
+use Rattle.hn_base.proofs.Keys.{same_node, same_id, id_is_found}
 use Rattle.hn_base.specs.declared.ids.NodeId.{NodeId}
 use Rattle.hn_base.specs.declared.ids.EpId.{EpId}
-use Rattle.hn_prefix.specs.Prefix.{PlainPrefix}
+use Rattle.hn_base.specs.Prefix.{PlainPrefix}
 use Rattle.hn_assign.specs.declared.assigned.Assigned.{Assigned}
 use Rattle.hn_deleg.specs.declared.delegated.Delegated.{Delegated}
 use Rattle.hn_deleg.specs.Used.{prefixes_of}
@@ -28,7 +28,6 @@ use Rattle.hn_base.proofs.Elements.{in_filter, from_filter, in_filter_map, from_
 use Rattle.hn_audit.proofs.Lists.{in_flat_map, from_flat_map}
 use Rattle.hn_audit.proofs.BridgeSets.{IsKnown, router_of, one_member}
 use Rattle.hn_audit.proofs.BridgeUsed.{is_unwanted}
-use Rattle.hn_own.proofs.AttachedPorts.{port_is_attached}
 
 -- ---- the attachments of a router
 
@@ -58,7 +57,7 @@ on_link_is_port m e link attached on =
     (attached.endpoints e on.0).1 (subst (Contains (map (λ (a : Attachment). a.endpoint) m.attachments)) by.1.of_endpoint (Contains-map (λ (a : Attachment). a.endpoint) m.attachments by.0 by.1.there))
 
 pub on_link_is_attached : (m : Member) (e : EpId) (link : ℕ) → IsAttachedMember m → IsPlugged link m e → IsTrue (is_attached e m.router.ports)
-on_link_is_attached m e link attached on = port_is_attached m.router.ports e (on_link_is_port m e link attached on)
+on_link_is_attached m e link attached on = id_is_found (λ (p : Port). p.id) m.router.ports e (on_link_is_port m e link attached on)
 
 -- endpoints are numbered from 1
 pub port_is_numbered : (m : Member) (e : EpId) → IsRouter m.router → Contains (endpoints_of m.router.ports) e → 0 < e.0

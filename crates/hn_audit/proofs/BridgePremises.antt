@@ -1,8 +1,9 @@
 -- The home of a settled and quiet set meets all that is asked of a home.
 use Rattle.std.proofs.Common.{◌≡◌, ◌∙◌, ◌≤◌, ℕ, List, Some, Contains, sym, subst, arith}
+use Rattle.std.specs.Cmp.{IsTotalOrder}
 use Rattle.std.proofs.lemmas.List.Elements.{All-contains}
 use Rattle.std.proofs.lemmas.Option.{same_Some}
-use Rattle.hn_prefix.specs.Prefix.{PlainPrefix, IsWithin, Overlaps}
+use Rattle.hn_base.specs.Prefix.{PlainPrefix, IsWithin, Overlaps}
 use Rattle.hn_assign.specs.declared.assigned.Assigned.{Assigned}
 use Rattle.hn_assign.specs.Facts.{IsInDelegated, HasOwnPriority}
 use Rattle.hn_assign.specs.Pair.{assigned_pair, pair_cmp}
@@ -22,7 +23,6 @@ use Rattle.hn_audit.specs.Settled.{AreSame}
 use Rattle.hn_audit.specs.Quiet.{IsQuiet}
 use Rattle.hn_audit.specs.Sound as said
 use Rattle.hn_audit.proofs.BridgeSets.{IsKnown, OwnVersions, OwnPeers, router_of, itself, one_member}
-use Rattle.hn_assign.proofs.Orders.{pair_total}
 use Rattle.hn_audit.proofs.BridgeUsed.{used_same}
 use Rattle.hn_audit.proofs.BridgeHomes.{home_of, IsEndOf, IsPlugged, of_end, of_has, one_on_link}
 use Rattle.hn_base.proofs.Parts.{one_of_ascending}
@@ -37,6 +37,7 @@ pub record IsCase (w : Parts) (r : Member) (usable : List Delegated) : Type 0 wh
   pub published : AssignedIsPublished
   pub versions : OwnVersions
   pub peers : OwnPeers
+  pub pairs_total : IsTotalOrder pair_cmp
 
 module _ (w : Parts) (r : Member) (usable : List Delegated) (case : IsCase w r usable) where
   -- a router of the set uses what r uses
@@ -102,7 +103,7 @@ module _ (w : Parts) (r : Member) (usable : List Delegated) (case : IsCase w r u
       let too = of_has w r case.known usable by.0 e d other by.1 also in
       let pairs : assigned_pair c ≡ assigned_pair other =
       λ i. record { delegated = (by.2.of_delegated ∙ sym too.of_delegated) i; endpoint = (by.2.of_endpoint ∙ sym too.of_endpoint) i } in
-      one_of_ascending assigned_pair pair_cmp pair_total by.0.router.held.assigned (router_of w r case.known by.0 by.1.reached).well.pairs.assigned c other by.2.held too.held pairs
+      one_of_ascending assigned_pair pair_cmp case.pairs_total by.0.router.held.assigned (router_of w r case.known by.0 by.1.reached).well.pairs.assigned c other by.2.held too.held pairs
 
   priority_two : (e : Endpoint) (d : PlainPrefix) (c : Assigned) (priority : ℕ) → HasPublished (home_of w r usable) e d c priority → 2 ≤ priority
   priority_two e d c priority says =

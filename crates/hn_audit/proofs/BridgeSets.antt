@@ -15,7 +15,7 @@ use Rattle.hn_own.specs.Ports.{endpoints_of}
 use Rattle.hn_data.specs.declared.view.Entry.{Entry}
 use Rattle.hn_store.specs.Nodes.{held}
 use Rattle.hn_rules.specs.declared.state.State.{State}
-use Rattle.hn_rules.specs.Laws.{ViewIsNetwork}
+use Rattle.hn_rules.specs.Laws.{ViewIsNetwork, EntriesAreAsKnown}
 use Rattle.hn_rules.specs.Nodes.{held_entry, own_entry, entry_of, view_of}
 use Rattle.hn_rules.specs.Router.{IsRouter}
 use Rattle.hn_world.specs.declared.member.Member.{Member}
@@ -25,7 +25,6 @@ use Rattle.hn_audit.specs.Reached.{IsRunning, IsReached, IsOfOne, runs_as}
 use Rattle.hn_audit.specs.Settled.{IsSettled, Holds}
 use Rattle.hn_base.proofs.Elements.{in_filter_map, from_filter_map}
 use Rattle.hn_audit.proofs.BridgeLists.{one_passes, two_pass}
-use Rattle.hn_rules.proofs.Entries.{entry_own, entry_held, entry_named}
 
 -- ---- what is known of a settled router of a replayed world
 
@@ -41,15 +40,16 @@ pub record IsKnown (w : Parts) (r : Member) : Type 0 where
   pub routers : (m : Member) → Contains w.members m → IsRouter m.router
   pub attached : (m : Member) → Contains w.members m → IsAttachedMember m
   pub network : ViewIsNetwork
+  pub entries : EntriesAreAsKnown
   pub runs : IsRunning w r
   pub settled : IsSettled w r
 
 -- a router reaches itself
-pub reaches_itself : ViewIsNetwork → (s : State) → IsRouter s → Contains s.reach s.id
-reaches_itself network s router =
+pub reaches_itself : ViewIsNetwork → EntriesAreAsKnown → (s : State) → IsRouter s → Contains s.reach s.id
+reaches_itself network entries s router =
     let there = Contains-from_map (λ (n : Entry). n.id.0) (view_of s) s.id.0 (network s router).own_is_there in
     let from = from_filter_map (entry_of s) s.reach there.0 there.1 in
-    let same : from.0 ≡ s.id = sym (entry_named s from.0 there.0 from.2) ∙ same_node there.0.id s.id there.2 in
+    let same : from.0 ≡ s.id = sym (entries.named s from.0 there.0 from.2) ∙ same_node there.0.id s.id there.2 in
     subst (Contains s.reach) same from.1
 
 -- a node is what a router is at present
@@ -64,7 +64,7 @@ module _ (w : Parts) (r : Member) (known : IsKnown w r) where
   router_of s reached = known.routers s reached.runs.there
 
   pub itself : IsReached w r r
-  itself = record { runs = known.runs; reached = reaches_itself known.network r.router (known.routers r known.runs.there) }
+  itself = record { runs = known.runs; reached = reaches_itself known.network known.entries r.router (known.routers r known.runs.there) }
 
   -- one of the set reaches what r reaches
   pub reach_is : (s : Member) → IsReached w r s → s.router.reach ≡ r.router.reach
@@ -97,7 +97,7 @@ module _ (w : Parts) (r : Member) (known : IsKnown w r) where
   other_seen s u s_in u_in differs =
       let holds : Holds s.router u.router = known.settled.held s u s_in u_in (λ same. differs (ap (λ (id : NodeId). id.0) (sym same))) in (
         held_entry s.router.moment (record { id = u.router.id; stored = holds.stored }),
-        entry_held s.router u.router.id holds.stored differs holds.is_held,
+        known.entries.held s.router u.router.id holds.stored differs holds.is_held,
         record { id = refl; body = holds.body },
       )
 
@@ -106,7 +106,7 @@ module _ (w : Parts) (r : Member) (known : IsKnown w r) where
   own_seen s u s_in u_in is =
       let same : s ≡ u = one_member s u s_in u_in (same_node s.router.id u.router.id (sym is)) in (
         own_entry s.router,
-        entry_own s.router u.router.id is,
+        known.entries.own s.router u.router.id is,
         record { id = ap (λ (m : Member). m.router.id) same; body = ap (λ (m : Member). m.router.own.body) same },
       )
 

@@ -2,13 +2,15 @@
 use Rattle.std.proofs.Common.{◌≡◌, ◌≢◌, ◌∙◌, ◌↔◌, ◌⊎◌, ℕ, List, Option, is_some, Contains, IsTrue, not, inl, inr, refl, sym, ap, subst, true, false}
 use Rattle.std.specs.List.{slice_get}
 use Rattle.std.proofs.lemmas.Bool.{cases_Bool, not_from_false}
+use Rattle.hn_base.proofs.Keys.{found_is_id}
 use Rattle.hn_base.specs.declared.ids.EpId.{EpId}
-use Rattle.hn_prefix.specs.Prefix.{PlainPrefix, IsWithin, Overlaps}
+use Rattle.hn_base.specs.Prefix.{PlainPrefix, IsWithin, Overlaps}
 use Rattle.hn_assign.specs.declared.assigned.Advertised.{Advertised}
 use Rattle.hn_assign.specs.declared.assigned.Assigned.{Assigned}
 use Rattle.hn_assign.specs.Best.{HasNoFree}
 use Rattle.hn_deleg.specs.declared.delegated.Delegated.{Delegated}
 use Rattle.hn_deleg.specs.Used.{prefixes_of}
+use Rattle.hn_dncp.specs.declared.port.Port.{Port}
 use Rattle.hn_rules.specs.Seen.{seen_by}
 use Rattle.hn_sound.specs.Home.{Home, Endpoint, advertised}
 use Rattle.hn_sound.specs.Members.{IsAdvertised}
@@ -24,7 +26,6 @@ use Rattle.hn_audit.proofs.BridgeHomes.{home_of, IsEndOf, IsPlugged, to_end, of_
 use Rattle.hn_audit.proofs.BridgePremises.{IsCase, uses_same, for_used, is_inside}
 use Rattle.hn_audit.proofs.BridgeSeen.{gathered_is_published}
 use Rattle.hn_audit.proofs.PairRests.{its_priority}
-use Rattle.hn_own.proofs.AttachedPorts.{attached_is_port}
 
 -- an endpoint of a router on a link
 abbrev pub end_on : Member → EpId → ℕ → Endpoint
@@ -37,7 +38,7 @@ reached_there w r known link s e there =
     known.settled.no_strangers s set.router e set.endpoint there.runs set.reached (record { link = link; one = there.on_link; other = set.on_link })
 
 pub plugged_there : (w : Parts) (r : Member) → IsKnown w r → (link : ℕ) (s : Member) (e : EpId) → IsThere w r link s e → IsPlugged link s e
-plugged_there w r known link s e there = (port_is_numbered s e (known.routers s there.runs.there) (attached_is_port s.router.ports e there.attached), there.on_link)
+plugged_there w r known link s e there = (port_is_numbered s e (known.routers s there.runs.there) (found_is_id (λ (p : Port). p.id) s.router.ports e there.attached), there.on_link)
 
 to_there : (w : Parts) (r : Member) → IsKnown w r → (link : ℕ) (s : Member) (e : EpId) → IsReached w r s → IsPlugged link s e → IsThere w r link s e
 to_there w r known link s e reached on = record {

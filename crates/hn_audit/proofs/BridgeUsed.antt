@@ -6,7 +6,7 @@ use Rattle.std.specs.Ordering.{on}
 use Rattle.std.proofs.lemmas.Bool.{and_from, and_parts, eqb-true, eq-eqb, ltb-true, lt-ltb, false_from_ne_true, not-true, not_from_false}
 use Rattle.std.proofs.lemmas.Option.{same_Some, slice_get_within, slice_get-get_or, get_or_from_slice_get}
 use Rattle.hn_base.proofs.AscendingLists.{sorted_parts}
-use Rattle.hn_prefix.specs.Prefix.{PlainPrefix, prefix_cmp}
+use Rattle.hn_base.specs.Prefix.{PlainPrefix, prefix_cmp}
 use Rattle.hn_data.specs.View.{PlainView}
 use Rattle.hn_deleg.specs.declared.delegated.Delegated.{Delegated}
 use Rattle.hn_deleg.specs.Used.{AreUsable, IsUnwanted, prefixes_of}
@@ -17,7 +17,7 @@ use Rattle.hn_rules.specs.declared.state.State.{State}
 use Rattle.hn_rules.specs.Seen.{seen_by}
 use Rattle.hn_base.proofs.Elements.{any_of, any_from}
 use Rattle.hn_audit.proofs.BridgeLists.{same_Bool}
-use Rattle.hn_prefix.proofs.Prefixes.{is_one_prefix, prefix_decided, prefix_total}
+use Rattle.hn_base.proofs.Prefixes.{is_one_prefix, prefix_decided, prefix_total}
 use Rattle.hn_base.proofs.Decisions.{not_both}
 use Rattle.hn_base.proofs.Parts.{part_at, part_stands, one_of_ascending}
 

@@ -1,5 +1,5 @@
 -- The node data of a router has one HNCP-Version, with its capabilities, and the peers of its endpoints.
-use Rattle.std.proofs.Common.{◌≡◌, ◌∙◌, ℕ, List, [], ◌∷◌, ◌++◌, Option, Some, Contains, refl, sym, ap, subst}
+use Rattle.std.proofs.Common.{◌≡◌, ◌∙◌, ℕ, List, [], ◌∷◌, ◌++◌, map, Option, Some, Contains, refl, sym, ap, subst}
 use Rattle.std.specs.Prelude.{codes}
 use Rattle.std.specs.List.{filter_map}
 use Rattle.std.proofs.lemmas.List.{append-nil}
@@ -11,7 +11,8 @@ use Rattle.hn_data.specs.Peers.{HasPeer, peer_of}
 use Rattle.hn_data.specs.Said.{caps_of, version_of}
 use Rattle.hn_data.specs.declared.said.PeerLink.{PeerLink}
 use Rattle.hn_own.specs.declared.own.OwnItems.{OwnItems}
-use Rattle.hn_own.specs.Own.{links_at, link_at, links_of, peer_item, assigned_item, items_of}
+use Rattle.hn_own.specs.declared.own_prefixes.OwnPrefix.{OwnPrefix}
+use Rattle.hn_own.specs.Own.{links_at, link_at, links_of, peer_item, external_items, assigned_item, items_of}
 use Rattle.hn_dncp.specs.declared.port.Port.{Port}
 use Rattle.hn_own.specs.Ports.{endpoints_of}
 use Rattle.hn_rules.specs.declared.state.State.{State}
@@ -20,16 +21,17 @@ use Rattle.hn_base.proofs.Elements.{in_filter_map, from_filter_map}
 use Rattle.hn_audit.proofs.Lists.{from_flat_map}
 use Rattle.hn_audit.proofs.BridgeSets.{OwnVersions, OwnPeers}
 use Rattle.hn_rules.specs.Laws.{ItemsArePublished}
-use Rattle.hn_base.proofs.Elements.{all_given, none_given}
-use Rattle.hn_own.proofs.ItemLists.{by_parts, none_external}
+use Rattle.hn_base.proofs.Elements.{all_given, none_given, given_by_parts, none_or_some}
 
 -- ---- the version among own items
 
 one_version : (now : ℕ) (own : OwnItems) → filter_map caps_of (items_of now own) ≡ plain_caps own.caps ∷ []
 one_version now own =
     let links = none_given caps_of peer_item (λ _. refl) own.links in
-    let external = none_external caps_of (λ _. refl) now own.delegated in
-    let others = by_parts caps_of now own ∙ rw (links, external) (none_given caps_of assigned_item (λ _. refl) own.assigned) in
+    let external : filter_map caps_of (external_items now own.delegated) ≡ [] =
+    none_or_some (λ (list : List OwnPrefix). filter_map caps_of (external_items now list) ≡ []) refl (λ p ps. refl) own.delegated in
+    let parts = given_by_parts caps_of (map peer_item own.links) (external_items now own.delegated) (map assigned_item own.assigned) in
+    let others = parts ∙ rw (links, external) (none_given caps_of assigned_item (λ _. refl) own.assigned) in
     ap (λ (rest : List PlainCaps). plain_caps own.caps ∷ rest) others
 
 -- the first of a list whose elements are all one
@@ -42,9 +44,11 @@ first_is (x ∷ xs) c there all = ap Some (all x (Contains-head x xs))
 peers_among : (now : ℕ) (own : OwnItems) → filter_map peer_of (items_of now own) ≡ own.links
 peers_among now own =
     let links = all_given peer_of peer_item (λ _. refl) own.links in
-    let external = none_external peer_of (λ _. refl) now own.delegated in
+    let external : filter_map peer_of (external_items now own.delegated) ≡ [] =
+    none_or_some (λ (list : List OwnPrefix). filter_map peer_of (external_items now list) ≡ []) refl (λ p ps. refl) own.delegated in
     let assigned = none_given peer_of assigned_item (λ _. refl) own.assigned in
-    by_parts peer_of now own ∙ rw (links, external, assigned) (append-nil (own.links ++ []) ∙ append-nil own.links)
+    let parts = given_by_parts peer_of (map peer_item own.links) (external_items now own.delegated) (map assigned_item own.assigned) in
+    parts ∙ rw (links, external, assigned) (append-nil (own.links ++ []) ∙ append-nil own.links)
 
 -- ---- and in own node data
 

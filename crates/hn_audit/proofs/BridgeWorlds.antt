@@ -1,17 +1,19 @@
 -- A running router of a replayed world that is settled and quiet is sound, and where it is settled its set is sound alike.
 use Rattle.std.proofs.Common.{◌≡◌, ◌↔◌, ℕ, List, [], Contains, sym, subst}
+use Rattle.std.specs.Cmp.{IsTotalOrder}
 use Rattle.std.proofs.lemmas.List.{append-nil}
 use Rattle.std.proofs.lemmas.List.Elements.{All-contains}
 use Rattle.hn_base.specs.declared.ids.NodeId.{NodeId}
 use Rattle.hn_base.specs.declared.ids.EpId.{EpId}
-use Rattle.hn_prefix.specs.Prefix.{PlainPrefix, Overlaps}
+use Rattle.hn_base.specs.Prefix.{PlainPrefix, Overlaps}
 use Rattle.hn_typed.specs.Item.{PlainItem}
 use Rattle.hn_assign.specs.declared.assigned.Advertised.{Advertised}
+use Rattle.hn_assign.specs.Pair.{pair_cmp}
 use Rattle.hn_data.specs.Items.{AreItems}
 use Rattle.hn_data.specs.View.{PlainView}
 use Rattle.hn_deleg.specs.declared.delegated.Delegated.{Delegated}
 use Rattle.hn_deleg.specs.Used.{AreUsable, prefixes_of}
-use Rattle.hn_rules.specs.Laws.{AssignedIsPublished, ViewIsNetwork}
+use Rattle.hn_rules.specs.Laws.{AssignedIsPublished, ViewIsNetwork, EntriesAreAsKnown}
 use Rattle.hn_sound.specs.AtRest.{IsHomeAtRest}
 use Rattle.hn_sound.specs.Home.{Home, Endpoint, advertised, common_link}
 use Rattle.hn_sound.specs.Members.{IsAdvertised, IsOnLinkOf, IsSeenAtRest}
@@ -40,6 +42,7 @@ pub record WorldLaws : Type 0 where
   pub sound : (w : Parts) → IsReplayed w → IsSoundWorld w
   pub attached : (w : Parts) → IsReplayed w → Always AreAttached w
   pub network : ViewIsNetwork
+  pub entries : EntriesAreAsKnown
 
 -- and the other laws of the crates below
 pub record BridgeLaws : Type 0 where
@@ -47,6 +50,7 @@ pub record BridgeLaws : Type 0 where
   pub published : AssignedIsPublished
   pub versions : OwnVersions
   pub peers : OwnPeers
+  pub pairs_total : IsTotalOrder pair_cmp
   pub unique : (view : PlainView) (a b : List Delegated) → AreUsable view a → AreUsable view b → a ≡ b
   pub apart : (view : PlainView) (list : List Delegated) (p q : PlainPrefix) → AreUsable view list → Contains (prefixes_of list) p → Contains (prefixes_of list) q → Overlaps p q → p ≡ q
   pub one_items : (bytes : List ℕ) (a b : List PlainItem) → AreItems bytes a → AreItems bytes b → a ≡ b
@@ -66,6 +70,7 @@ known_of laws w r replayed runs settled = record {
   routers = λ m there. (All-contains (IsSoundMember w.moment) w.members m (laws.sound w replayed) there).router;
   attached = λ m there. All-contains IsAttachedMember w.members m (attached_now laws w replayed) there;
   network = laws.network;
+  entries = laws.entries;
   runs = runs;
   settled = settled;
 }
@@ -94,6 +99,7 @@ sound_where_quiet laws w r replayed runs settled quiet =
       published = laws.published;
       versions = laws.versions;
       peers = laws.peers;
+      pairs_total = laws.pairs_total;
     })
 
 pub alike_where_settled : (unique : (view : PlainView) (a b : List Delegated) → AreUsable view a → AreUsable view b → a ≡ b) → WorldLaws → SetIsSoundAlike

@@ -1,10 +1,13 @@
 -- A router is at rest if and only if the assignment subroutine, run anew, changes nothing on it.
 use Rattle.std.proofs.Common.{◌≡◌, ◌∙◌, ◌↔◌, ◌<◌, ℕ, IsTrue, List, Option, Some, All, Contains, length, map, not, inl, inr, refl, sym, ap, subst, arith}
+use Rattle.std.specs.Cmp.{IsTotalOrder}
 use Rattle.std.specs.List.{slice_get}
 use Rattle.std.proofs.lemmas.Bool.{false_from_ne_true, not-true, not_from_false}
 use Rattle.std.proofs.lemmas.List.Elements.{All-contains}
 use Rattle.std.proofs.lemmas.Option.{same_Some, slice_get_within, slice_get_cases, get_or_from_slice_get}
 use Rattle.hn_base.proofs.AscendingLists.{Contains-from_map, Contains-map}
+use Rattle.hn_base.proofs.Ats.{has_one, has_some}
+use Rattle.hn_base.specs.Ascending.{IsExact, HasAt}
 use Rattle.hn_base.specs.declared.ids.EpId.{EpId}
 use Rattle.hn_base.proofs.Elements.{all_of}
 use Rattle.hn_data.specs.View.{PlainView}
@@ -16,7 +19,7 @@ use Rattle.hn_assign.specs.declared.held.Ran.{Ran}
 use Rattle.hn_assign.specs.declared.pair.Pair.{Pair}
 use Rattle.hn_assign.specs.Fixed.{AreAtRest, AreDue, IsUnchanged, unmarked}
 use Rattle.hn_assign.specs.Gathered.{AreAdvertised}
-use Rattle.hn_assign.specs.Pair.{HasAt, IsAscending, IsWished, assigned_pair, wish_pair}
+use Rattle.hn_assign.specs.Pair.{IsAscending, IsWished, assigned_pair, pair_cmp, wish_pair}
 use Rattle.hn_assign.specs.Rest.{IsAtRest}
 use Rattle.hn_assign.specs.Subroutine.{IsSubroutine}
 use Rattle.hn_deleg.specs.declared.delegated.Delegated.{Delegated}
@@ -29,7 +32,6 @@ use Rattle.hn_rules.specs.Seen.{seen_by}
 use Rattle.hn_audit.specs.Fixed.{HasLists, IsRunAnew}
 use Rattle.hn_audit.specs.Quiet.{IsForPair, IsRouterAtRest}
 use Rattle.hn_audit.specs.Resting.{RestsWhereListed}
-use Rattle.hn_assign.proofs.Ats.{has_one, has_some}
 use Rattle.hn_audit.proofs.BridgeUsed.{delegated_at, from_unwanted, is_unwanted, place_of, to_unwanted}
 use Rattle.hn_audit.proofs.Restings.{IsOneLink, one_wish}
 use Rattle.hn_audit.proofs.Sames.{IsOneList}
@@ -51,6 +53,8 @@ pub record FixedLaws : Type 0 where
   pub one_link : IsOneLink
   pub rest : RestIsUnchanged
   pub wished : LeavesWished
+  pub pairs_total : IsTotalOrder pair_cmp
+  pub pairs_exact : IsExact pair_cmp
 
 -- ---- a router and its wishes
 
@@ -88,7 +92,7 @@ module _ (laws : FixedLaws) (s : State) (usable : List Delegated) (are_usable : 
         let pair = rest.each_pair for.place wish.endpoint (slice_get_within rest.usable for.place asked.delegated asked.at) for.attached in
         let same : pair.wish ≡ wish = one_wish laws.one_link (seen_by s) rest.usable for.place pair.wish wish pair.asked asked pair.of_endpoint in
         let its_own : HasAt assigned_pair (wish_pair wish) pair.assignment s.held.assigned = subst (λ (v : Wish). HasAt assigned_pair (wish_pair v) pair.assignment s.held.assigned) same pair.its_own in
-        let one : pair.assignment ≡ c = has_one assigned_pair (wish_pair wish) s.held.assigned pair.assignment c router.well.pairs.assigned its_own has in
+        let one : pair.assignment ≡ c = has_one assigned_pair pair_cmp laws.pairs_total (wish_pair wish) s.held.assigned pair.assignment c router.well.pairs.assigned its_own has in
         subst (λ (o : Option Assigned). IsAtRest rest.advertised s.id.0 wish o) one (subst (λ (v : Wish). IsAtRest rest.advertised s.id.0 v pair.assignment) same pair.at_rest)
 
 -- ---- a router on which the subroutine comes to something
@@ -147,7 +151,7 @@ module _ (laws : FixedLaws) (s : State) (ran : Ran) (h : IsRunAnew s ran) where
           let wish : Wish = record { delegated = u.0.prefix; wanted = not (is_unwanted usable u.0.prefix); endpoint = e; common = common; length = 64 } in
           let asked : IsWishAt (seen_by s) usable place wish = record { delegated = u.0; at = u.1; prefix = refl; wanted = is_wanted place u.0 u.1; common = is_common; length = refl } in
           let there : Contains h.wishes wish = is_wished laws s h.usable h.are_usable h.wishes h.are_asked place wish (subst (λ (us : List Delegated). IsWishAt (seen_by s) us place wish) (sym same_list) asked) attached in
-          let own = has_some assigned_pair (wish_pair wish) s.held.assigned in
+          let own = has_some assigned_pair pair_cmp laws.pairs_total laws.pairs_exact (wish_pair wish) s.held.assigned in
           let all : All (λ c. IsWished h.wishes (assigned_pair c)) s.held.assigned = all_of (λ c. IsWished h.wishes (assigned_pair c)) s.held.assigned still_wished in
           record {
             wish = wish;

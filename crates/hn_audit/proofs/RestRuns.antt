@@ -12,7 +12,8 @@ use Rattle.std.proofs.lemmas.Option.{same_Some, slice_get_within, get_or_from_sl
 use Rattle.hn_base.specs.declared.ids.EpId.{EpId}
 use Rattle.hn_base.proofs.AscendingLists.{Contains-cases, Contains-head, Contains-tail, below_head, nothing_in, sorted_parts}
 use Rattle.hn_base.proofs.Elements.{all_of}
-use Rattle.hn_prefix.specs.Prefix.{PlainPrefix, prefix_cmp}
+use Rattle.hn_base.proofs.Keys.{id_is_found, found_is_id}
+use Rattle.hn_base.specs.Prefix.{PlainPrefix, prefix_cmp}
 use Rattle.hn_data.specs.View.{PlainView}
 use Rattle.hn_assign.specs.declared.assigned.Advertised.{Advertised}
 use Rattle.hn_assign.specs.declared.assigned.Assigned.{Assigned}
@@ -32,12 +33,11 @@ use Rattle.hn_rules.specs.Router.{IsRouter}
 use Rattle.hn_rules.specs.Seen.{seen_by}
 use Rattle.hn_audit.specs.Laws.{RestHasARun}
 use Rattle.hn_audit.specs.Quiet.{IsRouterAtRest}
-use Rattle.hn_prefix.proofs.Prefixes.{prefix_total}
+use Rattle.hn_base.proofs.Prefixes.{prefix_total}
 use Rattle.hn_audit.proofs.BridgeUsed.{at_prefix}
 use Rattle.hn_audit.proofs.FixedPoints.{FixedLaws, are_at_rest, wished_at_rest}
 use Rattle.hn_audit.proofs.Restings.{IsOneLink, one_wish}
 use Rattle.hn_audit.proofs.BridgeOrders.{sorted_cons, sorted_none}
-use Rattle.hn_own.proofs.AttachedPorts.{attached_is_port, port_is_attached}
 
 -- ---- a law of hn_assign
 
@@ -197,7 +197,7 @@ module _ (laws : FixedLaws) (s : State) (router : IsRouter s) (rest : IsRouterAt
     where
       each : (place : ℕ) (e : EpId) → place < length rest.usable → Contains (endpoints_of s.ports) e → IsAskedOf (seen_by s) rest.usable place e
       each place e within there =
-          let pair = rest.each_pair place e within (port_is_attached s.ports e there) in
+          let pair = rest.each_pair place e within (id_is_found (λ (p : Port). p.id) s.ports e there) in
           record { wish = pair.wish; asked = pair.asked; of_endpoint = pair.of_endpoint }
 
       -- a delegated prefix that is used has 64 bits at most
@@ -220,8 +220,8 @@ module _ (laws : FixedLaws) (s : State) (router : IsRouter s) (rest : IsRouterAt
           are_wishes = record { ascending = are.ascending; fitting = all_of IsFitting wishes (λ w there. let found = (are.exact w).0 there in fits found.0 w found.2) };
           exact =
               λ w. (
-                λ there. let found = (are.exact w).0 there in record { place = found.0; asked = found.2; attached = port_is_attached s.ports w.endpoint found.3 },
-                λ for. (are.exact w).1 (for.place, slice_get_within rest.usable for.place for.asked.delegated for.asked.at, for.asked, attached_is_port s.ports w.endpoint for.attached),
+                λ there. let found = (are.exact w).0 there in record { place = found.0; asked = found.2; attached = id_is_found (λ (p : Port). p.id) s.ports w.endpoint found.3 },
+                λ for. (are.exact w).1 (for.place, slice_get_within rest.usable for.place for.asked.delegated for.asked.at, for.asked, found_is_id (λ (p : Port). p.id) s.ports w.endpoint for.attached),
               );
         },
       )

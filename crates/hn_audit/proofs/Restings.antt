@@ -1,31 +1,33 @@
 -- Routers at rest: their lists, wishes and assignments are one.
 use Rattle.std.proofs.Common.{◌≡◌, ◌∙◌, ◌↔◌, ◌<◌, ℕ, Bool, IsTrue, List, Option, All, Contains, length, sym, ap, subst}
+use Rattle.std.specs.Cmp.{IsTotalOrder}
 use Rattle.std.proofs.lemmas.List.Elements.{All-contains}
 use Rattle.std.proofs.lemmas.Option.{same_Some}
 use Rattle.hn_base.specs.declared.ids.EpId.{EpId}
+use Rattle.hn_base.proofs.Ats.{has_one}
 use Rattle.hn_base.proofs.Elements.{all_of}
+use Rattle.hn_base.proofs.Keys.{id_is_found, found_is_id}
 use Rattle.hn_data.specs.View.{PlainView}
 use Rattle.hn_assign.specs.declared.assigned.Advertised.{Advertised}
 use Rattle.hn_assign.specs.declared.assigned.Assigned.{Assigned}
 use Rattle.hn_assign.specs.declared.assigned.Wish.{Wish}
 use Rattle.hn_assign.specs.Advertised.{Link}
 use Rattle.hn_assign.specs.Gathered.{AreAdvertised}
-use Rattle.hn_assign.specs.Pair.{HasAt, IsAscending, assigned_pair, wish_pair}
+use Rattle.hn_assign.specs.Pair.{IsAscending, assigned_pair, pair_cmp, wish_pair}
 use Rattle.hn_assign.specs.Rest.{IsAtRest}
 use Rattle.hn_deleg.specs.declared.delegated.Delegated.{Delegated}
 use Rattle.hn_deleg.specs.Used.{AreUsable}
+use Rattle.hn_dncp.specs.declared.port.Port.{Port}
 use Rattle.hn_link.specs.CommonLink.{IsCommonLink}
 use Rattle.hn_own.specs.Ports.{endpoints_of}
 use Rattle.hn_rules.specs.declared.state.State.{State}
 use Rattle.hn_rules.specs.Assigning.{IsWishAt}
 use Rattle.hn_rules.specs.Seen.{seen_by}
-use Rattle.hn_base.specs.Ascending.{HaveSame}
+use Rattle.hn_base.specs.Ascending.{HaveSame, HasAt}
 use Rattle.hn_audit.specs.Quiet.{IsForPair, IsPairAtRest, IsRouterAtRest}
 use Rattle.hn_audit.specs.Resting.{IsEachAtRest, IsEndAtRest}
 use Rattle.hn_audit.proofs.BridgeLists.{same_Bool}
 use Rattle.hn_audit.proofs.Sames.{IsOneList}
-use Rattle.hn_assign.proofs.Ats.{has_one}
-use Rattle.hn_own.proofs.AttachedPorts.{attached_is_port, port_is_attached}
 
 -- ---- a pair
 
@@ -44,15 +46,15 @@ one_wish once view usable place v w a b end =
     λ i. record { delegated = prefix i; wanted = wanted i; endpoint = end i; common = common i; length = len i }
 
 -- a pair is at rest if and only if it is so by its wish and its assignment
-pub pair_decides : IsOneLink → (s : State) (usable : List Delegated) (adv : List Advertised) (place : ℕ) (e : EpId) (wish : Wish) (assignment : Option Assigned) (answer : Bool)
+pub pair_decides : IsOneLink → IsTotalOrder pair_cmp → (s : State) (usable : List Delegated) (adv : List Advertised) (place : ℕ) (e : EpId) (wish : Wish) (assignment : Option Assigned) (answer : Bool)
     → IsAscending assigned_pair s.held.assigned → IsWishAt (seen_by s) usable place wish → wish.endpoint ≡ e → HasAt assigned_pair (wish_pair wish) assignment s.held.assigned
     → IsTrue answer ↔ IsAtRest adv s.id.0 wish assignment → IsTrue answer ↔ IsPairAtRest s usable adv place e
-pair_decides once s usable adv place e wish assignment answer up asked end own said = (
+pair_decides once total s usable adv place e wish assignment answer up asked end own said = (
   λ yes. record { wish = wish; asked = asked; of_endpoint = end; assignment = assignment; its_own = own; at_rest = said.0 yes },
   λ h.
       let same : h.wish ≡ wish = one_wish once (seen_by s) usable place h.wish wish h.asked asked (h.of_endpoint ∙ sym end) in
       let its_own : HasAt assigned_pair (wish_pair wish) h.assignment s.held.assigned = subst (λ (v : Wish). HasAt assigned_pair (wish_pair v) h.assignment s.held.assigned) same h.its_own in
-      let one : h.assignment ≡ assignment = has_one assigned_pair (wish_pair wish) s.held.assigned h.assignment assignment up its_own own in
+      let one : h.assignment ≡ assignment = has_one assigned_pair pair_cmp total (wish_pair wish) s.held.assigned h.assignment assignment up its_own own in
       said.1 (subst (λ (o : Option Assigned). IsAtRest adv s.id.0 wish o) one (subst (λ (v : Wish). IsAtRest adv s.id.0 v h.assignment) same h.at_rest)),
 )
 
@@ -66,8 +68,8 @@ KnowsNoOrder = (adv others : List Advertised) (own : ℕ) (wish : Wish) (common 
 -- so it is where each pair of each of its endpoints is
 pub each_decides : (s : State) (usable : List Delegated) (adv : List Advertised) (ends : List EpId) → ends ≡ endpoints_of s.ports → All (IsEndAtRest s usable adv) ends ↔ IsEachAtRest s usable adv
 each_decides s usable adv ends is = (
-  λ all e attached. All-contains (IsEndAtRest s usable adv) ends e all (subst (λ (es : List EpId). Contains es e) (sym is) (attached_is_port s.ports e attached)),
-  λ each. all_of (IsEndAtRest s usable adv) ends (λ e there. each e (port_is_attached s.ports e (subst (λ (es : List EpId). Contains es e) is there))),
+  λ all e attached. All-contains (IsEndAtRest s usable adv) ends e all (subst (λ (es : List EpId). Contains es e) (sym is) (found_is_id (λ (p : Port). p.id) s.ports e attached)),
+  λ each. all_of (IsEndAtRest s usable adv) ends (λ e there. each e (id_is_found (λ (p : Port). p.id) s.ports e (subst (λ (es : List EpId). Contains es e) is there))),
 )
 
 in_other : KnowsNoOrder → (s : State) (usable : List Delegated) (adv others : List Advertised) (place : ℕ) (e : EpId) → HaveSame adv others → IsPairAtRest s usable adv place e → IsPairAtRest s usable others place e

@@ -5,7 +5,8 @@ use Rattle.hn_assign.specs.declared.assigned.Advertised.{Advertised}
 use Rattle.hn_assign.specs.declared.assigned.Assigned.{Assigned}
 use Rattle.hn_assign.specs.declared.assigned.Wish.{Wish}
 use Rattle.hn_assign.specs.Gathered.{AreAdvertised}
-use Rattle.hn_assign.specs.Pair.{HasAt, assigned_pair, wish_pair}
+use Rattle.hn_base.specs.Ascending.{HasAt}
+use Rattle.hn_assign.specs.Pair.{assigned_pair, wish_pair}
 use Rattle.hn_assign.specs.Rest.{IsAtRest}
 use Rattle.hn_deleg.specs.declared.delegated.Delegated.{Delegated}
 use Rattle.hn_deleg.specs.Used.{AreUsable, prefixes_of}

@@ -3,11 +3,13 @@
 ghost use Rattle.hn_world.specs.Leaves.{EqualHashesAgree};
 ghost use Rattle.hn_audit.specs.Laws.{SettledAndQuietIsSound, SetIsSoundAlike, AlwaysSettledAreSound, IsOfEachFront, SettledAreSound, RestChangesNothing, RestHasARun, UnchangedIsAtRest};
 
-use hn_assign::{rest_has_a_run, rest_is_unchanged, subroutine_leaves};
+use hn_assign::{pairs_are_ordered, rest_has_a_run, rest_is_unchanged, subroutine_leaves};
 use hn_data::items_are_unique;
 use hn_deleg::{usable_is_unique, usable_never_overlap};
 use hn_link::common_link_is_unique;
-use hn_rules::{assigned_is_published, items_are_published, view_is_a_network};
+use hn_rules::{
+    assigned_is_published, entries_are_as_known, items_are_published, view_is_a_network,
+};
 use hn_sound::{home_at_rest_is_sound, home_rests_as_seen, lists_are_exact};
 use hn_world::{always_attached, always_sound, at_most_one_world};
 
@@ -21,10 +23,12 @@ pub fn settled_and_quiet_is_sound()
     always_attached();
     assigned_is_published();
     view_is_a_network();
+    entries_are_as_known();
     items_are_published();
     items_are_unique();
     usable_is_unique();
     usable_never_overlap();
+    pairs_are_ordered();
     lists_are_exact();
     home_rests_as_seen();
     home_at_rest_is_sound();
@@ -38,6 +42,7 @@ pub fn set_is_sound_alike()
     always_sound();
     always_attached();
     view_is_a_network();
+    entries_are_as_known();
     usable_is_unique();
 }
 
@@ -70,6 +75,7 @@ pub fn rest_is_the_fixed_point()
     ensures comes { RestHasARun }
 {
     common_link_is_unique();
+    pairs_are_ordered();
     rest_has_a_run();
     rest_is_unchanged();
     subroutine_leaves();

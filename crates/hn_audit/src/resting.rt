@@ -9,7 +9,9 @@ ghost use Rattle.hn_audit.specs.Quiet.{IsForPair, IsPairAtRest, IsRouterAtRest};
 ghost use Rattle.hn_audit.specs.Resting.{IsEachAtRest, IsEndAtRest, RestsIfListed, RestsWhereListed};
 
 use crate::rest::is_at_rest;
-use hn_assign::{Assigned, Known, Pair, Scene, Wish, rest_is_unchanged, subroutine_leaves};
+use hn_assign::{
+    Assigned, Known, Pair, Scene, Wish, pairs_are_ordered, rest_is_unchanged, subroutine_leaves,
+};
 use hn_base::{Endpoints, EpId, NoMemory};
 use hn_deleg::{Delegated, usable_is_unique, wanted};
 use hn_link::common_link_is_unique;
@@ -57,6 +59,7 @@ impl Outlook<'_> {
         ensures { IsTrue result ↔ IsPairAtRest self.entry.now.router.now self.entry.now.usable.now self.entry.now.known.now place endpoint }
     {
         common_link_is_unique();
+        pairs_are_ordered();
         let delegated = self.usable[place].prefix;
         let wish = Wish {
             delegated,
@@ -121,6 +124,7 @@ pub(crate) fn rests(alloc: Global, router: &Router) -> Result<bool, NoMemory>
     ensures unmoved { IfOk result (λ answer. IsUnmoved router.now → IsTrue answer) }
 {
     common_link_is_unique();
+    pairs_are_ordered();
     rest_is_unchanged();
     subroutine_leaves();
     usable_is_unique();

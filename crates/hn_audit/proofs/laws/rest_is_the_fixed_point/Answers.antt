@@ -4,15 +4,36 @@ use Rattle.hn_audit.proofs.laws.rest_is_the_fixed_point.Goals as goal
 
 pub returns-clause-unchanged : goal.returns-clause-unchanged
 returns-clause-unchanged c s ran router run rest =
-    let laws : FixedLaws = record { one_list = c.usable_is_unique.ensures; one_link = c.common_link_is_unique.ensures; rest = c.rest_is_unchanged.ensures; wished = c.subroutine_leaves.ensures.wished } in
+    let laws : FixedLaws = record {
+      one_list = c.usable_is_unique.ensures;
+      one_link = c.common_link_is_unique.ensures;
+      rest = c.rest_is_unchanged.ensures;
+      wished = c.subroutine_leaves.ensures.wished;
+      pairs_total = c.pairs_are_ordered.ensures.total;
+      pairs_exact = c.pairs_are_ordered.ensures.exact;
+    } in
     changes_nothing laws s ran run rest router
 
 pub returns-clause-rests : goal.returns-clause-rests
 returns-clause-rests c s ran router run lists same =
-    let laws : FixedLaws = record { one_list = c.usable_is_unique.ensures; one_link = c.common_link_is_unique.ensures; rest = c.rest_is_unchanged.ensures; wished = c.subroutine_leaves.ensures.wished } in
+    let laws : FixedLaws = record {
+      one_list = c.usable_is_unique.ensures;
+      one_link = c.common_link_is_unique.ensures;
+      rest = c.rest_is_unchanged.ensures;
+      wished = c.subroutine_leaves.ensures.wished;
+      pairs_total = c.pairs_are_ordered.ensures.total;
+      pairs_exact = c.pairs_are_ordered.ensures.exact;
+    } in
     unchanged_rests laws s ran run same lists router
 
 pub returns-clause-comes : goal.returns-clause-comes
 returns-clause-comes c =
-    let laws : FixedLaws = record { one_list = c.usable_is_unique.ensures; one_link = c.common_link_is_unique.ensures; rest = c.rest_is_unchanged.ensures; wished = c.subroutine_leaves.ensures.wished } in
+    let laws : FixedLaws = record {
+      one_list = c.usable_is_unique.ensures;
+      one_link = c.common_link_is_unique.ensures;
+      rest = c.rest_is_unchanged.ensures;
+      wished = c.subroutine_leaves.ensures.wished;
+      pairs_total = c.pairs_are_ordered.ensures.total;
+      pairs_exact = c.pairs_are_ordered.ensures.exact;
+    } in
     rest_has_a_run laws c.rest_has_a_run.ensures

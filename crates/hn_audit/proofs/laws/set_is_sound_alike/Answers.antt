@@ -8,5 +8,6 @@ returns c =
       sound = c.always_sound.ensures.sound;
       attached = c.always_attached.ensures;
       network = c.view_is_a_network.ensures;
+      entries = c.entries_are_as_known.ensures;
     } in
     alike_where_settled c.usable_is_unique.ensures worlds

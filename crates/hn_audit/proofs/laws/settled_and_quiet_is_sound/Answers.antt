@@ -10,12 +10,14 @@ returns c =
       sound = c.always_sound.ensures.sound;
       attached = c.always_attached.ensures;
       network = c.view_is_a_network.ensures;
+      entries = c.entries_are_as_known.ensures;
     } in
     let laws : BridgeLaws = record {
       worlds = worlds;
       published = c.assigned_is_published.ensures;
       versions = own_versions read;
       peers = own_peers read;
+      pairs_total = c.pairs_are_ordered.ensures.total;
       unique = c.usable_is_unique.ensures;
       apart = c.usable_never_overlap.ensures;
       one_items = c.items_are_unique.ensures;

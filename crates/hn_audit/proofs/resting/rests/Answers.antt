@@ -24,7 +24,14 @@ returns-then-not-are_for_pairs-clause-unmoved c unmoved =
     let s = c.args.router.now in
     let usable = c.as_slice.result.now in
     let are_usable : AreUsable (seen_by s) usable = subst (AreUsable (seen_by s)) (sym c.as_slice.ensures) c.in_ok-usable.ensures in
-    let laws : FixedLaws = record { one_list = c.usable_is_unique.ensures; one_link = c.common_link_is_unique.ensures; rest = c.rest_is_unchanged.ensures; wished = c.subroutine_leaves.ensures.wished } in
+    let laws : FixedLaws = record {
+      one_list = c.usable_is_unique.ensures;
+      one_link = c.common_link_is_unique.ensures;
+      rest = c.rest_is_unchanged.ensures;
+      wished = c.subroutine_leaves.ensures.wished;
+      pairs_total = c.pairs_are_ordered.ensures.total;
+      pairs_exact = c.pairs_are_ordered.ensures.exact;
+    } in
     let no : c.are_for_pairs.result ≡ false = search rules in
     let yes : IsTrue c.are_for_pairs.result = c.are_for_pairs.ensures.1 (are_for_pairs laws s unmoved.ran unmoved.run unmoved.unchanged usable are_usable) in
     sym no ∙ yes
@@ -54,7 +61,14 @@ returns-clause-unmoved c =
     let adv : List Advertised = c.in_ok-known.known in
     let are_usable : AreUsable (seen_by s) usable = subst (AreUsable (seen_by s)) (sym c.as_slice.ensures) c.in_ok-usable.ensures in
     let are_advertised : AreAdvertised (seen_by s) s.held.assigned adv = subst (AreAdvertised (seen_by s) s.held.assigned) (sym c.in_ok-known.ensures) c.in_ok-advertised.ensures in
-    let laws : FixedLaws = record { one_list = c.usable_is_unique.ensures; one_link = c.common_link_is_unique.ensures; rest = c.rest_is_unchanged.ensures; wished = c.subroutine_leaves.ensures.wished } in
+    let laws : FixedLaws = record {
+      one_list = c.usable_is_unique.ensures;
+      one_link = c.common_link_is_unique.ensures;
+      rest = c.rest_is_unchanged.ensures;
+      wished = c.subroutine_leaves.ensures.wished;
+      pairs_total = c.pairs_are_ordered.ensures.total;
+      pairs_exact = c.pairs_are_ordered.ensures.exact;
+    } in
     let P : Bool → Type 0 = λ answer. RestsWhereListed s usable adv → IsTrue answer in
     let Q : Bool → Type 0 = λ answer. IsUnmoved s → IsTrue answer in
     IfOk-weaker c.endpoints_rest.result P Q

@@ -1,12 +1,13 @@
 use Rattle.std.proofs.Common.{rules, ◌≡◌, ◌∙◌, ◌≤◌, IsTrue, All, Contains, List, false, length, get_or, refl, sym, subst, arith}
 use Rattle.std.proofs.lemmas.List.{take_all}
 use Rattle.std.proofs.lemmas.List.Elements.{All-more, Contains-get_or}
+use Rattle.hn_base.proofs.Keys.{id_is_found}
 use Rattle.hn_base.specs.declared.ids.EpId.{EpId}
+use Rattle.hn_dncp.specs.declared.port.Port.{Port}
 use Rattle.hn_own.specs.Ports.{endpoints_of, is_attached}
 use Rattle.hn_audit.specs.Resting.{IsEndAtRest}
 use Rattle.hn_audit.proofs.Restings.{each_decides}
 use Rattle.hn_audit.proofs.resting.Outlook.endpoints_rest.Goals as goal
-use Rattle.hn_own.proofs.AttachedPorts.{port_is_attached}
 
 pub returns-then-not-branch-clause-rest : goal.returns-then-not-branch-clause-rest
 returns-then-not-branch-clause-rest c =
@@ -16,7 +17,7 @@ returns-then-not-branch-clause-rest c =
     let e : EpId = get_or ends c.loop-endpoint.endpoint-index (record { 0 = 0 }) in
     let no : c.in_ok-endpoint_rests.field-0 ≡ false = search rules in
     let there : Contains ends e = Contains-get_or ends c.loop-endpoint.endpoint-index (record { 0 = 0 }) c.loop-endpoint-test.true in
-    let attached : IsTrue (is_attached e s.ports) = port_is_attached s.ports e (subst (λ (es : List EpId). Contains es e) is there) in
+    let attached : IsTrue (is_attached e s.ports) = id_is_found (λ (p : Port). p.id) s.ports e (subst (λ (es : List EpId). Contains es e) is there) in
     (λ yes. absurd cc, λ each. let yes : IsTrue c.in_ok-endpoint_rests.field-0 = c.in_ok-endpoint_rests.ensures.rest.1 (each e attached) in sym no ∙ yes)
 
 pub returns-then-not-branch-clause-listed : goal.returns-then-not-branch-clause-listed
@@ -27,7 +28,7 @@ returns-then-not-branch-clause-listed c each =
     let e : EpId = get_or ends c.loop-endpoint.endpoint-index (record { 0 = 0 }) in
     let no : c.in_ok-endpoint_rests.field-0 ≡ false = search rules in
     let there : Contains ends e = Contains-get_or ends c.loop-endpoint.endpoint-index (record { 0 = 0 }) c.loop-endpoint-test.true in
-    let attached : IsTrue (is_attached e s.ports) = port_is_attached s.ports e (subst (λ (es : List EpId). Contains es e) is there) in
+    let attached : IsTrue (is_attached e s.ports) = id_is_found (λ (p : Port). p.id) s.ports e (subst (λ (es : List EpId). Contains es e) is there) in
     let yes : IsTrue c.in_ok-endpoint_rests.field-0 = c.in_ok-endpoint_rests.ensures.listed (each e attached) in
     sym no ∙ yes
 

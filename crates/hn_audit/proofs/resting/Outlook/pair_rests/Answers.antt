@@ -3,7 +3,8 @@ use Rattle.std.proofs.lemmas.Option.{slice_get-get_or}
 use Rattle.hn_base.specs.declared.ids.NodeId.{NodeId}
 use Rattle.hn_assign.specs.declared.assigned.Wish.{Wish}
 use Rattle.hn_assign.specs.declared.held.Held.{Held}
-use Rattle.hn_assign.specs.Pair.{HasAt, IsAscending, assigned_pair, wish_pair}
+use Rattle.hn_base.specs.Ascending.{HasAt}
+use Rattle.hn_assign.specs.Pair.{IsAscending, assigned_pair, wish_pair}
 use Rattle.hn_assign.specs.Rest.{IsAtRest}
 use Rattle.hn_deleg.specs.declared.delegated.Delegated.{Delegated}
 use Rattle.hn_rules.specs.Assigning.{IsWishAt}
@@ -24,4 +25,4 @@ returns c =
     let up : IsAscending assigned_pair s.held.assigned = subst (λ (h : Held). IsAscending assigned_pair h.assigned) c.held.ensures c.as_slice-ascending.ensures.ascending in
     let own : HasAt assigned_pair (wish_pair wish) found s.held.assigned = subst (λ (h : Held). HasAt assigned_pair (wish_pair wish) found h.assigned) c.held.ensures c.find-assignment.ensures in
     let said : IsTrue c.is_at_rest.result ↔ IsAtRest adv s.id.0 wish found = subst (λ (id : NodeId). IsTrue c.is_at_rest.result ↔ IsAtRest adv id.0 wish found) c.id.ensures c.is_at_rest.ensures in
-    pair_decides c.common_link_is_unique.ensures s usable adv c.args.place c.args.endpoint wish found c.is_at_rest.result up asked refl own said
+    pair_decides c.common_link_is_unique.ensures c.pairs_are_ordered.ensures.total s usable adv c.args.place c.args.endpoint wish found c.is_at_rest.result up asked refl own said

@@ -11,8 +11,7 @@ use Rattle.hn_data.specs.View.{PlainView}
 use Rattle.hn_deleg.specs.Used.{AreUsable}
 use Rattle.hn_deleg.specs.declared.delegated.Delegated.{Delegated}
 use Rattle.hn_link.specs.CommonLink.{IsCommonLink}
-use Rattle.hn_link.specs.Election.{IsElected, HasNoCandidate}
-use Rattle.hn_link.proofs.Elections.{one_who}
+use Rattle.hn_link.specs.Election.{IsElected, HasNoCandidate, HasOneAnswer}
 use Rattle.hn_router.specs.Advertising.{IsAdvertBytes}
 use Rattle.hn_rules.specs.Seen.{seen_by}
 use Rattle.hn_rules.specs.declared.state.State.{State}
@@ -47,6 +46,7 @@ pub record ReportLaws : Type 0 where
   pub agreements : AgreementsAreUnique
   pub usable : (view : PlainView) (a b : List Delegated) → AreUsable view a → AreUsable view b → a ≡ b
   pub common : (view : PlainView) (e : ℕ) (a b : List (NodeId × EpId)) → IsCommonLink view e a → IsCommonLink view e b → a ≡ b
+  pub answer : HasOneAnswer
   pub adverts : (s : State) (e : EpId) (a b : List ℕ) → IsAdvertBytes s e a → IsAdvertBytes s e b → a ≡ b
 
 -- a line that ends in one way
@@ -117,7 +117,7 @@ one_elect reports name e letter m = record { one = once }
     once l k is other =
         let common = reports.common (seen_by m.router) e.0 other.is_elected.common is.is_elected.common other.is_elected.is_common is.is_elected.is_common in
         let elected = subst (λ (link : List (NodeId × EpId)). MatchOption other.who (HasNoCandidate (seen_by m.router) link letter) (IsElected (seen_by m.router) link letter)) common other.is_elected.is_elected in
-        let who = one_who (seen_by m.router) is.is_elected.common letter is.who other.who is.is_elected.is_elected elected in
+        let who = reports.answer (seen_by m.router) is.is_elected.common letter is.who other.who is.is_elected.is_elected elected in
         is.line_is ∙ ap (elect_line name e letter) who ∙ sym other.line_is
 
 one_advert : ReportLaws → (name : Name) (e : EpId) (m : Member) → IsOneReport (IsAdvertLine name e m)

@@ -15,4 +15,3 @@ mod LawGrows
 mod LawLines
 mod LawPlays
 mod LawSole
-pub mod WholeSources

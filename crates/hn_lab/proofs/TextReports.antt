@@ -20,8 +20,7 @@ use Rattle.hn_lab.specs.Line.{unless_known, unless_runs, unless_both_run, IsOf, 
 use Rattle.hn_lab.specs.Reports.{yes_no, show_line, hash_line, compare_line}
 use Rattle.hn_lab.specs.Stage.{Stage}
 use Rattle.hn_lab.specs.declared.treated.Treated.{Treated}
-use Rattle.hn_base.proofs.Decisions.{neither_given}
-use Rattle.hn_world.proofs.Accepted.{some_router}
+use Rattle.hn_base.proofs.Decisions.{neither_given, some_there}
 
 -- a report that is the one line of what a line came to
 pub reported : {E : Type 0} (unless : Option ℕ) (IsReport : List ℕ → Type 0) (line : List ℕ) (p : Stage) (r : Result Treated E) → IfOk r (λ t. t.code ≡ None) → IfOk r (λ t. t.lines ≡ line ∷ []) → unless ≡ None → IsReport line → IfOk r (λ t. Reports unless IsReport t.code t.lines p p)
@@ -76,8 +75,8 @@ pub compares : (left right : Name) (w : Parts) (agreement : Agreement) (same_ids
 compares left right w agreement same_ids line none agrees ids line_is =
     let first = neither_given (unless_known left w) (option_or (unless_known right w) (option_or (unless_runs left w) (unless_runs right w))) (sym none) in
     let second = neither_given (unless_known right w) (option_or (unless_runs left w) (unless_runs right w)) first.1 in
-    let a = some_router (λ _. None) (member_named (name_text left) w) first.0 in
-    let b = some_router (λ _. None) (member_named (name_text right) w) second.0 in
+    let a = some_there 7 (λ (_ : Member). None) (member_named (name_text left) w) first.0 in
+    let b = some_there 7 (λ (_ : Member). None) (member_named (name_text right) w) second.0 in
     record {
       a = a.0;
       b = b.0;

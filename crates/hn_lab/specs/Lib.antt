@@ -1,4 +1,3 @@
-pub mod Input
 pub mod Told
 pub mod Reports
 pub mod PrefixReports

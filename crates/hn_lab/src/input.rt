@@ -1,6 +1,6 @@
 ghost use Rattle.std.specs.Prelude.{◌≡◌, ◌+◌, ◌≤◌, ℕ, List, length, IfOk, Err};
 ghost use Rattle.std.specs.Io.KnownBytes.{Consumes};
-ghost use Rattle.hn_lab.specs.Input.{IsWhole};
+ghost use Rattle.hn_base.specs.Input.{IsWhole};
 ghost use Rattle.hn_io.specs.Faults.{Counts, IsReliable};
 
 use hn_io::{IoFault, Source};

@@ -10,7 +10,7 @@ ghost use Rattle.hn_lab.specs.Play.{IsPlay, IsCutPlay};
 ghost use Rattle.hn_lab.specs.Told.{Told};
 
 use hn_deleg::usable_is_unique;
-use hn_link::common_link_is_unique;
+use hn_link::{common_link_is_unique, elected_is_unique};
 use hn_router::router_has_one_advert;
 use hn_world::{agreement_is_unique, each_event_is_entered, step_is_unique};
 
@@ -23,6 +23,7 @@ pub fn at_most_one_play()
     agreement_is_unique();
     usable_is_unique();
     common_link_is_unique();
+    elected_is_unique();
     router_has_one_advert();
 }
 
@@ -35,6 +36,7 @@ pub fn at_most_one_cut_play()
     agreement_is_unique();
     usable_is_unique();
     common_link_is_unique();
+    elected_is_unique();
     router_has_one_advert();
     each_event_is_entered();
 }
@@ -48,6 +50,7 @@ pub fn cut_text_is_a_front()
     agreement_is_unique();
     usable_is_unique();
     common_link_is_unique();
+    elected_is_unique();
     router_has_one_advert();
 }
 

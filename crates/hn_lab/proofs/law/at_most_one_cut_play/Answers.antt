@@ -8,6 +8,7 @@ returns c =
       agreements = c.agreement_is_unique.ensures;
       usable = c.usable_is_unique.ensures;
       common = c.common_link_is_unique.ensures;
+      answer = c.elected_is_unique.ensures.answer;
       adverts = c.router_has_one_advert.ensures;
     } in
     one_cut c.step_is_unique.ensures reports c.each_event_is_entered.ensures.entered

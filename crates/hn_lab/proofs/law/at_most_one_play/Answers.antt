@@ -8,6 +8,7 @@ returns c =
       agreements = c.agreement_is_unique.ensures;
       usable = c.usable_is_unique.ensures;
       common = c.common_link_is_unique.ensures;
+      answer = c.elected_is_unique.ensures.answer;
       adverts = c.router_has_one_advert.ensures;
     } in
     one_play c.step_is_unique.ensures reports

@@ -4,7 +4,7 @@ use Rattle.hn_script.specs.Script.{IsScript, IsFirstFault}
 use Rattle.hn_script.specs.declared.fault.ScriptFault.{ScriptFault}
 use Rattle.hn_script.specs.declared.script.Script.{Script}
 use Rattle.hn_lab.specs.Lab.{IsLabOf, HasDonePlay, HasRefusal}
-use Rattle.hn_lab.proofs.WholeSources.{of_source}
+use Rattle.hn_base.proofs.WholeSources.{of_source}
 use Rattle.hn_lab.proofs.PlayScripts.{lab_longer, script_longer, fault_longer, among_all}
 use Rattle.hn_lab.proofs.scripts.lab.Goals as goal
 

@@ -1,7 +1,7 @@
 use Rattle.std.proofs.Common.{ℕ, List, [], ◌∷◌, refl, lit<}
 use Rattle.hn_io.specs.declared.fault.IoFault.TheVariants.{Failed, NoMemory}
 use Rattle.hncp.specs.Decode.{WritesDecode, CutsDecode}
-use Rattle.hn_lab.proofs.WholeSources.{of_source}
+use Rattle.hn_base.proofs.WholeSources.{of_source}
 use Rattle.hncp.proofs.Sources.{decode_longer, cut_longer, cut_of_unread, Contains-more}
 use Rattle.hncp.proofs.run.decode.Goals as goal
 

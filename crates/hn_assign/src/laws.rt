@@ -21,7 +21,7 @@ ghost use Rattle.hn_assign.specs.Pair.{IsAscending, IsWished, assigned_pair, bac
 ghost use Rattle.hn_assign.specs.Scene.{PlainScene, IsBestFor};
 ghost use Rattle.hn_assign.specs.Subroutine.{IsSubroutine};
 
-/// The order of pairs is total, and only equal ones are equal by it.
+/// The order of pairs is total, and only a pair itself is equal to it by this order.
 pub fn pairs_are_ordered()
     ensures total { IsTotalOrder pair_cmp }
     ensures exact { IsExact pair_cmp }

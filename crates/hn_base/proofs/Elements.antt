@@ -1,4 +1,5 @@
--- Which elements lists have, and lists that grow by what an element gives.
+-- Which elements lists have, lists that grow by what an element gives, and what a list gives that is made of another or
+-- of parts.
 use Rattle.std.proofs.Common.{◌≡◌, ℕ, ◌+◌, ◌<◌, Bool, true, false, cond, Option, Some, None, List, [], ◌∷◌, ◌++◌, length, get_or, take, All, Contains, refl, sym, ap, ◌∙◌, subst, inl, inr, find, is_some, map, arith}
 use Rattle.std.specs.List.{filter, filter_map, cons_option, list_any, AllPairs}
 use Rattle.std.proofs.lemmas.List.{take_more, append-nil, get_or_default}

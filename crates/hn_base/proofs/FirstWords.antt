@@ -1,4 +1,4 @@
--- The first words of a stream.
+-- The first words of a stream, and words taken from one place of it.
 use Rattle.std.proofs.Common.{◌≡◌, ◌∙◌, ◌+◌, ℕ, List, [], ◌∷◌, ◌++◌, length, drop, refl, sym, ap, subst, arith, length-append}
 use Rattle.std.proofs.lemmas.Grind.{common_steps, same_number_lists}
 use Rattle.std.proofs.Math.Seq.{drop-append_seam}

@@ -1,4 +1,5 @@
--- Identifiers and keys are known by their fields, and keys that are equal in their order are one.
+-- Identifiers and keys are known by their fields, keys that are equal in their order are one, and an element is found by
+-- the number of its endpoint identifier.
 use Rattle.std.proofs.Common.{◌≡◌, ℕ, true, List, Contains, Option, is_some, find, map, Decides, ap, subst}
 use Rattle.std.specs.Prelude.{◌==◌}
 use Rattle.std.specs.Cmp.{IsTotalOrder}

@@ -25,7 +25,8 @@ pub record RanBy {S : Type 0} (words : S → List ℕ) (rule : RuleOf S) (told t
   pub holds : rule before after
   pub drew : Drew told (words before) told_after (words after)
 
--- Such a rule gives no word back, and over one stream of words it has at most one result.
+-- Where the words that were taken so far are known, a rule gives no word back, and over one stream of words it has at
+-- most one result.
 pub record IsSoleBy {S : Type 0} (words : S → List ℕ) (rule : RuleOf S) : Type 0 where
   pub grows : (stream : ℕ → ℕ) (r a : S) → rule r a → Begins (words a) stream → Begins (words r) stream
   pub one : (stream : ℕ → ℕ) (r a b : S) → rule r a → rule r b → Begins (words a) stream → Begins (words b) stream → a ≡ b

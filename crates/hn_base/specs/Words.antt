@@ -1,4 +1,4 @@
--- Which words a call took from a draw. Each crate above says it by these words.
+-- Which words a call took from a draw. Each crate that takes random words says it by these definitions.
 use Rattle.std.specs.Prelude.{◌≡◌, ℕ, ◌+◌, List, ◌++◌, length, slice_index, EachIndex, Option, Some}
 
 -- these are the first words of the stream

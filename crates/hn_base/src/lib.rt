@@ -1,5 +1,5 @@
-//! What every crate of the home router speaks of: identifiers, moments, names, capabilities, out of memory, numerals and
-//! hexadecimal text.
+//! What the crates of the home router share: identifiers, moments, names, capabilities, the keep-alive interval, out of
+//! memory, numerals and hexadecimal text; and definitions that need no type of another crate.
 #![tactic(auto)]
 
 mod addr;

@@ -1,4 +1,4 @@
--- Prefixes: when two are one, and their order.
+-- What a comparison of two prefixes tells, and that a prefix comes before those strictly inside it.
 use Rattle.std.proofs.Common.{◌≡◌, ◌≢◌, ◌⊎◌, ◌↔◌, ◌-◌, ◌^◌, ◌<◌, ◌≤◌, Ordering, true, false, eqb, refl, sym, ap, inl, inr, ⊎_elim, arith}
 use Rattle.std.specs.Prelude.{◌&&◌}
 use Rattle.std.specs.declared.cmp.Ordering.TheVariants.{Less, Equal, Greater}

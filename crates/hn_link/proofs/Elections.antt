@@ -39,7 +39,7 @@ one_elected view common letter a b p q =
     let one = neither_below (rank_of letter p.caps a) (rank_of letter q.caps b) (p.greatest b q.caps q.candidate) (q.greatest a p.caps p.candidate) in
     ap (λ (r : Rank). r.node) one
 
--- somebody is elected, or nobody stands for election
+-- who is elected, or that nobody stands for election, has one answer
 pub one_who : (view : PlainView) (common : List (NodeId × EpId)) (letter : Letter) (who other : Option NodeId)
     → MatchOption who (HasNoCandidate view common letter) (IsElected view common letter) → MatchOption other (HasNoCandidate view common letter) (IsElected view common letter) → who ≡ other
 one_who view common letter None None is k = refl

@@ -53,7 +53,7 @@ pub record IsElected (view : PlainView) (common : List (NodeId × EpId)) (letter
 abbrev pub HasNoCandidate : PlainView → List (NodeId × EpId) → Letter → Type 0
 HasNoCandidate view common letter = (id : NodeId) (caps : PlainCaps) → ¬ (IsCandidate view common letter id caps)
 
--- who is elected, or that nobody stands for election, has one answer over one view and Common Link
+-- who is elected, or that nobody stands for election, has one answer over one view, Common Link and capability
 abbrev pub HasOneAnswer : Type 0
 HasOneAnswer =
     (view : PlainView) (common : List (NodeId × EpId)) (letter : Letter) (who other : Option NodeId)

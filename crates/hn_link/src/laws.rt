@@ -13,7 +13,8 @@ pub fn common_link_is_unique()
     ensures { (view : PlainView) (e : ℕ) (a b : List (NodeId × EpId)) → IsCommonLink view e a → IsCommonLink view e b → a ≡ b }
 {}
 
-/// At most one node is elected, and who is elected, or that nobody is, has one answer.
+/// Over one view, Common Link and capability at most one node is elected, and there is one answer: who is elected, or
+/// that nobody stands for election.
 pub fn elected_is_unique()
     ensures one { (view : PlainView) (common : List (NodeId × EpId)) (letter : Letter) (a b : NodeId)
         → IsElected view common letter a → IsElected view common letter b → a ≡ b }

@@ -19,7 +19,7 @@ use Rattle.hn_own.specs.OwnPrefixes.{AreOwnPrefixes, is_prefix, is_before, deleg
 abbrev pub own_cmp : OwnPrefix → OwnPrefix → Ordering
 own_cmp = on (λ p. p.prefix) prefix_cmp
 
--- ---- none, and some of them
+-- ---- none
 
 pub AreOwnPrefixes-none : AreOwnPrefixes []
 unfolding IsStrictlySortedBy

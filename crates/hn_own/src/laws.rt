@@ -16,7 +16,7 @@ pub fn own_data_is_unique()
     ascending_set_is_unique();
 }
 
-/// No endpoints are endpoints of a router, and no prefixes are own delegated prefixes.
+/// The empty list is one of a router's endpoints, and one of own delegated prefixes.
 pub fn none_are_well()
     ensures endpoints { ArePorts [] }
     ensures prefixes { AreOwnPrefixes [] }

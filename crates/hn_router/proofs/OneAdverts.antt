@@ -29,7 +29,7 @@ OneUsable = (view : PlainView) (a b : List Delegated) → AreUsable view a → A
 abbrev pub OneCommonLink : Type 0
 OneCommonLink = (view : PlainView) (e : ℕ) (a b : List (NodeId × EpId)) → IsCommonLink view e a → IsCommonLink view e b → a ≡ b
 
--- somebody is elected or nobody
+-- whether somebody is elected has one answer
 one_flag : OneCommonLink → HasOneAnswer → (s : State) (e : EpId) (letter : Letter) (a b : Option NodeId) → IsElectedAt s e letter a → IsElectedAt s e letter b → is_some a ≡ is_some b
 one_flag one_link one_answer s e letter a b f g =
     let same : g.common ≡ f.common = one_link (seen_by s) e.0 g.common f.common g.is_common f.is_common in

@@ -52,7 +52,7 @@ ViewIsNetwork = (s : State) → IsRouter s → IsNetwork s.id.0 (view_of s)
 abbrev pub OwnIsKnown : Type 0
 OwnIsKnown = (s : State) (id : NodeId) → id.0 ≡ s.id.0 → entry_of s id ≡ Some (own_entry s)
 
--- What it knows of another identifier is what it holds of it.
+-- What it knows of another identifier that it holds is what it holds of it.
 abbrev pub HeldIsKnown : Type 0
 HeldIsKnown =
     (s : State) (id : NodeId) (stored : Stored) → ¬ (id.0 ≡ s.id.0) → held s.table.entries id.0 ≡ Some stored

@@ -68,7 +68,8 @@ pub fn view_is_a_network()
     own_is_reachable();
 }
 
-/// What a router knows of an identifier has that identifier: it is its own node, or what it holds of another.
+/// Of its own identifier a router knows its own node, and of another that it holds what it holds of it. What it knows
+/// of an identifier has that identifier.
 pub fn entries_are_as_known()
     ensures { EntriesAreAsKnown }
 {}

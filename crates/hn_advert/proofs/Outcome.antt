@@ -6,13 +6,9 @@ use Rattle.std.proofs.lemmas.Bool.{lt-ltb, le-ltb, eq-eqb, ne_eqb}
 use Rattle.std.proofs.lemmas.List.{take_at, drop_at, length-append, get_or-take, get_or-drop}
 use Rattle.std.proofs.lemmas.Nat.{from_be_bytes-to_be_bytes_4}
 use Rattle.hn_base.proofs.BigEndian.{number_again}
+use Rattle.hn_base.proofs.Outcomes.{Outcome, Ends, Begins, Faults, IsTold}
 use Rattle.hn_advert.specs.Layout.{PrefixInformation, IsPrefixInformation, NdOption, PrefixOption, OtherOption, IsNdOption, option_bytes}
 use Rattle.hn_advert.specs.Fault.{IsOptionCut, HasWholeOption, HasOtherSize, HasLongPrefix, IsOptionFault}
-
-pub data Outcome : Type 0 where
-  Ends : Outcome
-  Begins : NdOption → List ℕ → Outcome
-  Faults : ℕ → ℕ → Outcome
 
 -- the fields of a Prefix Information option, after its type and length
 information : List ℕ → PrefixInformation
@@ -25,19 +21,19 @@ information body = record {
   address = from_be_bytes w128 (drop 14 body);
 }
 
-prefix : List ℕ → List ℕ → Outcome
+prefix : List ℕ → List ℕ → Outcome NdOption
 prefix body rest = cond (ltb 128 (get_or body 0 0)) (Faults 2 6) (Begins (PrefixOption (information body)) rest)
 
 -- a whole option, of this type and length
-whole : ℕ → ℕ → List ℕ → List ℕ → Outcome
+whole : ℕ → ℕ → List ℕ → List ℕ → Outcome NdOption
 whole kind units body rest = cond (eqb kind 3) (cond (eqb units 4) (prefix body rest) (Faults 0 5)) (Begins (OtherOption kind units body) rest)
 
 -- an option of this type and length, and all that follows these two
-sized : ℕ → ℕ → List ℕ → Outcome
+sized : ℕ → ℕ → List ℕ → Outcome NdOption
 sized kind units after =
     cond (eqb units 0) (Faults 0 4) (cond (ltb (2 + length after) (8 * units)) (Faults 0 4) (whole kind units (take (8 * units - 2) after) (drop (8 * units - 2) after)))
 
-pub outcome : List ℕ → Outcome
+pub outcome : List ℕ → Outcome NdOption
 outcome [] = Ends
 outcome (kind ∷ []) = Faults 0 4
 outcome (kind ∷ units ∷ after) = sized kind units after
@@ -71,11 +67,11 @@ outcome_prefix p rest fits =
     let short : ltb 128 p.prefix_len ≡ false = le-ltb 128 p.prefix_len fits.prefix_len in
     sized_whole 3 4 (body_of p) rest (omega arith) refl ∙ rw short (ap (λ (q : PrefixInformation). Begins (PrefixOption q) rest) (information_again p fits))
 
-pub outcome_option : (option : NdOption) (rest : List ℕ) → IsNdOption option → outcome (option_bytes option ++ rest) ≡ Begins option rest
+outcome_option : (option : NdOption) (rest : List ℕ) → IsNdOption option → outcome (option_bytes option ++ rest) ≡ Begins option rest
 outcome_option (PrefixOption p) rest fits = outcome_prefix p rest fits
 outcome_option (OtherOption kind units body) rest fits = outcome_other kind units body rest fits
 
-pub outcome_nothing : outcome [] ≡ Ends
+outcome_nothing : outcome [] ≡ Ends
 unfolding outcome
 outcome_nothing = refl
 
@@ -127,7 +123,10 @@ outcome_long bytes (has, units, long) =
 at_place : (bytes : List ℕ) (offset place why cause : ℕ) → outcome bytes ≡ Faults offset why → place ≡ offset → cause ≡ why → outcome bytes ≡ Faults place cause
 at_place bytes offset place why cause e p w = rw (p, w) e
 
-pub outcome_fault : (bytes : List ℕ) (offset why : ℕ) → IsOptionFault bytes offset why → outcome bytes ≡ Faults offset why
+outcome_fault : (bytes : List ℕ) (offset why : ℕ) → IsOptionFault bytes offset why → outcome bytes ≡ Faults offset why
 outcome_fault bytes offset why (inl fault) = at_place bytes 0 offset 4 why (outcome_cut bytes fault.1) fault.2 fault.0
 outcome_fault bytes offset why (inr (inl fault)) = at_place bytes 0 offset 5 why (outcome_size bytes fault.1) fault.2 fault.0
 outcome_fault bytes offset why (inr (inr fault)) = at_place bytes 2 offset 6 why (outcome_long bytes fault.1) fault.2 fault.0
+
+pub option_told : IsTold option_bytes IsNdOption IsOptionFault outcome
+option_told = record { nothing = outcome_nothing; begins = outcome_option; faults = outcome_fault }

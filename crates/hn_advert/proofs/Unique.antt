@@ -7,39 +7,28 @@ use Rattle.hn_advert.specs.Layout.{Header, IsHeader, flags_byte, header_bytes, N
 use Rattle.hn_advert.specs.Advert.{AreOptions, options_bytes, IsAdvert}
 use Rattle.hn_advert.specs.Fault.{IsHeaderFault, IsOptionFault, IsFirstOptionFault, AdvertFault}
 use Rattle.hn_advert.specs.Reading.{HasOptions}
-use Rattle.hn_advert.proofs.Outcome.{Ends, Begins, Faults, outcome, outcome_nothing, outcome_option, outcome_fault}
+use Rattle.hn_base.proofs.Outcomes as begin
+use Rattle.hn_advert.proofs.Outcome.{outcome, option_told}
 
 -- ---- one option, or one fault
 
-begun_is : (o p : NdOption) (x y : List ℕ) → Begins o x ≡ Begins p y → (o ≡ p) × (x ≡ y)
-begun_is o p x y e = (cc, cc)
-
-fault_is : (p q v w : ℕ) → Faults p v ≡ Faults q w → (p ≡ q) × (v ≡ w)
-fault_is p q v w e = (cc, cc)
-
 same_option : (o p : NdOption) (x y : List ℕ) → IsNdOption o → IsNdOption p → option_bytes o ++ x ≡ option_bytes p ++ y → (o ≡ p) × (x ≡ y)
-same_option o p x y o_fits p_fits e = begun_is o p x y (sym (outcome_option o x o_fits) ∙ ap outcome e ∙ outcome_option p y p_fits)
+same_option = begin.same_begin option_bytes IsNdOption IsOptionFault outcome option_told
 
 same_option_fault : (bytes : List ℕ) (p q v w : ℕ) → IsOptionFault bytes p v → IsOptionFault bytes q w → (p ≡ q) × (v ≡ w)
-same_option_fault bytes p q v w f g = fault_is p q v w (sym (outcome_fault bytes p v f) ∙ outcome_fault bytes q w g)
+same_option_fault = begin.same_fault option_bytes IsNdOption IsOptionFault outcome option_told
 
 -- where a fault lies, no option begins
 no_option : (bytes rest : List ℕ) (offset why : ℕ) (o : NdOption) → IsOptionFault bytes offset why → IsNdOption o → bytes ≡ option_bytes o ++ rest → ⊥
-no_option bytes rest offset why o f fits e =
-    let clash : Faults offset why ≡ Begins o rest = sym (outcome_fault bytes offset why f) ∙ ap outcome e ∙ outcome_option o rest fits in
-    cc
+no_option = begin.no_begin option_bytes IsNdOption IsOptionFault outcome option_told
 
 -- where a fault lies, bytes are
 not_empty : (bytes : List ℕ) (offset why : ℕ) → IsOptionFault bytes offset why → bytes ≡ [] → ⊥
-not_empty bytes offset why f e =
-    let clash : Faults offset why ≡ Ends = sym (outcome_fault bytes offset why f) ∙ ap outcome e ∙ outcome_nothing in
-    cc
+not_empty = begin.not_empty option_bytes IsNdOption IsOptionFault outcome option_told
 
 -- where an option begins, bytes are
 some_bytes : (o : NdOption) (rest : List ℕ) → IsNdOption o → [] ≡ option_bytes o ++ rest → ⊥
-some_bytes o rest fits e =
-    let clash : Ends ≡ Begins o rest = sym outcome_nothing ∙ ap outcome e ∙ outcome_option o rest fits in
-    cc
+some_bytes = begin.some_bytes option_bytes IsNdOption IsOptionFault outcome option_told
 
 -- ---- lists of options
 

@@ -16,6 +16,7 @@ pub mod Keys
 pub mod LeadingBits
 mod NameBytes
 pub mod NumeralLemmas
+pub mod Outcomes
 pub mod Parts
 pub mod Passing
 pub mod Pigeonhole

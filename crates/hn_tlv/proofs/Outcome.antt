@@ -5,25 +5,21 @@ use Rattle.std.specs.Int.{w16, from_be_bytes}
 use Rattle.std.proofs.lemmas.Bool.{le-ltb, lt-ltb}
 use Rattle.std.proofs.lemmas.List.{take_at, drop_at, length-append}
 use Rattle.std.proofs.lemmas.Nat.{from_be_bytes-to_be_bytes_2}
+use Rattle.hn_base.proofs.Outcomes.{Outcome, Ends, Begins, Faults, IsTold}
 use Rattle.hn_tlv.specs.Grammar.{PlainTlv, IsTlv, padding, header, unpadded, spelling, IsFault}
 
-pub data Outcome : Type 0 where
-  Ends : Outcome
-  Begins : PlainTlv → List ℕ → Outcome
-  Faults : ℕ → ℕ → Outcome
-
 -- so many pad bytes have to come, the first of them at this offset
-pads : PlainTlv → ℕ → ℕ → List ℕ → Outcome
+pads : PlainTlv → ℕ → ℕ → List ℕ → Outcome PlainTlv
 pads tlv offset zero bytes = Begins tlv bytes
 pads tlv offset (suc n) [] = Faults offset 3
 pads tlv offset (suc n) (zero ∷ bytes) = pads tlv (suc offset) n bytes
 pads tlv offset (suc n) (suc b ∷ bytes) = Faults offset 4
 
 -- a value of this length has to come, and its padding
-body : ℕ → ℕ → List ℕ → Outcome
+body : ℕ → ℕ → List ℕ → Outcome PlainTlv
 body kind len rest = cond (ltb (length rest) len) (Faults 0 2) (pads (record { kind = kind; value = take len rest }) (4 + len) (padding len) (drop len rest))
 
-pub outcome : List ℕ → Outcome
+pub outcome : List ℕ → Outcome PlainTlv
 outcome [] = Ends
 outcome (a ∷ []) = Faults 0 1
 outcome (a ∷ b ∷ []) = Faults 0 1
@@ -75,11 +71,11 @@ outcome_unpadded tlv rest valid = outcome_header tlv.kind (length tlv.value) (tl
 
 -- ---- the three things
 
-pub outcome_nothing : outcome [] ≡ Ends
+outcome_nothing : outcome [] ≡ Ends
 unfolding outcome
 outcome_nothing = refl
 
-pub outcome_spelling : (tlv : PlainTlv) (rest : List ℕ) → IsTlv tlv → outcome (spelling tlv ++ rest) ≡ Begins tlv rest
+outcome_spelling : (tlv : PlainTlv) (rest : List ℕ) → IsTlv tlv → outcome (spelling tlv ++ rest) ≡ Begins tlv rest
 outcome_spelling tlv rest valid =
     ap outcome (append_assoc (unpadded tlv) (replicate (padding (length tlv.value)) 0) rest)
     ∙ outcome_unpadded tlv (replicate (padding (length tlv.value)) 0 ++ rest) valid
@@ -100,7 +96,7 @@ body_short kind len rest short = let yes : ltb (length rest) len ≡ true = lt-l
 at_offset : (bytes : List ℕ) (o p why : ℕ) → outcome bytes ≡ Faults o why → p ≡ o → outcome bytes ≡ Faults p why
 at_offset bytes o p why e same = rw same e
 
-pub outcome_fault : (bytes : List ℕ) (offset why : ℕ) → IsFault bytes offset why → outcome bytes ≡ Faults offset why
+outcome_fault : (bytes : List ℕ) (offset why : ℕ) → IsFault bytes offset why → outcome bytes ≡ Faults offset why
 outcome_fault bytes offset why (inl f) = rw (f.0, f.1.offset_is) (outcome_short bytes f.1.not_empty f.1.too_short)
 outcome_fault bytes offset why (inr (inl f)) =
     let h = f.1 in
@@ -114,3 +110,6 @@ outcome_fault bytes offset why (inr (inr (inr f))) =
     let len : length (unpadded h.tlv) ≡ 4 + length h.tlv.value = omega arith in
     let parts : bytes ≡ unpadded h.tlv ++ (replicate h.zeros 0 ++ h.byte ∷ h.rest) = h.parts ∙ append_assoc (unpadded h.tlv) (replicate h.zeros 0) (h.byte ∷ h.rest) in
     rw (f.0, h.offset_is, len) (ap outcome parts ∙ outcome_unpadded h.tlv (replicate h.zeros 0 ++ h.byte ∷ h.rest) h.valid ∙ pads_not_zero h.tlv (4 + length h.tlv.value) (padding (length h.tlv.value)) h.zeros h.byte h.rest h.within_padding h.not_zero)
+
+pub tlv_told : IsTold spelling IsTlv IsFault outcome
+tlv_told = record { nothing = outcome_nothing; begins = outcome_spelling; faults = outcome_fault }

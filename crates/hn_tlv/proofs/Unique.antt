@@ -2,31 +2,22 @@
 use Rattle.std.proofs.Common.{◌≡◌, ℕ, ◌+◌, List, [], ◌∷◌, ◌++◌, length, refl, sym, ap, subst, ◌∙◌, append_assoc, arith}
 use Rattle.std.proofs.lemmas.List.{length-append}
 use Rattle.hn_tlv.specs.Grammar.{PlainTlv, IsTlv, spelling, IsTlvList, HasTlvs, IsFault, FirstFault}
-use Rattle.hn_tlv.proofs.Outcome.{Ends, Begins, Faults, outcome, outcome_nothing, outcome_spelling, outcome_fault}
-
-begun_is : (t u : PlainTlv) (x y : List ℕ) → Begins t x ≡ Begins u y → (t ≡ u) × (x ≡ y)
-begun_is t u x y e = (cc, cc)
-
-fault_is : (p q v w : ℕ) → Faults p v ≡ Faults q w → (p ≡ q) × (v ≡ w)
-fault_is p q v w e = (cc, cc)
+use Rattle.hn_base.proofs.Outcomes as begin
+use Rattle.hn_tlv.proofs.Outcome.{outcome, tlv_told}
 
 pub same_begin : (t u : PlainTlv) (x y : List ℕ) → IsTlv t → IsTlv u → spelling t ++ x ≡ spelling u ++ y → (t ≡ u) × (x ≡ y)
-same_begin t u x y t_valid u_valid e = begun_is t u x y (sym (outcome_spelling t x t_valid) ∙ ap outcome e ∙ outcome_spelling u y u_valid)
+same_begin = begin.same_begin spelling IsTlv IsFault outcome tlv_told
 
 pub same_fault : (bytes : List ℕ) (p q v w : ℕ) → IsFault bytes p v → IsFault bytes q w → (p ≡ q) × (v ≡ w)
-same_fault bytes p q v w f g = fault_is p q v w (sym (outcome_fault bytes p v f) ∙ outcome_fault bytes q w g)
+same_fault = begin.same_fault spelling IsTlv IsFault outcome tlv_told
 
 -- where a fault lies, no TLV begins
 pub no_tlv : (bytes rest : List ℕ) (offset why : ℕ) (t : PlainTlv) → IsFault bytes offset why → IsTlv t → ¬ (bytes ≡ spelling t ++ rest)
-no_tlv bytes rest offset why t f valid e =
-    let clash : Faults offset why ≡ Begins t rest = sym (outcome_fault bytes offset why f) ∙ ap outcome e ∙ outcome_spelling t rest valid in
-    cc
+no_tlv = begin.no_begin spelling IsTlv IsFault outcome tlv_told
 
 -- where a fault lies, bytes are
 pub not_empty : (bytes : List ℕ) (offset why : ℕ) → IsFault bytes offset why → ¬ (bytes ≡ [])
-not_empty bytes offset why f e =
-    let clash : Faults offset why ≡ Ends = sym (outcome_fault bytes offset why f) ∙ ap outcome e ∙ outcome_nothing in
-    cc
+not_empty = begin.not_empty spelling IsTlv IsFault outcome tlv_told
 
 -- ---- lists
 

@@ -1,6 +1,6 @@
-use Rattle.std.proofs.Common.{List, ℕ, ◌++◌, refl, sym, ap, ◌∙◌, append_assoc}
+use Rattle.std.proofs.Common.{List, ℕ, ◌++◌, refl, ap, ◌∙◌, append_assoc}
 use Rattle.std.proofs.lemmas.Result.{err_from_is_err_and}
-use Rattle.hn_base.proofs.Results.{not_ok, tells_passed}
+use Rattle.hn_base.proofs.Results.{tells_passed, tells_unfound}
 use Rattle.hn_tlv.specs.declared.fault.TlvFault.{TlvFault}
 use Rattle.hn_tlv.specs.declared.list_fault.ListFault.TheVariants.{Malformed}
 use Rattle.hn_tlv.specs.Grammar.{FirstFault}
@@ -16,12 +16,12 @@ returns-in_err-count-clause-malformed c = λ place why.
 pub returns-in_err-out-clause-malformed : goal.returns-in_err-out-clause-malformed
 returns-in_err-out-clause-malformed c = λ place why.
     let passed = err_from_is_err_and c.from_residual-in_err-out.result c.from_residual-in_err-out.ensures.1 in
-    (λ e. absurd cc, λ first. absurd (not_ok _ _ (sym (c.in_ok-count.ensures.at_fault place why first))))
+    tells_unfound Malformed (λ (f : TlvFault). FirstFault c.args.bytes.now f.place f.why) c.from_residual-in_err-out.result _ (λ g e. cc) (λ f. c.in_ok-count.ensures.at_fault f.place f.why) (record { place = place; why = why })
 
 pub returns-in_err-at-clause-malformed : goal.returns-in_err-at-clause-malformed
 returns-in_err-at-clause-malformed c = λ place why.
     let passed = err_from_is_err_and c.from_residual-in_err-at.result c.from_residual-in_err-at.ensures.1 in
-    (λ e. absurd cc, λ first. absurd (not_ok _ _ (sym (c.in_ok-count.ensures.at_fault place why first))))
+    tells_unfound Malformed (λ (f : TlvFault). FirstFault c.args.bytes.now f.place f.why) c.from_residual-in_err-at.result _ (λ g e. cc) (λ f. c.in_ok-count.ensures.at_fault f.place f.why) (record { place = place; why = why })
 
 pub loop-at-preserved : goal.loop-at-preserved
 loop-at-preserved c =
@@ -35,4 +35,4 @@ loop-at-preserved c =
 
 pub returns-clause-malformed : goal.returns-clause-malformed
 returns-clause-malformed c = λ place why.
-    (λ e. absurd cc, λ first. absurd (not_ok _ _ (sym (c.in_ok-count.ensures.at_fault place why first))))
+    tells_unfound Malformed (λ (f : TlvFault). FirstFault c.args.bytes.now f.place f.why) _ _ (λ g e. cc) (λ f. c.in_ok-count.ensures.at_fault f.place f.why) (record { place = place; why = why })

@@ -1,6 +1,6 @@
-use Rattle.std.proofs.Common.{refl, sym}
+use Rattle.std.proofs.Common.{refl}
 use Rattle.std.proofs.lemmas.Result.{err_from_is_err_and}
-use Rattle.hn_base.proofs.Results.{not_ok, tells_passed}
+use Rattle.hn_base.proofs.Results.{tells_passed, tells_unfound}
 use Rattle.hn_tlv.specs.declared.fault.TlvFault.{TlvFault}
 use Rattle.hn_tlv.specs.declared.list_fault.ListFault.TheVariants.{Malformed}
 use Rattle.hn_tlv.specs.Grammar.{FirstFault}
@@ -15,13 +15,13 @@ returns-in_err-check-clause-refused c = λ place why.
 pub returns-in_err-copy-clause-refused : goal.returns-in_err-copy-clause-refused
 returns-in_err-copy-clause-refused c = λ place why.
     let passed = err_from_is_err_and c.from_residual-in_err-copy.result c.from_residual-in_err-copy.ensures.1 in
-    (λ e. absurd cc, λ first. absurd (not_ok _ _ (sym (c.in_ok-check.ensures.at_fault place why first))))
+    tells_unfound Malformed (λ (f : TlvFault). FirstFault c.args.bytes.now f.place f.why) c.from_residual-in_err-copy.result _ (λ g e. cc) (λ f. c.in_ok-check.ensures.at_fault f.place f.why) (record { place = place; why = why })
 
 pub returns-in_err-read_data-clause-refused : goal.returns-in_err-read_data-clause-refused
 returns-in_err-read_data-clause-refused c = λ place why.
     let passed = err_from_is_err_and c.from_residual-in_err-read_data.result c.from_residual-in_err-read_data.ensures.1 in
-    (λ e. absurd cc, λ first. absurd (not_ok _ _ (sym (c.in_ok-check.ensures.at_fault place why first))))
+    tells_unfound Malformed (λ (f : TlvFault). FirstFault c.args.bytes.now f.place f.why) c.from_residual-in_err-read_data.result _ (λ g e. cc) (λ f. c.in_ok-check.ensures.at_fault f.place f.why) (record { place = place; why = why })
 
 pub returns-clause-refused : goal.returns-clause-refused
 returns-clause-refused c = λ place why.
-    (λ e. absurd cc, λ first. absurd (not_ok _ _ (sym (c.in_ok-check.ensures.at_fault place why first))))
+    tells_unfound Malformed (λ (f : TlvFault). FirstFault c.args.bytes.now f.place f.why) _ _ (λ g e. cc) (λ f. c.in_ok-check.ensures.at_fault f.place f.why) (record { place = place; why = why })

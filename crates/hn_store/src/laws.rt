@@ -40,7 +40,8 @@ pub fn acceptance_keeps_table()
     first_fault_is_unique();
 }
 
-/// The empty list of nodes is a table, and a table stays one when its nodes are marked as lost and when some are forgotten.
+/// The empty list of nodes is a table, and a table stays one when its nodes are marked as lost and when some are
+/// forgotten.
 pub fn loss_keeps_table()
     ensures none { NoNodesAreTable }
     ensures marks { MarksKeepTable }

@@ -1,6 +1,7 @@
 -- Readings of lists of TLVs are unique.
 use Rattle.std.proofs.Common.{◌≡◌, ℕ, List, [], ◌∷◌, ◌↔◌, inl, inr, sym, ◌∙◌, subst, Contains}
-use Rattle.hn_tlv.specs.Grammar.{PlainTlv, IsTlvList}
+use Rattle.hn_tlv.specs.Grammar.{PlainTlv}
+use Rattle.hn_tlv.specs.Laws.{ListIsUnique}
 use Rattle.hn_typed.specs.Item.{PlainItem}
 use Rattle.hn_typed.specs.Table.{IsItem}
 use Rattle.hn_typed.specs.Fault.{IsItemFault}
@@ -11,7 +12,7 @@ abbrev pub HasOneReading : List ℕ → Type 0
 HasOneReading bytes = (a b : List PlainItem) → AreItems bytes a → AreItems bytes b → a ≡ b
 
 -- the laws of lists and of items
-module _ (same_list : (a b : List PlainTlv) (bytes : List ℕ) → IsTlvList a bytes → IsTlvList b bytes → a ≡ b)
+module _ (same_list : ListIsUnique)
     (same_item : (tlv : PlainTlv) (item other : PlainItem) → IsItem tlv item → IsItem tlv other → item ≡ other)
     (no_fault : (tlv : PlainTlv) (item : PlainItem) (why : ℕ) → IsItem tlv item → ¬ (IsItemFault tlv why)) where
   -- TLVs have at most one list of items

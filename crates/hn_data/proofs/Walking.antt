@@ -1,6 +1,7 @@
 -- What was done with the TLVs of bytes up to a place.
 use Rattle.std.proofs.Common.{◌≡◌, ℕ, ◌≤◌, List, [], ◌∷◌, ◌++◌, length, take, Result, Ok, Err, IfOk, IfErr}
 use Rattle.hn_tlv.specs.Grammar.{PlainTlv, IsTlvList, IsTlvAt}
+use Rattle.hn_tlv.specs.Laws.{ListGrows}
 use Rattle.hn_typed.specs.declared.fault.ItemFault.{ItemFault}
 use Rattle.hn_typed.specs.declared.item.Item.{Item}
 use Rattle.hn_typed.specs.Table.{IsItem}
@@ -14,10 +15,6 @@ pub record IsDoneTo (P : List PlainTlv → Type 0) (bytes : List ℕ) (place : �
   pub tlvs : List PlainTlv
   pub list : IsTlvList tlvs (take place bytes)
   pub so_far : P tlvs
-
--- the law that a list up to a place, and the TLV there, are a list up to the place after it
-abbrev pub ListGrows : Type 0
-ListGrows = (bytes : List ℕ) (at after : ℕ) (tlv : PlainTlv) (tlvs : List PlainTlv) → IsTlvList tlvs (take at bytes) → IsTlvAt bytes at tlv after → IsTlvList (tlvs ++ tlv ∷ []) (take after bytes)
 
 pub done_more : ListGrows → (P Q : List PlainTlv → Type 0) (bytes : List ℕ) (place after : ℕ) (tlv : PlainTlv) → IsTlvAt bytes place tlv after
     → ((tlvs : List PlainTlv) → P tlvs → Q (tlvs ++ tlv ∷ [])) → IsDoneTo P bytes place → IsDoneTo Q bytes after

@@ -5,6 +5,7 @@ use Rattle.std.proofs.lemmas.List.{append-nil}
 use Rattle.std.proofs.lemmas.List.Elements.{All-contains, All-weaker, All-contains_itself, All-tail, All-head, Contains-append_left, Contains-append_right}
 use Rattle.hn_base.proofs.AscendingLists.{nothing_in, Contains-head, Contains-tail, Contains-cases}
 use Rattle.hn_tlv.specs.Grammar.{PlainTlv, IsTlv, IsTlvList, header, unpadded, padding, spelling}
+use Rattle.hn_tlv.specs.Laws.{SpellingIsPrefixFree}
 use Rattle.hn_typed.specs.Item.{PlainItem, RequestNetwork, RequestNode, NodeEndpoint, NetworkState, NodeState, Peer, KeepAlive, Version, External, Delegated, Assigned, Address, Other}
 use Rattle.hn_typed.specs.Table.{IsItem, InRange}
 use Rattle.hn_typed.specs.Written.{kind_of, value_of, tlv_of, IsWritable}
@@ -52,7 +53,7 @@ pub record AreWritten (pieces : List (List ℕ)) (bytes : List ℕ) : Type 0 whe
   pub exact : (item : PlainItem) → Contains items item ↔ IsWrittenIn pieces item
 
 -- the laws of TLVs and of items
-module _ (same_begin : (t u : PlainTlv) (x y : List ℕ) → IsTlv t → IsTlv u → spelling t ++ x ≡ spelling u ++ y → (t ≡ u) × (x ≡ y))
+module _ (same_begin : SpellingIsPrefixFree)
     (same_item : (tlv : PlainTlv) (item other : PlainItem) → IsItem tlv item → IsItem tlv other → item ≡ other)
     (written_is_item : (item : PlainItem) → IsWritable item → IsItem (tlv_of item) item) where
   -- one TLV is written for at most one item

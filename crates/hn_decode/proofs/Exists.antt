@@ -4,7 +4,8 @@ use Rattle.std.proofs.lemmas.Bool.{cases_lt}
 use Rattle.std.proofs.lemmas.List.{drop_at}
 use Rattle.std.proofs.lemmas.List.Elements.{All-from_recursion, recursion_from_All}
 use Rattle.hn_base.proofs.Recursions.{AllByRecursion-drop}
-use Rattle.hn_tlv.specs.Grammar.{PlainTlv, IsTlv, tlv_size, IsTlvList, HasTlvs, FirstFault}
+use Rattle.hn_tlv.specs.Grammar.{PlainTlv, IsTlv, tlv_size, IsTlvList, HasTlvs}
+use Rattle.hn_tlv.specs.Laws.{ListIsUnique, ListHasNoFirstFault, ListOrFirstFault}
 use Rattle.hn_typed.specs.Item.{PlainItem, RequestNetwork, RequestNode, NodeEndpoint, NetworkState, NodeState, Peer, KeepAlive, Version, External, Delegated, Assigned, Address, Other}
 use Rattle.hn_typed.specs.Fields.{word}
 use Rattle.hn_typed.specs.Table.{IsItem}
@@ -57,8 +58,8 @@ body_bytes tlv _ valid h is = absurd is
 
 -- the laws of lists and of items
 module _ (item_or_fault : (tlv : PlainTlv) → IsTlv tlv → ((item : PlainItem) × IsItem tlv item) ⊎ ((why : ℕ) × IsItemFault tlv why))
-    (list_or_fault : (bytes : List ℕ) → All (λ byte. byte < 2 ^ 8) bytes → HasTlvs bytes ⊎ ((place why : ℕ) × FirstFault bytes place why))
-    (no_list : (bytes : List ℕ) (place why : ℕ) → FirstFault bytes place why → ¬ (HasTlvs bytes)) where
+    (list_or_fault : ListOrFirstFault)
+    (no_list : ListHasNoFirstFault) where
   -- what lies within an item is a list of TLVs or none
   list_or_none : (tlv : PlainTlv) (item : PlainItem) → IsTlv tlv → IsItem tlv item → HasTlvs (within item) ⊎ (¬ HasTlvs (within item))
   list_or_none tlv item valid h =
@@ -118,7 +119,7 @@ module _ (item_or_fault : (tlv : PlainTlv) → IsTlv tlv → ((item : PlainItem)
       (first_line (length told.1.tlvs) ++ told.0, record { lines = told.0; shown = told.1; text_is = refl })
 
   -- lines up to a place, and those of the rest
-  pub text_goes_on : ((a b : List PlainTlv) (bytes : List ℕ) → IsTlvList a bytes → IsTlvList b bytes → a ≡ b) → (bytes lines : List ℕ) (at : ℕ) (tlvs : List PlainTlv) → IsTlvList tlvs bytes → IsTextTo bytes at lines
+  pub text_goes_on : ListIsUnique → (bytes lines : List ℕ) (at : ℕ) (tlvs : List PlainTlv) → IsTlvList tlvs bytes → IsTextTo bytes at lines
       → (rest : List ℕ) × IsDecodeText bytes (first_line (length tlvs) ++ (lines ++ rest))
   text_goes_on unique bytes lines at tlvs list so_far =
       let rest = list_shown (Shows 7) (shown 7) (0 + at) (drop at bytes) so_far.is_list in

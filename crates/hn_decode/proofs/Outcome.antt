@@ -1,10 +1,11 @@
 -- The text of a datagram.
-use Rattle.std.proofs.Common.{◌≡◌, ℕ, List, ◌++◌, length, ap}
+use Rattle.std.proofs.Common.{ℕ, List, ◌++◌, length, ap}
 use Rattle.hn_tlv.specs.Grammar.{PlainTlv, IsTlvList}
+use Rattle.hn_tlv.specs.Laws.{ListIsUnique}
 use Rattle.hn_decode.specs.Nested.{ShowsList, Shows, first_line, IsDecodeText}
 
 -- the first line and the lines of the TLVs
-pub whole_text : ((a b : List PlainTlv) (bytes : List ℕ) → IsTlvList a bytes → IsTlvList b bytes → a ≡ b) → (bytes lines : List ℕ) (tlvs : List PlainTlv) → IsTlvList tlvs bytes → ShowsList (Shows 7) 0 bytes lines
+pub whole_text : ListIsUnique → (bytes lines : List ℕ) (tlvs : List PlainTlv) → IsTlvList tlvs bytes → ShowsList (Shows 7) 0 bytes lines
     → IsDecodeText bytes (first_line (length tlvs) ++ lines)
 whole_text same_list bytes lines tlvs list shown =
     record { lines = lines; shown = shown; text_is = ap (λ (ts : List PlainTlv). first_line (length ts) ++ lines) (same_list tlvs shown.tlvs bytes list shown.is_list) }

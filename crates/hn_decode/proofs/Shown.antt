@@ -2,17 +2,11 @@
 use Rattle.std.proofs.Common.{◌≡◌, ℕ, zero, suc, ◌+◌, ◌-◌, ◌≤◌, List, [], ◌∷◌, ◌++◌, length, drop, refl, sym, ap, subst, ◌∙◌, append_assoc, arith, inl, inr, Result, Ok, Err, OnOk, IfErr, IsOk}
 use Rattle.std.proofs.lemmas.List.{append-nil, drop_all}
 use Rattle.hn_tlv.specs.declared.fault.TlvFault.{TlvFault}
-use Rattle.hn_tlv.specs.Grammar.{PlainTlv, tlv_size, IsTlvList, HasTlvs, IsTlvAt, IsFault, FirstFault}
+use Rattle.hn_tlv.specs.Grammar.{PlainTlv, tlv_size, HasTlvs, IsTlvAt, IsFault, FirstFault}
+use Rattle.hn_tlv.specs.Laws.{ListSplits, ListHasNoFirstFault}
 use Rattle.hn_typed.specs.Item.{PlainItem}
 use Rattle.hn_decode.specs.Line.{within, IsLineAbove, IsLineAlone}
 use Rattle.hn_decode.specs.Nested.{InOrder, ShowsList, place_within, Shows, IsShownTo, Adds}
-
--- what the laws of hn_tlv say: the TLV at a place of a list, and the others; and no list where a fault is
-abbrev pub Splits : Type 0
-Splits = (bytes : List ℕ) (at after : ℕ) (t : PlainTlv) (all : List PlainTlv) → IsTlvAt bytes at t after → IsTlvList all (drop at bytes) → (ts : List PlainTlv) × (all ≡ t ∷ ts) × IsTlvList ts (drop after bytes)
-
-abbrev pub NoList : Type 0
-NoList = (bytes : List ℕ) (place why : ℕ) → FirstFault bytes place why → ¬ (HasTlvs bytes)
 
 pub shown_none : (Shows : ℕ → PlainTlv → List ℕ → Type 0) (place : ℕ) (bytes : List ℕ) → HasTlvs bytes → IsShownTo Shows place bytes 0 []
 shown_none Shows place bytes list = record {
@@ -32,7 +26,7 @@ list_from Shows place bytes at after tlv front rest here shown s =
       in_order = (front, rest, shown, subst (λ (n : ℕ). InOrder Shows n s.tlvs rest) next s.in_order, refl);
     }
 
-pub shown_more : Splits → (Shows : ℕ → PlainTlv → List ℕ → Type 0) (place : ℕ) (bytes : List ℕ) (at after : ℕ) (tlv : PlainTlv) (text front : List ℕ) → IsShownTo Shows place bytes at text
+pub shown_more : ListSplits → (Shows : ℕ → PlainTlv → List ℕ → Type 0) (place : ℕ) (bytes : List ℕ) (at after : ℕ) (tlv : PlainTlv) (text front : List ℕ) → IsShownTo Shows place bytes at text
     → IsTlvAt bytes at tlv after → Shows (place + at) tlv front → IsShownTo Shows place bytes after (text ++ front)
 shown_more splits Shows place bytes at after tlv text front h here shown =
     let others = splits bytes at after tlv h.is_list.0 here h.is_list.1 in
@@ -50,7 +44,7 @@ shown_all Shows place bytes at text h ends =
     subst (ShowsList Shows place bytes) (append-nil text) (h.goes_on [] nothing)
 
 -- where a list of TLVs goes on, no fault is read
-pub read_in_list : {X : Type 0} → NoList → (bytes : List ℕ) (at : ℕ) (result : Result X TlvFault) → HasTlvs (drop at bytes) → IfErr result (λ fault. (at ≤ fault.place) × IsFault (drop at bytes) (fault.place - at) fault.why) → IsOk result
+pub read_in_list : {X : Type 0} → ListHasNoFirstFault → (bytes : List ℕ) (at : ℕ) (result : Result X TlvFault) → HasTlvs (drop at bytes) → IfErr result (λ fault. (at ≤ fault.place) × IsFault (drop at bytes) (fault.place - at) fault.why) → IsOk result
 read_in_list no_list bytes at (Ok x) list h = refl
 read_in_list no_list bytes at (Err fault) list h =
     let first : FirstFault (drop at bytes) (fault.place - at) fault.why =

@@ -1,7 +1,8 @@
 -- A datagram has at most one text.
 use Rattle.std.proofs.Common.{◌≡◌, ℕ, zero, suc, ◌+◌, List, [], ◌∷◌, ◌++◌, length, codes, sym, ap, subst, ◌∙◌, inl, inr}
 use Rattle.std.specs.Fmt.{decimal}
-use Rattle.hn_tlv.specs.Grammar.{PlainTlv, tlv_size, IsTlvList, HasTlvs, FirstFault}
+use Rattle.hn_tlv.specs.Grammar.{PlainTlv, tlv_size, FirstFault}
+use Rattle.hn_tlv.specs.Laws.{ListIsUnique, ListHasNoFirstFault}
 use Rattle.hn_typed.specs.Item.{PlainItem}
 use Rattle.hn_typed.specs.Table.{IsItem}
 use Rattle.hn_typed.specs.Fault.{IsItemFault}
@@ -21,7 +22,7 @@ same_order Shows one (tlv ∷ tlvs) place text other h k =
     cc
 
 -- the laws of lists and of items
-module _ (same_list : (a b : List PlainTlv) (bytes : List ℕ) → IsTlvList a bytes → IsTlvList b bytes → a ≡ b)
+module _ (same_list : ListIsUnique)
     (same_item : (tlv : PlainTlv) (item other : PlainItem) → IsItem tlv item → IsItem tlv other → item ≡ other)
     (no_fault : (tlv : PlainTlv) (item : PlainItem) (why : ℕ) → IsItem tlv item → ¬ (IsItemFault tlv why))
     (same_fault : (tlv : PlainTlv) (v w : ℕ) → IsItemFault tlv v → IsItemFault tlv w → v ≡ w) where
@@ -70,5 +71,5 @@ module _ (same_list : (a b : List PlainTlv) (bytes : List ℕ) → IsTlvList a b
       h.text_is ∙ ap (λ (ts : List PlainTlv). codes "tlvs " ++ decimal (length ts) ++ codes "\n" ++ h.lines) lists
       ∙ ap (λ (z : List ℕ). codes "tlvs " ++ decimal (length k.shown.tlvs) ++ codes "\n" ++ z) lines ∙ sym k.text_is
 
-pub no_text : ((bytes : List ℕ) (place why : ℕ) → FirstFault bytes place why → ¬ (HasTlvs bytes)) → (bytes text : List ℕ) (place why : ℕ) → FirstFault bytes place why → ¬ (IsDecodeText bytes text)
+pub no_text : ListHasNoFirstFault → (bytes text : List ℕ) (place why : ℕ) → FirstFault bytes place why → ¬ (IsDecodeText bytes text)
 no_text no_list bytes text place why fault h = no_list bytes place why fault (h.shown.tlvs, h.shown.is_list)

@@ -2,7 +2,8 @@
 use Rattle.std.proofs.Common.{◌≡◌, ◌∙◌, ◌⊎◌, ℕ, false, List, ap, refl, sym, inl, inr}
 use Rattle.std.specs.Prelude.{IsTrue}
 use Rattle.hn_base.specs.declared.ids.EpId.{EpId}
-use Rattle.hn_tlv.specs.Grammar.{PlainTlv, IsTlvList, HasTlvs, FirstFault}
+use Rattle.hn_tlv.specs.Grammar.{PlainTlv, IsTlvList}
+use Rattle.hn_tlv.specs.Laws.{ListIsUnique, ListHasNoFirstFault, FirstFaultIsUnique}
 use Rattle.hn_rules.specs.declared.running.Running.{Running}
 use Rattle.hn_rules.specs.declared.running.Origin.{Origin}
 use Rattle.hn_rules.specs.declared.done.Note.TheVariants as note
@@ -21,9 +22,9 @@ use Rattle.hn_base.proofs.Decisions.{not_both}
 
 -- what the laws say of lists of TLVs and of the rules
 pub record HasLaws : Type 0 where
-  pub one_list : (x y : List PlainTlv) (bytes : List ℕ) → IsTlvList x bytes → IsTlvList y bytes → x ≡ y
-  pub no_list : (bytes : List ℕ) (p v : ℕ) → FirstFault bytes p v → HasTlvs bytes → ⊥
-  pub one_place : (bytes : List ℕ) (p q v w : ℕ) → FirstFault bytes p v → FirstFault bytes q w → (p ≡ q) × (v ≡ w)
+  pub one_list : ListIsUnique
+  pub no_list : ListHasNoFirstFault
+  pub one_place : FirstFaultIsUnique
   pub refresh : IsSole IsRefresh
   pub arrival : (from : Origin) (tlvs : List PlainTlv) → IsSole (IsArrival from tlvs)
   pub expiry : IsSole IsExpiry

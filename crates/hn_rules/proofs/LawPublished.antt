@@ -1,11 +1,11 @@
 -- The Assigned-Prefixes of a router's node data are those of the assignments that it publishes.
 use Rattle.std.proofs.Common.{◌≡◌, ◌↔◌, ◌∙◌, ℕ, List, [], ◌++◌, map, refl, sym, ap, subst}
-use Rattle.std.specs.Prelude.{All, Contains}
+use Rattle.std.specs.Prelude.{Contains}
 use Rattle.std.specs.List.{filter_map}
 use Rattle.std.proofs.lemmas.List.Elements.{All-contains, All-contains_itself, All-weaker, Contains-append_right}
 use Rattle.hn_base.proofs.AscendingLists.{Contains-tail, Contains-map, Contains-from_map}
-use Rattle.hn_base.specs.Byte.{IsByte}
-use Rattle.hn_tlv.specs.Grammar.{PlainTlv, IsTlv, IsTlvList, spelling}
+use Rattle.hn_tlv.specs.Grammar.{PlainTlv, IsTlvList}
+use Rattle.hn_tlv.specs.Laws.{SpellingIsPrefixFree, ListIsOfBytes}
 use Rattle.hn_typed.specs.Item.{PlainItem}
 use Rattle.hn_typed.specs.Table.{IsItem}
 use Rattle.hn_typed.specs.Written.{tlv_of, IsWritable}
@@ -39,8 +39,8 @@ assigned_there now own a there =
 
 -- the laws of TLVs, of items and of node data on which it rests
 pub record ReadLaws : Type 0 where
-  pub of_bytes : (tlvs : List PlainTlv) (bytes : List ℕ) → IsTlvList tlvs bytes → All IsByte bytes
-  pub same_begin : (t u : PlainTlv) (x y : List ℕ) → IsTlv t → IsTlv u → spelling t ++ x ≡ spelling u ++ y → (t ≡ u) × (x ≡ y)
+  pub of_bytes : ListIsOfBytes
+  pub same_begin : SpellingIsPrefixFree
   pub same_item : (tlv : PlainTlv) (item other : PlainItem) → IsItem tlv item → IsItem tlv other → item ≡ other
   pub written_is_item : (item : PlainItem) → IsWritable item → IsItem (tlv_of item) item
   pub one_items : (bytes : List ℕ) (a b : List PlainItem) → AreItems bytes a → AreItems bytes b → a ≡ b

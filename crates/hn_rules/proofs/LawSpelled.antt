@@ -9,6 +9,7 @@ use Rattle.hn_base.proofs.AscendingLists.{Contains-from_map}
 use Rattle.hn_base.proofs.BigEndian.{number_bytes}
 use Rattle.hn_base.specs.Caps.{PlainCaps, plain_caps}
 use Rattle.hn_tlv.specs.Grammar.{PlainTlv, IsTlv, IsTlvList, spelling}
+use Rattle.hn_tlv.specs.Laws.{SpellingIsPrefixFree, ListIsOfBytes}
 use Rattle.hn_typed.specs.Fields.{word, bytes_for, prefix_field}
 use Rattle.hn_typed.specs.Item.{PlainItem, Version, External}
 use Rattle.hn_typed.specs.Table.{IsItem}
@@ -73,7 +74,7 @@ assigned_fit a is =
     }
 
 -- the law that a list of TLVs is one of bytes
-module _ (of_bytes : (tlvs : List PlainTlv) (bytes : List ℕ) → IsTlvList tlvs bytes → All IsByte bytes) where
+module _ (of_bytes : ListIsOfBytes) where
   external_fit : (subs : List ℕ) → IsFit (External subs)
   external_fit [] is = record { kind_fits = omega arith; length_fits = omega arith; bytes = All-nil IsByte }
   external_fit (byte ∷ subs) is = record {
@@ -110,7 +111,7 @@ pub record AreRead (items : List PlainItem) (pieces : List (List ℕ)) : Type 0 
   pub encoded : map encoding read ≡ pieces
 
 -- the laws of TLVs and of items
-module _ (same_begin : (t u : PlainTlv) (x y : List ℕ) → IsTlv t → IsTlv u → spelling t ++ x ≡ spelling u ++ y → (t ≡ u) × (x ≡ y))
+module _ (same_begin : SpellingIsPrefixFree)
     (same_item : (tlv : PlainTlv) (item other : PlainItem) → IsItem tlv item → IsItem tlv other → item ≡ other)
     (written_is_item : (item : PlainItem) → IsWritable item → IsItem (tlv_of item) item)
     (items : List PlainItem) (writable : All IsWritable items) (fit : All IsFit items) where

@@ -12,7 +12,8 @@ use Rattle.hn_base.specs.declared.ids.NodeId.{NodeId}
 use Rattle.hn_base.specs.declared.ids.EpId.{EpId}
 use Rattle.hn_base.proofs.AscendingLists.{ascending_unique}
 use Rattle.hn_base.specs.Words.{Begins}
-use Rattle.hn_tlv.specs.Grammar.{PlainTlv, spelling, IsTlvList, HasTlvs, FirstFault}
+use Rattle.hn_tlv.specs.Grammar.{PlainTlv, spelling}
+use Rattle.hn_tlv.specs.Laws.{ListIsUnique, ListHasNoFirstFault, FirstFaultIsUnique}
 use Rattle.hn_typed.specs.Item.{PlainItem}
 use Rattle.hn_typed.specs.Item as item
 use Rattle.hn_typed.specs.Written.{tlv_of}
@@ -68,9 +69,9 @@ use Rattle.hn_base.proofs.Soles.{sole_drawn, sole_given, sole_plain, sole_both, 
 
 -- the laws of the crates below on which it rests
 pub record HasLaws : Type 0 where
-  pub one_list : (a b : List PlainTlv) (bytes : List ℕ) → IsTlvList a bytes → IsTlvList b bytes → a ≡ b
-  pub no_list : (bytes : List ℕ) (place why : ℕ) → FirstFault bytes place why → ¬ (HasTlvs bytes)
-  pub one_place : (bytes : List ℕ) (p q v w : ℕ) → FirstFault bytes p v → FirstFault bytes q w → (p ≡ q) × (v ≡ w)
+  pub one_list : ListIsUnique
+  pub no_list : ListHasNoFirstFault
+  pub one_place : FirstFaultIsUnique
   pub one_item : (tlv : PlainTlv) (i j : PlainItem) → IsItem tlv i → IsItem tlv j → i ≡ j
   pub no_item : (tlv : PlainTlv) (i : PlainItem) (why : ℕ) → IsItem tlv i → ¬ (IsItemFault tlv why)
   pub one_fault : (tlv : PlainTlv) (v w : ℕ) → IsItemFault tlv v → IsItemFault tlv w → v ≡ w

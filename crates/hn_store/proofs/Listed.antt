@@ -3,7 +3,8 @@ use Rattle.std.proofs.Common.{◌<◌, ◌≤◌, ◌⊎◌, ◌^◌, ℕ, inl, 
 use Rattle.std.specs.Prelude.{All}
 use Rattle.std.proofs.lemmas.Bool.{cases_lt}
 use Rattle.std.proofs.lemmas.List.Elements.{All-nil, All-cons, All-head, All-tail}
-use Rattle.hn_tlv.specs.Grammar.{PlainTlv, IsTlvList, HasTlvs, FirstFault}
+use Rattle.hn_tlv.specs.Grammar.{HasTlvs, FirstFault}
+use Rattle.hn_tlv.specs.Laws.{ListIsOfBytes, ListHasNoFirstFault, ListOrFirstFault}
 use Rattle.hn_base.specs.Byte.{IsByte}
 
 -- a fact that does not fail holds, where it holds or fails
@@ -21,10 +22,7 @@ bytes_or_not (byte ∷ bytes) = by_cases (cases_lt byte (2 ^ 8)) (bytes_or_not b
     by_cases (inr past) more = inr (λ all. let fits : byte < 2 ^ 8 = All-head IsByte byte bytes all in omega arith)
 
 -- bytes are a list of TLVs or not
-pub listed_or_not : ((tlvs : List PlainTlv) (bytes : List ℕ) → IsTlvList tlvs bytes → All IsByte bytes)
-    → ((bytes : List ℕ) → All IsByte bytes → HasTlvs bytes ⊎ ((place why : ℕ) × FirstFault bytes place why))
-    → ((bytes : List ℕ) (place why : ℕ) → FirstFault bytes place why → ¬ (HasTlvs bytes))
-    → (bytes : List ℕ) → HasTlvs bytes ⊎ (¬ (HasTlvs bytes))
+pub listed_or_not : ListIsOfBytes → ListOrFirstFault → ListHasNoFirstFault → (bytes : List ℕ) → HasTlvs bytes ⊎ (¬ (HasTlvs bytes))
 listed_or_not of_bytes reads no_list bytes = by_bytes (bytes_or_not bytes)
   where
     by_reading : HasTlvs bytes ⊎ ((place why : ℕ) × FirstFault bytes place why) → HasTlvs bytes ⊎ (¬ (HasTlvs bytes))

@@ -1,3 +1,4 @@
 pub mod Grammar
 pub mod View
 pub mod Padding
+pub mod Laws

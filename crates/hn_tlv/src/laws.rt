@@ -2,25 +2,23 @@
 //!
 //! Each is the contract of a function that does nothing: call it to know its law.
 
-ghost use Rattle.std.specs.Prelude.{◌≡◌, ◌⊎◌, ℕ, ◌+◌, ◌-◌, ◌^◌, ◌<◌, ◌≤◌, All, List, [], ◌∷◌, ◌++◌, length, take, drop};
-ghost use Rattle.hn_base.specs.Byte.{IsByte};
-ghost use Rattle.hn_tlv.specs.Grammar.{PlainTlv, IsTlv, tlv_size, spelling, IsTlvList, HasTlvs, IsTlvAt, IsFault, FirstFault};
+ghost use Rattle.std.specs.Prelude.{◌≡◌, ℕ, ◌+◌, ◌-◌, ◌≤◌, List, [], ◌∷◌, ◌++◌, length, take, drop};
+ghost use Rattle.hn_tlv.specs.Grammar.{PlainTlv, IsTlv, tlv_size, spelling, IsTlvList, IsTlvAt, IsFault, FirstFault};
+ghost use Rattle.hn_tlv.specs.Laws.{SpellingIsPrefixFree, ListIsUnique, ListIsOfBytes, ListGrows, ListSplits, ListHasNoFirstFault, FirstFaultIsUnique, ListOrFirstFault};
 
 /// No spelling of a TLV is a proper prefix of another's.
 pub fn spelling_is_prefix_free()
-    ensures { (t u : PlainTlv) (x y : List ℕ) → IsTlv t → IsTlv u
-        → spelling t ++ x ≡ spelling u ++ y → (t ≡ u) × (x ≡ y) }
+    ensures { SpellingIsPrefixFree }
 {}
 
 /// A text decodes to at most one list of TLVs.
 pub fn list_is_unique()
-    ensures { (a b : List PlainTlv) (bytes : List ℕ) → IsTlvList a bytes → IsTlvList b bytes
-        → a ≡ b }
+    ensures { ListIsUnique }
 {}
 
 /// A text that decodes to a list of TLVs consists of bytes.
 pub fn list_is_of_bytes()
-    ensures { (tlvs : List PlainTlv) (bytes : List ℕ) → IsTlvList tlvs bytes → All IsByte bytes }
+    ensures { ListIsOfBytes }
 {}
 
 /// The bytes of two lists, one after the other, are those of the two lists joined.
@@ -31,9 +29,7 @@ pub fn lists_join()
 
 /// A list of TLVs up to a place, and the TLV there, are a list up to the place after it.
 pub fn list_grows()
-    ensures { (bytes : List ℕ) (at after : ℕ) (t : PlainTlv) (ts : List PlainTlv)
-        → IsTlvList ts (take at bytes) → IsTlvAt bytes at t after
-        → IsTlvList (ts ++ t ∷ []) (take after bytes) }
+    ensures { ListGrows }
 {}
 
 /// A list of TLVs from a place on is the TLV there, and a list from the place after it.
@@ -41,9 +37,7 @@ pub fn list_continues()
     ensures joins { (bytes : List ℕ) (at after : ℕ) (t : PlainTlv) (ts : List PlainTlv)
         → IsTlvAt bytes at t after → IsTlvList ts (drop after bytes)
         → IsTlvList (t ∷ ts) (drop at bytes) }
-    ensures splits { (bytes : List ℕ) (at after : ℕ) (t : PlainTlv) (all : List PlainTlv)
-        → IsTlvAt bytes at t after → IsTlvList all (drop at bytes)
-        → (ts : List PlainTlv) × (all ≡ t ∷ ts) × IsTlvList ts (drop after bytes) }
+    ensures splits { ListSplits }
 {}
 
 /// At a place stands at most one TLV.
@@ -77,14 +71,11 @@ pub fn fault_after_list()
 
 /// A text with a first fault has one only, and decodes to no list of TLVs.
 pub fn first_fault_is_unique()
-    ensures no_list { (bytes : List ℕ) (place why : ℕ) → FirstFault bytes place why
-        → ¬ (HasTlvs bytes) }
-    ensures one { (bytes : List ℕ) (p q v w : ℕ) → FirstFault bytes p v
-        → FirstFault bytes q w → (p ≡ q) × (v ≡ w) }
+    ensures no_list { ListHasNoFirstFault }
+    ensures one { FirstFaultIsUnique }
 {}
 
 /// Bytes are a list of TLVs, or they have a first fault.
 pub fn list_or_first_fault()
-    ensures { (bytes : List ℕ) → All (λ byte. byte < 2 ^ 8) bytes
-        → HasTlvs bytes ⊎ ((place why : ℕ) × FirstFault bytes place why) }
+    ensures { ListOrFirstFault }
 {}

@@ -1,5 +1,5 @@
 -- Each TLV decodes to an item or has a fault, kind by kind.
-use Rattle.std.proofs.Common.{◌≡◌, ◌≢◌, ℕ, zero, suc, ◌+◌, ◌-◌, ◌/◌, ◌%◌, ◌^◌, ◌<◌, ◌≤◌, ◌⊎◌, inl, inr, List, [], ◌∷◌, ◌++◌, length, take, drop, replicate, All, refl, sym, ap, subst, ◌∙◌, append_assoc, arith}
+use Rattle.std.proofs.Common.{◌≡◌, ◌≢◌, ℕ, zero, suc, ◌+◌, ◌-◌, ◌/◌, ◌%◌, ◌^◌, ◌<◌, ◌≤◌, ◌⊎◌, inl, inr, List, [], ◌∷◌, ◌++◌, length, take, drop, replicate, refl, sym, ap, subst, ◌∙◌, append_assoc, arith}
 use Rattle.std.specs.Int.{w32, w128, to_be_bytes, from_be_bytes}
 use Rattle.std.specs.List.{AllByRecursion}
 use Rattle.std.specs.Str.{is_utf8}
@@ -9,6 +9,7 @@ use Rattle.std.proofs.lemmas.List.Elements.{All-from_recursion, recursion_from_A
 use Rattle.std.proofs.lemmas.Str.{IsUtf8-from_is_utf8, is_utf8-from_IsUtf8}
 use Rattle.hn_base.proofs.BigEndian.{Bytes, Bytes-take, Bytes-drop, word_is, word_small, whole_is, front_small}
 use Rattle.hn_tlv.specs.Grammar.{PlainTlv, IsTlv, padding, HasTlvs, FirstFault}
+use Rattle.hn_tlv.specs.Laws.{ListHasNoFirstFault, ListOrFirstFault}
 use Rattle.hn_base.specs.Prefix.{PlainPrefix, IsPrefix}
 use Rattle.hn_typed.specs.Item.{PlainItem, RequestNetwork, RequestNode, NodeEndpoint, NetworkState, NodeState, Peer, KeepAlive, Version, External, Delegated, Assigned, Address, Other}
 use Rattle.hn_typed.specs.Fields.{word, two_in_byte, prefix_field, bytes_for, ThenSubs, HasSubs, IsHash}
@@ -90,7 +91,7 @@ known_or_other kind (known ∷ others) =
           ]
     ]
 
-module _ (list_or_fault : (bytes : List ℕ) → All (λ byte. byte < 2 ^ 8) bytes → HasTlvs bytes ⊎ ((place why : ℕ) × FirstFault bytes place why)) (no_list : (bytes : List ℕ) (place why : ℕ) → FirstFault bytes place why → ¬ (HasTlvs bytes)) where
+module _ (list_or_fault : ListOrFirstFault) (no_list : ListHasNoFirstFault) where
   -- what follows the zeros is no list of TLVs
   lacks_list : (len : ℕ) (after : List ℕ) (place why : ℕ) → 0 < length after → FirstFault (drop (padding len) after) place why → LacksSubs len after
   lacks_list len after place why some fault subs (tlvs, inl none) = omega (arith, ap length none.0)

@@ -1,8 +1,9 @@
 -- Each source has a text that `decode` writes of it.
-use Rattle.std.proofs.Common.{◌≡◌, ◌^◌, ◌<◌, ◌≤◌, ◌⊎◌, inl, inr, ℕ, List, Result, Ok, Err, All, length, refl}
+use Rattle.std.proofs.Common.{◌≡◌, ◌^◌, ◌<◌, ◌≤◌, inl, inr, ℕ, List, Result, Ok, Err, All, length, refl}
 use Rattle.std.proofs.lemmas.Bool.{cases_lt}
 use Rattle.std.proofs.lemmas.List.{get_or_default}
-use Rattle.hn_tlv.specs.Grammar.{HasTlvs, FirstFault}
+use Rattle.hn_tlv.specs.Grammar.{HasTlvs}
+use Rattle.hn_tlv.specs.Laws.{ListOrFirstFault}
 use Rattle.hn_decode.specs.Nested.{IsDecodeText}
 use Rattle.hex.specs.Hex.{decode_of}
 use Rattle.hex.specs.declared.error.FromHexError.{FromHexError}
@@ -12,7 +13,7 @@ use Rattle.hncp.specs.HexText.{unblanked}
 use Rattle.hncp.specs.Decode.{malformed_line, IsContentsOf, IsDecodeOf}
 
 -- the laws of lists and of texts
-module _ (list_or_fault : (bytes : List ℕ) → All (λ byte. byte < 2 ^ 8) bytes → HasTlvs bytes ⊎ ((place why : ℕ) × FirstFault bytes place why))
+module _ (list_or_fault : ListOrFirstFault)
     (text_exists : (bytes : List ℕ) → HasTlvs bytes → (text : List ℕ) × IsDecodeText bytes text) where
   contents : (octets : List ℕ) → All (λ byte. byte < 2 ^ 8) octets → (status : ℕ) × (text : List ℕ) × IsContentsOf octets status text
   contents octets bytes =

@@ -3,8 +3,7 @@ use Rattle.std.proofs.Common.{◌≡◌, ℕ, List, [], ◌∷◌, ◌↔◌, in
 use Rattle.hn_tlv.specs.Grammar.{PlainTlv}
 use Rattle.hn_tlv.specs.Laws.{ListIsUnique}
 use Rattle.hn_typed.specs.Item.{PlainItem}
-use Rattle.hn_typed.specs.Table.{IsItem}
-use Rattle.hn_typed.specs.Fault.{IsItemFault}
+use Rattle.hn_typed.specs.Laws.{ItemIsUnique, ItemHasNoFault}
 use Rattle.hn_data.specs.Items.{IsReading, AreItems, Reads}
 
 -- bytes have at most one list of items
@@ -12,9 +11,7 @@ abbrev pub HasOneReading : List ℕ → Type 0
 HasOneReading bytes = (a b : List PlainItem) → AreItems bytes a → AreItems bytes b → a ≡ b
 
 -- the laws of lists and of items
-module _ (same_list : ListIsUnique)
-    (same_item : (tlv : PlainTlv) (item other : PlainItem) → IsItem tlv item → IsItem tlv other → item ≡ other)
-    (no_fault : (tlv : PlainTlv) (item : PlainItem) (why : ℕ) → IsItem tlv item → ¬ (IsItemFault tlv why)) where
+module _ (same_list : ListIsUnique) (same_item : ItemIsUnique) (no_fault : ItemHasNoFault) where
   -- TLVs have at most one list of items
   reading_is_unique : (tlvs : List PlainTlv) (a b : List PlainItem) → IsReading tlvs a → IsReading tlvs b → a ≡ b
   reading_is_unique [] a b p q = p ∙ sym q

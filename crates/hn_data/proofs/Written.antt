@@ -9,6 +9,7 @@ use Rattle.hn_tlv.specs.Laws.{SpellingIsPrefixFree}
 use Rattle.hn_typed.specs.Item.{PlainItem, RequestNetwork, RequestNode, NodeEndpoint, NetworkState, NodeState, Peer, KeepAlive, Version, External, Delegated, Assigned, Address, Other}
 use Rattle.hn_typed.specs.Table.{IsItem, InRange}
 use Rattle.hn_typed.specs.Written.{kind_of, value_of, tlv_of, IsWritable}
+use Rattle.hn_typed.specs.Laws.{ItemIsUnique, WrittenIsRead}
 use Rattle.hn_data.specs.Items.{IsReading, Reads}
 use Rattle.hn_data.specs.OwnData.{AreBytes, IsEncoded, IsWrittenIn, IsAscendingSet}
 
@@ -53,9 +54,7 @@ pub record AreWritten (pieces : List (List ℕ)) (bytes : List ℕ) : Type 0 whe
   pub exact : (item : PlainItem) → Contains items item ↔ IsWrittenIn pieces item
 
 -- the laws of TLVs and of items
-module _ (same_begin : SpellingIsPrefixFree)
-    (same_item : (tlv : PlainTlv) (item other : PlainItem) → IsItem tlv item → IsItem tlv other → item ≡ other)
-    (written_is_item : (item : PlainItem) → IsWritable item → IsItem (tlv_of item) item) where
+module _ (same_begin : SpellingIsPrefixFree) (same_item : ItemIsUnique) (written_is_item : WrittenIsRead) where
   -- one TLV is written for at most one item
   same_written : (item other : PlainItem) → IsWritable item → IsWritable other → AreBytes (spelling (tlv_of item)) → spelling (tlv_of item) ≡ spelling (tlv_of other) → item ≡ other
   same_written item other w v bytes e =

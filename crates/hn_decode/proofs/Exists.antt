@@ -9,7 +9,7 @@ use Rattle.hn_tlv.specs.Laws.{ListIsUnique, ListHasNoFirstFault, ListOrFirstFaul
 use Rattle.hn_typed.specs.Item.{PlainItem, RequestNetwork, RequestNode, NodeEndpoint, NetworkState, NodeState, Peer, KeepAlive, Version, External, Delegated, Assigned, Address, Other}
 use Rattle.hn_typed.specs.Fields.{word}
 use Rattle.hn_typed.specs.Table.{IsItem}
-use Rattle.hn_typed.specs.Fault.{IsItemFault}
+use Rattle.hn_typed.specs.Laws.{ItemOrFault}
 use Rattle.hn_decode.specs.ItemText.{item_text, bad_text}
 use Rattle.hn_decode.specs.Line.{within, within_name, named_bytes, line, HasLines, IsNodeState, IsLineAbove}
 use Rattle.hn_decode.specs.Nested.{InOrder, ShowsList, place_within, Shows, first_line, IsDecodeText, IsTextTo}
@@ -57,9 +57,7 @@ body_bytes tlv (NodeState node number age hash body) valid h is =
 body_bytes tlv _ valid h is = absurd is
 
 -- the laws of lists and of items
-module _ (item_or_fault : (tlv : PlainTlv) → IsTlv tlv → ((item : PlainItem) × IsItem tlv item) ⊎ ((why : ℕ) × IsItemFault tlv why))
-    (list_or_fault : ListOrFirstFault)
-    (no_list : ListHasNoFirstFault) where
+module _ (item_or_fault : ItemOrFault) (list_or_fault : ListOrFirstFault) (no_list : ListHasNoFirstFault) where
   -- what lies within an item is a list of TLVs or none
   list_or_none : (tlv : PlainTlv) (item : PlainItem) → IsTlv tlv → IsItem tlv item → HasTlvs (within item) ⊎ (¬ HasTlvs (within item))
   list_or_none tlv item valid h =

@@ -4,8 +4,7 @@ use Rattle.std.specs.Fmt.{decimal}
 use Rattle.hn_tlv.specs.Grammar.{PlainTlv, tlv_size, FirstFault}
 use Rattle.hn_tlv.specs.Laws.{ListIsUnique, ListHasNoFirstFault}
 use Rattle.hn_typed.specs.Item.{PlainItem}
-use Rattle.hn_typed.specs.Table.{IsItem}
-use Rattle.hn_typed.specs.Fault.{IsItemFault}
+use Rattle.hn_typed.specs.Laws.{ItemIsUnique, ItemHasNoFault, ItemFaultIsUnique}
 use Rattle.hn_decode.specs.ItemText.{item_text, bad_text}
 use Rattle.hn_decode.specs.Line.{within, within_name, named_bytes, line, HasLines, IsLineAlone}
 use Rattle.hn_decode.specs.Nested.{InOrder, ShowsList, place_within, ShowsWithin, Shows, IsDecodeText}
@@ -22,10 +21,7 @@ same_order Shows one (tlv ∷ tlvs) place text other h k =
     cc
 
 -- the laws of lists and of items
-module _ (same_list : ListIsUnique)
-    (same_item : (tlv : PlainTlv) (item other : PlainItem) → IsItem tlv item → IsItem tlv other → item ≡ other)
-    (no_fault : (tlv : PlainTlv) (item : PlainItem) (why : ℕ) → IsItem tlv item → ¬ (IsItemFault tlv why))
-    (same_fault : (tlv : PlainTlv) (v w : ℕ) → IsItemFault tlv v → IsItemFault tlv w → v ≡ w) where
+module _ (same_list : ListIsUnique) (same_item : ItemIsUnique) (no_fault : ItemHasNoFault) (same_fault : ItemFaultIsUnique) where
   same_shown : (Shows : ℕ → PlainTlv → List ℕ → Type 0) → IsFunction Shows → (place : ℕ) (bytes text other : List ℕ) → ShowsList Shows place bytes text → ShowsList Shows place bytes other → text ≡ other
   same_shown Shows one place bytes text other h k =
       let lists : k.tlvs ≡ h.tlvs = same_list k.tlvs h.tlvs bytes k.is_list h.is_list in

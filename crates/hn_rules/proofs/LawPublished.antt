@@ -4,11 +4,11 @@ use Rattle.std.specs.Prelude.{Contains}
 use Rattle.std.specs.List.{filter_map}
 use Rattle.std.proofs.lemmas.List.Elements.{All-contains, All-contains_itself, All-weaker, Contains-append_right}
 use Rattle.hn_base.proofs.AscendingLists.{Contains-tail, Contains-map, Contains-from_map}
-use Rattle.hn_tlv.specs.Grammar.{PlainTlv, IsTlvList}
+use Rattle.hn_tlv.specs.Grammar.{IsTlvList}
 use Rattle.hn_tlv.specs.Laws.{SpellingIsPrefixFree, ListIsOfBytes}
 use Rattle.hn_typed.specs.Item.{PlainItem}
-use Rattle.hn_typed.specs.Table.{IsItem}
-use Rattle.hn_typed.specs.Written.{tlv_of, IsWritable}
+use Rattle.hn_typed.specs.Written.{tlv_of}
+use Rattle.hn_typed.specs.Laws.{ItemIsUnique, WrittenIsRead}
 use Rattle.hn_data.specs.Items.{AreItems}
 use Rattle.hn_data.specs.Said.{assigned_of, HasAssigned}
 use Rattle.hn_data.specs.declared.said.AssignedPrefix.{AssignedPrefix}
@@ -41,8 +41,8 @@ assigned_there now own a there =
 pub record ReadLaws : Type 0 where
   pub of_bytes : ListIsOfBytes
   pub same_begin : SpellingIsPrefixFree
-  pub same_item : (tlv : PlainTlv) (item other : PlainItem) → IsItem tlv item → IsItem tlv other → item ≡ other
-  pub written_is_item : (item : PlainItem) → IsWritable item → IsItem (tlv_of item) item
+  pub same_item : ItemIsUnique
+  pub written_is_item : WrittenIsRead
   pub one_items : (bytes : List ℕ) (a b : List PlainItem) → AreItems bytes a → AreItems bytes b → a ≡ b
 
 module _ (laws : ReadLaws) (own : PlainData) (is : IsOwnData own) where

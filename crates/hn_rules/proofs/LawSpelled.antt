@@ -14,6 +14,7 @@ use Rattle.hn_typed.specs.Fields.{word, bytes_for, prefix_field}
 use Rattle.hn_typed.specs.Item.{PlainItem, Version, External}
 use Rattle.hn_typed.specs.Table.{IsItem}
 use Rattle.hn_typed.specs.Written.{tlv_of, IsWritable}
+use Rattle.hn_typed.specs.Laws.{ItemIsUnique, WrittenIsRead}
 use Rattle.hn_data.specs.Items.{IsReading}
 use Rattle.hn_data.specs.declared.said.AssignedPrefix.{AssignedPrefix}
 use Rattle.hn_data.specs.declared.said.PeerLink.{PeerLink}
@@ -111,9 +112,7 @@ pub record AreRead (items : List PlainItem) (pieces : List (List ℕ)) : Type 0 
   pub encoded : map encoding read ≡ pieces
 
 -- the laws of TLVs and of items
-module _ (same_begin : SpellingIsPrefixFree)
-    (same_item : (tlv : PlainTlv) (item other : PlainItem) → IsItem tlv item → IsItem tlv other → item ≡ other)
-    (written_is_item : (item : PlainItem) → IsWritable item → IsItem (tlv_of item) item)
+module _ (same_begin : SpellingIsPrefixFree) (same_item : ItemIsUnique) (written_is_item : WrittenIsRead)
     (items : List PlainItem) (writable : All IsWritable items) (fit : All IsFit items) where
   pub are_read : (pieces : List (List ℕ)) → All (Contains (map encoding items)) pieces → AreRead items pieces
   are_read [] all = record { read = []; list = refl; reading = refl; of_items = All-nil (Contains items); encoded = refl }

@@ -19,6 +19,7 @@ use Rattle.hn_typed.specs.Item as item
 use Rattle.hn_typed.specs.Written.{tlv_of}
 use Rattle.hn_typed.specs.Table.{IsItem}
 use Rattle.hn_typed.specs.Fault.{IsItemFault}
+use Rattle.hn_typed.specs.Laws.{ItemIsUnique, ItemHasNoFault, ItemFaultIsUnique}
 use Rattle.hn_timers.specs.Interval.{started}
 use Rattle.hn_data.specs.View.{PlainView}
 use Rattle.hn_deleg.specs.declared.delegated.Delegated.{Delegated}
@@ -72,9 +73,9 @@ pub record HasLaws : Type 0 where
   pub one_list : ListIsUnique
   pub no_list : ListHasNoFirstFault
   pub one_place : FirstFaultIsUnique
-  pub one_item : (tlv : PlainTlv) (i j : PlainItem) → IsItem tlv i → IsItem tlv j → i ≡ j
-  pub no_item : (tlv : PlainTlv) (i : PlainItem) (why : ℕ) → IsItem tlv i → ¬ (IsItemFault tlv why)
-  pub one_fault : (tlv : PlainTlv) (v w : ℕ) → IsItemFault tlv v → IsItemFault tlv w → v ≡ w
+  pub one_item : ItemIsUnique
+  pub no_item : ItemHasNoFault
+  pub one_fault : ItemFaultIsUnique
   pub one_own : (a b : PlainData) → IsOwnData a → IsOwnData b → a.items ≡ b.items → a.born ≡ b.born → a ≡ b
   pub one_order : (xs ys : List NodeId) → IsStrictlySortedBy node_cmp xs → IsStrictlySortedBy node_cmp ys → ((x : NodeId) → Contains xs x ↔ Contains ys x) → xs ≡ ys
   pub one_acceptance : AcceptanceIsUnique

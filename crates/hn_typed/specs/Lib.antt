@@ -6,3 +6,4 @@ pub mod Written
 pub mod View
 pub mod Reading
 pub mod Tail
+pub mod Laws

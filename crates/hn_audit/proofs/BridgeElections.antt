@@ -17,8 +17,8 @@ use Rattle.hn_base.specs.Caps.{PlainCaps, plain_caps}
 use Rattle.hn_base.specs.declared.ids.NodeId.{NodeId}
 use Rattle.hn_base.specs.declared.ids.EpId.{EpId}
 use Rattle.hn_base.specs.declared.letter.Letter.{Letter}
-use Rattle.hn_typed.specs.Item.{PlainItem}
-use Rattle.hn_data.specs.Items.{AreItems, Reads}
+use Rattle.hn_data.specs.Items.{Reads}
+use Rattle.hn_data.specs.Laws.{ItemsAreUnique}
 use Rattle.hn_data.specs.Said.{version_of}
 use Rattle.hn_deleg.specs.declared.delegated.Delegated.{Delegated}
 use Rattle.hn_link.specs.CommonLink.{IsCommonLink, IsOnCommonLink, endpoint_cmp}
@@ -71,7 +71,7 @@ abbrev stands : Letter → List (NodeId × EpId) → Member → Bool
 stands letter common m = list_any (is_at m) common && nat_lt 0 (priority_of letter (caps_of m))
 
 module _ (w : Parts) (r : Member) (usable : List Delegated) (case : IsCase w r usable)
-    (one_items : (bytes : List ℕ) (a b : List PlainItem) → AreItems bytes a → AreItems bytes b → a ≡ b)
+    (one_items : ItemsAreUnique)
     (links_exact : (h : Home) (e : Endpoint) (node : NodeId) (id : EpId) → Contains (common_link h e) (node, id) ↔ IsOnLinkOf h e node id) where
   an_end : (link : ℕ) (s : Member) (e : EpId) → IsThere w r link s e → IsEndOf w r s (end_on s e link)
   an_end link s e there = record { reached = reached_there w r case.known link s e there; of_node = refl; on_link = plugged_there w r case.known link s e there }

@@ -6,7 +6,8 @@ use Rattle.std.proofs.lemmas.List.{append-nil}
 use Rattle.hn_base.proofs.AscendingLists.{Contains-head, Contains-one, nothing_in, Contains-map, Contains-from_map}
 use Rattle.hn_base.specs.Caps.{PlainCaps, plain_caps}
 use Rattle.hn_typed.specs.Item.{PlainItem, Version}
-use Rattle.hn_data.specs.Items.{AreItems, Reads, first_of}
+use Rattle.hn_data.specs.Items.{Reads, first_of}
+use Rattle.hn_data.specs.Laws.{ItemsAreUnique}
 use Rattle.hn_data.specs.Peers.{HasPeer, peer_of}
 use Rattle.hn_data.specs.Said.{caps_of, version_of}
 use Rattle.hn_data.specs.declared.said.PeerLink.{PeerLink}
@@ -55,7 +56,7 @@ peers_among now own =
 -- the laws of node data on which it rests
 pub record ReadLaws : Type 0 where
   pub published : ItemsArePublished
-  pub one_items : (bytes : List ℕ) (a b : List PlainItem) → AreItems bytes a → AreItems bytes b → a ≡ b
+  pub one_items : ItemsAreUnique
 
 module _ (laws : ReadLaws) (s : State) (router : IsRouter s) where
   abbrev read : List PlainItem

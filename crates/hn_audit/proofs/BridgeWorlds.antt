@@ -1,15 +1,14 @@
 -- A running router of a replayed world that is settled and quiet is sound, and where it is settled its set is sound alike.
-use Rattle.std.proofs.Common.{◌≡◌, ◌↔◌, ℕ, List, [], Contains, sym, subst}
+use Rattle.std.proofs.Common.{◌≡◌, ◌↔◌, List, [], Contains, sym, subst}
 use Rattle.std.specs.Cmp.{IsTotalOrder}
 use Rattle.std.proofs.lemmas.List.{append-nil}
 use Rattle.std.proofs.lemmas.List.Elements.{All-contains}
 use Rattle.hn_base.specs.declared.ids.NodeId.{NodeId}
 use Rattle.hn_base.specs.declared.ids.EpId.{EpId}
 use Rattle.hn_base.specs.Prefix.{PlainPrefix, Overlaps}
-use Rattle.hn_typed.specs.Item.{PlainItem}
 use Rattle.hn_assign.specs.declared.assigned.Advertised.{Advertised}
 use Rattle.hn_assign.specs.Pair.{pair_cmp}
-use Rattle.hn_data.specs.Items.{AreItems}
+use Rattle.hn_data.specs.Laws.{ItemsAreUnique}
 use Rattle.hn_data.specs.View.{PlainView}
 use Rattle.hn_deleg.specs.declared.delegated.Delegated.{Delegated}
 use Rattle.hn_deleg.specs.Used.{AreUsable, prefixes_of}
@@ -53,7 +52,7 @@ pub record BridgeLaws : Type 0 where
   pub pairs_total : IsTotalOrder pair_cmp
   pub unique : (view : PlainView) (a b : List Delegated) → AreUsable view a → AreUsable view b → a ≡ b
   pub apart : (view : PlainView) (list : List Delegated) (p q : PlainPrefix) → AreUsable view list → Contains (prefixes_of list) p → Contains (prefixes_of list) q → Overlaps p q → p ≡ q
-  pub one_items : (bytes : List ℕ) (a b : List PlainItem) → AreItems bytes a → AreItems bytes b → a ≡ b
+  pub one_items : ItemsAreUnique
   pub advertised_exact : (h : Home) (a : Advertised) → Contains (advertised h) a ↔ IsAdvertised h a
   pub links_exact : (h : Home) (e : Endpoint) (node : NodeId) (id : EpId) → Contains (common_link h e) (node, id) ↔ IsOnLinkOf h e node id
   pub rests : (h : Home) → ((e : Endpoint) (d : PlainPrefix) → Contains h.endpoints e → Contains h.used d → IsSeenAtRest h e d) → IsHomeAtRest h

@@ -7,3 +7,4 @@ pub mod Delegations
 pub mod OwnData
 pub mod View
 pub mod Links
+pub mod Laws

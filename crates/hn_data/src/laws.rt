@@ -4,8 +4,8 @@
 
 ghost use Rattle.std.specs.Prelude.{◌≡◌, ℕ, List};
 ghost use Rattle.hn_tlv.specs.Grammar.{HasTlvs};
-ghost use Rattle.hn_typed.specs.Item.{PlainItem};
-ghost use Rattle.hn_data.specs.Items.{AreItems, Reads};
+ghost use Rattle.hn_data.specs.Items.{Reads};
+ghost use Rattle.hn_data.specs.Laws.{ItemsAreUnique};
 ghost use Rattle.hn_data.specs.OwnData.{AreBytes, IsAscendingSet};
 
 use crate::node_data::NodeData;
@@ -14,7 +14,7 @@ use hn_typed::{item_fault_is_unique, item_is_unique};
 
 /// Node data have at most one list of items.
 pub fn items_are_unique()
-    ensures { (bytes : List ℕ) (a b : List PlainItem) → AreItems bytes a → AreItems bytes b → a ≡ b }
+    ensures { ItemsAreUnique }
 {
     list_is_unique();
     item_is_unique();

@@ -10,6 +10,7 @@ use Rattle.hn_typed.specs.Item.{PlainItem}
 use Rattle.hn_typed.specs.Written.{tlv_of}
 use Rattle.hn_typed.specs.Laws.{ItemIsUnique, WrittenIsRead}
 use Rattle.hn_data.specs.Items.{AreItems}
+use Rattle.hn_data.specs.Laws.{ItemsAreUnique}
 use Rattle.hn_data.specs.Said.{assigned_of, HasAssigned}
 use Rattle.hn_data.specs.declared.said.AssignedPrefix.{AssignedPrefix}
 use Rattle.hn_own.specs.declared.own.OwnItems.{OwnItems}
@@ -43,7 +44,7 @@ pub record ReadLaws : Type 0 where
   pub same_begin : SpellingIsPrefixFree
   pub same_item : ItemIsUnique
   pub written_is_item : WrittenIsRead
-  pub one_items : (bytes : List ℕ) (a b : List PlainItem) → AreItems bytes a → AreItems bytes b → a ≡ b
+  pub one_items : ItemsAreUnique
 
 module _ (laws : ReadLaws) (own : PlainData) (is : IsOwnData own) where
   abbrev items : List PlainItem

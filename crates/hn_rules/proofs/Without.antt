@@ -6,12 +6,12 @@ use Rattle.std.proofs.lemmas.List.{take_more, drop_more, drop_all, take_all, app
 use Rattle.hn_base.specs.declared.ids.EpId.{EpId}
 use Rattle.hn_typed.specs.Item.{PlainItem}
 use Rattle.hn_data.specs.Said.{interval_of, keep_alive_of}
-use Rattle.hn_data.specs.Items.{AreItems}
+use Rattle.hn_data.specs.Laws.{ItemsAreUnique}
 use Rattle.hn_store.specs.declared.stored.Stored.{Stored}
 use Rattle.hn_rules.specs.Tick.{HasInterval, Without}
 
 -- a peer has one keep-alive interval
-pub interval-unique : ((bytes : List ℕ) (xs ys : List PlainItem) → AreItems bytes xs → AreItems bytes ys → xs ≡ ys) → (held : Option Stored) (endpoint : EpId) (a b : ℕ) → HasInterval held endpoint a → HasInterval held endpoint b → a ≡ b
+pub interval-unique : ItemsAreUnique → (held : Option Stored) (endpoint : EpId) (a b : ℕ) → HasInterval held endpoint a → HasInterval held endpoint b → a ≡ b
 interval-unique one None endpoint a b p q = p ∙ sym q
 interval-unique one (Some stored) endpoint a b (items, are, is) (others, are', is') =
     is ∙ ap (λ (xs : List PlainItem). keep_alive_of (filter_map interval_of xs) endpoint.0) (one stored.body items others are are') ∙ sym is'

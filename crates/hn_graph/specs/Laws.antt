@@ -1,7 +1,16 @@
 -- Laws of reachability.
 use Rattle.std.specs.Prelude.{◌≡◌, ℕ, List, Contains, ◌↔◌}
 use Rattle.hn_data.specs.declared.view.Entry.{Entry}
+use Rattle.hn_data.specs.View.{ids_of, IsNetwork}
 use Rattle.hn_graph.specs.Path.{IsRecent, IsReachable}
+
+-- The own node is reachable.
+abbrev pub OwnIsReachable : Type 0
+OwnIsReachable = (own : ℕ) (nodes : List Entry) → IsNetwork own nodes → IsReachable own nodes own
+
+-- What is reachable is one of the nodes.
+abbrev pub ReachableIsANode : Type 0
+ReachableIsANode = (own : ℕ) (nodes : List Entry) (y : ℕ) → IsReachable own nodes y → Contains (ids_of nodes) y
 
 -- the other node has the same identifier and node data, and it is recent if this one is
 pub record IsLike (node other : Entry) : Type 0 where

@@ -7,9 +7,10 @@ use Rattle.hn_base.specs.NodeIds.{node_cmp}
 use Rattle.hn_base.specs.declared.ids.NodeId.{NodeId}
 use Rattle.hn_assign.specs.declared.held.Held.{Held}
 use Rattle.hn_assign.specs.Facts.{IsInDelegated, HasOwnPriority, IsPast as IsAssignedPast}
-use Rattle.hn_data.specs.View.{ids_of, IsNetwork}
+use Rattle.hn_data.specs.View.{IsNetwork}
 use Rattle.hn_data.specs.declared.view.Entry.{Entry}
 use Rattle.hn_graph.specs.Path.{IsReachable}
+use Rattle.hn_graph.specs.Laws.{OwnIsReachable, ReachableIsANode}
 use Rattle.hn_dncp.specs.Peers.{ArePeers}
 use Rattle.hn_dncp.specs.declared.port.Port.{Port}
 use Rattle.hn_store.specs.Nodes.{Nodes, held, IsTable}
@@ -25,8 +26,7 @@ use Rattle.hn_router.specs.Laws.{NewIsRouter}
 use Rattle.hn_base.proofs.AscendingLists.{Contains-one}
 
 -- its own node is the only one
-module _ (own : ℕ) (node : Entry) (here : node.id.0 ≡ own) (own_is_reachable : (own : ℕ) (nodes : List Entry) → IsNetwork own nodes → IsReachable own nodes own)
-    (reachable_is_a_node : (own : ℕ) (nodes : List Entry) (y : ℕ) → IsReachable own nodes y → Contains (ids_of nodes) y) where
+module _ (own : ℕ) (node : Entry) (here : node.id.0 ≡ own) (own_is_reachable : OwnIsReachable) (reachable_is_a_node : ReachableIsANode) where
   alone : IsNetwork own (node ∷ [])
   unfolding IsStrictlySortedBy
   alone = record { ascending = (tt, tt); own_is_there = (0, omega arith, here) }
@@ -47,8 +47,7 @@ nothing_held : AreHeldPairs no_pairs
 unfolding IsStrictlySortedBy
 nothing_held = record { assigned = tt; backoffs = tt; few = omega arith; inside = All-nil IsInDelegated; priority = All-nil HasOwnPriority }
 
-pub new_is_one : NoNodesAreTable → ArePorts [] → AreOwnPrefixes [] → ((own : ℕ) (nodes : List Entry) → IsNetwork own nodes → IsReachable own nodes own)
-    → ((own : ℕ) (nodes : List Entry) (y : ℕ) → IsReachable own nodes y → Contains (ids_of nodes) y) → NewIsRouter
+pub new_is_one : NoNodesAreTable → ArePorts [] → AreOwnPrefixes [] → OwnIsReachable → ReachableIsANode → NewIsRouter
 new_is_one none no_endpoints no_delegated own_is_reachable reachable_is_a_node id now s new =
     record { well = well; refreshed = record { published = sym new.items_are; reached = reached; lost = lost; hashed = new.net_is } }
   where

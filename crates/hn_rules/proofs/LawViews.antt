@@ -7,9 +7,9 @@ use Rattle.std.specs.List.{AllByRecursion, filter_map, cons_option}
 use Rattle.std.specs.List.Sorted.{IsStrictlySortedBy}
 use Rattle.hn_base.specs.declared.ids.NodeId.{NodeId}
 use Rattle.hn_base.proofs.AscendingLists.{Contains-map, sorted_parts}
-use Rattle.hn_data.specs.View.{ids_of, IsNetwork}
+use Rattle.hn_data.specs.View.{ids_of}
 use Rattle.hn_data.specs.declared.view.Entry.{Entry}
-use Rattle.hn_graph.specs.Path.{IsReachable}
+use Rattle.hn_graph.specs.Laws.{OwnIsReachable}
 use Rattle.hn_rules.specs.declared.state.State.{State}
 use Rattle.hn_rules.specs.Laws.{ViewIsNetwork}
 use Rattle.hn_rules.specs.Nodes.{own_entry, entry_of, view_of}
@@ -43,7 +43,7 @@ module _ (f : NodeId → Option Entry) (named : (id : NodeId) (n : Entry) → f 
 
 -- ---- what a router sees
 
-pub view_network : ((own : ℕ) (nodes : List Entry) → IsNetwork own nodes → IsReachable own nodes own) → ViewIsNetwork
+pub view_network : OwnIsReachable → ViewIsNetwork
 view_network own_reachable s router =
     let was : WasReach s = router.refreshed.reached in
     let then : State = record s { moment = was.moment } in

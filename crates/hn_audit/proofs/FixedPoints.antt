@@ -24,6 +24,7 @@ use Rattle.hn_assign.specs.Rest.{IsAtRest}
 use Rattle.hn_assign.specs.Subroutine.{IsSubroutine}
 use Rattle.hn_deleg.specs.declared.delegated.Delegated.{Delegated}
 use Rattle.hn_deleg.specs.Used.{AreUsable, IsUnwanted, prefixes_of}
+use Rattle.hn_link.specs.Laws.{CommonLinkIsUnique}
 use Rattle.hn_own.specs.Ports.{is_attached}
 use Rattle.hn_rules.specs.declared.state.State.{State}
 use Rattle.hn_rules.specs.Assigning.{AreAsked, IsWishAt}
@@ -33,7 +34,7 @@ use Rattle.hn_audit.specs.Fixed.{HasLists, IsRunAnew}
 use Rattle.hn_audit.specs.Quiet.{IsForPair, IsRouterAtRest}
 use Rattle.hn_audit.specs.Resting.{RestsWhereListed}
 use Rattle.hn_audit.proofs.BridgeUsed.{delegated_at, from_unwanted, is_unwanted, place_of, to_unwanted}
-use Rattle.hn_audit.proofs.Restings.{IsOneLink, one_wish}
+use Rattle.hn_audit.proofs.Restings.{one_wish}
 use Rattle.hn_audit.proofs.Sames.{IsOneList}
 
 -- ---- laws of the crates below
@@ -50,7 +51,7 @@ LeavesWished = (view : PlainView) (wishes : List Wish) (held : Held) (ran : Ran)
 
 pub record FixedLaws : Type 0 where
   pub one_list : IsOneList
-  pub one_link : IsOneLink
+  pub one_link : CommonLinkIsUnique
   pub rest : RestIsUnchanged
   pub wished : LeavesWished
   pub pairs_total : IsTotalOrder pair_cmp

@@ -26,6 +26,7 @@ use Rattle.hn_assign.specs.Pair.{IsAscending, IsWished, assigned_pair, pair_cmp,
 use Rattle.hn_deleg.specs.declared.delegated.Delegated.{Delegated}
 use Rattle.hn_deleg.specs.Used.{IsOutermost, prefixes_of}
 use Rattle.hn_dncp.specs.declared.port.Port.{Port}
+use Rattle.hn_link.specs.Laws.{CommonLinkIsUnique}
 use Rattle.hn_own.specs.Ports.{endpoints_of}
 use Rattle.hn_rules.specs.declared.state.State.{State}
 use Rattle.hn_rules.specs.Assigning.{AreAsked, IsWishAt}
@@ -36,7 +37,7 @@ use Rattle.hn_audit.specs.Quiet.{IsRouterAtRest}
 use Rattle.hn_base.proofs.Prefixes.{prefix_total}
 use Rattle.hn_audit.proofs.BridgeUsed.{at_prefix}
 use Rattle.hn_audit.proofs.FixedPoints.{FixedLaws, are_at_rest, wished_at_rest}
-use Rattle.hn_audit.proofs.Restings.{IsOneLink, one_wish}
+use Rattle.hn_audit.proofs.Restings.{one_wish}
 use Rattle.hn_audit.proofs.BridgeOrders.{sorted_cons, sorted_none}
 
 -- ---- a law of hn_assign
@@ -96,7 +97,7 @@ record AreOfFirst (view : PlainView) (usable : List Delegated) (n : ℕ) (ends :
   ascending : IsAscending wish_pair wishes
   exact : (w : Wish) → Contains wishes w ↔ ((place : ℕ) × (place < n) × IsWishAt view usable place w × Contains ends w.endpoint)
 
-module _ (once : IsOneLink) (view : PlainView) (usable : List Delegated) where
+module _ (once : CommonLinkIsUnique) (view : PlainView) (usable : List Delegated) where
   -- a wish for a place is for the delegated prefix there
   prefix_there : (place : ℕ) (w : Wish) → IsWishAt view usable place w → slice_get (prefixes_of usable) place ≡ Some w.delegated
   prefix_there place w asked = at_prefix usable place asked.delegated asked.at ∙ ap Some (sym asked.prefix)

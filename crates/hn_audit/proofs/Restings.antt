@@ -19,6 +19,7 @@ use Rattle.hn_deleg.specs.declared.delegated.Delegated.{Delegated}
 use Rattle.hn_deleg.specs.Used.{AreUsable}
 use Rattle.hn_dncp.specs.declared.port.Port.{Port}
 use Rattle.hn_link.specs.CommonLink.{IsCommonLink}
+use Rattle.hn_link.specs.Laws.{CommonLinkIsUnique}
 use Rattle.hn_own.specs.Ports.{endpoints_of}
 use Rattle.hn_rules.specs.declared.state.State.{State}
 use Rattle.hn_rules.specs.Assigning.{IsWishAt}
@@ -31,12 +32,8 @@ use Rattle.hn_audit.proofs.Sames.{IsOneList}
 
 -- ---- a pair
 
--- an endpoint has one Common Link
-abbrev pub IsOneLink : Type 0
-IsOneLink = (view : PlainView) (e : ℕ) (a b : Link) → IsCommonLink view e a → IsCommonLink view e b → a ≡ b
-
 -- what is asked for a pair is one
-pub one_wish : IsOneLink → (view : PlainView) (usable : List Delegated) (place : ℕ) (v w : Wish) → IsWishAt view usable place v → IsWishAt view usable place w → v.endpoint ≡ w.endpoint → v ≡ w
+pub one_wish : CommonLinkIsUnique → (view : PlainView) (usable : List Delegated) (place : ℕ) (v w : Wish) → IsWishAt view usable place v → IsWishAt view usable place w → v.endpoint ≡ w.endpoint → v ≡ w
 one_wish once view usable place v w a b end =
     let same : a.delegated ≡ b.delegated = same_Some a.delegated b.delegated (sym a.at ∙ b.at) in
     let prefix : v.delegated ≡ w.delegated = a.prefix ∙ ap (λ (u : Delegated). u.prefix) same ∙ sym b.prefix in
@@ -46,7 +43,7 @@ one_wish once view usable place v w a b end =
     λ i. record { delegated = prefix i; wanted = wanted i; endpoint = end i; common = common i; length = len i }
 
 -- a pair is at rest if and only if it is so by its wish and its assignment
-pub pair_decides : IsOneLink → IsTotalOrder pair_cmp → (s : State) (usable : List Delegated) (adv : List Advertised) (place : ℕ) (e : EpId) (wish : Wish) (assignment : Option Assigned) (answer : Bool)
+pub pair_decides : CommonLinkIsUnique → IsTotalOrder pair_cmp → (s : State) (usable : List Delegated) (adv : List Advertised) (place : ℕ) (e : EpId) (wish : Wish) (assignment : Option Assigned) (answer : Bool)
     → IsAscending assigned_pair s.held.assigned → IsWishAt (seen_by s) usable place wish → wish.endpoint ≡ e → HasAt assigned_pair (wish_pair wish) assignment s.held.assigned
     → IsTrue answer ↔ IsAtRest adv s.id.0 wish assignment → IsTrue answer ↔ IsPairAtRest s usable adv place e
 pair_decides once total s usable adv place e wish assignment answer up asked end own said = (

@@ -10,8 +10,8 @@ use Rattle.hn_base.specs.declared.name.Name.{Name}
 use Rattle.hn_data.specs.View.{PlainView}
 use Rattle.hn_deleg.specs.Used.{AreUsable}
 use Rattle.hn_deleg.specs.declared.delegated.Delegated.{Delegated}
-use Rattle.hn_link.specs.CommonLink.{IsCommonLink}
 use Rattle.hn_link.specs.Election.{IsElected, HasNoCandidate, HasOneAnswer}
+use Rattle.hn_link.specs.Laws.{CommonLinkIsUnique}
 use Rattle.hn_router.specs.Advertising.{IsAdvertBytes}
 use Rattle.hn_rules.specs.Seen.{seen_by}
 use Rattle.hn_rules.specs.declared.state.State.{State}
@@ -45,7 +45,7 @@ AgreementsAreUnique = (a b : List Leaf) (x y : Agreement) → Agrees a b x → A
 pub record ReportLaws : Type 0 where
   pub agreements : AgreementsAreUnique
   pub usable : (view : PlainView) (a b : List Delegated) → AreUsable view a → AreUsable view b → a ≡ b
-  pub common : (view : PlainView) (e : ℕ) (a b : List (NodeId × EpId)) → IsCommonLink view e a → IsCommonLink view e b → a ≡ b
+  pub common : CommonLinkIsUnique
   pub answer : HasOneAnswer
   pub adverts : (s : State) (e : EpId) (a b : List ℕ) → IsAdvertBytes s e a → IsAdvertBytes s e b → a ≡ b
 

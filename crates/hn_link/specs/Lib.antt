@@ -1,3 +1,4 @@
 pub mod CommonLink
 pub mod Election
 pub mod Standing
+pub mod Laws

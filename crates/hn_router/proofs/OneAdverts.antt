@@ -15,8 +15,8 @@ use Rattle.hn_advert.specs.Advert.{advert_bytes}
 use Rattle.hn_data.specs.View.{PlainView}
 use Rattle.hn_deleg.specs.declared.delegated.Delegated.{Delegated}
 use Rattle.hn_deleg.specs.Used.{AreUsable, IsOutside}
-use Rattle.hn_link.specs.CommonLink.{IsCommonLink}
 use Rattle.hn_link.specs.Election.{IsElected, HasNoCandidate, HasOneAnswer}
+use Rattle.hn_link.specs.Laws.{CommonLinkIsUnique}
 use Rattle.hn_rules.specs.declared.state.State.{State}
 use Rattle.hn_rules.specs.Seen.{seen_by, IsElectedAt}
 use Rattle.hn_router.specs.Advertising.{IsInfoOf, AreInfos, IsLifetime, IsAdvertAt, IsAdvertBytes}
@@ -26,11 +26,8 @@ use Rattle.hn_base.proofs.Prefixes.{prefix_total}
 abbrev pub OneUsable : Type 0
 OneUsable = (view : PlainView) (a b : List Delegated) → AreUsable view a → AreUsable view b → a ≡ b
 
-abbrev pub OneCommonLink : Type 0
-OneCommonLink = (view : PlainView) (e : ℕ) (a b : List (NodeId × EpId)) → IsCommonLink view e a → IsCommonLink view e b → a ≡ b
-
 -- whether somebody is elected has one answer
-one_flag : OneCommonLink → HasOneAnswer → (s : State) (e : EpId) (letter : Letter) (a b : Option NodeId) → IsElectedAt s e letter a → IsElectedAt s e letter b → is_some a ≡ is_some b
+one_flag : CommonLinkIsUnique → HasOneAnswer → (s : State) (e : EpId) (letter : Letter) (a b : Option NodeId) → IsElectedAt s e letter a → IsElectedAt s e letter b → is_some a ≡ is_some b
 one_flag one_link one_answer s e letter a b f g =
     let same : g.common ≡ f.common = one_link (seen_by s) e.0 g.common f.common g.is_common f.is_common in
     let who = one_answer (seen_by s) f.common letter a b f.is_elected (subst (λ (c : List (NodeId × EpId)). MatchOption b (HasNoCandidate (seen_by s) c letter) (IsElected (seen_by s) c letter)) same g.is_elected) in
@@ -51,7 +48,7 @@ one_infos one_usable s e a b f g =
     ascending_unique (on (λ i. i.prefix) prefix_cmp) (on_total (λ i. i.prefix) prefix_total) a b ((sorted_parts (λ (i : Info). i.prefix) prefix_cmp a).1 f.ascending) ((sorted_parts (λ (i : Info). i.prefix) prefix_cmp b).1 g.ascending)
     (λ i. (λ h. (each i).1 ((f.each i).0 h), λ h. (f.each i).1 ((each i).0 h)))
 
-one_advert : OneUsable → OneCommonLink → HasOneAnswer → (s : State) (e : EpId) (a b : Advert) → IsAdvertAt s e a → IsAdvertAt s e b → a ≡ b
+one_advert : OneUsable → CommonLinkIsUnique → HasOneAnswer → (s : State) (e : EpId) (a b : Advert) → IsAdvertAt s e a → IsAdvertAt s e b → a ≡ b
 one_advert one_usable one_link one_answer s e a b f g =
     let who : is_some f.who ≡ is_some g.who = one_flag one_link one_answer s e H f.who g.who f.is_elected g.is_elected in
     let managed : a.managed ≡ b.managed = f.managed ∙ who ∙ sym g.managed in
@@ -60,5 +57,5 @@ one_advert one_usable one_link one_answer s e a b f g =
     let infos : a.infos ≡ b.infos = one_infos one_usable s e a.infos b.infos f.infos g.infos in
     λ k. record { managed = managed k; other = other k; lifetime = lifetime k; infos = infos k }
 
-pub one_bytes : OneUsable → OneCommonLink → HasOneAnswer → (s : State) (e : EpId) (a b : List ℕ) → IsAdvertBytes s e a → IsAdvertBytes s e b → a ≡ b
+pub one_bytes : OneUsable → CommonLinkIsUnique → HasOneAnswer → (s : State) (e : EpId) (a b : List ℕ) → IsAdvertBytes s e a → IsAdvertBytes s e b → a ≡ b
 one_bytes one_usable one_link one_answer s e a b f g = f.2 ∙ ap advert_bytes (one_advert one_usable one_link one_answer s e f.0 g.0 f.1 g.1) ∙ sym g.2

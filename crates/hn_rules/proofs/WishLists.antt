@@ -11,22 +11,18 @@ use Rattle.std.proofs.lemmas.List.Elements.{Contains-append_left, Contains-appen
 use Rattle.std.proofs.lemmas.Map.Keys.{Less-from_sorted}
 use Rattle.std.proofs.lemmas.Option.{slice_get_within, slice_get-map, get_or_from_slice_get}
 use Rattle.hn_base.proofs.AscendingLists.{Contains-head, Contains-cases, nothing_in, not_below_itself}
-use Rattle.hn_base.specs.declared.ids.NodeId.{NodeId}
 use Rattle.hn_base.specs.declared.ids.EpId.{EpId}
 use Rattle.hn_base.specs.Prefix.{PlainPrefix, prefix_cmp}
 use Rattle.hn_data.specs.View.{PlainView}
 use Rattle.hn_deleg.specs.declared.delegated.Delegated.{Delegated}
 use Rattle.hn_deleg.specs.Used.{IsUnwanted, prefixes_of}
 use Rattle.hn_link.specs.CommonLink.{IsCommonLink}
+use Rattle.hn_link.specs.Laws.{CommonLinkIsUnique}
 use Rattle.hn_assign.specs.declared.assigned.Wish.{Wish}
 use Rattle.hn_assign.specs.declared.pair.Pair.{Pair}
 use Rattle.hn_assign.specs.Pair.{IsWished, wish_pair}
 use Rattle.hn_rules.specs.Assigning.{IsWishAt}
 use Rattle.hn_base.proofs.Prefixes.{prefix_total}
-
--- an endpoint has one Common Link
-abbrev pub OneLink : Type 0
-OneLink = (view : PlainView) (e : ℕ) (a b : List (NodeId × EpId)) → IsCommonLink view e a → IsCommonLink view e b → a ≡ b
 
 -- after a wish was added
 abbrev pub HasAdded : Wish → List Wish → List Wish → Type 0
@@ -65,7 +61,7 @@ module _ (view : PlainView) (usable : List Delegated) where
         (λ (after : q ≤ p). ⊎_elim (λ (other : q < p). absurd (not_before q p b a other at_q at_p (sym same))) (λ (also : p ≤ q). omega arith) (cases_lt q p))
         (cases_lt p q)
 
-    module _ (one_link : OneLink) where
+    module _ (one_link : CommonLinkIsUnique) where
       -- a pair has one wish
       pub one_wish : (p q : ℕ) (v w : Wish) → IsWishAt view usable p v → IsWishAt view usable q w → wish_pair v ≡ wish_pair w → v ≡ w
       one_wish p q v w is other same =

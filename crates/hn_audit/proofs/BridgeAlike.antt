@@ -3,9 +3,9 @@ use Rattle.std.proofs.Common.{◌≡◌, ◌↔◌, ℕ, List, Contains, inl, in
 use Rattle.hn_base.specs.declared.ids.NodeId.{NodeId}
 use Rattle.hn_base.specs.declared.ids.EpId.{EpId}
 use Rattle.hn_base.specs.Prefix.{PlainPrefix}
-use Rattle.hn_data.specs.View.{PlainView}
 use Rattle.hn_deleg.specs.declared.delegated.Delegated.{Delegated}
-use Rattle.hn_deleg.specs.Used.{AreUsable, prefixes_of}
+use Rattle.hn_deleg.specs.Used.{prefixes_of}
+use Rattle.hn_deleg.specs.Laws.{UsableIsUnique}
 use Rattle.hn_rules.specs.Seen.{seen_by}
 use Rattle.hn_world.specs.declared.member.Member.{Member}
 use Rattle.hn_world.specs.declared.parts.Parts.{Parts}
@@ -15,7 +15,7 @@ use Rattle.hn_audit.specs.Sound.{Uses, IsThere, IsServed, IsWithout, IsHeldOn, I
 use Rattle.hn_audit.proofs.BridgeSets.{IsKnown, itself, reach_is}
 
 -- where one router uses what the other uses, it uses each prefix that the other uses
-uses_too : (unique : (view : PlainView) (a b : List Delegated) → AreUsable view a → AreUsable view b → a ≡ b) (r s : Member) (d : PlainPrefix)
+uses_too : (unique : UsableIsUnique) (r s : Member) (d : PlainPrefix)
     → UseSame r.router s.router → Uses r.router d → Uses s.router d
 uses_too unique r s d same uses =
     let one = subst (λ (list : List Delegated). Contains (prefixes_of list) d) (unique (seen_by r.router) uses.usable same.one uses.are_usable same.is_one) uses.there in
@@ -80,7 +80,7 @@ module _ (w : Parts) (r s : Member) (reach : s.router.reach ≡ r.router.reach)
     one_elected = λ letter link m u e f one other. is.one_elected letter link m u e f (there_from link m e one) (there_from link u f other);
   }
 
-pub sound_alike : (unique : (view : PlainView) (a b : List Delegated) → AreUsable view a → AreUsable view b → a ≡ b) (w : Parts) (r : Member) → IsKnown w r
+pub sound_alike : (unique : UsableIsUnique) (w : Parts) (r : Member) → IsKnown w r
     → IsSound w r ↔ ((s : Member) → IsReached w r s → IsSound w s)
 sound_alike unique w r known = (
   λ is s s_in.

@@ -3,13 +3,13 @@ use Rattle.std.proofs.Common.{◌≡◌, ◌∙◌, ◌≤◌, ℕ, List, Some, 
 use Rattle.std.specs.Cmp.{IsTotalOrder}
 use Rattle.std.proofs.lemmas.List.Elements.{All-contains}
 use Rattle.std.proofs.lemmas.Option.{same_Some}
-use Rattle.hn_base.specs.Prefix.{PlainPrefix, IsWithin, Overlaps}
+use Rattle.hn_base.specs.Prefix.{PlainPrefix, IsWithin}
 use Rattle.hn_assign.specs.declared.assigned.Assigned.{Assigned}
 use Rattle.hn_assign.specs.Facts.{IsInDelegated, HasOwnPriority}
 use Rattle.hn_assign.specs.Pair.{assigned_pair, pair_cmp}
-use Rattle.hn_data.specs.View.{PlainView}
 use Rattle.hn_deleg.specs.declared.delegated.Delegated.{Delegated}
 use Rattle.hn_deleg.specs.Used.{AreUsable, prefixes_of}
+use Rattle.hn_deleg.specs.Laws.{UsableIsUnique, UsableNeverOverlap}
 use Rattle.hn_rules.specs.Laws.{AssignedIsPublished}
 use Rattle.hn_rules.specs.Seen.{seen_by}
 use Rattle.hn_sound.specs.Home.{Endpoint, HasAssignment, HasPublished}
@@ -32,8 +32,8 @@ pub record IsCase (w : Parts) (r : Member) (usable : List Delegated) : Type 0 wh
   pub known : IsKnown w r
   pub quiet : IsQuiet w r
   pub are_usable : AreUsable (seen_by r.router) usable
-  pub unique : (view : PlainView) (a b : List Delegated) → AreUsable view a → AreUsable view b → a ≡ b
-  pub apart : (view : PlainView) (list : List Delegated) (p q : PlainPrefix) → AreUsable view list → Contains (prefixes_of list) p → Contains (prefixes_of list) q → Overlaps p q → p ≡ q
+  pub unique : UsableIsUnique
+  pub apart : UsableNeverOverlap
   pub published : AssignedIsPublished
   pub versions : OwnVersions
   pub peers : OwnPeers

@@ -10,6 +10,7 @@ use Rattle.hn_base.specs.Prefix.{PlainPrefix, prefix_cmp}
 use Rattle.hn_data.specs.View.{PlainView}
 use Rattle.hn_deleg.specs.declared.delegated.Delegated.{Delegated}
 use Rattle.hn_deleg.specs.Used.{AreUsable, IsUnwanted, prefixes_of}
+use Rattle.hn_deleg.specs.Laws.{UsableIsUnique}
 use Rattle.hn_assign.specs.declared.assigned.Wish.{Wish}
 use Rattle.hn_rules.specs.Assigning.{IsWishAt}
 use Rattle.hn_audit.specs.Settled.{AreSame, UseSame}
@@ -78,7 +79,7 @@ at_prefix list place u at = part_stands (λ (v : Delegated). v.prefix) list plac
 
 -- ---- of two routers that use the same
 
-module _ (unique : (view : PlainView) (a b : List Delegated) → AreUsable view a → AreUsable view b → a ≡ b) where
+module _ (unique : UsableIsUnique) where
   pub used_same : (s u : State) (a b : List Delegated) → UseSame s u → AreUsable (seen_by s) a → AreUsable (seen_by u) b → AreSame a b
   used_same s u a b use_same is_a is_b =
       subst (λ (x : List Delegated). AreSame x b) (unique (seen_by s) use_same.one a use_same.is_one is_a)

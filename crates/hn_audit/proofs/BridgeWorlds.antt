@@ -5,13 +5,12 @@ use Rattle.std.proofs.lemmas.List.{append-nil}
 use Rattle.std.proofs.lemmas.List.Elements.{All-contains}
 use Rattle.hn_base.specs.declared.ids.NodeId.{NodeId}
 use Rattle.hn_base.specs.declared.ids.EpId.{EpId}
-use Rattle.hn_base.specs.Prefix.{PlainPrefix, Overlaps}
+use Rattle.hn_base.specs.Prefix.{PlainPrefix}
 use Rattle.hn_assign.specs.declared.assigned.Advertised.{Advertised}
 use Rattle.hn_assign.specs.Pair.{pair_cmp}
 use Rattle.hn_data.specs.Laws.{ItemsAreUnique}
-use Rattle.hn_data.specs.View.{PlainView}
 use Rattle.hn_deleg.specs.declared.delegated.Delegated.{Delegated}
-use Rattle.hn_deleg.specs.Used.{AreUsable, prefixes_of}
+use Rattle.hn_deleg.specs.Laws.{UsableIsUnique, UsableNeverOverlap}
 use Rattle.hn_rules.specs.Laws.{AssignedIsPublished, ViewIsNetwork, EntriesAreAsKnown}
 use Rattle.hn_sound.specs.AtRest.{IsHomeAtRest}
 use Rattle.hn_sound.specs.Home.{Home, Endpoint, advertised, common_link}
@@ -50,8 +49,8 @@ pub record BridgeLaws : Type 0 where
   pub versions : OwnVersions
   pub peers : OwnPeers
   pub pairs_total : IsTotalOrder pair_cmp
-  pub unique : (view : PlainView) (a b : List Delegated) → AreUsable view a → AreUsable view b → a ≡ b
-  pub apart : (view : PlainView) (list : List Delegated) (p q : PlainPrefix) → AreUsable view list → Contains (prefixes_of list) p → Contains (prefixes_of list) q → Overlaps p q → p ≡ q
+  pub unique : UsableIsUnique
+  pub apart : UsableNeverOverlap
   pub one_items : ItemsAreUnique
   pub advertised_exact : (h : Home) (a : Advertised) → Contains (advertised h) a ↔ IsAdvertised h a
   pub links_exact : (h : Home) (e : Endpoint) (node : NodeId) (id : EpId) → Contains (common_link h e) (node, id) ↔ IsOnLinkOf h e node id
@@ -101,5 +100,5 @@ sound_where_quiet laws w r replayed runs settled quiet =
       pairs_total = laws.pairs_total;
     })
 
-pub alike_where_settled : (unique : (view : PlainView) (a b : List Delegated) → AreUsable view a → AreUsable view b → a ≡ b) → WorldLaws → SetIsSoundAlike
+pub alike_where_settled : UsableIsUnique → WorldLaws → SetIsSoundAlike
 alike_where_settled unique laws w r replayed runs settled = sound_alike unique w r (known_of laws w r replayed runs settled)

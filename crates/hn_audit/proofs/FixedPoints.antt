@@ -24,6 +24,7 @@ use Rattle.hn_assign.specs.Rest.{IsAtRest}
 use Rattle.hn_assign.specs.Subroutine.{IsSubroutine}
 use Rattle.hn_deleg.specs.declared.delegated.Delegated.{Delegated}
 use Rattle.hn_deleg.specs.Used.{AreUsable, IsUnwanted, prefixes_of}
+use Rattle.hn_deleg.specs.Laws.{UsableIsUnique}
 use Rattle.hn_link.specs.Laws.{CommonLinkIsUnique}
 use Rattle.hn_own.specs.Ports.{is_attached}
 use Rattle.hn_rules.specs.declared.state.State.{State}
@@ -35,7 +36,6 @@ use Rattle.hn_audit.specs.Quiet.{IsForPair, IsRouterAtRest}
 use Rattle.hn_audit.specs.Resting.{RestsWhereListed}
 use Rattle.hn_audit.proofs.BridgeUsed.{delegated_at, from_unwanted, is_unwanted, place_of, to_unwanted}
 use Rattle.hn_audit.proofs.Restings.{one_wish}
-use Rattle.hn_audit.proofs.Sames.{IsOneList}
 
 -- ---- laws of the crates below
 
@@ -50,7 +50,7 @@ abbrev pub LeavesWished : Type 0
 LeavesWished = (view : PlainView) (wishes : List Wish) (held : Held) (ran : Ran) → IsSubroutine view wishes held ran → All (λ c. IsWished wishes (assigned_pair c)) ran.held.assigned
 
 pub record FixedLaws : Type 0 where
-  pub one_list : IsOneList
+  pub one_list : UsableIsUnique
   pub one_link : CommonLinkIsUnique
   pub rest : RestIsUnchanged
   pub wished : LeavesWished

@@ -17,6 +17,7 @@ use Rattle.hn_assign.specs.Pair.{IsAscending, assigned_pair, pair_cmp, wish_pair
 use Rattle.hn_assign.specs.Rest.{IsAtRest}
 use Rattle.hn_deleg.specs.declared.delegated.Delegated.{Delegated}
 use Rattle.hn_deleg.specs.Used.{AreUsable}
+use Rattle.hn_deleg.specs.Laws.{UsableIsUnique}
 use Rattle.hn_dncp.specs.declared.port.Port.{Port}
 use Rattle.hn_link.specs.CommonLink.{IsCommonLink}
 use Rattle.hn_link.specs.Laws.{CommonLinkIsUnique}
@@ -28,7 +29,6 @@ use Rattle.hn_base.specs.Ascending.{HaveSame, HasAt}
 use Rattle.hn_audit.specs.Quiet.{IsForPair, IsPairAtRest, IsRouterAtRest}
 use Rattle.hn_audit.specs.Resting.{IsEachAtRest, IsEndAtRest}
 use Rattle.hn_audit.proofs.BridgeLists.{same_Bool}
-use Rattle.hn_audit.proofs.Sames.{IsOneList}
 
 -- ---- a pair
 
@@ -90,7 +90,7 @@ router_rests s usable adv are_usable are_advertised all each = record {
   each_pair = λ place e within attached. each e attached place within;
 }
 
-module _ (once : IsOneList) (s : State) (usable : List Delegated) (are_usable : AreUsable (seen_by s) usable) (h : IsRouterAtRest s) where
+module _ (once : UsableIsUnique) (s : State) (usable : List Delegated) (are_usable : AreUsable (seen_by s) usable) (h : IsRouterAtRest s) where
   one_list : h.usable ≡ usable
   one_list = once (seen_by s) h.usable usable h.are_usable are_usable
 

@@ -6,9 +6,9 @@ use Rattle.std.proofs.lemmas.List.Elements.{All-contains}
 use Rattle.std.proofs.lemmas.Option.{same_Some, slice_get_within}
 use Rattle.hn_base.proofs.Elements.{all_of}
 use Rattle.hn_base.specs.Prefix.{PlainPrefix}
-use Rattle.hn_data.specs.View.{PlainView}
 use Rattle.hn_deleg.specs.declared.delegated.Delegated.{Delegated}
 use Rattle.hn_deleg.specs.Used.{AreUsable, prefixes_of}
+use Rattle.hn_deleg.specs.Laws.{UsableIsUnique}
 use Rattle.hn_rules.specs.declared.state.State.{State}
 use Rattle.hn_rules.specs.Seen.{seen_by}
 use Rattle.hn_world.specs.declared.member.Member.{Member}
@@ -45,10 +45,6 @@ same_at a b k same = record { prefix = ap (λ (ps : List PlainPrefix). slice_get
 
 -- ---- the routers of a set
 
--- a view has one list
-abbrev pub IsOneList : Type 0
-IsOneList = (view : PlainView) (a b : List Delegated) → AreUsable view a → AreUsable view b → a ≡ b
-
 pub same_back : (a b : List Delegated) → AreSame a b → AreSame b a
 same_back a b same = record { prefixes = sym same.prefixes; wanted = λ k. ((same.wanted k).1, (same.wanted k).0) }
 
@@ -59,7 +55,7 @@ same_on a b d one other = record {
 }
 
 -- those that use the same as one use the same
-pub use_same_too : IsOneList → (r s u : State) → UseSame r s → UseSame r u → UseSame s u
+pub use_same_too : UsableIsUnique → (r s u : State) → UseSame r s → UseSame r u → UseSame s u
 use_same_too once r s u one other =
     let list : one.one ≡ other.one = once (seen_by r) one.one other.one one.is_one other.is_one in
     record {
@@ -70,14 +66,14 @@ use_same_too once r s u one other =
       same = same_on one.other one.one other.other (same_back one.one one.other one.same) (subst (λ (a : List Delegated). AreSame a other.other) (sym list) other.same);
     }
 
-pub use_these : IsOneList → (r s : State) (used other : List Delegated) → AreUsable (seen_by r) used → AreUsable (seen_by s) other → AreSame used other ↔ UseSame r s
+pub use_these : UsableIsUnique → (r s : State) (used other : List Delegated) → AreUsable (seen_by r) used → AreUsable (seen_by s) other → AreSame used other ↔ UseSame r s
 use_these once r s used other is_used is_other = (
   λ same. record { one = used; is_one = is_used; other = other; is_other = is_other; same = same },
   λ h. subst (λ (a : List Delegated). AreSame a other) (once (seen_by r) h.one used h.is_one is_used) (subst (λ (b : List Delegated). AreSame h.one b) (once (seen_by s) h.other other h.is_other is_other) h.same),
 )
 
 -- all of a set use the same if and only if each uses the same as one of them
-pub all_use_same : IsOneList → (set : List (Bor Member)) (r : Bor Member) → Contains set r
+pub all_use_same : UsableIsUnique → (set : List (Bor Member)) (r : Bor Member) → Contains set r
     → All (λ s. UseSame r.now.router s.now.router) set ↔ All (λ s. All (λ u. UseSame s.now.router u.now.router) set) set
 all_use_same once set r there =
     let as_r : Bor Member → Type 0 = λ s. UseSame r.now.router s.now.router in

@@ -1,3 +1,4 @@
 pub mod Live
 pub mod Steps
 pub mod Used
+pub mod Laws

@@ -7,9 +7,7 @@ use Rattle.hn_base.specs.declared.ids.EpId.{EpId}
 use Rattle.hn_base.specs.declared.ids.NodeId.{NodeId}
 use Rattle.hn_base.specs.declared.letter.Letter.{Letter}
 use Rattle.hn_base.specs.declared.name.Name.{Name}
-use Rattle.hn_data.specs.View.{PlainView}
-use Rattle.hn_deleg.specs.Used.{AreUsable}
-use Rattle.hn_deleg.specs.declared.delegated.Delegated.{Delegated}
+use Rattle.hn_deleg.specs.Laws.{UsableIsUnique}
 use Rattle.hn_link.specs.Election.{IsElected, HasNoCandidate, HasOneAnswer}
 use Rattle.hn_link.specs.Laws.{CommonLinkIsUnique}
 use Rattle.hn_router.specs.Advertising.{IsAdvertBytes}
@@ -44,7 +42,7 @@ AgreementsAreUnique = (a b : List Leaf) (x y : Agreement) → Agrees a b x → A
 -- laws of what reports tell
 pub record ReportLaws : Type 0 where
   pub agreements : AgreementsAreUnique
-  pub usable : (view : PlainView) (a b : List Delegated) → AreUsable view a → AreUsable view b → a ≡ b
+  pub usable : UsableIsUnique
   pub common : CommonLinkIsUnique
   pub answer : HasOneAnswer
   pub adverts : (s : State) (e : EpId) (a b : List ℕ) → IsAdvertBytes s e a → IsAdvertBytes s e b → a ≡ b

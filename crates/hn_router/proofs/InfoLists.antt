@@ -20,18 +20,13 @@ use Rattle.hn_assign.specs.Pair.{pair_cmp, assigned_pair, IsAscending}
 use Rattle.hn_data.specs.View.{PlainView}
 use Rattle.hn_deleg.specs.declared.delegated.Delegated.{Delegated}
 use Rattle.hn_deleg.specs.Used.{AreUsable, prefixes_of, whole_seconds}
+use Rattle.hn_deleg.specs.Laws.{InsideKeepsTheOrder}
 use Rattle.hn_rules.specs.declared.state.State.{State}
 use Rattle.hn_rules.specs.Seen.{seen_by}
 use Rattle.hn_router.specs.Advertising.{AreInfos}
 use Rattle.hn_router.specs.Infos.{IsInfoFrom, HasNoInfo}
 use Rattle.hn_base.proofs.Prefixes.{prefix_total}
 use Rattle.hn_base.proofs.Fronts.{front_at}
-
--- the law of hn_deleg: prefixes inside two usable prefixes are in the order of these
-abbrev pub InsideKeepsOrder : Type 0
-InsideKeepsOrder =
-    (view : PlainView) (list : List Delegated) (d f p q : PlainPrefix) → AreUsable view list → Contains (prefixes_of list) d → Contains (prefixes_of list) f
-    → IsPrefix p → IsPrefix q → IsWithin p d → IsWithin q f → prefix_cmp d f ≡ Less → prefix_cmp p q ≡ Less
 
 -- ---- orders
 
@@ -93,7 +88,7 @@ pub record IsNext (view : PlainView) (usable : List Delegated) (done : List Assi
   pub inside_c : IsInDelegated c
 
 -- one that is advertised of an earlier assignment comes before
-before_next : InsideKeepsOrder → (view : PlainView) (usable : List Delegated) (e : EpId) (done : List Assigned) (c : Assigned) (b : Assigned) (i j : Info) → IsNext view usable done c → Contains done b
+before_next : InsideKeepsTheOrder → (view : PlainView) (usable : List Delegated) (e : EpId) (done : List Assigned) (c : Assigned) (b : Assigned) (i j : Info) → IsNext view usable done c → Contains done b
     → IsInfoFrom usable e b j → IsInfoFrom usable e c i → IsPrefix j.prefix → IsPrefix i.prefix → prefix_cmp j.prefix i.prefix ≡ Less
 before_next keeps view usable e done c b i j next early from_b from_c valid_j valid_i =
     let less : pair_cmp (assigned_pair b) (assigned_pair c) ≡ Less = All-contains (λ (x : Assigned). pair_cmp (assigned_pair x) (assigned_pair c) ≡ Less) done b next.before early in
@@ -101,7 +96,7 @@ before_next keeps view usable e done c b i j next early from_b from_c valid_j va
     keeps view usable b.delegated c.delegated j.prefix i.prefix next.are_usable (used_one usable e b j from_b) (used_one usable e c i from_c) valid_j valid_i
     (inside_one usable e b j inside_b from_b) (inside_one usable e c i next.inside_c from_c) (delegated_less b c (from_b.of_endpoint ∙ sym from_c.of_endpoint) less)
 
-pub infos_more : InsideKeepsOrder → (view : PlainView) (usable : List Delegated) (e : EpId) (done : List Assigned) (c : Assigned) (infos : List Info) (i : Info) → IsNext view usable done c
+pub infos_more : InsideKeepsTheOrder → (view : PlainView) (usable : List Delegated) (e : EpId) (done : List Assigned) (c : Assigned) (infos : List Info) (i : Info) → IsNext view usable done c
     → AreInfosOf usable e done infos → IsInfoFrom usable e c i → IsPrefix i.prefix → AreInfosOf usable e (done ++ c ∷ []) (infos ++ i ∷ [])
 infos_more keeps view usable e done c infos i next were from valid = record {
   ascending = subst (IsStrictlySortedBy prefix_cmp) (sym (map-append (λ (x : Info). x.prefix) infos (i ∷ [])))
@@ -156,7 +151,7 @@ next_at view usable xs n c at are up inside = record {
   inside_c = All-contains IsInDelegated xs c inside (contains_at xs n c at);
 }
 
-pub infos_more_at : InsideKeepsOrder → (view : PlainView) (usable : List Delegated) (e : EpId) (xs : List Assigned) (n : ℕ) (c : Assigned) (infos : List Info) (i : Info) → slice_get xs n ≡ Some c → AreUsable view usable
+pub infos_more_at : InsideKeepsTheOrder → (view : PlainView) (usable : List Delegated) (e : EpId) (xs : List Assigned) (n : ℕ) (c : Assigned) (infos : List Info) (i : Info) → slice_get xs n ≡ Some c → AreUsable view usable
     → IsAscending assigned_pair xs → All IsInDelegated xs → AreInfosOf usable e (take n xs) infos → IsInfoFrom usable e c i → IsPrefix i.prefix → AreInfosOf usable e (take (n + 1) xs) (infos ++ i ∷ [])
 infos_more_at keeps view usable e xs n c infos i at are up inside were from valid =
     subst (λ (l : List Assigned). AreInfosOf usable e l (infos ++ i ∷ [])) (sym (front_at xs n c at)) (infos_more keeps view usable e (take n xs) c infos i (next_at view usable xs n c at are up inside) were from valid)

@@ -12,19 +12,15 @@ use Rattle.hn_base.specs.Prefix.{prefix_cmp}
 use Rattle.hn_advert.specs.declared.advert.Advert.{Advert}
 use Rattle.hn_advert.specs.declared.advert.Info.{Info}
 use Rattle.hn_advert.specs.Advert.{advert_bytes}
-use Rattle.hn_data.specs.View.{PlainView}
 use Rattle.hn_deleg.specs.declared.delegated.Delegated.{Delegated}
-use Rattle.hn_deleg.specs.Used.{AreUsable, IsOutside}
+use Rattle.hn_deleg.specs.Used.{IsOutside}
+use Rattle.hn_deleg.specs.Laws.{UsableIsUnique}
 use Rattle.hn_link.specs.Election.{IsElected, HasNoCandidate, HasOneAnswer}
 use Rattle.hn_link.specs.Laws.{CommonLinkIsUnique}
 use Rattle.hn_rules.specs.declared.state.State.{State}
 use Rattle.hn_rules.specs.Seen.{seen_by, IsElectedAt}
 use Rattle.hn_router.specs.Advertising.{IsInfoOf, AreInfos, IsLifetime, IsAdvertAt, IsAdvertBytes}
 use Rattle.hn_base.proofs.Prefixes.{prefix_total}
-
--- the laws of hn_deleg and hn_link: a view has one list of usable prefixes, and an endpoint one Common Link
-abbrev pub OneUsable : Type 0
-OneUsable = (view : PlainView) (a b : List Delegated) → AreUsable view a → AreUsable view b → a ≡ b
 
 -- whether somebody is elected has one answer
 one_flag : CommonLinkIsUnique → HasOneAnswer → (s : State) (e : EpId) (letter : Letter) (a b : Option NodeId) → IsElectedAt s e letter a → IsElectedAt s e letter b → is_some a ≡ is_some b
@@ -41,14 +37,14 @@ one_lifetime s m n f g =
     ⊎_elim (λ (too : IsOutside (seen_by s) × (n ≡ 1800)). absurd (away.0 too.0)) (λ (none : ¬ IsOutside (seen_by s) × (n ≡ 0)). away.1 ∙ sym none.1) g)
     f
 
-one_infos : OneUsable → (s : State) (e : EpId) (a b : List Info) → AreInfos s e a → AreInfos s e b → a ≡ b
+one_infos : UsableIsUnique → (s : State) (e : EpId) (a b : List Info) → AreInfos s e a → AreInfos s e b → a ≡ b
 one_infos one_usable s e a b f g =
     let same : g.usable ≡ f.usable = one_usable (seen_by s) g.usable f.usable g.are_usable f.are_usable in
     let each : (i : Info) → Contains b i ↔ IsInfoOf s f.usable e i = subst (λ (u : List Delegated). (i : Info) → Contains b i ↔ IsInfoOf s u e i) same g.each in
     ascending_unique (on (λ i. i.prefix) prefix_cmp) (on_total (λ i. i.prefix) prefix_total) a b ((sorted_parts (λ (i : Info). i.prefix) prefix_cmp a).1 f.ascending) ((sorted_parts (λ (i : Info). i.prefix) prefix_cmp b).1 g.ascending)
     (λ i. (λ h. (each i).1 ((f.each i).0 h), λ h. (f.each i).1 ((each i).0 h)))
 
-one_advert : OneUsable → CommonLinkIsUnique → HasOneAnswer → (s : State) (e : EpId) (a b : Advert) → IsAdvertAt s e a → IsAdvertAt s e b → a ≡ b
+one_advert : UsableIsUnique → CommonLinkIsUnique → HasOneAnswer → (s : State) (e : EpId) (a b : Advert) → IsAdvertAt s e a → IsAdvertAt s e b → a ≡ b
 one_advert one_usable one_link one_answer s e a b f g =
     let who : is_some f.who ≡ is_some g.who = one_flag one_link one_answer s e H f.who g.who f.is_elected g.is_elected in
     let managed : a.managed ≡ b.managed = f.managed ∙ who ∙ sym g.managed in
@@ -57,5 +53,5 @@ one_advert one_usable one_link one_answer s e a b f g =
     let infos : a.infos ≡ b.infos = one_infos one_usable s e a.infos b.infos f.infos g.infos in
     λ k. record { managed = managed k; other = other k; lifetime = lifetime k; infos = infos k }
 
-pub one_bytes : OneUsable → CommonLinkIsUnique → HasOneAnswer → (s : State) (e : EpId) (a b : List ℕ) → IsAdvertBytes s e a → IsAdvertBytes s e b → a ≡ b
+pub one_bytes : UsableIsUnique → CommonLinkIsUnique → HasOneAnswer → (s : State) (e : EpId) (a b : List ℕ) → IsAdvertBytes s e a → IsAdvertBytes s e b → a ≡ b
 one_bytes one_usable one_link one_answer s e a b f g = f.2 ∙ ap advert_bytes (one_advert one_usable one_link one_answer s e f.0 g.0 f.1 g.1) ∙ sym g.2

@@ -23,7 +23,7 @@ use Rattle.hn_typed.specs.Laws.{ItemIsUnique, ItemHasNoFault, ItemFaultIsUnique}
 use Rattle.hn_timers.specs.Interval.{started}
 use Rattle.hn_data.specs.View.{PlainView}
 use Rattle.hn_deleg.specs.declared.delegated.Delegated.{Delegated}
-use Rattle.hn_deleg.specs.Used.{AreUsable}
+use Rattle.hn_deleg.specs.Laws.{UsableIsUnique}
 use Rattle.hn_assign.specs.declared.assigned.Wish.{Wish}
 use Rattle.hn_assign.specs.declared.held.Held.{Held}
 use Rattle.hn_assign.specs.declared.held.Ran.{Ran as Assigned}
@@ -80,7 +80,7 @@ pub record HasLaws : Type 0 where
   pub one_order : (xs ys : List NodeId) → IsStrictlySortedBy node_cmp xs → IsStrictlySortedBy node_cmp ys → ((x : NodeId) → Contains xs x ↔ Contains ys x) → xs ≡ ys
   pub one_acceptance : AcceptanceIsUnique
   pub one_packing : (own : NodeId) (endpoint : EpId) (tlvs a b : List (List ℕ)) → IsPacking own endpoint tlvs a → IsPacking own endpoint tlvs b → a ≡ b
-  pub one_usable : (view : PlainView) (a b : List Delegated) → AreUsable view a → AreUsable view b → a ≡ b
+  pub one_usable : UsableIsUnique
   pub one_subroutine : (view : PlainView) (wishes : List Wish) (held : Held) (a b : Assigned) (stream : ℕ → ℕ) → IsSubroutine view wishes held a → IsSubroutine view wishes held b
       → Begins a.words stream → Begins b.words stream → a ≡ b
   pub pairs_total : IsTotalOrder pair_cmp

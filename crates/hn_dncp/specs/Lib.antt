@@ -5,3 +5,4 @@ pub mod Ask
 pub mod Hash
 pub mod Tick
 pub mod Packing
+pub mod Laws

@@ -1,13 +1,8 @@
 -- The laws of the crates below that the laws of the router stand on.
-use Rattle.std.proofs.Common.{◌≡◌, ℕ, List, Option, Some, subst}
+use Rattle.std.proofs.Common.{◌≡◌, ℕ, List, Some, subst}
 use Rattle.std.specs.Prelude.{All}
 use Rattle.std.proofs.lemmas.List.Elements.{All-contains}
-use Rattle.hn_base.specs.declared.ids.NodeId.{NodeId}
-use Rattle.hn_base.specs.declared.ids.EpId.{EpId}
-use Rattle.hn_dncp.specs.declared.peers.Neighbour.{Neighbour}
-use Rattle.hn_dncp.specs.Peers.{ArePeers}
-use Rattle.hn_dncp.specs.Greet.{met}
-use Rattle.hn_dncp.specs.Hash.{contacted}
+use Rattle.hn_dncp.specs.Laws.{MeetingKeepsPeers, ContactKeepsPeers}
 use Rattle.hn_graph.specs.Laws.{ReachabilityStays}
 use Rattle.hn_store.specs.Nodes.{held}
 use Rattle.hn_store.specs.Laws.{OwnStays, HeldIsOfAnEntry, NoNodesAreTable, AcceptanceKeepsTable, MarksKeepTable, ForgettingKeepsTable}
@@ -15,8 +10,8 @@ use Rattle.hn_store.specs.declared.stored.Stored.{Stored}
 use Rattle.hn_store.specs.declared.stored.HeldNode.{HeldNode}
 
 pub record KnownLaws : Type 0 where
-  pub peers_met : (peer : Neighbour) (peers : List Neighbour) → ArePeers peers → ArePeers (met peer peers)
-  pub peers_contacted : (sender : Option (NodeId × EpId)) (now : ℕ) (peers : List Neighbour) → ArePeers peers → ArePeers (contacted sender now peers)
+  pub peers_met : MeetingKeepsPeers
+  pub peers_contacted : ContactKeepsPeers
   pub held_of_entry : HeldIsOfAnEntry
   pub accepts : AcceptanceKeepsTable
   pub own : OwnStays

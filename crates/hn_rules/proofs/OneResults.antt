@@ -33,8 +33,8 @@ use Rattle.hn_dncp.specs.declared.peers.Neighbour.{Neighbour}
 use Rattle.hn_dncp.specs.declared.port.Port.{Port}
 use Rattle.hn_dncp.specs.Port.{begun}
 use Rattle.hn_dncp.specs.Hash.{asks_for_state}
-use Rattle.hn_dncp.specs.Packing.{IsPacking}
 use Rattle.hn_dncp.specs.Tick.{ticked, tick_sends}
+use Rattle.hn_dncp.specs.Laws.{PackingIsUnique}
 use Rattle.hn_store.specs.Nodes.{Nodes}
 use Rattle.hn_store.specs.Loss.{marked}
 use Rattle.hn_store.specs.Laws.{AcceptanceIsUnique}
@@ -79,7 +79,7 @@ pub record HasLaws : Type 0 where
   pub one_own : (a b : PlainData) → IsOwnData a → IsOwnData b → a.items ≡ b.items → a.born ≡ b.born → a ≡ b
   pub one_order : (xs ys : List NodeId) → IsStrictlySortedBy node_cmp xs → IsStrictlySortedBy node_cmp ys → ((x : NodeId) → Contains xs x ↔ Contains ys x) → xs ≡ ys
   pub one_acceptance : AcceptanceIsUnique
-  pub one_packing : (own : NodeId) (endpoint : EpId) (tlvs a b : List (List ℕ)) → IsPacking own endpoint tlvs a → IsPacking own endpoint tlvs b → a ≡ b
+  pub one_packing : PackingIsUnique
   pub one_usable : UsableIsUnique
   pub one_subroutine : (view : PlainView) (wishes : List Wish) (held : Held) (a b : Assigned) (stream : ℕ → ℕ) → IsSubroutine view wishes held a → IsSubroutine view wishes held b
       → Begins a.words stream → Begins b.words stream → a ≡ b

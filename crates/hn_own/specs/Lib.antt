@@ -3,3 +3,4 @@ pub mod OwnPrefixes
 pub mod HeldPairs
 pub mod Ports
 pub mod Own
+pub mod Laws

@@ -3,7 +3,8 @@ use Rattle.std.proofs.Common.{◌≡◌, ◌∙◌, ℕ, List, ap, sym}
 use Rattle.hn_base.specs.Caps.{PlainCaps, plain_caps}
 use Rattle.hn_base.specs.declared.caps.Caps.{Caps}
 use Rattle.hn_own.specs.HeldPairs.{published_in}
-use Rattle.hn_own.specs.Own.{PlainData, IsOwnData, links_of}
+use Rattle.hn_own.specs.Own.{links_of}
+use Rattle.hn_own.specs.Laws.{OwnDataIsUnique}
 use Rattle.hn_rules.specs.Refresh.{own_items, network_state_hash}
 use Rattle.hn_router.specs.Laws.{NewIsUnique}
 use Rattle.hn_base.proofs.Fields.{same_caps}
@@ -12,11 +13,7 @@ one_caps : (a b : Caps) → plain_caps a ≡ plain_caps b → a ≡ b
 one_caps a b same =
     same_caps a b (ap (λ (c : PlainCaps). c.m) same) (ap (λ (c : PlainCaps). c.p) same) (ap (λ (c : PlainCaps). c.h) same) (ap (λ (c : PlainCaps). c.l) same)
 
--- what a law says of own node data
-abbrev pub OneOwn : Type 0
-OneOwn = (a b : PlainData) → IsOwnData a → IsOwnData b → a.items ≡ b.items → a.born ≡ b.born → a ≡ b
-
-pub one_new : OneOwn → NewIsUnique
+pub one_new : OwnDataIsUnique → NewIsUnique
 one_new one_own id now a b h k =
     let caps : a.caps ≡ b.caps = one_caps a.caps b.caps (h.caps_are ∙ sym k.caps_are) in
     let ports : a.ports ≡ b.ports = h.ports_are ∙ sym k.ports_are in

@@ -46,8 +46,9 @@ use Rattle.hn_rules.specs.declared.running.Running.{Running}
 use Rattle.hn_rules.specs.declared.running.Origin.{Origin}
 use Rattle.hn_rules.specs.declared.done.Note.TheVariants as note
 use Rattle.hn_rules.specs.declared.answers.Subject.TheVariants as subject
-use Rattle.hn_own.specs.Own.{PlainData, IsOwnData}
+use Rattle.hn_own.specs.Own.{PlainData}
 use Rattle.hn_own.specs.Ports.{endpoints_of, port_at, attached}
+use Rattle.hn_own.specs.Laws.{OwnDataIsUnique}
 use Rattle.hn_rules.specs.Nodes.{IsReach, own_leaf}
 use Rattle.hn_base.specs.Rules.{Then, Each}
 use Rattle.hn_rules.specs.Rules.{Rule, AtPort, with_words, with_port, noted, IsSole, words_of}
@@ -76,7 +77,7 @@ pub record HasLaws : Type 0 where
   pub one_item : ItemIsUnique
   pub no_item : ItemHasNoFault
   pub one_fault : ItemFaultIsUnique
-  pub one_own : (a b : PlainData) → IsOwnData a → IsOwnData b → a.items ≡ b.items → a.born ≡ b.born → a ≡ b
+  pub one_own : OwnDataIsUnique
   pub one_order : (xs ys : List NodeId) → IsStrictlySortedBy node_cmp xs → IsStrictlySortedBy node_cmp ys → ((x : NodeId) → Contains xs x ↔ Contains ys x) → xs ≡ ys
   pub one_acceptance : AcceptanceIsUnique
   pub one_packing : PackingIsUnique

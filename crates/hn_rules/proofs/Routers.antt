@@ -4,6 +4,7 @@ use Rattle.hn_base.specs.declared.caps.Caps.{Caps}
 use Rattle.hn_base.specs.declared.ids.EpId.{EpId}
 use Rattle.hn_base.specs.Prefix.{PlainPrefix}
 use Rattle.hn_tlv.specs.Grammar.{PlainTlv}
+use Rattle.hn_own.specs.Laws.{AddingKeepsOwnPrefixes, LeavingKeepsOwnPrefixes}
 use Rattle.hn_store.specs.Laws.{NoNodesAreTable}
 use Rattle.hn_rules.specs.declared.running.Running.{Running}
 use Rattle.hn_rules.specs.declared.running.Origin.{Origin}
@@ -21,7 +22,7 @@ use Rattle.hn_rules.proofs.Forgetting.{refreshed_forgetting}
 use Rattle.hn_rules.proofs.Known.{KnownLaws}
 use Rattle.hn_rules.proofs.Parts.{made_from, well_from, made-later}
 use Rattle.hn_rules.proofs.Refreshes.{IsDone, done_refresh, keeps_done_ticks, refreshed-later}
-use Rattle.hn_rules.proofs.Wells.{Keeps, Made, StayAdded, StaySome, keeps_plain, keeps_each, keeps_tlv, keeps_expiry, made_forgetting, made_delegating, made_withdrawing, made_ending, keeps_attaching, made_detaching, made_caps, keeps_restarting}
+use Rattle.hn_rules.proofs.Wells.{Keeps, Made, keeps_plain, keeps_each, keeps_tlv, keeps_expiry, made_forgetting, made_delegating, made_withdrawing, made_ending, keeps_attaching, made_detaching, made_caps, keeps_restarting}
 
 -- ---- a router, and its facts by their parts
 
@@ -82,14 +83,14 @@ ports_keep = keeps_router IsPortsTick keeps_done_ticks
 pub expiry_keeps : KeepsWell IsExpiry
 expiry_keeps = keeps_well IsExpiry keeps_expiry
 
-pub ending_keeps : StaySome → KeepsWell (λ b a. a ≡ ending b)
+pub ending_keeps : LeavingKeepsOwnPrefixes → KeepsWell (λ b a. a ≡ ending b)
 ending_keeps some = keeps_well (λ b a. a ≡ ending b) (keeps_plain Made ending (made_ending some))
 
-pub delegating_keeps : StayAdded → DelegatingKeeps
+pub delegating_keeps : AddingKeepsOwnPrefixes → DelegatingKeeps
 delegating_keeps added prefix valid preferred before may well =
     well_from (delegating prefix valid preferred before).state (made_delegating added prefix valid preferred before may (made_from before.state well))
 
-pub withdrawing_keeps : StaySome → (prefix : PlainPrefix) → KeepsWell (λ b a. a ≡ withdrawing prefix b)
+pub withdrawing_keeps : LeavingKeepsOwnPrefixes → (prefix : PlainPrefix) → KeepsWell (λ b a. a ≡ withdrawing prefix b)
 withdrawing_keeps some prefix = keeps_well (λ b a. a ≡ withdrawing prefix b) (keeps_plain Made (withdrawing prefix) (made_withdrawing some prefix))
 
 pub attaching_keeps : AttachingKeeps

@@ -1,5 +1,5 @@
 -- What each rule keeps of a router.
-use Rattle.std.proofs.Common.{◌≡◌, ◌<◌, ◌+◌, ◌%◌, ◌^◌, ℕ, Bool, true, false, not, cond, List, [], ◌∷◌, filter, Option, Some, None, inl, inr, refl, sym, subst, arith}
+use Rattle.std.proofs.Common.{◌≡◌, ◌<◌, ◌+◌, ◌%◌, ◌^◌, ℕ, Bool, true, false, not, cond, List, [], ◌∷◌, Option, Some, None, inl, inr, refl, sym, subst, arith}
 use Rattle.std.specs.Prelude.{length, is_some, ◌==◌}
 use Rattle.std.specs.Str.{bytes_eq}
 use Rattle.std.proofs.lemmas.Bool.{cond_both, or_parts}
@@ -35,6 +35,7 @@ use Rattle.hn_rules.specs.Answers.{with_answer}
 use Rattle.hn_own.specs.Ports.{port_at, endpoints_of}
 use Rattle.hn_own.specs.Lifetimes.{has_ended}
 use Rattle.hn_own.specs.OwnPrefixes.{AreOwnPrefixes, is_prefix, may_delegate, delegated_with, delegated_without, delegated_after, own_prefix}
+use Rattle.hn_own.specs.Laws.{AddingKeepsOwnPrefixes, LeavingKeepsOwnPrefixes}
 use Rattle.hn_own.specs.declared.own_prefixes.OwnPrefix.{OwnPrefix}
 use Rattle.hn_base.specs.Rules.{Then, Each, OnSome}
 use Rattle.hn_rules.specs.Rules.{Rule, AtPort, noted, with_port, with_words}
@@ -278,23 +279,16 @@ keeps_ports_tick r a h made = keeps_each Made (λ at. AtPort at IsPortTick) (λ 
 made_delegated : (r : Running) (list : List OwnPrefix) → AreOwnPrefixes list → Made r → Made (record r { state = record r.state { delegated = list } })
 made_delegated r list are made = record { ports = made.ports; table = made.table; own = made.own; delegated = are; held = made.held }
 
--- what a law says of own delegated prefixes, when one is added and when only some stay
-abbrev pub StayAdded : Type 0
-StayAdded = (own : OwnPrefix) (list : List OwnPrefix) → may_delegate own.prefix list ≡ true → AreOwnPrefixes list → AreOwnPrefixes (delegated_with own list)
-
-abbrev pub StaySome : Type 0
-StaySome = (stays : OwnPrefix → Bool) (list : List OwnPrefix) → AreOwnPrefixes list → AreOwnPrefixes (filter stays list)
-
-pub made_delegating : StayAdded → (prefix : PlainPrefix) (valid preferred : ℕ) (r : Running) → may_delegate prefix r.state.delegated ≡ true → Made r → Made (delegating prefix valid preferred r)
+pub made_delegating : AddingKeepsOwnPrefixes → (prefix : PlainPrefix) (valid preferred : ℕ) (r : Running) → may_delegate prefix r.state.delegated ≡ true → Made r → Made (delegating prefix valid preferred r)
 made_delegating added prefix valid preferred r may made =
     let own = own_prefix r.state.moment prefix valid preferred in
     made_delegated r (delegated_with own r.state.delegated) (added own r.state.delegated may made.delegated) made
 
-pub made_withdrawing : StaySome → (prefix : PlainPrefix) (r : Running) → Made r → Made (withdrawing prefix r)
+pub made_withdrawing : LeavingKeepsOwnPrefixes → (prefix : PlainPrefix) (r : Running) → Made r → Made (withdrawing prefix r)
 made_withdrawing some prefix r made =
     made_delegated r (delegated_without prefix r.state.delegated) (some (λ (p : OwnPrefix). not (is_prefix prefix p)) r.state.delegated made.delegated) made
 
-pub made_ending : StaySome → (r : Running) → Made r → Made (ending r)
+pub made_ending : LeavingKeepsOwnPrefixes → (r : Running) → Made r → Made (ending r)
 made_ending some r made =
     made_delegated r (delegated_after r.state.moment r.state.delegated) (some (λ (p : OwnPrefix). not (has_ended r.state.moment p.valid_until)) r.state.delegated made.delegated) made
 

@@ -2,6 +2,7 @@
 use Rattle.std.proofs.Common.{ℕ, List, [], ◌∷◌, ◌++◌, Option, refl, sym, subst}
 use Rattle.hn_data.specs.View.{PlainView}
 use Rattle.hn_base.specs.Words.{Took}
+use Rattle.hn_io.specs.Laws.{WordsJoin}
 use Rattle.hn_assign.specs.declared.assigned.Wish.{Wish}
 use Rattle.hn_assign.specs.declared.held.Ran.{Ran}
 use Rattle.hn_assign.specs.Step.{IsStep, StepTook}
@@ -11,10 +12,6 @@ use Rattle.hn_assign.specs.Subroutine.{AreSteps}
 pub steps_more : (view : PlainView) (wishes : List Wish) (wish : Wish) (words : List ℕ) (before between after : Ran) → AreSteps view wishes before between → IsStep view wish words between after → AreSteps view (wishes ++ wish ∷ []) before after
 steps_more view [] wish words before between after same step = (after, words, subst (λ (r : Ran). IsStep view wish words r after) same step, refl)
 steps_more view (w ∷ wishes) wish words before between after steps step = (steps.0, steps.1, steps.2, steps_more view wishes wish words steps.0 between after steps.3 step)
-
--- the law that two calls take the words of the first and then those of the second
-abbrev pub WordsJoin : Type 0
-WordsJoin = (told between told_after : Option (ℕ → ℕ)) (first second : List ℕ) → Took told first between → Took between second told_after → Took told (first ++ second) told_after
 
 -- and its words
 pub took_more : WordsJoin → (view : PlainView) (wish : Wish) (told told_between told_after : Option (ℕ → ℕ)) (between after : Ran) → Took told between.words told_between → StepTook view wish told_between told_after between after

@@ -3,6 +3,7 @@ pub mod Best
 pub mod Facts
 pub mod Fixed
 pub mod Gathered
+pub mod Laws
 pub mod Lines
 pub mod Marks
 pub mod Pair

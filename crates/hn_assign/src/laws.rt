@@ -2,10 +2,9 @@
 //!
 //! Each is the contract of a function that does nothing: call it to know its law.
 
-ghost use Rattle.std.specs.Prelude.{◌≡◌, ◌≤◌, ◌↔◌, ℕ, List, [], Option, Some, All};
+ghost use Rattle.std.specs.Prelude.{List, All};
 ghost use Rattle.std.specs.Cmp.{IsTotalOrder};
 ghost use Rattle.hn_base.specs.Ascending.{IsExact};
-ghost use Rattle.hn_base.specs.Words.{Begins};
 ghost use Rattle.hn_data.specs.View.{PlainView};
 ghost use Rattle.hn_assign.specs.declared.assigned.Advertised.{Advertised};
 ghost use Rattle.hn_assign.specs.declared.assigned.Assigned.{Assigned};
@@ -13,12 +12,10 @@ ghost use Rattle.hn_assign.specs.declared.assigned.Wish.{Wish};
 ghost use Rattle.hn_assign.specs.declared.held.Held.{Held};
 ghost use Rattle.hn_assign.specs.declared.held.Ran.{Ran};
 ghost use Rattle.hn_assign.specs.declared.slot.Slot.{Slot};
-ghost use Rattle.hn_assign.specs.Facts.{IsInDelegated, IsPast, HasOwnPriority};
-ghost use Rattle.hn_assign.specs.Fixed.{IsUnchanged, AreDue, AreAtRest, IsDueRun};
-ghost use Rattle.hn_assign.specs.Gathered.{AreAdvertised};
+ghost use Rattle.hn_assign.specs.Laws.{BestIsUnique, SubroutineKeepsInside, SubroutineKeepsPast, SubroutineKeepsPriority, AssignedAscend, BackoffsAscend, AssignedAreWished, SubroutineHasOneResult, RestIsUnchanged, RestHasADueRun};
 ghost use Rattle.hn_assign.specs.Lines.{IsKept, IsAdopted, IsKeptAhead, IsYielded, IsReplaced};
-ghost use Rattle.hn_assign.specs.Pair.{IsAscending, IsWished, assigned_pair, backoff_pair, pair_cmp, wish_pair};
-ghost use Rattle.hn_assign.specs.Scene.{PlainScene, IsBestFor};
+ghost use Rattle.hn_assign.specs.Pair.{IsWished, backoff_pair, pair_cmp};
+ghost use Rattle.hn_assign.specs.Scene.{PlainScene};
 ghost use Rattle.hn_assign.specs.Subroutine.{IsSubroutine};
 
 /// The order of pairs is total, and only a pair itself is equal to it by this order.
@@ -30,7 +27,7 @@ pub fn pairs_are_ordered()
 /// At most one line of the table applies to a pair: its best prefix is one, and the lines that are for the same best
 /// prefix and assignment exclude each other.
 pub fn lines_exclude_each_other()
-    ensures best { (at : PlainScene) (x y : Option Advertised) → IsBestFor at x → IsBestFor at y → x ≡ y }
+    ensures best { BestIsUnique }
     ensures alone { (at : PlainScene) (c : Assigned) (before x y : Slot) → IsKept at c before x → ¬ (IsAdopted at c before y) }
     ensures yielded { (at : PlainScene) (best : Advertised) (c : Assigned) (before x y : Slot)
         → IsKeptAhead at best c before x → ¬ (IsYielded at best c before y) }
@@ -43,32 +40,24 @@ pub fn lines_exclude_each_other()
 /// What the subroutine keeps of each assignment: its prefix is inside its delegated prefix; it was made at the moment
 /// of the view or before; where it is published, its priority is 2.
 pub fn subroutine_keeps()
-    ensures inside { (view : PlainView) (wishes : List Wish) (held : Held) (ran : Ran) → IsSubroutine view wishes held ran
-        → All IsInDelegated held.assigned → All IsInDelegated ran.held.assigned }
-    ensures past { (view : PlainView) (wishes : List Wish) (held : Held) (ran : Ran) → IsSubroutine view wishes held ran
-        → All (IsPast view.now) held.assigned → All (IsPast view.now) ran.held.assigned }
-    ensures priority { (view : PlainView) (wishes : List Wish) (held : Held) (ran : Ran) → IsSubroutine view wishes held ran
-        → All HasOwnPriority held.assigned → All HasOwnPriority ran.held.assigned }
+    ensures inside { SubroutineKeepsInside }
+    ensures past { SubroutineKeepsPast }
+    ensures priority { SubroutineKeepsPriority }
 {}
 
 /// What the subroutine leaves: both lists strictly ascend by delegated prefix and endpoint, and have nothing for a pair
 /// without a wish.
 pub fn subroutine_leaves()
-    ensures assigned { (view : PlainView) (wishes : List Wish) (held : Held) (ran : Ran) → IsSubroutine view wishes held ran
-        → IsAscending assigned_pair ran.held.assigned }
-    ensures backoffs { (view : PlainView) (wishes : List Wish) (held : Held) (ran : Ran) → IsSubroutine view wishes held ran
-        → IsAscending backoff_pair ran.held.backoffs }
-    ensures wished { (view : PlainView) (wishes : List Wish) (held : Held) (ran : Ran) → IsSubroutine view wishes held ran
-        → All (λ c. IsWished wishes (assigned_pair c)) ran.held.assigned }
+    ensures assigned { AssignedAscend }
+    ensures backoffs { BackoffsAscend }
+    ensures wished { AssignedAreWished }
     ensures awaited { (view : PlainView) (wishes : List Wish) (held : Held) (ran : Ran) → IsSubroutine view wishes held ran
         → All (λ b. IsWished wishes (backoff_pair b)) ran.held.backoffs }
 {}
 
 /// The subroutine has at most one result: that of one view, wishes, held and stream of words.
 pub fn subroutine_has_one_result()
-    ensures { (view : PlainView) (wishes : List Wish) (held : Held) (a b : Ran) (stream : ℕ → ℕ)
-        → IsSubroutine view wishes held a → IsSubroutine view wishes held b
-        → Begins a.words stream → Begins b.words stream → a ≡ b }
+    ensures { SubroutineHasOneResult }
 {}
 
 /// The subroutine leaves all assignments as they are, marks of application aside, if and only if each pair is at rest.
@@ -76,22 +65,11 @@ pub fn subroutine_has_one_result()
 /// So it is where all assignments are of wished pairs, and the backoffs are those of the wished pairs without an
 /// assignment, due at the moment of the view; whatever the words are.
 pub fn rest_is_unchanged()
-    ensures { (view : PlainView) (wishes : List Wish) (held : Held) (ran : Ran) (advertised : List Advertised)
-        → IsAscending wish_pair wishes → IsAscending assigned_pair held.assigned
-        → All (λ c. IsWished wishes (assigned_pair c)) held.assigned
-        → AreDue wishes view.now held
-        → AreAdvertised view held.assigned advertised
-        → IsSubroutine view wishes held ran
-        → IsUnchanged held.assigned ran.held.assigned ↔ AreAtRest advertised view.own wishes held.assigned }
+    ensures { RestIsUnchanged }
 {}
 
 /// Where all assignments are of wished pairs and each pair is at rest, the subroutine comes to a result with each backoff
 /// due. It takes no random word, and leaves all assignments as they are, marks of application aside.
 pub fn rest_has_a_run()
-    ensures { (view : PlainView) (wishes : List Wish) (assigned : List Assigned) (advertised : List Advertised)
-        → IsAscending wish_pair wishes → IsAscending assigned_pair assigned
-        → All (λ c. IsWished wishes (assigned_pair c)) assigned
-        → AreAdvertised view assigned advertised
-        → AreAtRest advertised view.own wishes assigned
-        → (ran : Ran) × IsDueRun view wishes assigned ran × IsUnchanged assigned ran.held.assigned × (ran.words ≡ []) }
+    ensures { RestHasADueRun }
 {}

@@ -10,18 +10,17 @@ use Rattle.hn_base.proofs.Ats.{has_one, has_some}
 use Rattle.hn_base.specs.Ascending.{IsExact, HasAt}
 use Rattle.hn_base.specs.declared.ids.EpId.{EpId}
 use Rattle.hn_base.proofs.Elements.{all_of}
-use Rattle.hn_data.specs.View.{PlainView}
 use Rattle.hn_assign.specs.declared.assigned.Advertised.{Advertised}
 use Rattle.hn_assign.specs.declared.assigned.Assigned.{Assigned}
 use Rattle.hn_assign.specs.declared.assigned.Wish.{Wish}
 use Rattle.hn_assign.specs.declared.held.Held.{Held}
 use Rattle.hn_assign.specs.declared.held.Ran.{Ran}
 use Rattle.hn_assign.specs.declared.pair.Pair.{Pair}
-use Rattle.hn_assign.specs.Fixed.{AreAtRest, AreDue, IsUnchanged, unmarked}
+use Rattle.hn_assign.specs.Fixed.{AreAtRest, IsUnchanged, unmarked}
 use Rattle.hn_assign.specs.Gathered.{AreAdvertised}
-use Rattle.hn_assign.specs.Pair.{IsAscending, IsWished, assigned_pair, pair_cmp, wish_pair}
+use Rattle.hn_assign.specs.Pair.{IsWished, assigned_pair, pair_cmp, wish_pair}
 use Rattle.hn_assign.specs.Rest.{IsAtRest}
-use Rattle.hn_assign.specs.Subroutine.{IsSubroutine}
+use Rattle.hn_assign.specs.Laws.{AssignedAreWished, RestIsUnchanged}
 use Rattle.hn_deleg.specs.declared.delegated.Delegated.{Delegated}
 use Rattle.hn_deleg.specs.Used.{AreUsable, IsUnwanted, prefixes_of}
 use Rattle.hn_deleg.specs.Laws.{UsableIsUnique}
@@ -37,23 +36,12 @@ use Rattle.hn_audit.specs.Resting.{RestsWhereListed}
 use Rattle.hn_audit.proofs.BridgeUsed.{delegated_at, from_unwanted, is_unwanted, place_of, to_unwanted}
 use Rattle.hn_audit.proofs.Restings.{one_wish}
 
--- ---- laws of the crates below
-
--- rest is where the subroutine changes nothing
-abbrev pub RestIsUnchanged : Type 0
-RestIsUnchanged = (view : PlainView) (wishes : List Wish) (held : Held) (ran : Ran) (advertised : List Advertised)
-    → IsAscending wish_pair wishes → IsAscending assigned_pair held.assigned → All (λ c. IsWished wishes (assigned_pair c)) held.assigned → AreDue wishes view.now held
-    → AreAdvertised view held.assigned advertised → IsSubroutine view wishes held ran → IsUnchanged held.assigned ran.held.assigned ↔ AreAtRest advertised view.own wishes held.assigned
-
--- it leaves assignments of wished pairs alone
-abbrev pub LeavesWished : Type 0
-LeavesWished = (view : PlainView) (wishes : List Wish) (held : Held) (ran : Ran) → IsSubroutine view wishes held ran → All (λ c. IsWished wishes (assigned_pair c)) ran.held.assigned
-
+-- the laws of the crates below on which it rests
 pub record FixedLaws : Type 0 where
   pub one_list : UsableIsUnique
   pub one_link : CommonLinkIsUnique
   pub rest : RestIsUnchanged
-  pub wished : LeavesWished
+  pub wished : AssignedAreWished
   pub pairs_total : IsTotalOrder pair_cmp
   pub pairs_exact : IsExact pair_cmp
 

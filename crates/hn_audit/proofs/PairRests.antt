@@ -3,12 +3,9 @@ use Rattle.std.proofs.Common.{◌≡◌, ◌↔◌, ℕ, Bool, IsTrue, IsSome, i
 use Rattle.hn_assign.specs.declared.assigned.Advertised.{Advertised}
 use Rattle.hn_assign.specs.declared.assigned.Assigned.{Assigned}
 use Rattle.hn_assign.specs.Scene.{PlainScene, IsBestFor}
+use Rattle.hn_assign.specs.Laws.{BestIsUnique}
 use Rattle.hn_audit.specs.Rest.{HasNothingToDo, IsAheadFor, StaysAlone, StaysAs, StaysBeside, RestsWith}
 use Rattle.std.proofs.lemmas.Option.{same_Some}
-
--- the best prefix is one
-abbrev pub IsOneBest : Type 0
-IsOneBest = (at : PlainScene) (x y : Option Advertised) → IsBestFor at x → IsBestFor at y → x ≡ y
 
 -- ---- without an assignment
 
@@ -40,14 +37,14 @@ alone at c answer none said = (
 
 -- ---- with a best prefix
 
-one_best : IsOneBest → (at : PlainScene) (x y : Advertised) → IsBestFor at (Some x) → IsBestFor at (Some y) → x ≡ y
+one_best : BestIsUnique → (at : PlainScene) (x y : Advertised) → IsBestFor at (Some x) → IsBestFor at (Some y) → x ≡ y
 one_best once at x y is_x is_y = same_Some x y (once at (Some x) (Some y) is_x is_y)
 
 rests : (at : PlainScene) (c : Assigned) (best : Advertised) (o : Option ℕ) → IsBestFor at (Some best) → c.published ≡ o → StaysAs at c best o → RestsWith at (Some c)
 rests at c best (Some p) is o_is h = inr (inl (record { best = best; is_best = is; priority = p; published = o_is; above = h.0; valid = h.1 }))
 rests at c best None is o_is h = inr (inr (record { best = best; is_best = is; unpublished = o_is; same = h }))
 
-stays_so : IsOneBest → (at : PlainScene) (c : Assigned) (best : Advertised) → IsBestFor at (Some best) → RestsWith at (Some c) → StaysBeside at c best
+stays_so : BestIsUnique → (at : PlainScene) (c : Assigned) (best : Advertised) → IsBestFor at (Some best) → RestsWith at (Some c) → StaysBeside at c best
 stays_so once at c best is (inl h) = absurd (h.no_best best is.candidate)
 stays_so once at c best is (inr (inl h)) =
     let same : h.best ≡ best = one_best once at h.best best h.is_best is in
@@ -58,5 +55,5 @@ stays_so once at c best is (inr (inr h)) =
     let prefix : c.prefix ≡ best.prefix = subst (λ (b : Advertised). c.prefix ≡ b.prefix) same h.same in
     subst (λ (o : Option ℕ). StaysAs at c best o) (sym h.unpublished) prefix
 
-pub beside : IsOneBest → (at : PlainScene) (c : Assigned) (best : Advertised) (answer : Bool) → IsBestFor at (Some best) → IsTrue answer ↔ StaysBeside at c best → IsTrue answer ↔ RestsWith at (Some c)
+pub beside : BestIsUnique → (at : PlainScene) (c : Assigned) (best : Advertised) (answer : Bool) → IsBestFor at (Some best) → IsTrue answer ↔ StaysBeside at c best → IsTrue answer ↔ RestsWith at (Some c)
 beside once at c best answer is said = (λ yes. rests at c best c.published is refl (said.0 yes), λ rest. said.1 (stays_so once at c best is rest))

@@ -1,5 +1,5 @@
 -- A router at rest has a list of wishes, and on them the assignment subroutine comes to something.
-use Rattle.std.proofs.Common.{◌≡◌, ◌∙◌, ◌↔◌, ◌<◌, ◌≤◌, ℕ, zero, suc, List, [], ◌∷◌, ◌++◌, Some, All, Contains, Ordering, length, get_or, map, inl, inr, sym, ap, subst, arith}
+use Rattle.std.proofs.Common.{◌≡◌, ◌∙◌, ◌↔◌, ◌<◌, ◌≤◌, ℕ, zero, suc, List, [], ◌∷◌, ◌++◌, Some, Contains, Ordering, length, get_or, map, inl, inr, sym, ap, subst, arith}
 use Rattle.std.specs.declared.cmp.Ordering.TheVariants.{Less, Equal}
 use Rattle.std.specs.List.{slice_get}
 use Rattle.std.specs.List.Sorted.{IsStrictlySortedBy}
@@ -15,14 +15,10 @@ use Rattle.hn_base.proofs.Elements.{all_of}
 use Rattle.hn_base.proofs.Keys.{id_is_found, found_is_id}
 use Rattle.hn_base.specs.Prefix.{PlainPrefix, prefix_cmp}
 use Rattle.hn_data.specs.View.{PlainView}
-use Rattle.hn_assign.specs.declared.assigned.Advertised.{Advertised}
-use Rattle.hn_assign.specs.declared.assigned.Assigned.{Assigned}
 use Rattle.hn_assign.specs.declared.assigned.Wish.{Wish}
-use Rattle.hn_assign.specs.declared.held.Ran.{Ran}
 use Rattle.hn_assign.specs.Facts.{IsFitting}
-use Rattle.hn_assign.specs.Fixed.{AreAtRest, IsDueRun, IsUnchanged}
-use Rattle.hn_assign.specs.Gathered.{AreAdvertised}
-use Rattle.hn_assign.specs.Pair.{IsAscending, IsWished, assigned_pair, pair_cmp, wish_pair}
+use Rattle.hn_assign.specs.Pair.{IsAscending, pair_cmp, wish_pair}
+use Rattle.hn_assign.specs.Laws.{RestHasADueRun}
 use Rattle.hn_deleg.specs.declared.delegated.Delegated.{Delegated}
 use Rattle.hn_deleg.specs.Used.{IsOutermost, prefixes_of}
 use Rattle.hn_dncp.specs.declared.port.Port.{Port}
@@ -39,15 +35,6 @@ use Rattle.hn_audit.proofs.BridgeUsed.{at_prefix}
 use Rattle.hn_audit.proofs.FixedPoints.{FixedLaws, are_at_rest, wished_at_rest}
 use Rattle.hn_audit.proofs.Restings.{one_wish}
 use Rattle.hn_audit.proofs.BridgeOrders.{sorted_cons, sorted_none}
-
--- ---- a law of hn_assign
-
--- on a router at rest the subroutine comes to something, which takes no word and changes nothing
-abbrev pub HasRunAtRest : Type 0
-HasRunAtRest = (view : PlainView) (wishes : List Wish) (assigned : List Assigned) (advertised : List Advertised)
-    → IsAscending wish_pair wishes → IsAscending assigned_pair assigned → All (λ c. IsWished wishes (assigned_pair c)) assigned
-    → AreAdvertised view assigned advertised → AreAtRest advertised view.own wishes assigned
-    → (ran : Ran) × IsDueRun view wishes assigned ran × IsUnchanged assigned ran.held.assigned × (ran.words ≡ [])
 
 -- ---- ascending lists
 
@@ -228,7 +215,7 @@ module _ (laws : FixedLaws) (s : State) (router : IsRouter s) (rest : IsRouterAt
       )
 
 -- the subroutine comes to something on it
-pub rest_has_a_run : FixedLaws → HasRunAtRest → RestHasARun
+pub rest_has_a_run : FixedLaws → RestHasADueRun → RestHasARun
 rest_has_a_run laws has_run s router rest =
     let wishes = has_wishes laws s router rest in
     let found =

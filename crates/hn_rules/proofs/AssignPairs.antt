@@ -17,6 +17,7 @@ use Rattle.hn_assign.specs.declared.held.Ran.{Ran}
 use Rattle.hn_assign.specs.Facts.{AreWishes, IsInDelegated, HasOwnPriority}
 use Rattle.hn_assign.specs.Pair.{assigned_pair, backoff_pair, pair_cmp, IsAscending, IsWished}
 use Rattle.hn_assign.specs.Subroutine.{IsSubroutine}
+use Rattle.hn_assign.specs.Laws.{AssignedAreWished}
 use Rattle.hn_own.specs.HeldPairs.{AreHeldPairs}
 use Rattle.hn_own.specs.Ports.{ArePorts, endpoints_of}
 use Rattle.hn_rules.specs.declared.state.State.{State}
@@ -42,10 +43,6 @@ are_asked view usable ports endpoints wishes are same exact = record {
 
 -- ---- what the subroutine makes
 
--- each assignment that it leaves is of a wished pair
-abbrev LeavesWished : Type 0
-LeavesWished = (view : PlainView) (wishes : List Wish) (held : Held) (ran : Ran) → IsSubroutine view wishes held ran → All (λ c. IsWished wishes (assigned_pair c)) ran.held.assigned
-
 pub assigned_of : (s : State) (view : PlainView) (usable : List Delegated) (wishes : List Wish) (held : Held) (r : Result Ran NoMemory) → view ≡ seen_by s → held ≡ s.held
     → AreUsable (seen_by s) usable → AreAsked (seen_by s) usable s.ports wishes → IfOk r (IsSubroutine view wishes held) → IfOk r (IsAssigned s)
 assigned_of s view usable wishes held (Err e) same_view same_held are asked run = tt
@@ -57,7 +54,7 @@ assigned_of s view usable wishes held (Ok ran) same_view same_held are asked run
   is_subroutine = subst (λ (h : Held). IsSubroutine (seen_by s) wishes h ran) same_held (subst (λ (v : PlainView). IsSubroutine v wishes held ran) same_view run);
 }
 
-pub kept_of : IsTotalOrder pair_cmp → IsExact pair_cmp → LeavesWished → (s : State) (r : Result Ran NoMemory) → ArePorts s.ports → IfOk r (IsAssigned s)
+pub kept_of : IsTotalOrder pair_cmp → IsExact pair_cmp → AssignedAreWished → (s : State) (r : Result Ran NoMemory) → ArePorts s.ports → IfOk r (IsAssigned s)
     → IfOk r (λ ran. IsAscending assigned_pair ran.held.assigned × IsAscending backoff_pair ran.held.backoffs)
     → IfOk r (λ ran. All IsInDelegated ran.held.assigned) → IfOk r (λ ran. All HasOwnPriority ran.held.assigned) → IfOk r (λ ran. AreHeldPairs ran.held)
 kept_of total exact leaves s (Err e) ports is up inside priority = tt

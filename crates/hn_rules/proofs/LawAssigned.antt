@@ -1,16 +1,11 @@
 -- Assignments and backoffs stay what a router holds when prefixes are assigned.
-use Rattle.std.proofs.Common.{List, sym, subst}
-use Rattle.std.specs.Prelude.{All}
+use Rattle.std.proofs.Common.{sym, subst}
 use Rattle.std.specs.Cmp.{IsTotalOrder}
 use Rattle.std.proofs.lemmas.List.Elements.{All-contains}
 use Rattle.hn_base.specs.Ascending.{IsExact}
-use Rattle.hn_data.specs.View.{PlainView}
-use Rattle.hn_assign.specs.declared.assigned.Wish.{Wish}
-use Rattle.hn_assign.specs.declared.held.Held.{Held}
 use Rattle.hn_assign.specs.declared.held.Ran.{Ran as Assigned}
-use Rattle.hn_assign.specs.Facts.{IsInDelegated, HasOwnPriority, IsPast}
-use Rattle.hn_assign.specs.Pair.{IsAscending, IsWished, assigned_pair, backoff_pair, pair_cmp}
-use Rattle.hn_assign.specs.Subroutine.{IsSubroutine}
+use Rattle.hn_assign.specs.Pair.{IsWished, assigned_pair, pair_cmp}
+use Rattle.hn_assign.specs.Laws.{SubroutineKeepsInside, SubroutineKeepsPast, SubroutineKeepsPriority, AssignedAscend, BackoffsAscend, AssignedAreWished}
 use Rattle.hn_own.specs.Ports.{ArePorts}
 use Rattle.hn_rules.specs.declared.state.State.{State}
 use Rattle.hn_rules.specs.Assigning.{IsAssigned}
@@ -22,12 +17,12 @@ use Rattle.hn_rules.proofs.Wells.{Made}
 
 -- the laws of the subroutine, and of the order of pairs, on which it rests
 pub record AssignLaws : Type 0 where
-  pub inside : (view : PlainView) (wishes : List Wish) (held : Held) (ran : Assigned) → IsSubroutine view wishes held ran → All IsInDelegated held.assigned → All IsInDelegated ran.held.assigned
-  pub past : (view : PlainView) (wishes : List Wish) (held : Held) (ran : Assigned) → IsSubroutine view wishes held ran → All (IsPast view.now) held.assigned → All (IsPast view.now) ran.held.assigned
-  pub priority : (view : PlainView) (wishes : List Wish) (held : Held) (ran : Assigned) → IsSubroutine view wishes held ran → All HasOwnPriority held.assigned → All HasOwnPriority ran.held.assigned
-  pub assigned : (view : PlainView) (wishes : List Wish) (held : Held) (ran : Assigned) → IsSubroutine view wishes held ran → IsAscending assigned_pair ran.held.assigned
-  pub backoffs : (view : PlainView) (wishes : List Wish) (held : Held) (ran : Assigned) → IsSubroutine view wishes held ran → IsAscending backoff_pair ran.held.backoffs
-  pub wished : (view : PlainView) (wishes : List Wish) (held : Held) (ran : Assigned) → IsSubroutine view wishes held ran → All (λ c. IsWished wishes (assigned_pair c)) ran.held.assigned
+  pub inside : SubroutineKeepsInside
+  pub past : SubroutineKeepsPast
+  pub priority : SubroutineKeepsPriority
+  pub assigned : AssignedAscend
+  pub backoffs : BackoffsAscend
+  pub wished : AssignedAreWished
   pub pairs_total : IsTotalOrder pair_cmp
   pub pairs_exact : IsExact pair_cmp
 

@@ -25,10 +25,10 @@ use Rattle.hn_data.specs.View.{PlainView}
 use Rattle.hn_deleg.specs.declared.delegated.Delegated.{Delegated}
 use Rattle.hn_deleg.specs.Laws.{UsableIsUnique}
 use Rattle.hn_assign.specs.declared.assigned.Wish.{Wish}
-use Rattle.hn_assign.specs.declared.held.Held.{Held}
 use Rattle.hn_assign.specs.declared.held.Ran.{Ran as Assigned}
 use Rattle.hn_assign.specs.Pair.{pair_cmp, wish_pair}
 use Rattle.hn_assign.specs.Subroutine.{IsSubroutine}
+use Rattle.hn_assign.specs.Laws.{SubroutineHasOneResult}
 use Rattle.hn_dncp.specs.declared.peers.Neighbour.{Neighbour}
 use Rattle.hn_dncp.specs.declared.port.Port.{Port}
 use Rattle.hn_dncp.specs.Port.{begun}
@@ -82,8 +82,7 @@ pub record HasLaws : Type 0 where
   pub one_acceptance : AcceptanceIsUnique
   pub one_packing : PackingIsUnique
   pub one_usable : UsableIsUnique
-  pub one_subroutine : (view : PlainView) (wishes : List Wish) (held : Held) (a b : Assigned) (stream : ℕ → ℕ) → IsSubroutine view wishes held a → IsSubroutine view wishes held b
-      → Begins a.words stream → Begins b.words stream → a ≡ b
+  pub one_subroutine : SubroutineHasOneResult
   pub pairs_total : IsTotalOrder pair_cmp
 
 -- the rule of an endpoint

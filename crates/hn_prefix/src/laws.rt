@@ -3,9 +3,8 @@
 
 ghost use Rattle.std.specs.Prelude.{◌≡◌, ℕ, ◌^◌, ◌<◌, List, length};
 ghost use Rattle.std.specs.List.{AllByRecursion};
-ghost use Rattle.hn_base.specs.Prefix.{PlainPrefix, IsPrefix};
 ghost use Rattle.hn_prefix.specs.AddressText.{groups, address_of, address_text_of, IsAddressText, IsWrittenForm};
-ghost use Rattle.hn_prefix.specs.PrefixText.{prefix_text_of, IsPrefixText};
+ghost use Rattle.hn_prefix.specs.Laws.{PrefixTextIsRead, PrefixTextIsOfOne};
 
 /// Eight groups of 16 bits and an address of 128 bits are one value.
 pub fn groups_are_the_address()
@@ -23,11 +22,11 @@ pub fn written_form_is_one()
 /// The written form is among the read forms.
 pub fn written_form_is_read()
     ensures address { (ip : ℕ) → ip < 2 ^ 128 → IsAddressText (address_text_of ip) ip }
-    ensures prefix { (p : PlainPrefix) → IsPrefix p → IsPrefixText (prefix_text_of p) p }
+    ensures prefix { PrefixTextIsRead }
 {}
 
 /// A text is a read form of one address, and of one prefix, at most.
 pub fn read_form_is_of_one()
     ensures address { (text : List ℕ) (one other : ℕ) → IsAddressText text one → IsAddressText text other → one ≡ other }
-    ensures prefix { (text : List ℕ) (one other : PlainPrefix) → IsPrefixText text one → IsPrefixText text other → one ≡ other }
+    ensures prefix { PrefixTextIsOfOne }
 {}

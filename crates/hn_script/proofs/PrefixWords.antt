@@ -1,19 +1,12 @@
 -- The texts of prefixes as words: they are hexadecimal digits, `:` and `/`.
-use Rattle.std.proofs.Common.{◌≡◌, ℕ, ◌<◌, ◌≤◌, List, [], ◌∷◌, ◌++◌, length, codes, inl, inr, subst, sym, arith, length-append}
+use Rattle.std.proofs.Common.{ℕ, ◌<◌, ◌≤◌, List, [], ◌∷◌, ◌++◌, length, codes, inl, inr, subst, sym, arith, length-append}
 use Rattle.hn_base.specs.Numeral.{IsShortNumeral}
 use Rattle.hn_base.proofs.Recursions.{AllByRecursion-append}
 use Rattle.hn_prefix.specs.AddressText.{IsGroups, IsGroupsText}
-use Rattle.hn_base.specs.Prefix.{PlainPrefix, IsPrefix}
-use Rattle.hn_prefix.specs.PrefixText.{IsPrefixText, prefix_text_of}
+use Rattle.hn_base.specs.Prefix.{PlainPrefix}
+use Rattle.hn_prefix.specs.PrefixText.{IsPrefixText}
 use Rattle.hn_script.proofs.HexTexts.{IsWord-digits}
 use Rattle.hn_script.proofs.WordBytes.{IsWordByte, IsWord}
-
--- what hn_prefix says of each text and prefix
-abbrev pub WritesOnePrefix : Type 0
-WritesOnePrefix = (text : List ℕ) (one other : PlainPrefix) → IsPrefixText text one → IsPrefixText text other → one ≡ other
-
-abbrev pub PrintsPrefixes : Type 0
-PrintsPrefixes = (p : PlainPrefix) → IsPrefix p → IsPrefixText (prefix_text_of p) p
 
 joined : (left right : List ℕ) → IsWord left → IsWord right → IsWord (left ++ right)
 joined left right h k = AllByRecursion-append IsWordByte left right h k

@@ -18,6 +18,7 @@ use Rattle.hn_base.proofs.NumeralLemmas.{decimal_is_short}
 use Rattle.hn_base.proofs.Recursions.{AllByRecursion-append}
 use Rattle.hn_base.proofs.SplitLemmas.{Lacks-from_fact}
 use Rattle.hn_prefix.specs.PrefixText.{prefix_text_of}
+use Rattle.hn_prefix.specs.Laws.{PrefixTextIsRead}
 use Rattle.hn_script.specs.Fault.{IsPlain}
 use Rattle.hn_script.specs.Field.{Field, Named, Node, Endpoint, Number, Prefixed, Capability, Way, Hex, IsField, IsInRange, IsNumberText, field_text, letter_text, way_text}
 use Rattle.hn_script.specs.Laws.{IsPrintable, renumbered, PrintedIsRead}
@@ -32,7 +33,7 @@ use Rattle.hn_base.specs.declared.version.Version.TheVariants.{One}
 use Rattle.hn_script.proofs.HexTexts.{printed_id, IsWord-digits, IsWord-hex}
 use Rattle.hn_script.proofs.LineWords.{first_letters}
 use Rattle.hn_script.proofs.Pieces.{words_last, words_cut, lines_none, lines_cut}
-use Rattle.hn_script.proofs.PrefixWords.{PrintsPrefixes, prefix_word, prefix_some}
+use Rattle.hn_script.proofs.PrefixWords.{prefix_word, prefix_some}
 use Rattle.hn_script.proofs.WordBytes.{IsWordByte, IsWord, IsWord-from_letters, IsPlain-word, Lacks-word, letters_some, letters_no_hash}
 
 -- ---- the word of each value
@@ -70,7 +71,7 @@ letter_word P = record { writes = refl; bytes = IsWord-from_letters (codes "P") 
 letter_word H = record { writes = refl; bytes = IsWord-from_letters (codes "H") refl; some = omega arith }
 letter_word L = record { writes = refl; bytes = IsWord-from_letters (codes "L") refl; some = omega arith }
 
-printed_word : PrintsPrefixes → (field : Field) → IsInRange field → IsWordOf field (field_text field)
+printed_word : PrefixTextIsRead → (field : Field) → IsInRange field → IsWordOf field (field_text field)
 printed_word print (Named name) h = record {
   writes = record { text = refl; room = h };
   bytes = name_bytes (name_text name) name.is_name.name_bytes;
@@ -106,12 +107,12 @@ printed_word print (Hex (byte ∷ bytes)) h =
 AreWords : List (List ℕ) → Type 0
 AreWords words = AllByRecursion (λ word. IsWord word × (0 < length word)) words
 
-printed_words : PrintsPrefixes → (fields : List Field) → AllByRecursion IsInRange fields → AreWords (map field_text fields)
+printed_words : PrefixTextIsRead → (fields : List Field) → AllByRecursion IsInRange fields → AreWords (map field_text fields)
 unfolding AreWords
 printed_words print [] h = tt
 printed_words print (field ∷ fields) h = let word = printed_word print field h.0 in ((word.bytes, word.some), printed_words print fields h.1)
 
-printed_fields : PrintsPrefixes → (fields : List Field) → AllByRecursion IsInRange fields → AllZip IsField fields (map field_text fields)
+printed_fields : PrefixTextIsRead → (fields : List Field) → AllByRecursion IsInRange fields → AllZip IsField fields (map field_text fields)
 printed_fields print [] h = tt
 printed_fields print (field ∷ fields) h = ((printed_word print field h.0).writes, printed_fields print fields h.1)
 
@@ -131,13 +132,13 @@ joined_plain word (next ∷ words) h =
 
 -- ---- lines
 
-line_words : PrintsPrefixes → (line : Line) → IsPrintable line → AreWords ((spelling line).first ∷ map field_text (spelling line).fields)
+line_words : PrefixTextIsRead → (line : Line) → IsPrintable line → AreWords ((spelling line).first ∷ map field_text (spelling line).fields)
 unfolding AreWords
 line_words print line h =
     let letters = first_letters line in
     ((IsWord-from_letters (spelling line).first letters, letters_some (spelling line).first letters), printed_words print (spelling line).fields h.in_range)
 
-printed_entry : PrintsPrefixes → (line : Line) → IsPrintable line → IsEntry (Some line) (line_text line)
+printed_entry : PrefixTextIsRead → (line : Line) → IsPrintable line → IsEntry (Some line) (line_text line)
 printed_entry print line h = record {
   short = h.short;
   plain = joined_plain (spelling line).first (map field_text (spelling line).fields) (line_words print line h);
@@ -155,7 +156,7 @@ texts_of lines = map (λ (line : ℕ × Line). line_text line.1) lines
 abbrev given : List (ℕ × Line) → List (Option Line)
 given lines = map (λ (line : ℕ × Line). Some line.1) lines
 
-given_entries : PrintsPrefixes → (lines : List (ℕ × Line)) → AllByRecursion (λ line. IsPrintable line.1) lines → AllZip IsEntry (given lines) (texts_of lines)
+given_entries : PrefixTextIsRead → (lines : List (ℕ × Line)) → AllByRecursion (λ line. IsPrintable line.1) lines → AllZip IsEntry (given lines) (texts_of lines)
 given_entries print [] h = tt
 given_entries print (line ∷ lines) h = (printed_entry print line.1 h.0, given_entries print lines h.1)
 
@@ -163,7 +164,7 @@ given_numbers : (n : ℕ) (lines : List (ℕ × Line)) → renumbered n lines �
 given_numbers n [] = refl
 given_numbers n (line ∷ lines) = ap (λ (found : List (ℕ × Line)). (n, line.1) ∷ found) (given_numbers (n + 1) lines)
 
-texts_lack : PrintsPrefixes → (lines : List (ℕ × Line)) → AllByRecursion (λ line. IsPrintable line.1) lines → AllByRecursion (Lacks 10) (texts_of lines)
+texts_lack : PrefixTextIsRead → (lines : List (ℕ × Line)) → AllByRecursion (λ line. IsPrintable line.1) lines → AllByRecursion (Lacks 10) (texts_of lines)
 texts_lack print [] h = tt
 texts_lack print (line ∷ lines) h = (plain_lacks (line_text line.1) (printed_entry print line.1 h.0).plain, texts_lack print lines h.1)
 
@@ -176,7 +177,7 @@ ended_lines (text ∷ texts) h =
 first_lacks : (version : Version) → Lacks 10 (first_line version)
 first_lacks One = plain_lacks (first_line One) ((omega arith, omega arith), ((omega arith, omega arith), ((omega arith, omega arith), ((omega arith, omega arith), ((omega arith, omega arith), ((omega arith, omega arith), tt))))))
 
-pub printed_script : PrintsPrefixes → PrintedIsRead
+pub printed_script : PrefixTextIsRead → PrintedIsRead
 printed_script print script h small = record {
   small = small;
   texts = texts_of script.lines;

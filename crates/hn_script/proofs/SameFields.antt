@@ -7,6 +7,7 @@ use Rattle.hex.proofs.HexLemmas.{decode_of-ok, decode_of-same}
 use Rattle.hn_base.proofs.NumeralLemmas.{same_number}
 use Rattle.hn_base.specs.declared.letter.Letter.{Letter}
 use Rattle.hn_base.specs.declared.letter.Letter.TheVariants.{M, P, H, L}
+use Rattle.hn_prefix.specs.Laws.{PrefixTextIsOfOne}
 use Rattle.hn_script.specs.Field.{Field, Named, Node, Endpoint, Number, Prefixed, Capability, Way, Hex, IsField, IsHexWord, letter_text, way_text}
 use Rattle.hn_script.specs.Line.{spelling, Spells}
 use Rattle.hn_script.specs.declared.line.How.{How}
@@ -15,7 +16,6 @@ use Rattle.hn_script.specs.declared.line.Line.{Line}
 use Rattle.hn_script.specs.declared.line.Line.TheVariants.{Router, Link, Attach, Detach, External, Withdraw, Caps, Stop, Start, Seed, Loss, Time, Tick, Run, Deliver, Drop, Flow, Inject, Show, Hash, Used, Prefixes, Elect, Advert, Audit, Compare, Mail}
 use Rattle.hn_script.proofs.Families.{Family, SameKind, without_range, same_text, same_text-refl}
 use Rattle.hn_script.proofs.LineWords.{router_lines, link_lines, attach_lines, detach_lines, external_lines, withdraw_lines, caps_lines, stop_lines, start_lines, seed_lines, loss_lines, time_lines, tick_lines, run_lines, deliver_lines, drop_lines, flow_lines, inject_lines, show_lines, hash_lines, used_lines, prefixes_lines, elect_lines, advert_lines, audit_lines, compare_lines, mail_lines}
-use Rattle.hn_script.proofs.PrefixWords.{WritesOnePrefix}
 use Rattle.hn_script.proofs.Values.{same_name}
 use Rattle.hn_base.proofs.Keys.{same_id, same_node}
 
@@ -56,7 +56,7 @@ same_bytes (c ∷ a) [] word h k = absurd (odd_dash (c ∷ a) (subst (λ w. deco
 same_bytes (c ∷ a) (d ∷ b) word h k = decode_of-same word (c ∷ a) (d ∷ b) h k
 
 -- a word writes one value of a kind, whatever the range of a number is
-same_field : WritesOnePrefix → (f g : Field) (word : List ℕ) → SameKind f g → IsField f word → IsField g word → without_range f ≡ without_range g
+same_field : PrefixTextIsOfOne → (f g : Field) (word : List ℕ) → SameKind f g → IsField f word → IsField g word → without_range f ≡ without_range g
 same_field one (Named a) (Named b) word kind h k = ap Named (same_name a b (sym h.text ∙ k.text) h.room k.room)
 same_field one (Node a) (Node b) word kind h k = ap Node (same_node a b (same_number 16 8 word a.0 b.0 h.numeral k.numeral))
 same_field one (Endpoint a) (Endpoint b) word kind h k = ap Endpoint (same_id a b (same_number 10 20 word a.0 b.0 h.numeral k.numeral))
@@ -67,7 +67,7 @@ same_field one (Way a) (Way b) word kind h k = ap Way (same_way a b (sym h ∙ k
 same_field one (Hex a) (Hex b) word kind h k = ap Hex (same_bytes a b word h k)
 same_field one _ _ word kind h k = absurd kind
 
-same_fields : WritesOnePrefix → (fs gs : List Field) (words : List (List ℕ)) → AllZip SameKind fs gs → AllZip IsField fs words → AllZip IsField gs words
+same_fields : PrefixTextIsOfOne → (fs gs : List Field) (words : List (List ℕ)) → AllZip SameKind fs gs → AllZip IsField fs words → AllZip IsField gs words
     → map without_range fs ≡ map without_range gs
 same_fields one [] [] words kinds h k = refl
 same_fields one [] (g ∷ gs) words kinds h k = absurd kinds
@@ -78,7 +78,7 @@ same_fields one (f ∷ fs) (g ∷ gs) (word ∷ words) kinds h k =
     let tail = same_fields one fs gs words kinds.1 h.1 k.1 in
     cc
 
-family_same : {A : Type 0} (word : List ℕ) (count : ℕ) (line_of : A → Line) → Family word count line_of → WritesOnePrefix
+family_same : {A : Type 0} (word : List ℕ) (count : ℕ) (line_of : A → Line) → Family word count line_of → PrefixTextIsOfOne
     → (values : A) (other : Line) (first : List ℕ) (words : List (List ℕ))
     → Spells (line_of values) (first ∷ words) → Spells other (first ∷ words) → line_of values ≡ other
 family_same word count line_of family one values other first words h k =
@@ -86,7 +86,7 @@ family_same word count line_of family one values other first words h k =
     let fields = subst (λ l. AllZip IsField (spelling l).fields words) found.1 k.1 in
     family.injective values found.0 (same_fields one _ _ words (family.kinds values found.0) h.1 fields) ∙ sym found.1
 
-pub same_line : WritesOnePrefix → (line other : Line) (first : List ℕ) (words : List (List ℕ)) → Spells line (first ∷ words) → Spells other (first ∷ words) → line ≡ other
+pub same_line : PrefixTextIsOfOne → (line other : Line) (first : List ℕ) (words : List (List ℕ)) → Spells line (first ∷ words) → Spells other (first ∷ words) → line ≡ other
 same_line one (Router a b) = family_same (codes "router") _ _ router_lines one (a, b)
 same_line one (Link a) = family_same (codes "link") _ _ link_lines one a
 same_line one (Attach a b c) = family_same (codes "attach") _ _ attach_lines one (a, b, c)

@@ -2,6 +2,7 @@
 use Rattle.std.proofs.Common.{◌≡◌, ◌≢◌, ℕ, ◌+◌, List, [], ◌∷◌, Option, Some, None, inl, inr, refl, sym, ap, ◌∙◌, subst, arith}
 use Rattle.std.specs.List.{AllZip}
 use Rattle.hn_base.specs.Causes.{OnCause, NoCause}
+use Rattle.hn_prefix.specs.Laws.{PrefixTextIsOfOne}
 use Rattle.hn_script.specs.Fault.{IsUnknown, IsMiscounted, IsMalformed, TextFault, WordsFault, LineFault}
 use Rattle.hn_script.specs.Laws.{AtMostOneScript, AtMostOneFault}
 use Rattle.hn_script.specs.Line.{Gives}
@@ -12,7 +13,6 @@ use Rattle.hn_script.specs.declared.line.Line.{Line}
 use Rattle.hn_script.specs.declared.script.Script.{Script}
 use Rattle.hn_base.specs.declared.version.Version.{Version}
 use Rattle.hn_script.proofs.Entries.{no_line_fault, no_first_fault}
-use Rattle.hn_script.proofs.PrefixWords.{WritesOnePrefix}
 use Rattle.hn_script.proofs.SameFields.{same_line}
 use Rattle.hn_base.proofs.Fronts.{tail_is}
 use Rattle.hn_base.proofs.Fields.{one_version}
@@ -20,14 +20,14 @@ use Rattle.hn_base.proofs.Causes.{one_cause}
 
 -- ---- one script
 
-same_given : WritesOnePrefix → (a b : Option Line) (words : List (List ℕ)) → Gives a words → Gives b words → a ≡ b
+same_given : PrefixTextIsOfOne → (a b : Option Line) (words : List (List ℕ)) → Gives a words → Gives b words → a ≡ b
 same_given one None None words h k = refl
 same_given one None (Some line) words h k = absurd (k.1 h)
 same_given one (Some line) None words h k = absurd (h.1 k)
 same_given one (Some line) (Some other) [] h k = absurd h.0
 same_given one (Some line) (Some other) (word ∷ words) h k = ap Some (same_line one line other word words h.0 k.0)
 
-same_entries : WritesOnePrefix → (left right : List (Option Line)) (texts : List (List ℕ)) → AllZip IsEntry left texts → AllZip IsEntry right texts → left ≡ right
+same_entries : PrefixTextIsOfOne → (left right : List (Option Line)) (texts : List (List ℕ)) → AllZip IsEntry left texts → AllZip IsEntry right texts → left ≡ right
 same_entries one [] [] texts h k = refl
 same_entries one [] (b ∷ right) [] h k = absurd k
 same_entries one [] (b ∷ right) (text ∷ texts) h k = absurd h
@@ -39,7 +39,7 @@ same_entries one (a ∷ left) (b ∷ right) (text ∷ texts) h k =
     let tail = same_entries one left right texts h.1 k.1 in
     cc
 
-pub one_script : WritesOnePrefix → AtMostOneScript
+pub one_script : PrefixTextIsOfOne → AtMostOneScript
 one_script one bytes script other h k =
     let texts : h.texts ≡ k.texts = tail_is (sym h.parts ∙ k.parts) in
     let given = subst (λ found. AllZip IsEntry k.lines.0 found) (sym texts) k.lines.1 in

@@ -1,3 +1,4 @@
 pub mod ItemText
 pub mod Line
 pub mod Nested
+pub mod Laws

@@ -2,6 +2,7 @@
 
 ghost use Rattle.std.specs.Prelude.{◌≡◌, ◌++◌, [], ℕ, List, length};
 ghost use Rattle.hn_tlv.specs.Grammar.{PlainTlv, IsTlvList, HasTlvs, FirstFault};
+ghost use Rattle.hn_decode.specs.Laws.{DecodeTextExists, LinesGoOn};
 ghost use Rattle.hn_decode.specs.Nested.{first_line, IsTextTo, IsDecodeText};
 
 use hn_tlv::{first_fault_is_unique, list_is_unique, list_or_first_fault};
@@ -20,7 +21,7 @@ pub fn decode_text_is_unique()
 
 /// A datagram that is a list of TLVs has a text.
 pub fn decode_text_exists()
-    ensures { (bytes : List ℕ) → HasTlvs bytes → (text : List ℕ) × IsDecodeText bytes text }
+    ensures { DecodeTextExists }
 {
     item_or_fault();
     list_or_first_fault();
@@ -38,8 +39,7 @@ pub fn lines_make_the_text()
 
 /// The lines of a datagram before a place are followed by more, and with these they make its text.
 pub fn lines_go_on()
-    ensures { (bytes lines : List ℕ) (at : ℕ) (tlvs : List PlainTlv) → IsTlvList tlvs bytes → IsTextTo bytes at lines
-        → (rest : List ℕ) × IsDecodeText bytes (first_line (length tlvs) ++ (lines ++ rest)) }
+    ensures { LinesGoOn }
 {
     item_or_fault();
     list_or_first_fault();

@@ -6,12 +6,9 @@ use Rattle.hn_io.specs.declared.fault.IoFault.{IoFault}
 use Rattle.hn_io.specs.declared.fault.IoFault.TheVariants.{Failed, NoMemory}
 use Rattle.hn_tlv.specs.Grammar.{PlainTlv, IsTlvList}
 use Rattle.hn_decode.specs.Nested.{first_line, IsTextTo, IsDecodeText}
+use Rattle.hn_decode.specs.Laws.{LinesGoOn}
 use Rattle.hncp.specs.Decode.{AppendsCut, written_status}
 use Rattle.hncp.proofs.Streams.{PiecesAppend, AppendsCut-more, Appends-none}
-
--- the law that lines up to a place go on to a text
-abbrev pub LinesGoOn : Type 0
-LinesGoOn = (bytes lines : List ℕ) (at : ℕ) (tlvs : List PlainTlv) → IsTlvList tlvs bytes → IsTextTo bytes at lines → (rest : List ℕ) × IsDecodeText bytes (first_line (length tlvs) ++ (lines ++ rest))
 
 -- the bytes are a list of so many TLVs
 abbrev pub AreSoMany : List ℕ → ℕ → Type 0

@@ -2,9 +2,8 @@
 use Rattle.std.proofs.Common.{◌≡◌, ◌^◌, ◌<◌, ◌≤◌, inl, inr, ℕ, List, Result, Ok, Err, All, length, refl}
 use Rattle.std.proofs.lemmas.Bool.{cases_lt}
 use Rattle.std.proofs.lemmas.List.{get_or_default}
-use Rattle.hn_tlv.specs.Grammar.{HasTlvs}
 use Rattle.hn_tlv.specs.Laws.{ListOrFirstFault}
-use Rattle.hn_decode.specs.Nested.{IsDecodeText}
+use Rattle.hn_decode.specs.Laws.{DecodeTextExists}
 use Rattle.hex.specs.Hex.{decode_of}
 use Rattle.hex.specs.declared.error.FromHexError.{FromHexError}
 use Rattle.hex.proofs.HexLemmas.{decode_of-ok}
@@ -13,8 +12,7 @@ use Rattle.hncp.specs.HexText.{unblanked}
 use Rattle.hncp.specs.Decode.{malformed_line, IsContentsOf, IsDecodeOf}
 
 -- the laws of lists and of texts
-module _ (list_or_fault : ListOrFirstFault)
-    (text_exists : (bytes : List ℕ) → HasTlvs bytes → (text : List ℕ) × IsDecodeText bytes text) where
+module _ (list_or_fault : ListOrFirstFault) (text_exists : DecodeTextExists) where
   contents : (octets : List ℕ) → All (λ byte. byte < 2 ^ 8) octets → (status : ℕ) × (text : List ℕ) × IsContentsOf octets status text
   contents octets bytes =
       elim (list_or_fault octets bytes) [

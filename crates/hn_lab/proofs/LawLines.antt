@@ -10,9 +10,8 @@ use Rattle.hn_base.specs.declared.name.Name.{Name}
 use Rattle.hn_deleg.specs.Laws.{UsableIsUnique}
 use Rattle.hn_link.specs.Election.{IsElected, HasNoCandidate, HasOneAnswer}
 use Rattle.hn_link.specs.Laws.{CommonLinkIsUnique}
-use Rattle.hn_router.specs.Advertising.{IsAdvertBytes}
+use Rattle.hn_router.specs.Laws.{RouterHasOneAdvert}
 use Rattle.hn_rules.specs.Seen.{seen_by}
-use Rattle.hn_rules.specs.declared.state.State.{State}
 use Rattle.hn_hash.specs.declared.agreement.Agreement.{Agreement}
 use Rattle.hn_hash.specs.declared.leaf.Leaf.{Leaf}
 use Rattle.hn_rules.specs.Nodes.{leaves_of}
@@ -45,7 +44,7 @@ pub record ReportLaws : Type 0 where
   pub usable : UsableIsUnique
   pub common : CommonLinkIsUnique
   pub answer : HasOneAnswer
-  pub adverts : (s : State) (e : EpId) (a b : List ℕ) → IsAdvertBytes s e a → IsAdvertBytes s e b → a ≡ b
+  pub adverts : RouterHasOneAdvert
 
 -- a line that ends in one way
 pub record IsSoleLine (process : LineProcess) : Type 0 where

@@ -5,6 +5,7 @@ use Rattle.hn_base.specs.declared.ids.NodeId.{NodeId}
 use Rattle.hn_base.specs.Words.{Begins}
 use Rattle.hn_rules.specs.declared.state.State.{State}
 use Rattle.hn_rules.specs.declared.done.Done.{Done}
+use Rattle.hn_router.specs.Advertising.{IsAdvertBytes}
 use Rattle.hn_router.specs.New.{IsNew}
 use Rattle.hn_own.specs.Ports.{endpoints_of}
 use Rattle.hn_router.specs.Act.{PlainEvent, Attach, Detach, is_refused, Happened}
@@ -46,3 +47,7 @@ EndpointsFollow =
     (now : ℕ) (event : PlainEvent) (s next : State) (done : Done)
     → Happened now event s next done
     → endpoints_of next.ports ≡ (if is_refused event s then endpoints_of s.ports else endpoints_by event (endpoints_of s.ports))
+
+-- A router has at most one advertisement on an endpoint at its moment.
+abbrev pub RouterHasOneAdvert : Type 0
+RouterHasOneAdvert = (s : State) (e : EpId) (a b : List ℕ) → IsAdvertBytes s e a → IsAdvertBytes s e b → a ≡ b

@@ -1,10 +1,6 @@
 //! Laws of the router. Each is the contract of a function that does nothing: call it to know its law.
 
-ghost use Rattle.std.specs.Prelude.{◌≡◌, ℕ, List};
-ghost use Rattle.hn_base.specs.declared.ids.EpId.{EpId};
-ghost use Rattle.hn_rules.specs.declared.state.State.{State};
-ghost use Rattle.hn_router.specs.Advertising.{IsAdvertBytes};
-ghost use Rattle.hn_router.specs.Laws.{OneResult, NewIsUnique, NewIsRouter, RouterStays, MomentIsNow, EndpointsFollow};
+ghost use Rattle.hn_router.specs.Laws.{OneResult, NewIsUnique, NewIsRouter, RouterStays, MomentIsNow, EndpointsFollow, RouterHasOneAdvert};
 
 use hn_deleg::usable_is_unique;
 use hn_graph::{own_is_reachable, reachable_is_a_node};
@@ -69,7 +65,7 @@ pub fn endpoints_follow()
 
 /// A router has at most one advertisement on an endpoint at its moment.
 pub fn router_has_one_advert()
-    ensures { (s : State) (e : EpId) (a b : List ℕ) → IsAdvertBytes s e a → IsAdvertBytes s e b → a ≡ b }
+    ensures { RouterHasOneAdvert }
 {
     usable_is_unique();
     common_link_is_unique();

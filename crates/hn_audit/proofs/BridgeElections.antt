@@ -1,5 +1,5 @@
 -- On one link the routers of a settled set elect the same.
-use Rattle.std.proofs.Common.{◌≡◌, ◌∙◌, ◌↔◌, ◌<◌, ◌==◌, ◌&&◌, nat_lt, ℕ, Bool, List, Option, Some, None, Contains, filter, inl, inr, refl, sym, ap, subst, rules}
+use Rattle.std.proofs.Common.{◌≡◌, ◌∙◌, ◌<◌, ◌==◌, ◌&&◌, nat_lt, ℕ, Bool, List, Option, Some, None, Contains, filter, inl, inr, refl, sym, ap, subst, rules}
 use Rattle.std.specs.Cmp.{IsTotalOrder}
 use Rattle.std.specs.Cmp.Rules.{comparing}
 use Rattle.std.specs.List.{list_any}
@@ -24,8 +24,9 @@ use Rattle.hn_deleg.specs.declared.delegated.Delegated.{Delegated}
 use Rattle.hn_link.specs.CommonLink.{IsCommonLink, IsOnCommonLink, endpoint_cmp}
 use Rattle.hn_link.specs.Election.{IsServing, IsCandidate, IsElected, HasNoCandidate, priority_of, rank_of, rank_cmp}
 use Rattle.hn_rules.specs.Seen.{seen_by}
-use Rattle.hn_sound.specs.Home.{Home, Endpoint, common_link}
+use Rattle.hn_sound.specs.Home.{common_link}
 use Rattle.hn_sound.specs.Members.{IsOnLinkOf}
+use Rattle.hn_sound.specs.Laws.{CommonLinkIsExact}
 use Rattle.hn_world.specs.declared.member.Member.{Member}
 use Rattle.hn_world.specs.declared.parts.Parts.{Parts}
 use Rattle.hn_audit.specs.Reached.{IsReached}
@@ -71,8 +72,7 @@ abbrev stands : Letter → List (NodeId × EpId) → Member → Bool
 stands letter common m = list_any (is_at m) common && nat_lt 0 (priority_of letter (caps_of m))
 
 module _ (w : Parts) (r : Member) (usable : List Delegated) (case : IsCase w r usable)
-    (one_items : ItemsAreUnique)
-    (links_exact : (h : Home) (e : Endpoint) (node : NodeId) (id : EpId) → Contains (common_link h e) (node, id) ↔ IsOnLinkOf h e node id) where
+    (one_items : ItemsAreUnique) (links_exact : CommonLinkIsExact) where
   an_end : (link : ℕ) (s : Member) (e : EpId) → IsThere w r link s e → IsEndOf w r s (end_on s e link)
   an_end link s e there = record { reached = reached_there w r case.known link s e there; of_node = refl; on_link = plugged_there w r case.known link s e there }
 

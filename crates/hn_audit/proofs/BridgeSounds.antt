@@ -1,19 +1,18 @@
 -- What is sound of the home of a settled and quiet set is sound of its routers.
-use Rattle.std.proofs.Common.{◌≡◌, ◌≢◌, ◌∙◌, ◌↔◌, ◌⊎◌, ℕ, List, Option, is_some, Contains, IsTrue, not, inl, inr, refl, sym, ap, subst, true, false}
+use Rattle.std.proofs.Common.{◌≡◌, ◌≢◌, ◌∙◌, ◌⊎◌, ℕ, List, Option, is_some, Contains, IsTrue, not, inl, inr, refl, sym, ap, subst, true, false}
 use Rattle.std.specs.List.{slice_get}
 use Rattle.std.proofs.lemmas.Bool.{cases_Bool, not_from_false}
 use Rattle.hn_base.proofs.Keys.{found_is_id}
 use Rattle.hn_base.specs.declared.ids.EpId.{EpId}
 use Rattle.hn_base.specs.Prefix.{PlainPrefix, IsWithin, Overlaps}
-use Rattle.hn_assign.specs.declared.assigned.Advertised.{Advertised}
 use Rattle.hn_assign.specs.declared.assigned.Assigned.{Assigned}
 use Rattle.hn_assign.specs.Best.{HasNoFree}
 use Rattle.hn_deleg.specs.declared.delegated.Delegated.{Delegated}
 use Rattle.hn_deleg.specs.Used.{prefixes_of}
 use Rattle.hn_dncp.specs.declared.port.Port.{Port}
 use Rattle.hn_rules.specs.Seen.{seen_by}
-use Rattle.hn_sound.specs.Home.{Home, Endpoint, advertised}
-use Rattle.hn_sound.specs.Members.{IsAdvertised}
+use Rattle.hn_sound.specs.Home.{Endpoint, advertised}
+use Rattle.hn_sound.specs.Laws.{AdvertisedIsExact}
 use Rattle.hn_sound.specs.Sound as home
 use Rattle.hn_world.specs.declared.member.Member.{Member}
 use Rattle.hn_world.specs.declared.parts.Parts.{Parts}
@@ -49,8 +48,7 @@ to_there w r known link s e reached on = record {
 }
 
 module _ (w : Parts) (r : Member) (usable : List Delegated) (case : IsCase w r usable)
-    (exact : (h : Home) (a : Advertised) → Contains (advertised h) a ↔ IsAdvertised h a)
-    (is_sound : home.IsSound (home_of w r usable)) where
+    (exact : AdvertisedIsExact) (is_sound : home.IsSound (home_of w r usable)) where
   -- ---- used prefixes, and those inside them
 
   in_used : (d : PlainPrefix) → Uses r.router d → Contains (prefixes_of usable) d

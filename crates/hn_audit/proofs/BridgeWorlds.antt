@@ -1,21 +1,14 @@
 -- A running router of a replayed world that is settled and quiet is sound, and where it is settled its set is sound alike.
-use Rattle.std.proofs.Common.{◌≡◌, ◌↔◌, List, [], Contains, sym, subst}
+use Rattle.std.proofs.Common.{◌≡◌, List, [], sym, subst}
 use Rattle.std.specs.Cmp.{IsTotalOrder}
 use Rattle.std.proofs.lemmas.List.{append-nil}
 use Rattle.std.proofs.lemmas.List.Elements.{All-contains}
-use Rattle.hn_base.specs.declared.ids.NodeId.{NodeId}
-use Rattle.hn_base.specs.declared.ids.EpId.{EpId}
-use Rattle.hn_base.specs.Prefix.{PlainPrefix}
-use Rattle.hn_assign.specs.declared.assigned.Advertised.{Advertised}
 use Rattle.hn_assign.specs.Pair.{pair_cmp}
 use Rattle.hn_data.specs.Laws.{ItemsAreUnique}
 use Rattle.hn_deleg.specs.declared.delegated.Delegated.{Delegated}
 use Rattle.hn_deleg.specs.Laws.{UsableIsUnique, UsableNeverOverlap}
 use Rattle.hn_rules.specs.Laws.{AssignedIsPublished, ViewIsNetwork, EntriesAreAsKnown}
-use Rattle.hn_sound.specs.AtRest.{IsHomeAtRest}
-use Rattle.hn_sound.specs.Home.{Home, Endpoint, advertised, common_link}
-use Rattle.hn_sound.specs.Members.{IsAdvertised, IsOnLinkOf, IsSeenAtRest}
-use Rattle.hn_sound.specs.Premises.{IsHome}
+use Rattle.hn_sound.specs.Laws.{AdvertisedIsExact, CommonLinkIsExact, HomeRestsAsSeen, HomeAtRestIsSound}
 use Rattle.hn_sound.specs.Sound as home
 use Rattle.hn_world.specs.declared.event.Traced.{Traced}
 use Rattle.hn_base.specs.declared.version.Version.{Version}
@@ -52,10 +45,10 @@ pub record BridgeLaws : Type 0 where
   pub unique : UsableIsUnique
   pub apart : UsableNeverOverlap
   pub one_items : ItemsAreUnique
-  pub advertised_exact : (h : Home) (a : Advertised) → Contains (advertised h) a ↔ IsAdvertised h a
-  pub links_exact : (h : Home) (e : Endpoint) (node : NodeId) (id : EpId) → Contains (common_link h e) (node, id) ↔ IsOnLinkOf h e node id
-  pub rests : (h : Home) → ((e : Endpoint) (d : PlainPrefix) → Contains h.endpoints e → Contains h.used d → IsSeenAtRest h e d) → IsHomeAtRest h
-  pub home_sound : (h : Home) → IsHome h → IsHomeAtRest h → home.IsSound h
+  pub advertised_exact : AdvertisedIsExact
+  pub links_exact : CommonLinkIsExact
+  pub rests : HomeRestsAsSeen
+  pub home_sound : HomeAtRestIsSound
 
 -- the routers of a replayed world have the endpoints that are attached
 attached_now : WorldLaws → (w : Parts) → IsReplayed w → AreAttached w

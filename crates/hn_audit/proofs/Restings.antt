@@ -11,7 +11,6 @@ use Rattle.hn_data.specs.View.{PlainView}
 use Rattle.hn_assign.specs.declared.assigned.Advertised.{Advertised}
 use Rattle.hn_assign.specs.declared.assigned.Assigned.{Assigned}
 use Rattle.hn_assign.specs.declared.assigned.Wish.{Wish}
-use Rattle.hn_assign.specs.Advertised.{Link}
 use Rattle.hn_assign.specs.Gathered.{AreAdvertised}
 use Rattle.hn_assign.specs.Pair.{IsAscending, assigned_pair, pair_cmp, wish_pair}
 use Rattle.hn_assign.specs.Rest.{IsAtRest}
@@ -26,6 +25,7 @@ use Rattle.hn_rules.specs.declared.state.State.{State}
 use Rattle.hn_rules.specs.Assigning.{IsWishAt}
 use Rattle.hn_rules.specs.Seen.{seen_by}
 use Rattle.hn_base.specs.Ascending.{HaveSame, HasAt}
+use Rattle.hn_sound.specs.Laws.{RestKnowsNoOrder}
 use Rattle.hn_audit.specs.Quiet.{IsForPair, IsPairAtRest, IsRouterAtRest}
 use Rattle.hn_audit.specs.Resting.{IsEachAtRest, IsEndAtRest}
 use Rattle.hn_audit.proofs.BridgeLists.{same_Bool}
@@ -57,11 +57,6 @@ pair_decides once total s usable adv place e wish assignment answer up asked end
 
 -- ---- a router
 
--- rest is the same in lists with the same elements
-abbrev pub KnowsNoOrder : Type 0
-KnowsNoOrder = (adv others : List Advertised) (own : ℕ) (wish : Wish) (common : Link) (c : Option Assigned) → HaveSame adv others → HaveSame wish.common common
-    → IsAtRest adv own wish c → IsAtRest others own (record wish { common = common }) c
-
 -- so it is where each pair of each of its endpoints is
 pub each_decides : (s : State) (usable : List Delegated) (adv : List Advertised) (ends : List EpId) → ends ≡ endpoints_of s.ports → All (IsEndAtRest s usable adv) ends ↔ IsEachAtRest s usable adv
 each_decides s usable adv ends is = (
@@ -69,7 +64,7 @@ each_decides s usable adv ends is = (
   λ each. all_of (IsEndAtRest s usable adv) ends (λ e there. each e (id_is_found (λ (p : Port). p.id) s.ports e (subst (λ (es : List EpId). Contains es e) is there))),
 )
 
-in_other : KnowsNoOrder → (s : State) (usable : List Delegated) (adv others : List Advertised) (place : ℕ) (e : EpId) → HaveSame adv others → IsPairAtRest s usable adv place e → IsPairAtRest s usable others place e
+in_other : RestKnowsNoOrder → (s : State) (usable : List Delegated) (adv others : List Advertised) (place : ℕ) (e : EpId) → HaveSame adv others → IsPairAtRest s usable adv place e → IsPairAtRest s usable others place e
 in_other law s usable adv others place e same h = record {
   wish = h.wish;
   asked = h.asked;
@@ -97,7 +92,7 @@ module _ (once : UsableIsUnique) (s : State) (usable : List Delegated) (are_usab
   pub for_pairs : All (IsForPair s usable) s.held.assigned
   for_pairs = all_of (IsForPair s usable) s.held.assigned (λ c there. subst (λ (us : List Delegated). IsForPair s us c) one_list (h.for_pairs c there))
 
-  pub each_at_rest : KnowsNoOrder → (adv : List Advertised) → AreAdvertised (seen_by s) s.held.assigned adv → IsEachAtRest s usable adv
+  pub each_at_rest : RestKnowsNoOrder → (adv : List Advertised) → AreAdvertised (seen_by s) s.held.assigned adv → IsEachAtRest s usable adv
   each_at_rest law adv are e attached place within =
       let before : place < length h.usable = subst (λ (us : List Delegated). place < length us) (sym one_list) within in
       let here : IsPairAtRest s usable h.advertised place e = subst (λ (us : List Delegated). IsPairAtRest s us h.advertised place e) one_list (h.each_pair place e before attached) in

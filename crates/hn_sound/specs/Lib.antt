@@ -2,6 +2,7 @@ pub mod AtRest
 pub mod Conditions
 pub mod Home
 pub mod Homes
+pub mod Laws
 pub mod Members
 pub mod Needed
 pub mod Premises

@@ -2,46 +2,32 @@
 //!
 //! Each is the contract of a function that does nothing: call it to know its law.
 
-ghost use Rattle.std.specs.Prelude.{◌≡◌, ◌≢◌, ◌⊎◌, ◌↔◌, ℕ, IsTrue, Option, List, Contains};
-ghost use Rattle.hn_base.specs.declared.ids.NodeId.{NodeId};
-ghost use Rattle.hn_base.specs.declared.ids.EpId.{EpId};
+ghost use Rattle.std.specs.Prelude.{◌≡◌, ◌≢◌, ◌⊎◌, ℕ, IsTrue, Contains};
 ghost use Rattle.hn_base.specs.Prefix.{PlainPrefix, IsWithin, Overlaps};
-ghost use Rattle.hn_assign.specs.declared.assigned.Advertised.{Advertised};
 ghost use Rattle.hn_assign.specs.declared.assigned.Assigned.{Assigned};
-ghost use Rattle.hn_assign.specs.declared.assigned.Wish.{Wish};
-ghost use Rattle.hn_assign.specs.Advertised.{Link};
 ghost use Rattle.hn_assign.specs.Best.{IsBest, HasNoBest, HasNoFree};
-ghost use Rattle.hn_assign.specs.Rest.{IsAtRest};
 ghost use Rattle.hn_sound.specs.AtRest.{IsHomeAtRest};
 ghost use Rattle.hn_sound.specs.Home.{Home, Endpoint, HasAssignment, HasPublished, advertised, common_link, key_at};
-ghost use Rattle.hn_base.specs.Ascending.{HaveSame};
-ghost use Rattle.hn_sound.specs.Members.{IsAdvertised, IsOnLinkOf, IsSeenAtRest};
+ghost use Rattle.hn_sound.specs.Laws.{AdvertisedIsExact, CommonLinkIsExact, RestKnowsNoOrder, HomeRestsAsSeen, HomeAtRestIsSound};
 ghost use Rattle.hn_sound.specs.Premises.{Meets, IsHome};
 ghost use Rattle.hn_sound.specs.Premises.Premise.{OneLink};
-ghost use Rattle.hn_sound.specs.Sound.{IsGreatest, HasNoPublisher, IsSound};
+ghost use Rattle.hn_sound.specs.Sound.{IsGreatest, HasNoPublisher};
 
 /// The advertised prefixes of a home are those that its routers publish, and the Common Link of an endpoint is the
 /// endpoints on its link.
 pub fn lists_are_exact()
-    ensures advertised { (home : Home) (a : Advertised)
-        → Contains (advertised home) a ↔ IsAdvertised home a }
-    ensures common_link { (home : Home) (e : Endpoint) (node : NodeId) (id : EpId)
-        → Contains (common_link home e) (node, id) ↔ IsOnLinkOf home e node id }
+    ensures advertised { AdvertisedIsExact }
+    ensures common_link { CommonLinkIsExact }
 {}
 
 /// Rest is the same whatever the order in which a router keeps the advertised prefixes and a Common Link.
 pub fn rest_knows_no_order()
-    ensures { (adv others : List Advertised) (own : ℕ) (wish : Wish) (common : Link) (c : Option Assigned)
-        → HaveSame adv others → HaveSame wish.common common
-        → IsAtRest adv own wish c → IsAtRest others own (record wish { common = common }) c }
+    ensures { RestKnowsNoOrder }
 {}
 
 /// So a home is at rest if each router sees its own pairs at rest, in lists of its own.
 pub fn home_rests_as_seen()
-    ensures { (home : Home)
-        → ((e : Endpoint) (d : PlainPrefix) → Contains home.endpoints e → Contains home.used d
-        → IsSeenAtRest home e d)
-        → IsHomeAtRest home }
+    ensures { HomeRestsAsSeen }
 {}
 
 /// Two published keys are equal only for one endpoint.
@@ -103,5 +89,5 @@ pub fn links_do_not_overlap()
 
 /// A home at rest is sound.
 pub fn home_at_rest_is_sound()
-    ensures { (home : Home) → IsHome home → IsHomeAtRest home → IsSound home }
+    ensures { HomeAtRestIsSound }
 {}

@@ -1,5 +1,5 @@
 -- A running router of a replayed world that is settled and quiet is sound, and where it is settled its set is sound alike.
-use Rattle.std.proofs.Common.{◌≡◌, List, [], sym, subst}
+use Rattle.std.proofs.Common.{List, [], sym, subst}
 use Rattle.std.specs.Cmp.{IsTotalOrder}
 use Rattle.std.proofs.lemmas.List.{append-nil}
 use Rattle.std.proofs.lemmas.List.Elements.{All-contains}
@@ -10,11 +10,10 @@ use Rattle.hn_deleg.specs.Laws.{UsableIsUnique, UsableNeverOverlap}
 use Rattle.hn_rules.specs.Laws.{AssignedIsPublished, ViewIsNetwork, EntriesAreAsKnown}
 use Rattle.hn_sound.specs.Laws.{AdvertisedIsExact, CommonLinkIsExact, HomeRestsAsSeen, HomeAtRestIsSound}
 use Rattle.hn_sound.specs.Sound as home
-use Rattle.hn_world.specs.declared.event.Traced.{Traced}
-use Rattle.hn_base.specs.declared.version.Version.{Version}
 use Rattle.hn_world.specs.declared.member.Member.{Member}
 use Rattle.hn_world.specs.declared.parts.Parts.{Parts}
-use Rattle.hn_world.specs.Replay.{Replays, IsReplayed, Always, AreAttached, IsAttachedMember, IsSoundMember, IsSound as IsSoundWorld}
+use Rattle.hn_world.specs.Replay.{IsReplayed, AreAttached, IsAttachedMember, IsSoundMember}
+use Rattle.hn_world.specs.Laws.{AtMostOneWorld, WorldIsSound, AlwaysAttached}
 use Rattle.hn_audit.specs.Laws.{SettledAndQuietIsSound, SetIsSoundAlike}
 use Rattle.hn_audit.specs.Reached.{IsRunning}
 use Rattle.hn_audit.specs.Settled.{IsSettled}
@@ -29,9 +28,9 @@ use Rattle.hn_audit.proofs.BridgeAlike.{sound_alike}
 
 -- the laws of worlds and of their routers on which it rests
 pub record WorldLaws : Type 0 where
-  pub one_world : (version : Version) (ts : List Traced) (a b : Parts) → Replays version ts a → Replays version ts b → a ≡ b
-  pub sound : (w : Parts) → IsReplayed w → IsSoundWorld w
-  pub attached : (w : Parts) → IsReplayed w → Always AreAttached w
+  pub one_world : AtMostOneWorld
+  pub sound : WorldIsSound
+  pub attached : AlwaysAttached
   pub network : ViewIsNetwork
   pub entries : EntriesAreAsKnown
 

@@ -3,14 +3,14 @@ use Rattle.std.proofs.Common.{◌≡◌, ◌∙◌, ◌+◌, ◌⊎◌, inl, inr
 use Rattle.std.proofs.lemmas.List.{nil_from_length, same_from_push}
 use Rattle.hn_script.specs.declared.line.Line.{Line}
 use Rattle.hn_world.specs.declared.parts.Parts.{Parts}
+use Rattle.hn_world.specs.Laws.{StepIsUnique, EachEventIsEntered}
 use Rattle.hn_lab.specs.declared.end.End.{End}
 use Rattle.hn_lab.specs.Stage.{Stage}
 use Rattle.hn_lab.specs.Told.{Told, told}
 use Rattle.hn_lab.specs.Play.{IsCutPlay}
-use Rattle.hn_lab.proofs.LawSole.{StepsAreUnique}
 use Rattle.hn_lab.proofs.LawLines.{ReportLaws}
 use Rattle.hn_lab.proofs.LawPlays.{Plays, plays, compared}
-use Rattle.hn_lab.proofs.LawGrows.{EventsAreEntered, Extends, extends_stage, extends_then, grows_line}
+use Rattle.hn_lab.proofs.LawGrows.{Extends, extends_stage, extends_then, grows_line}
 use Rattle.hn_base.proofs.Fronts.{same_parts}
 
 -- ---- fronts of lists
@@ -29,7 +29,7 @@ fronts (x ∷ xs) us (y ∷ ys) vs same =
 
 -- ---- a play only adds events
 
-module _ (entered : EventsAreEntered) where
+module _ (entered : EachEventIsEntered) where
   grows_play : (ls : List (ℕ × Line)) (end : End) (p a : Stage) (text : List Told) → Plays ls end p text a → Extends p a
   grows_play [] end p a text h = extends_stage p a h.2
   grows_play (l ∷ ls) end p a text (inl h) = extends_then p h.between a (grows_line entered l.1 None h.lines p h.between h.line) (grows_play ls end h.between a h.rest h.goes)
@@ -56,7 +56,7 @@ record IsPlayTo (front : List (ℕ × Line)) (p : Stage) (text : List Told) (las
   text_is : text ≡ so_far ++ told after.world (line ∷ [])
   last_is : last ≡ after.world
 
-module _ (steps : StepsAreUnique) (reports : ReportLaws) (entered : EventsAreEntered) where
+module _ (steps : StepIsUnique) (reports : ReportLaws) (entered : EachEventIsEntered) where
   -- of two plays of fronts the longer goes on from the shorter
   goes_on : (front rest : List (ℕ × Line)) (r q : End) (p a b : Stage) (s t : List Told) → Plays front r p s a → Plays (front ++ rest) q p t b → ((more : List Told) × (t ≡ s ++ more)) × Extends a b
   goes_on front rest r q p a b s t h k = elim (compared steps reports front rest r q p a b s t h k) [

@@ -11,7 +11,7 @@ use Rattle.hn_world.specs.declared.event.WEvent.{WEvent}
 use Rattle.hn_world.specs.declared.event.WEvent.TheVariants as event
 use Rattle.hn_world.specs.declared.parts.Parts.{Parts}
 use Rattle.hn_world.specs.Receivers.{is_away, running_names}
-use Rattle.hn_world.specs.Step.{Step}
+use Rattle.hn_world.specs.Laws.{EachEventIsEntered}
 use Rattle.hn_lab.specs.AdvertReports.{IsAdvertLine}
 use Rattle.hn_lab.specs.AuditReports.{IsAuditLine}
 use Rattle.hn_lab.specs.Stage.{Stage}
@@ -21,10 +21,6 @@ use Rattle.hn_lab.specs.Line.{Noted, Reports, LineEnds, IsOf, Compares, receiver
 use Rattle.hn_lab.specs.PrefixReports.{AreUsedLines, prefixes_lines, IsElectLine}
 use Rattle.hn_lab.specs.Reports.{show_line, hash_line}
 use Rattle.hn_lab.proofs.LawSole.{parts_of}
-
--- a law of worlds: each event is entered at the end of the trace
-abbrev pub EventsAreEntered : Type 0
-EventsAreEntered = (t : Traced) (notes : List Note) (before after : Parts) → Step t notes before after → after.trace ≡ before.trace ++ t ∷ []
 
 -- so many more events, and with none the world is the same
 pub record Extends (p a : Stage) : Type 0 where
@@ -80,7 +76,7 @@ either_world false p q same = same
 draw_keeps_world : (p : Stage) (c : MailCopy) → (drawn p c).world ≡ p.world
 draw_keeps_world p c = either_world (is_away p.world c || p.loss == 0) p (record p { words = λ place. p.words (suc place) }) refl
 
-module _ (entered : EventsAreEntered) where
+module _ (entered : EachEventIsEntered) where
   grows_event_happened : (event : WEvent) (notes : List Note) (p a : Stage) → Happens event notes p a → Extends p a
   grows_event_happened event notes p a h = record {
     more = record { event = event; words = h.step.words } ∷ [];

@@ -12,8 +12,6 @@ use Rattle.hn_link.specs.Election.{IsElected, HasNoCandidate, HasOneAnswer}
 use Rattle.hn_link.specs.Laws.{CommonLinkIsUnique}
 use Rattle.hn_router.specs.Laws.{RouterHasOneAdvert}
 use Rattle.hn_rules.specs.Seen.{seen_by}
-use Rattle.hn_hash.specs.declared.agreement.Agreement.{Agreement}
-use Rattle.hn_hash.specs.declared.leaf.Leaf.{Leaf}
 use Rattle.hn_rules.specs.Nodes.{leaves_of}
 use Rattle.hn_rules.specs.declared.done.Note.{Note}
 use Rattle.hn_script.specs.declared.line.Line.{Line}
@@ -22,8 +20,8 @@ use Rattle.hn_world.specs.declared.event.WEvent.{WEvent}
 use Rattle.hn_world.specs.declared.event.WEvent.TheVariants as event
 use Rattle.hn_world.specs.declared.member.Member.{Member}
 use Rattle.hn_world.specs.declared.parts.Parts.{Parts}
-use Rattle.hn_world.specs.Leaves.{Agrees}
 use Rattle.hn_world.specs.Refusal.{refusal}
+use Rattle.hn_world.specs.Laws.{StepIsUnique, AgreementIsUnique}
 use Rattle.hn_lab.specs.AdvertReports.{IsAdvertLine, advert_line}
 use Rattle.hn_lab.specs.AuditReports.{IsAudited, IsAuditLine, audit_line}
 use Rattle.hn_lab.specs.Stage.{Stage}
@@ -32,15 +30,11 @@ use Rattle.hn_lab.specs.Events.{EventEnds, Flow, Runs}
 use Rattle.hn_lab.specs.Reports.{IsCompareLine, compare_line, show_line, hash_line, note_line}
 use Rattle.hn_lab.specs.Line.{LineProcess, Silent, Noted, Reports, ReportsLines, Sets, Tells, IsOf, Compares, LineEnds, receiver, injection, unless_known, unless_runs, unless_both_run, unless_elects, mail_report, seeded}
 use Rattle.hn_lab.specs.PrefixReports.{AreUsedLines, used_lines, prefixes_lines, IsElectLine, elect_line}
-use Rattle.hn_lab.proofs.LawSole.{StepsAreUnique, IsSole, sole_event, sole_flow, sole_run, happens_once, not_refused, same_code, unlike}
-
--- a law of worlds: two lists of leaves agree in one way
-abbrev pub AgreementsAreUnique : Type 0
-AgreementsAreUnique = (a b : List Leaf) (x y : Agreement) → Agrees a b x → Agrees a b y → x ≡ y
+use Rattle.hn_lab.proofs.LawSole.{IsSole, sole_event, sole_flow, sole_run, happens_once, not_refused, same_code, unlike}
 
 -- laws of what reports tell
 pub record ReportLaws : Type 0 where
-  pub agreements : AgreementsAreUnique
+  pub agreements : AgreementIsUnique
   pub usable : UsableIsUnique
   pub common : CommonLinkIsUnique
   pub answer : HasOneAnswer
@@ -58,10 +52,10 @@ sole_silent process sole = record { one = λ c d s t p a b h k. let same = sole.
 sole_sets : (change : Stage → Stage) → IsSoleLine (Sets change)
 sole_sets change = record { one = λ c d s t p a b h k. (h.0 ∙ sym k.0, h.1 ∙ sym k.1, h.2 ∙ sym k.2) }
 
-one_event : StepsAreUnique → (event : WEvent) → IsSoleLine (Silent (EventEnds event))
+one_event : StepIsUnique → (event : WEvent) → IsSoleLine (Silent (EventEnds event))
 one_event steps event = sole_silent (EventEnds event) (sole_event steps event)
 
-sole_noted : StepsAreUnique → (event : WEvent) (name : Option Name) → IsSoleLine (Noted event name)
+sole_noted : StepIsUnique → (event : WEvent) (name : Option Name) → IsSoleLine (Noted event name)
 sole_noted steps event name = record { one = cases }
   where
     cases : (c d : Option ℕ) (s t : List (List ℕ)) (p a b : Stage) → Noted event name c s p a → Noted event name d t p b → (c ≡ d) × (s ≡ t) × (a ≡ b)
@@ -152,14 +146,14 @@ same_answer true false P h k = sym (k.1 (h.0 refl))
 same_answer false true P h k = h.1 (k.0 refl)
 same_answer false false P h k = refl
 
-one_comparison : AgreementsAreUnique → (left right : Name) (a b : Member) (l m : List ℕ) → IsCompareLine left right a b l → IsCompareLine left right a b m → l ≡ m
+one_comparison : AgreementIsUnique → (left right : Name) (a b : Member) (l m : List ℕ) → IsCompareLine left right a b l → IsCompareLine left right a b m → l ≡ m
 one_comparison agreements left right a b l m h k =
     let how : h.agreement ≡ k.agreement = agreements (leaves_of a.router) (leaves_of b.router) h.agreement k.agreement h.agrees k.agrees in
     let ids : h.same_ids ≡ k.same_ids = same_answer h.same_ids k.same_ids (a.router.reach ≡ b.router.reach) h.ids k.ids in
     let lines : compare_line left right h.agreement h.same_ids ≡ compare_line left right k.agreement k.same_ids = λ i. compare_line left right (how i) (ids i) in
     h.line_is ∙ lines ∙ sym k.line_is
 
-one_compare : AgreementsAreUnique → (left right : Name) (w : Parts) → IsOneReport (Compares left right w)
+one_compare : AgreementIsUnique → (left right : Name) (w : Parts) → IsOneReport (Compares left right w)
 one_compare agreements left right w = record { one = once }
   where
     once : (l m : List ℕ) → Compares left right w l → Compares left right w m → l ≡ m
@@ -175,7 +169,7 @@ one_mail w = record { one = λ l m h k. h ∙ sym k }
 
 -- ---- each line
 
-pub sole_line : StepsAreUnique → ReportLaws → (l : Line) → IsSoleLine (LineEnds l)
+pub sole_line : StepIsUnique → ReportLaws → (l : Line) → IsSoleLine (LineEnds l)
 sole_line steps reports (line.Router name id) = one_event steps (event.Router name id)
 sole_line steps reports (line.Link name) = one_event steps (event.Link name)
 sole_line steps reports (line.Attach name endpoint link) = one_event steps (event.Attach name endpoint link)

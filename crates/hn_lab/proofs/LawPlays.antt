@@ -3,6 +3,7 @@ use Rattle.std.proofs.Common.{◌≡◌, ◌∙◌, ◌⊎◌, inl, inr, ℕ, Li
 use Rattle.std.proofs.lemmas.Option.{same_Some}
 use Rattle.hn_script.specs.declared.line.Line.{Line}
 use Rattle.hn_world.specs.declared.parts.Parts.{Parts}
+use Rattle.hn_world.specs.Laws.{StepIsUnique}
 use Rattle.hn_lab.specs.declared.end.End.{End}
 use Rattle.hn_lab.specs.declared.end.End.TheVariants.{Done, Refused}
 use Rattle.hn_lab.specs.Stage.{Stage}
@@ -10,7 +11,7 @@ use Rattle.hn_lab.specs.Line.{LineEnds}
 use Rattle.hn_lab.specs.Reports.{refused_line}
 use Rattle.hn_lab.specs.Told.{Told, told}
 use Rattle.hn_lab.specs.Play.{LinesDone, IsPlay, IsCutPlay}
-use Rattle.hn_lab.proofs.LawSole.{StepsAreUnique, apart}
+use Rattle.hn_lab.proofs.LawSole.{apart}
 use Rattle.hn_lab.proofs.LawLines.{ReportLaws, sole_line}
 
 -- ---- a play by its first line
@@ -78,7 +79,7 @@ pub record GoesOn (rest : List (ℕ × Line)) (r q : End) (s t : List Told) (a b
   pub text_is : t ≡ s ++ more
   pub goes : Plays rest q a more b
 
-module _ (steps : StepsAreUnique) (reports : ReportLaws) where
+module _ (steps : StepIsUnique) (reports : ReportLaws) where
   same_halt : (number : ℕ) (l : Line) (r q : End) (p a b : Stage) (s t : List Told) → Halts number l r p s a → Halts number l q p t b → AreSame r q s t a b
   same_halt number l r q p a b s t h k =
       let same = (sole_line steps reports l).one (Some h.code) (Some k.code) [] [] p a b h.refused k.refused in

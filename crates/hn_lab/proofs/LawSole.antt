@@ -8,20 +8,13 @@ use Rattle.hn_rules.specs.declared.done.Note.{Note}
 use Rattle.hn_world.specs.declared.copies.MailCopy.{MailCopy}
 use Rattle.hn_world.specs.declared.event.WEvent.{WEvent}
 use Rattle.hn_world.specs.declared.event.WEvent.TheVariants as event
-use Rattle.hn_world.specs.declared.parts.Parts.{Parts}
 use Rattle.hn_world.specs.Receivers.{running_names}
 use Rattle.hn_world.specs.Refusal.{refusal}
-use Rattle.hn_world.specs.Step.{IsStep}
 use Rattle.hn_world.specs.Waiting.{first_waiting}
+use Rattle.hn_world.specs.Laws.{StepIsUnique}
 use Rattle.hn_lab.specs.Stage.{Stage}
 use Rattle.hn_lab.specs.Process.{Process, Then, Times, Until}
 use Rattle.hn_lab.specs.Events.{Happens, EventEnds, CopyEnds, HasWaiting, Flow, TicksOf, Ticks, Passes, Round, Runs, treatment, drawn}
-
--- a law of worlds: an event over one stream of words has at most one result
-abbrev pub StepsAreUnique : Type 0
-StepsAreUnique = (event : WEvent) (told left right : ℕ → ℕ) (noted noted_too : List Note) (before a b : Parts)
-    → IsStep event noted (Some told) (Some left) before a → IsStep event noted_too (Some told) (Some right) before b
-    → (a ≡ b) × (noted ≡ noted_too) × (left ≡ right)
 
 -- a process that ends in one way
 pub record IsSole (process : Process) : Type 0 where
@@ -39,7 +32,7 @@ same_code c d o h k = same_Some c d (sym h ∙ k)
 same_stage : (a b : Stage) → a.world ≡ b.world → a.loss ≡ b.loss → a.words ≡ b.words → a ≡ b
 same_stage a b world loss words = λ i. record { world = world i; loss = loss i; words = words i }
 
-pub happens_once : StepsAreUnique → (event : WEvent) (m n : List Note) (p a b : Stage) → Happens event m p a → Happens event n p b → (m ≡ n) × (a ≡ b)
+pub happens_once : StepIsUnique → (event : WEvent) (m n : List Note) (p a b : Stage) → Happens event m p a → Happens event n p b → (m ≡ n) × (a ≡ b)
 happens_once steps event m n p a b h k =
     let one = steps event p.words a.words b.words m n p.world a.world b.world h.step k.step in
     (one.1, same_stage a b one.0 (h.loss ∙ sym k.loss) one.2)
@@ -47,7 +40,7 @@ happens_once steps event m n p a b h k =
 pub not_refused : (event : WEvent) (m : List Note) (code : ℕ) (p a : Stage) → Happens event m p a → refusal p.world event ≡ Some code → ⊥
 not_refused event m code p a h refused = unlike code (refusal p.world event) h.step.step.accepted refused
 
-pub sole_event : StepsAreUnique → (event : WEvent) → IsSole (EventEnds event)
+pub sole_event : StepIsUnique → (event : WEvent) → IsSole (EventEnds event)
 sole_event steps event = record { one = cases }
   where
     cases : (c d : Option ℕ) (p a b : Stage) → EventEnds event c p a → EventEnds event d p b → (c ≡ d) × (a ≡ b)
@@ -143,7 +136,7 @@ module _ (HasMore : Stage → Type 0) (round : Process) (sole_round : IsSole rou
 
 -- ---- the mail flows
 
-module _ (steps : StepsAreUnique) where
+module _ (steps : StepIsUnique) where
   sole_copy : IsSole CopyEnds
   sole_copy = record { one = cases }
     where

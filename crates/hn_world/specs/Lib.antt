@@ -8,3 +8,4 @@ pub mod Step
 pub mod Prepared
 pub mod Replay
 pub mod Leaves
+pub mod Laws

@@ -1,16 +1,13 @@
 //! Laws of worlds that are the replay of their trace. Each is the contract of a function that does nothing.
 
-ghost use Rattle.std.specs.Prelude.{◌≡◌, ◌<◌, ◌++◌, ◌∷◌, [], ℕ, List, Some, length};
-ghost use Rattle.hn_hash.specs.declared.agreement.Agreement.{Agreement};
-ghost use Rattle.hn_hash.specs.declared.leaf.Leaf.{Leaf};
+ghost use Rattle.std.specs.Prelude.{◌<◌, List, length};
 ghost use Rattle.hn_rules.specs.declared.done.Note.{Note};
-ghost use Rattle.hn_world.specs.declared.event.WEvent.{WEvent};
 ghost use Rattle.hn_world.specs.declared.event.Traced.{Traced};
-ghost use Rattle.hn_base.specs.declared.version.Version.{Version};
 ghost use Rattle.hn_world.specs.declared.parts.Parts.{Parts};
-ghost use Rattle.hn_world.specs.Replay.{Replays, IsReplayed, IsSound, AreAttached, Always};
-ghost use Rattle.hn_world.specs.Step.{Step, IsStep};
-ghost use Rattle.hn_world.specs.Leaves.{EqualHashesAgree, Agrees};
+ghost use Rattle.hn_world.specs.Replay.{IsReplayed, IsSound, Always};
+ghost use Rattle.hn_world.specs.Step.{Step};
+ghost use Rattle.hn_world.specs.Leaves.{EqualHashesAgree};
+ghost use Rattle.hn_world.specs.Laws.{StepIsUnique, EachEventIsEntered, AgreementIsUnique, AtMostOneWorld, WorldHasItsTrace, WorldIsSound, AlwaysAttached};
 
 use hn_hash::equal_hashes_agree_or_collide;
 use hn_router::{
@@ -20,10 +17,7 @@ use hn_rules::hash_is_of_leaves;
 
 /// From one world, with one event and one stream of words that a draw tells, there is at most one result.
 pub fn step_is_unique()
-    ensures { (event : WEvent) (told rest other_rest : ℕ → ℕ) (notes other_notes : List Note) (before after other : Parts)
-        → IsStep event notes (Some told) (Some rest) before after
-        → IsStep event other_notes (Some told) (Some other_rest) before other
-        → (after ≡ other) × (notes ≡ other_notes) × (rest ≡ other_rest) }
+    ensures { StepIsUnique }
 {
     one_result();
     new_is_unique();
@@ -31,19 +25,19 @@ pub fn step_is_unique()
 
 /// Each event is entered at the end of the trace, which had fewer than 1,000,000.
 pub fn each_event_is_entered()
-    ensures entered { (t : Traced) (notes : List Note) (before after : Parts) → Step t notes before after → after.trace ≡ before.trace ++ t ∷ [] }
+    ensures entered { EachEventIsEntered }
     ensures room { (t : Traced) (notes : List Note) (before after : Parts) → Step t notes before after → length before.trace < 1000000 }
 {}
 
 /// Two lists of leaves agree in one way.
 pub fn agreement_is_unique()
-    ensures { (a b : List Leaf) (x y : Agreement) → Agrees a b x → Agrees a b y → x ≡ y }
+    ensures { AgreementIsUnique }
 {}
 
 /// A trace leads to at most one world, and that has this trace.
 pub fn at_most_one_world()
-    ensures one { (version : Version) (ts : List Traced) (a b : Parts) → Replays version ts a → Replays version ts b → a ≡ b }
-    ensures trace { (version : Version) (ts : List Traced) (w : Parts) → Replays version ts w → w.trace ≡ ts }
+    ensures one { AtMostOneWorld }
+    ensures trace { WorldHasItsTrace }
 {
     one_result();
     new_is_unique();
@@ -51,7 +45,7 @@ pub fn at_most_one_world()
 
 /// Each router of a world is one, and no later than the world, at each moment of the world's past.
 pub fn always_sound()
-    ensures sound { (w : Parts) → IsReplayed w → IsSound w }
+    ensures sound { WorldIsSound }
     ensures always { (w : Parts) → IsReplayed w → Always IsSound w }
 {
     new_is_router();
@@ -73,7 +67,7 @@ pub fn equal_hashes_always_agree()
 
 /// At each moment of a world's past, each router has the endpoints that are attached, and no two of them on one link.
 pub fn always_attached()
-    ensures { (w : Parts) → IsReplayed w → Always AreAttached w }
+    ensures { AlwaysAttached }
 {
     endpoints_follow();
 }

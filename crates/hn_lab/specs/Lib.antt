@@ -10,3 +10,4 @@ pub mod Line
 pub mod Play
 pub mod Output
 pub mod Lab
+pub mod Laws

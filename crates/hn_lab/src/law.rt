@@ -1,10 +1,10 @@
 //! Laws of plays. Each is the contract of a function that does nothing.
 
-ghost use Rattle.std.specs.Prelude.{◌≡◌, ◌++◌, ℕ, List, Option, length};
-ghost use Rattle.std.specs.Io.KnownBytes.{Appends};
+ghost use Rattle.std.specs.Prelude.{◌≡◌, ◌++◌, ℕ, List, length};
 ghost use Rattle.hn_script.specs.declared.line.Line.{Line};
 ghost use Rattle.hn_world.specs.declared.parts.Parts.{Parts};
 ghost use Rattle.hn_lab.specs.declared.end.End.{End};
+ghost use Rattle.hn_lab.specs.Laws.{PiecesAppend};
 ghost use Rattle.hn_lab.specs.Stage.{Stage};
 ghost use Rattle.hn_lab.specs.Play.{IsPlay, IsCutPlay};
 ghost use Rattle.hn_lab.specs.Told.{Told};
@@ -56,6 +56,5 @@ pub fn cut_text_is_a_front()
 
 /// What is appended in two pieces is appended.
 pub fn pieces_append()
-    ensures { (before between after : Option (List ℕ)) (first second : List ℕ)
-        → Appends before between first → Appends between after second → Appends before after (first ++ second) }
+    ensures { PiecesAppend }
 {}

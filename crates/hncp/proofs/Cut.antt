@@ -7,8 +7,9 @@ use Rattle.hn_io.specs.declared.fault.IoFault.TheVariants.{Failed, NoMemory}
 use Rattle.hn_tlv.specs.Grammar.{PlainTlv, IsTlvList}
 use Rattle.hn_decode.specs.Nested.{first_line, IsTextTo, IsDecodeText}
 use Rattle.hn_decode.specs.Laws.{LinesGoOn}
+use Rattle.hn_lab.specs.Laws.{PiecesAppend}
 use Rattle.hncp.specs.Decode.{AppendsCut, written_status}
-use Rattle.hncp.proofs.Streams.{PiecesAppend, AppendsCut-more, Appends-none}
+use Rattle.hncp.proofs.Streams.{AppendsCut-more, Appends-none}
 
 -- the bytes are a list of so many TLVs
 abbrev pub AreSoMany : List ℕ → ℕ → Type 0

@@ -5,11 +5,8 @@ use Rattle.std.specs.Io.KnownBytes.{Appends}
 use Rattle.hn_io.specs.declared.fault.IoFault.{IoFault}
 use Rattle.hn_io.specs.declared.fault.IoFault.TheVariants.{Failed, NoMemory}
 use Rattle.hn_lab.specs.Output.{AppendsFront, AppendsPart}
+use Rattle.hn_lab.specs.Laws.{PiecesAppend}
 use Rattle.hncp.specs.Decode.{AppendsCut}
-
--- what hn_lab says of two pieces
-abbrev pub PiecesAppend : Type 0
-PiecesAppend = (a b c : Option (List ℕ)) (xs ys : List ℕ) → Appends a b xs → Appends b c ys → Appends a c (xs ++ ys)
 
 pub Appends-none : (a : Option (List ℕ)) → Appends a a []
 Appends-none None = tt

@@ -1,10 +1,11 @@
 -- Bytes are an advertisement, or they have a fault.
-use Rattle.std.proofs.Common.{◌≡◌, ℕ, zero, suc, ◌+◌, ◌*◌, ◌^◌, ◌<◌, ◌≤◌, ◌⊎◌, not, eqb, bit_and, List, [], ◌∷◌, ◌++◌, length, get_or, take, drop, All, Option, None, refl, ap, ◌∙◌, arith, inl, inr}
+use Rattle.std.proofs.Common.{◌≡◌, ℕ, zero, suc, ◌+◌, ◌*◌, ◌<◌, ◌≤◌, ◌⊎◌, not, eqb, bit_and, List, [], ◌∷◌, ◌++◌, length, get_or, take, drop, All, Option, None, refl, ap, ◌∙◌, arith, inl, inr}
 use Rattle.std.specs.Int.{w128, from_be_bytes}
 use Rattle.std.specs.List.{cons_option}
 use Rattle.std.proofs.lemmas.Bool.{cases_lt, cases_eq}
 use Rattle.std.proofs.lemmas.List.{get_or-take, get_or-append-add, length-append}
 use Rattle.std.proofs.lemmas.List.Elements.{recursion_from_All}
+use Rattle.hn_base.specs.Byte.{IsByte}
 use Rattle.hn_advert.specs.declared.advert.Info.{Info}
 use Rattle.hn_advert.specs.declared.advert.Advert.{Advert}
 use Rattle.hn_advert.specs.declared.header.Fixed.{Fixed}
@@ -122,7 +123,7 @@ total_message bytes fits long kind code =
     let flags = flags_in byte (octets_front bytes fs 16 fits refl 5) in
     total_header bytes rest (fixed_in fs (not (eqb (bit_and byte 128) 0)) (not (eqb (bit_and byte 64) 0))) (header_begins bytes fs rest _ _ fits long fs_kind fs_code refl refl flags) (total_options (length rest) rest (omega arith) (octets_after bytes rest 16 fits refl))
 
-pub advert_or_fault : (bytes : List ℕ) → All (λ byte. byte < 2 ^ 8) bytes → ((advert : Advert) × IsAdvert bytes advert) ⊎ ((place why : ℕ) × AdvertFault bytes place why)
+pub advert_or_fault : (bytes : List ℕ) → All IsByte bytes → ((advert : Advert) × IsAdvert bytes advert) ⊎ ((place why : ℕ) × AdvertFault bytes place why)
 advert_or_fault bytes all =
     elim (cases_lt (length bytes) 16) [
       | inl short ↦ inr (length bytes, 1, inl (inl (refl, (short, refl))))
@@ -130,7 +131,7 @@ advert_or_fault bytes all =
           elim (cases_eq (get_or bytes 0 0) 134) [
             | inl kind ↦
                 elim (cases_eq (get_or bytes 1 0) 0) [
-                  | inl code ↦ total_message bytes (octets bytes (recursion_from_All (λ byte. byte < 2 ^ 8) bytes all)) long kind code
+                  | inl code ↦ total_message bytes (octets bytes (recursion_from_All IsByte bytes all)) long kind code
                   | inr other ↦ inr (1, 3, inl (inr (inr (refl, (long, kind, other, refl)))))
                 ]
             | inr other ↦ inr (0, 2, inl (inr (inl (refl, (long, other, refl)))))

@@ -2,7 +2,8 @@
 //!
 //! Each is the contract of a function that does nothing: call it to know its law.
 
-ghost use Rattle.std.specs.Prelude.{◌≡◌, ◌⊎◌, ℕ, ◌^◌, ◌<◌, List, ◌∷◌, ◌++◌, All};
+ghost use Rattle.std.specs.Prelude.{◌≡◌, ◌⊎◌, ℕ, List, ◌∷◌, ◌++◌, All};
+ghost use Rattle.hn_base.specs.Byte.{IsByte};
 ghost use Rattle.hn_advert.specs.declared.advert.Advert.{Advert};
 ghost use Rattle.hn_advert.specs.Layout.{Header, NdOption, OtherOption};
 ghost use Rattle.hn_advert.specs.Advert.{advert_of, IsAdvert, advert_bytes, IsInRange};
@@ -34,6 +35,6 @@ pub fn other_options_are_skipped()
 
 /// Bytes are an advertisement, or they have a fault.
 pub fn advert_or_fault()
-    ensures { (bytes : List ℕ) → All (λ byte. byte < 2 ^ 8) bytes
+    ensures { (bytes : List ℕ) → All IsByte bytes
         → ((advert : Advert) × IsAdvert bytes advert) ⊎ ((place why : ℕ) × AdvertFault bytes place why) }
 {}

@@ -7,6 +7,7 @@ use Rattle.std.proofs.lemmas.List.{length-append, length-replicate, length-drop,
 use Rattle.std.proofs.lemmas.Nat.{be_bytes_2, from_be_bytes-to_be_bytes_2, from_be_bytes-to_be_bytes_4, pow-add, mod-pow-add, mul-add-lt, same_from_place, mod_low}
 use Rattle.std.proofs.Math.Nat.{pow-suc}
 use Rattle.std.proofs.lemmas.List.Elements.{All-from_recursion}
+use Rattle.hn_base.specs.Byte.{IsByte}
 use Rattle.hn_base.proofs.Recursions.{AllByRecursion-append, AllByRecursion-take, AllByRecursion-drop}
 
 -- the number that bytes make
@@ -103,7 +104,7 @@ pub high_bytes : (k n : ℕ) → Bytes (bytes_high_first k n)
 high_bytes zero n = tt
 high_bytes (suc k) n = (byte_small k n, high_bytes k n)
 
-pub number_bytes : (k n : ℕ) → All (λ byte. byte < 2 ^ 8) (bytes_high_first k n)
+pub number_bytes : (k n : ℕ) → All IsByte (bytes_high_first k n)
 number_bytes k n = All-from_recursion (λ (byte : ℕ). byte < 2 ^ 8) (bytes_high_first k n) (high_bytes k n)
 
 be-high : (k n : ℕ) → be (bytes_high_first k n) ≡ n % 2 ^ (8 * k)

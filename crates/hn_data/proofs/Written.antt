@@ -3,6 +3,7 @@ use Rattle.std.proofs.Common.{◌≡◌, ◌↔◌, ◌∙◌, ℕ, ◌<◌, ◌
 use Rattle.std.specs.List.{concat}
 use Rattle.std.proofs.lemmas.List.{append-nil}
 use Rattle.std.proofs.lemmas.List.Elements.{All-contains, All-weaker, All-contains_itself, All-tail, All-head, Contains-append_left, Contains-append_right}
+use Rattle.hn_base.specs.Byte.{IsByte}
 use Rattle.hn_base.proofs.AscendingLists.{nothing_in, Contains-head, Contains-tail, Contains-cases}
 use Rattle.hn_tlv.specs.Grammar.{PlainTlv, IsTlv, IsTlvList, header, unpadded, padding, spelling}
 use Rattle.hn_tlv.specs.Laws.{SpellingIsPrefixFree}
@@ -42,7 +43,7 @@ written_tlv item w bytes =
     record {
       kind_fits = kind_fits item w.in_range;
       length_fits = omega (arith, w.short);
-      bytes = back (λ byte. byte < 2 ^ 8) (header (kind_of item) (length value)) value (front (λ byte. byte < 2 ^ 8) (unpadded (tlv_of item)) zeros bytes);
+      bytes = back IsByte (header (kind_of item) (length value)) value (front IsByte (unpadded (tlv_of item)) zeros bytes);
     }
 
 -- pieces that are the TLVs of items: their TLVs, and the items that these are read as
@@ -78,8 +79,8 @@ module _ (same_begin : SpellingIsPrefixFree) (same_item : ItemIsUnique) (written
   are_written [] encoded bytes = record { tlvs = []; items = []; list = refl; read = refl; exact = λ item. (λ h. absurd (nothing_in item h), λ h. absurd (nothing_in (spelling (tlv_of item)) h.1)) }
   are_written (piece ∷ pieces) encoded bytes =
       let (first, is) = All-head IsEncoded piece pieces encoded in
-      let here : AreBytes piece = front (λ byte. byte < 2 ^ 8) piece (concat pieces) bytes in
-      let rest = are_written pieces (All-tail IsEncoded piece pieces encoded) (back (λ byte. byte < 2 ^ 8) piece (concat pieces) bytes) in
+      let here : AreBytes piece = front IsByte piece (concat pieces) bytes in
+      let rest = are_written pieces (All-tail IsEncoded piece pieces encoded) (back IsByte piece (concat pieces) bytes) in
       record {
         tlvs = tlv_of first ∷ rest.tlvs;
         items = first ∷ rest.items;

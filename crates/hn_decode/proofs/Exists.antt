@@ -1,8 +1,9 @@
 -- A datagram that is a list of TLVs has a text.
-use Rattle.std.proofs.Common.{◌≡◌, ℕ, zero, suc, ◌+◌, ◌-◌, ◌^◌, ◌<◌, ◌⊎◌, inl, inr, List, [], ◌∷◌, ◌++◌, length, drop, All, refl, ap, subst, ◌∙◌, arith}
+use Rattle.std.proofs.Common.{◌≡◌, ℕ, zero, suc, ◌+◌, ◌-◌, ◌<◌, ◌⊎◌, inl, inr, List, [], ◌∷◌, ◌++◌, length, drop, All, refl, ap, subst, ◌∙◌, arith}
 use Rattle.std.proofs.lemmas.Bool.{cases_lt}
 use Rattle.std.proofs.lemmas.List.{drop_at}
 use Rattle.std.proofs.lemmas.List.Elements.{All-from_recursion, recursion_from_All}
+use Rattle.hn_base.specs.Byte.{IsByte}
 use Rattle.hn_base.proofs.Recursions.{AllByRecursion-drop}
 use Rattle.hn_tlv.specs.Grammar.{PlainTlv, IsTlv, tlv_size, IsTlvList, HasTlvs}
 use Rattle.hn_tlv.specs.Laws.{ListIsUnique, ListHasNoFirstFault, ListOrFirstFault}
@@ -48,11 +49,11 @@ is_node_state (Address endpoint address subs) = inr (λ no. no)
 is_node_state (Other kind value) = inr (λ no. no)
 
 -- the bytes of a node's data
-body_bytes : (tlv : PlainTlv) (item : PlainItem) → IsTlv tlv → IsItem tlv item → IsNodeState item → All (λ byte. byte < 2 ^ 8) (within item)
+body_bytes : (tlv : PlainTlv) (item : PlainItem) → IsTlv tlv → IsItem tlv item → IsNodeState item → All IsByte (within item)
 body_bytes tlv (NodeState node number age hash body) valid h is =
     let fixed : List ℕ = word node ++ word number ++ word age ++ hash in
     let rest : drop (length fixed) tlv.value ≡ body = ap (drop (length fixed)) h.spelled.1 ∙ drop_at fixed body (length fixed) refl in
-    let P : ℕ → Type 0 = λ byte. byte < 2 ^ 8 in
+    let P : ℕ → Type 0 = IsByte in
     subst (All P) rest (All-from_recursion P (drop (length fixed) tlv.value) (AllByRecursion-drop P (length fixed) tlv.value (recursion_from_All P tlv.value valid.bytes)))
 body_bytes tlv _ valid h is = absurd is
 

@@ -1,10 +1,11 @@
 -- Packings of one list of TLVs.
-use Rattle.std.proofs.Common.{◌≡◌, ◌<◌, ◌≤◌, ◌+◌, ◌^◌, ◌∙◌, ℕ, zero, suc, List, [], ◌∷◌, ◌++◌, length, map, take, drop, get_or, inl, inr, ap, refl, sym, subst, arith, length-append}
+use Rattle.std.proofs.Common.{◌≡◌, ◌<◌, ◌≤◌, ◌+◌, ◌∙◌, ℕ, zero, suc, List, [], ◌∷◌, ◌++◌, length, map, take, drop, get_or, inl, inr, ap, refl, sym, subst, arith, length-append}
 use Rattle.std.specs.List.{concat, All, AllByRecursion}
 use Rattle.std.proofs.lemmas.List.{append-nil, take-append-drop}
 use Rattle.std.proofs.lemmas.List.Elements.{Contains-append_left, Contains-append_right, All-append, recursion_from_All}
 use Rattle.std.proofs.lemmas.List.Folds.{concat-append}
 use Rattle.std.proofs.lemmas.Bool.{cases_lt}
+use Rattle.hn_base.specs.Byte.{IsByte}
 use Rattle.hn_base.specs.declared.ids.NodeId.{NodeId}
 use Rattle.hn_base.specs.declared.ids.EpId.{EpId}
 use Rattle.hn_tlv.specs.Grammar.{PlainTlv, IsTlv, spelling, IsTlvList}
@@ -140,7 +141,7 @@ module _ (own : NodeId) (endpoint : EpId) where
   IsTlv-sender_tlv = record {
     kind_fits = omega arith;
     length_fits = omega arith;
-    bytes = All-append (λ byte. byte < 2 ^ 8) (word own.0) (word endpoint.0) (number_bytes 4 own.0) (number_bytes 4 endpoint.0);
+    bytes = All-append IsByte (word own.0) (word endpoint.0) (number_bytes 4 own.0) (number_bytes 4 endpoint.0);
   }
 
   read : (tlvs : List PlainTlv) (datagrams : List (List ℕ)) → AllByRecursion IsTlv tlvs → IsPacking own endpoint (map spelling tlvs) datagrams → AreRead own endpoint tlvs datagrams

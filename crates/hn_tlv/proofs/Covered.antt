@@ -8,6 +8,7 @@ use Rattle.hn_tlv.specs.Padding.{IsPaddingFault}
 use Rattle.hn_tlv.proofs.Split.{IsSplit, is_split, faulty_padding, whole_tlv}
 use Rattle.hn_base.proofs.BigEndian.{AreOctets, octets, two_bytes, two_small}
 use Rattle.std.proofs.lemmas.List.Elements.{recursion_from_All}
+use Rattle.hn_base.specs.Byte.{IsByte}
 
 -- ---- what begins the bytes
 
@@ -101,5 +102,5 @@ covered_within (suc fuel) bytes few fit =
           inr (offset, why, record { tlvs = []; front = []; rest = bytes; offset = offset; before = refl; parts = refl; fault = fault; place_is = omega arith })
     ]
 
-pub covered : (bytes : List ℕ) → All (λ byte. byte < 2 ^ 8) bytes → IsCovered bytes
-covered bytes all = covered_within (length bytes) bytes (omega arith) (octets bytes (recursion_from_All (λ byte. byte < 2 ^ 8) bytes all))
+pub covered : (bytes : List ℕ) → All IsByte bytes → IsCovered bytes
+covered bytes all = covered_within (length bytes) bytes (omega arith) (octets bytes (recursion_from_All IsByte bytes all))

@@ -1,6 +1,7 @@
 -- The type-length-value objects (TLVs) of RFC 7787, section 7, as whole lists of bytes.
 use Rattle.std.specs.Prelude.{◌≡◌, ◌≢◌, ℕ, ◌+◌, ◌-◌, ◌%◌, ◌^◌, ◌<◌, ◌≤◌, ◌⊎◌, List, [], ◌∷◌, ◌++◌, length, drop, replicate, All}
 use Rattle.std.specs.Int.{w16, to_be_bytes}
+use Rattle.hn_base.specs.Byte.{IsByte}
 
 -- a TLV without where it lies in memory
 pub record PlainTlv : Type 0 where
@@ -11,7 +12,7 @@ pub record PlainTlv : Type 0 where
 pub record IsTlv (tlv : PlainTlv) : Type 0 where
   pub kind_fits : tlv.kind < 2 ^ 16
   pub length_fits : length tlv.value < 2 ^ 16
-  pub bytes : All (λ byte. byte < 2 ^ 8) tlv.value
+  pub bytes : All IsByte tlv.value
 
 -- how many zero bytes bring a value of that length to the next multiple of 4
 abbrev pub padding : ℕ → ℕ

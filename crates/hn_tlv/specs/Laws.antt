@@ -1,5 +1,5 @@
 -- Laws of the grammar of TLVs.
-use Rattle.std.specs.Prelude.{◌≡◌, ◌⊎◌, ℕ, ◌^◌, ◌<◌, All, List, [], ◌∷◌, ◌++◌, take, drop}
+use Rattle.std.specs.Prelude.{◌≡◌, ◌⊎◌, ℕ, All, List, [], ◌∷◌, ◌++◌, take, drop}
 use Rattle.hn_base.specs.Byte.{IsByte}
 use Rattle.hn_tlv.specs.Grammar.{PlainTlv, IsTlv, spelling, IsTlvList, HasTlvs, IsTlvAt, FirstFault}
 
@@ -41,5 +41,5 @@ FirstFaultIsUnique =
 -- Bytes are a list of TLVs, or they have a first fault.
 abbrev pub ListOrFirstFault : Type 0
 ListOrFirstFault =
-    (bytes : List ℕ) → All (λ byte. byte < 2 ^ 8) bytes
+    (bytes : List ℕ) → All IsByte bytes
     → HasTlvs bytes ⊎ ((place why : ℕ) × FirstFault bytes place why)

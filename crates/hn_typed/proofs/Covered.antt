@@ -7,6 +7,7 @@ use Rattle.std.proofs.lemmas.Bool.{cases_Bool, cases_eq, cases_lt, false≢true}
 use Rattle.std.proofs.lemmas.List.{length-append, length-drop, length-replicate, length-take-le, take-append-drop, drop-drop, drop_all, drop_at}
 use Rattle.std.proofs.lemmas.List.Elements.{All-from_recursion, recursion_from_All}
 use Rattle.std.proofs.lemmas.Str.{IsUtf8-from_is_utf8, is_utf8-from_IsUtf8}
+use Rattle.hn_base.specs.Byte.{IsByte}
 use Rattle.hn_base.proofs.BigEndian.{Bytes, Bytes-take, Bytes-drop, word_is, word_small, whole_is, front_small}
 use Rattle.hn_tlv.specs.Grammar.{PlainTlv, IsTlv, padding, HasTlvs, FirstFault}
 use Rattle.hn_tlv.specs.Laws.{ListHasNoFirstFault, ListOrFirstFault}
@@ -41,7 +42,7 @@ three_words value fit long =
     (two.0, two.1, third.0, two.2, two.3, third.1, two.4 ∙ ap (λ (z : List ℕ). (word two.0 ++ word two.1) ++ z) (third.2 ∙ ap (λ (z : List ℕ). word third.0 ++ z) (drop-drop 4 8 value)))
 
 hash_front : (value : List ℕ) → Bytes value → 8 ≤ length value → IsHash (take 8 value)
-hash_front value fit long = (length-take-le 8 value long, All-from_recursion (λ byte. byte < 2 ^ 8) (take 8 value) (Bytes-take 8 value fit))
+hash_front value fit long = (length-take-le 8 value long, All-from_recursion IsByte (take 8 value) (Bytes-take 8 value fit))
 
 -- ---- sub-TLVs
 
@@ -111,7 +112,7 @@ module _ (list_or_fault : ListOrFirstFault) (no_list : ListHasNoFirstFault) wher
       let rest : List ℕ = drop (padding len) after in
       elim (zeros_or_other (padding len) after) [
         | inl zeros ↦
-            elim (list_or_fault rest (All-from_recursion (λ byte. byte < 2 ^ 8) rest (Bytes-drop (padding len) after fit))) [
+            elim (list_or_fault rest (All-from_recursion IsByte rest (Bytes-drop (padding len) after fit))) [
               | inl tlvs ↦ inl (rest, (tlvs, inr zeros))
               | inr fault ↦ inr (lacks_list len after fault.0 fault.1 (omega arith) fault.2)
             ]
@@ -365,6 +366,6 @@ module _ (list_or_fault : ListOrFirstFault) (no_list : ListHasNoFirstFault) wher
   pub covered : (tlv : PlainTlv) → IsTlv tlv → ((item : PlainItem) × IsItem tlv item) ⊎ ((why : ℕ) × IsItemFault tlv why)
   covered tlv valid =
       elim (known_or_other tlv.kind table_kinds) [
-        | inl kind ↦ known tlv.kind tlv.value (recursion_from_All (λ byte. byte < 2 ^ 8) tlv.value valid.bytes) kind
+        | inl kind ↦ known tlv.kind tlv.value (recursion_from_All IsByte tlv.value valid.bytes) kind
         | inr other ↦ inl (Other tlv.kind tlv.value, record { in_range = valid.kind_fits; spelled = (refl, other, refl) })
       ]

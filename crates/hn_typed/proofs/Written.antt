@@ -3,6 +3,7 @@ use Rattle.std.proofs.Common.{ℕ, ◌^◌, ◌<◌, ◌≤◌, List, [], ◌∷
 use Rattle.std.specs.Int.{w128, to_be_bytes}
 use Rattle.std.proofs.lemmas.List.{append-nil}
 use Rattle.std.proofs.lemmas.List.Elements.{All-append, All-replicate}
+use Rattle.hn_base.specs.Byte.{IsByte}
 use Rattle.hn_tlv.specs.Grammar.{PlainTlv, padding, HasTlvs}
 use Rattle.hn_typed.specs.Item.{PlainItem, RequestNetwork, RequestNode, NodeEndpoint, NetworkState, NodeState, Peer, KeepAlive, Version, External, Delegated, Assigned, Address, Other}
 use Rattle.hn_typed.specs.Fields.{word, two_in_byte, prefix_field, HasSubs}
@@ -34,12 +35,12 @@ pub written_is_item : (item : PlainItem) → IsWritable item → IsItem (tlv_of 
 written_is_item item w = record { in_range = w.in_range; spelled = spelled item w }
 
 -- the bytes of a value are those of its parts
-pub value_bytes : (item : PlainItem) → All (λ byte. byte < 2 ^ 8) (fixed_of item) → All (λ byte. byte < 2 ^ 8) (tail_of item) → All (λ byte. byte < 2 ^ 8) (value_of item)
+pub value_bytes : (item : PlainItem) → All IsByte (fixed_of item) → All IsByte (tail_of item) → All IsByte (value_of item)
 value_bytes item fixed after =
     let zeros : List ℕ = replicate (zeros_of item) 0 in
     let zero : 0 < 2 ^ 8 = omega arith in
-    let front : All (λ byte. byte < 2 ^ 8) (fixed_of item ++ zeros) = All-append (λ byte. byte < 2 ^ 8) (fixed_of item) zeros fixed (All-replicate (λ byte. byte < 2 ^ 8) (zeros_of item) 0 zero) in
-    All-append (λ byte. byte < 2 ^ 8) (fixed_of item ++ zeros) (tail_of item) front after
+    let front : All IsByte (fixed_of item ++ zeros) = All-append IsByte (fixed_of item) zeros fixed (All-replicate IsByte (zeros_of item) 0 zero) in
+    All-append IsByte (fixed_of item ++ zeros) (tail_of item) front after
 
 -- ---- what was read can be written
 

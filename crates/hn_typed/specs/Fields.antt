@@ -1,6 +1,7 @@
 -- The fields of an item's value, as bytes in network byte order (RFC 7787, section 7; RFC 7788, section 10).
-use Rattle.std.specs.Prelude.{◌≡◌, ℕ, ◌+◌, ◌*◌, ◌/◌, ◌<◌, ◌^◌, ◌⊎◌, List, [], ◌∷◌, ◌++◌, length, take, replicate, All}
+use Rattle.std.specs.Prelude.{◌≡◌, ℕ, ◌+◌, ◌*◌, ◌/◌, ◌⊎◌, List, [], ◌∷◌, ◌++◌, length, take, replicate, All}
 use Rattle.std.specs.Int.{w32, w128, to_be_bytes}
+use Rattle.hn_base.specs.Byte.{IsByte}
 use Rattle.hn_tlv.specs.Grammar.{padding, HasTlvs}
 use Rattle.hn_base.specs.Prefix.{PlainPrefix}
 
@@ -31,4 +32,4 @@ HasSubs fixed subs value = (after : List ℕ) × (value ≡ fixed ++ after) × T
 
 -- the hash of a network's or a node's state: 8 bytes
 abbrev pub IsHash : List ℕ → Type 0
-IsHash hash = (length hash ≡ 8) × All (λ byte. byte < 2 ^ 8) hash
+IsHash hash = (length hash ≡ 8) × All IsByte hash

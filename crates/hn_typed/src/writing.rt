@@ -1,6 +1,7 @@
 //! Items written as TLVs (RFC 7787, section 7; RFC 7788, section 10).
 
-ghost use Rattle.std.specs.Prelude.{◌≡◌, ◌+◌, ◌^◌, ◌<◌, ◌≤◌, ◌++◌, All, ◌∷◌, [], List, ℕ, length, replicate, vec_len, vec_capacity, IsOk, OnOk, OnErr};
+ghost use Rattle.std.specs.Prelude.{◌≡◌, ◌+◌, ◌≤◌, ◌++◌, All, ◌∷◌, [], List, length, replicate, vec_len, vec_capacity, IsOk, OnOk, OnErr};
+ghost use Rattle.hn_base.specs.Byte.{IsByte};
 ghost use Rattle.hn_tlv.specs.Grammar.{IsTlv, tlv_size, spelling};
 ghost use Rattle.hn_typed.specs.Fields.{two_in_byte};
 ghost use Rattle.hn_typed.specs.Table.{Fits, IsItem, InRange};
@@ -194,7 +195,7 @@ fn parts_of<'a>(item: &Item<'a>) -> Parts<'a>
 // Adds bytes at the end, where there is room for them.
 fn put(out: &mut Vec<u8>, bytes: &[u8])
     requires room { vec_len out.old + length bytes.now ≤ vec_capacity out.old }
-    ensures bytes { All (λ byte. byte < 2 ^ 8) bytes.now }
+    ensures bytes { All IsByte bytes.now }
     ensures items { out.new.items ≡ out.old.items ++ bytes.now }
     ensures len { vec_len out.new ≡ vec_len out.old + length bytes.now }
     ensures capacity { vec_capacity out.old ≤ vec_capacity out.new }

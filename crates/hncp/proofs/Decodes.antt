@@ -1,7 +1,8 @@
 -- Each source has a text that `decode` writes of it.
-use Rattle.std.proofs.Common.{◌≡◌, ◌^◌, ◌<◌, ◌≤◌, inl, inr, ℕ, List, Result, Ok, Err, All, length, refl}
+use Rattle.std.proofs.Common.{◌≡◌, ◌^◌, ◌≤◌, inl, inr, ℕ, List, Result, Ok, Err, All, length, refl}
 use Rattle.std.proofs.lemmas.Bool.{cases_lt}
 use Rattle.std.proofs.lemmas.List.{get_or_default}
+use Rattle.hn_base.specs.Byte.{IsByte}
 use Rattle.hn_tlv.specs.Laws.{ListOrFirstFault}
 use Rattle.hn_decode.specs.Laws.{DecodeTextExists}
 use Rattle.hex.specs.Hex.{decode_of}
@@ -13,7 +14,7 @@ use Rattle.hncp.specs.Decode.{malformed_line, IsContentsOf, IsDecodeOf}
 
 -- the laws of lists and of texts
 module _ (list_or_fault : ListOrFirstFault) (text_exists : DecodeTextExists) where
-  contents : (octets : List ℕ) → All (λ byte. byte < 2 ^ 8) octets → (status : ℕ) × (text : List ℕ) × IsContentsOf octets status text
+  contents : (octets : List ℕ) → All IsByte octets → (status : ℕ) × (text : List ℕ) × IsContentsOf octets status text
   contents octets bytes =
       elim (list_or_fault octets bytes) [
         | inl list ↦ let told = text_exists octets list in (0, told.0, inl (refl, told.1))

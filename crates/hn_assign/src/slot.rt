@@ -4,7 +4,7 @@ use crate::assigned::Assigned;
 use crate::backoff::Backoff;
 
 /// What a pair has: its assignment and its backoff, where it has them.
-#[derive(Clone, Copy, Debug, PartialEq, Eq, Hash)]
+#[derive(Clone, Copy, Debug, PartialEq, Eq)]
 pub struct Slot {
     pub assigned: Option<Assigned>,
     pub backoff: Option<Backoff>,

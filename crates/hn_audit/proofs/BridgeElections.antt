@@ -33,7 +33,7 @@ use Rattle.hn_audit.specs.Reached.{IsReached}
 use Rattle.hn_audit.specs.Sound.{IsThere, ElectSame}
 use Rattle.hn_base.proofs.Elements.{in_filter, from_filter}
 use Rattle.hn_base.proofs.Elements.{any_of, any_from}
-use Rattle.hn_audit.proofs.BridgeOrders.{ascending_of}
+use Rattle.hn_base.proofs.AscendingMade.{ascending_of}
 use Rattle.hn_audit.proofs.BridgeSets.{router_of, in_view, of_view}
 use Rattle.hn_audit.proofs.BridgeHomes.{home_of, set_of, in_set, of_set, IsEndOf}
 use Rattle.hn_audit.proofs.BridgePremises.{IsCase}

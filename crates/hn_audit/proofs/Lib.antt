@@ -3,7 +3,6 @@ mod BridgeAlike
 mod BridgeElections
 mod BridgeHomes
 mod BridgeLists
-mod BridgeOrders
 mod BridgePremises
 mod BridgeRest
 mod BridgeSeen

@@ -34,7 +34,7 @@ use Rattle.hn_base.proofs.Prefixes.{prefix_total}
 use Rattle.hn_audit.proofs.BridgeUsed.{at_prefix}
 use Rattle.hn_audit.proofs.FixedPoints.{FixedLaws, are_at_rest, wished_at_rest}
 use Rattle.hn_audit.proofs.Restings.{one_wish}
-use Rattle.hn_audit.proofs.BridgeOrders.{sorted_cons, sorted_none}
+use Rattle.hn_base.proofs.AscendingMade.{sorted_cons, sorted_none}
 
 -- ---- ascending lists
 

@@ -1,5 +1,6 @@
 pub mod Around
 pub mod AscendingLists
+pub mod AscendingMade
 pub mod AscendingNumbers
 pub mod Ats
 pub mod BigEndian
@@ -12,6 +13,7 @@ pub mod Firsts
 pub mod Fronts
 pub mod Greatest
 pub mod HexLemmas
+pub mod Keepings
 pub mod Keys
 pub mod LeadingBits
 mod NameBytes
@@ -25,6 +27,7 @@ pub mod Rans
 pub mod Recursions
 pub mod Results
 pub mod Soles
+pub mod Sooners
 pub mod SplitLemmas
 pub mod WholeSources
 pub mod Zeros

@@ -15,5 +15,6 @@ pub mod Order
 pub mod Prefix
 pub mod Rules
 pub mod Shared
+pub mod Sooner
 pub mod Splits
 pub mod Words

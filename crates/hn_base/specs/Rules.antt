@@ -19,6 +19,10 @@ abbrev pub OnSome : {S A : Type 0} → (A → RuleOf S) → Option A → RuleOf 
 OnSome rule None before after = after ≡ before
 OnSome rule (Some x) before after = rule x before after
 
+-- a rule leaves a part of what there is as it was
+abbrev pub KeepsBy : {S P : Type 0} → (S → P) → RuleOf S → Type 0
+KeepsBy {S} part rule = (before after : S) → rule before after → part after ≡ part before
+
 -- Where the words that were taken so far are known, a rule ran, and a draw that told these words before and after moved
 -- by exactly the words that the rule took.
 pub record RanBy {S : Type 0} (words : S → List ℕ) (rule : RuleOf S) (told told_after : Option (ℕ → ℕ)) (before after : S) : Type 0 where

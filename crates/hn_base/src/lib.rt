@@ -1,5 +1,6 @@
-//! What the crates of the home router share: identifiers, moments, names, capabilities, the keep-alive interval, out of
-//! memory, numerals and hexadecimal text; and definitions that need no type of another crate.
+//! What the crates of the home router share: identifiers, moments, names, capabilities, the keep-alive interval, the
+//! length of a link's prefixes, out of memory, numerals and hexadecimal text; and definitions that need no type of
+//! another crate.
 #![tactic(auto)]
 
 mod addr;
@@ -7,11 +8,13 @@ mod addr;
 mod addr_tests;
 mod ascending;
 mod caps;
+mod due;
 mod hex_text;
 mod ids;
 mod keep_alive;
 mod key;
 mod letter;
+mod link_length;
 mod memory;
 mod name;
 mod node_ids;
@@ -27,11 +30,13 @@ mod version;
 pub use addr::{Addr, link_local};
 pub use ascending::{ascending_is_unique, is_in_set, sort_to_set};
 pub use caps::Caps;
+pub use due::sooner;
 pub use hex_text::Hex;
 pub use ids::{EpId, Moment, NodeId};
 pub use keep_alive::KEEP_ALIVE_INTERVAL;
 pub use key::{Key, key_order_is_total};
 pub use letter::Letter;
+pub use link_length::LinkLength;
 pub use memory::NoMemory;
 pub use name::{NAME_CAPACITY, Name};
 pub use node_ids::{Endpoints, NodeIds};

@@ -15,7 +15,7 @@ pub const LONGEST_PREFIX: u8 = 128;
 /// (RFC 4291, section 2.3). Prefixes are ordered by their bits, and of equal bits the shorter comes first.
 ///
 /// There is no `is_empty` beside `len`: the length counts bits, and `::/0` has every address inside.
-#[derive(Clone, Copy, Debug, PartialEq, Eq, Hash)]
+#[derive(Clone, Copy, Debug, PartialEq, Eq)]
 pub struct Prefix {
     bits: u128,
     len: u8,
@@ -67,7 +67,7 @@ impl PartialOrd for Prefix {
 }
 
 /// The length is above 128, or a bit past it is set.
-#[derive(Clone, Copy, Debug, PartialEq, Eq, Hash)]
+#[derive(Clone, Copy, Debug, PartialEq, Eq)]
 pub struct BadPrefix;
 
 impl fmt::Display for BadPrefix {

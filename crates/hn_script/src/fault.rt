@@ -7,7 +7,7 @@ use std::error::Error;
 use std::fmt;
 
 /// The first fault of bytes that are no script.
-#[derive(Clone, Copy, Debug, PartialEq, Eq, Hash)]
+#[derive(Clone, Copy, Debug, PartialEq, Eq)]
 pub struct ScriptFault {
     /// The line, from 1; 0 if the script as a whole has too many bytes.
     pub line: u32,
@@ -27,7 +27,7 @@ impl fmt::Display for ScriptFault {
 impl Error for ScriptFault {}
 
 /// Why no script was read.
-#[derive(Clone, Copy, Debug, PartialEq, Eq, Hash)]
+#[derive(Clone, Copy, Debug, PartialEq, Eq)]
 pub enum ParseFault {
     /// The bytes are no script; this is their first fault.
     Script(ScriptFault),

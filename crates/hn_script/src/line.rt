@@ -6,7 +6,7 @@ use hn_prefix::Prefix;
 use std::fmt;
 
 /// How an injected datagram comes.
-#[derive(Clone, Copy, Debug, PartialEq, Eq, Hash)]
+#[derive(Clone, Copy, Debug, PartialEq, Eq)]
 pub enum How {
     /// By unicast from fe80::, port 8231.
     Uni,

@@ -86,7 +86,7 @@ pub struct Traced {
 }
 
 /// Why an event did not happen.
-#[derive(Clone, Copy, Debug, PartialEq, Eq, Hash)]
+#[derive(Clone, Copy, Debug, PartialEq, Eq)]
 pub enum WorldFault {
     /// It is refused with this code: 7, a name is unknown or names the other kind; 8, the name of a new router or link is
     /// taken; 9, the 65th router, the 65th link, the 17th endpoint of a router, its ninth delegated prefix, or the

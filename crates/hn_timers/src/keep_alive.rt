@@ -1,7 +1,9 @@
 ghost use Rattle.std.specs.Prelude.{◌≡◌, ◌≤◌, ◌^◌};
-ghost use Rattle.hn_timers.specs.KeepAlive.{is_expired, is_silent};
+ghost use Rattle.hn_base.specs.Sooner.{IsSooner};
+ghost use Rattle.hn_timers.specs.Due.{IsExpiry};
+ghost use Rattle.hn_timers.specs.KeepAlive.{is_expired, is_silent, silence_end};
 
-use hn_base::{KEEP_ALIVE_INTERVAL, Moment};
+use hn_base::{KEEP_ALIVE_INTERVAL, Moment, sooner};
 
 /// Over `KEEP_ALIVE_MULTIPLIER_DENOMINATOR`, how many intervals of silence remove a peer: 2.1
 /// (`DNCP_KEEPALIVE_MULTIPLIER` of RFC 7788, section 3).
@@ -22,10 +24,34 @@ pub fn expired(contact: Moment, interval: u32, now: Moment) -> bool
             >= KEEP_ALIVE_MULTIPLIER_NUMERATOR * u64::from(interval)
 }
 
+/// The moment at which such a peer expires, where that is after now and before `best`; else `best`. Never allocates.
+pub fn next_expiry(contact: Moment, interval: u32, now: Moment, best: Moment) -> Moment
+    ensures { IsSooner (IsExpiry contact interval) now best result }
+{
+    if interval == 0 {
+        return best;
+    }
+    let silence = (KEEP_ALIVE_MULTIPLIER_NUMERATOR * u64::from(interval)
+        + (KEEP_ALIVE_MULTIPLIER_DENOMINATOR - 1))
+        / KEEP_ALIVE_MULTIPLIER_DENOMINATOR;
+    sooner(now, best, contact.saturating_add(silence))
+}
+
 /// Whether a keep-alive is due, where a network state was last sent at `sent`: that was `KEEP_ALIVE_INTERVAL` ago
 /// or longer (RFC 7787, section 6.1.2). Never allocates.
 pub fn silent(sent: Moment, now: Moment) -> bool
     ensures { result ≡ is_silent sent now }
 {
     now.saturating_sub(sent) >= u64::from(KEEP_ALIVE_INTERVAL)
+}
+
+/// The moment from which a keep-alive is due, where that is after now and before `best`; else `best`. Never allocates.
+pub fn next_silence(sent: Moment, now: Moment, best: Moment) -> Moment
+    ensures { IsSooner (λ m. m ≡ silence_end sent) now best result }
+{
+    sooner(
+        now,
+        best,
+        sent.saturating_add(u64::from(KEEP_ALIVE_INTERVAL)),
+    )
 }

@@ -1,7 +1,9 @@
-ghost use Rattle.std.specs.Prelude.{◌≡◌, ◌≢◌, ◌^◌, ◌≤◌};
+ghost use Rattle.std.specs.Prelude.{◌≡◌, ◌≢◌, ◌^◌, ◌≤◌, ◌↔◌, IsTrue};
+ghost use Rattle.hn_base.specs.Sooner.{IsSooner};
+ghost use Rattle.hn_timers.specs.Due.{IsIntervalDue, IsIntervalStill};
 ghost use Rattle.hn_timers.specs.Length.{IsLength, next_length};
 
-use hn_base::Moment;
+use hn_base::{Moment, sooner};
 use std::marker::Model;
 
 /// The length of the shortest interval, Imin, in milliseconds (RFC 7788, section 3).
@@ -89,6 +91,27 @@ impl Trickle {
         ensures { result ≡ has_ended now self.now }
     {
         now >= self.begin + u64::from(self.len)
+    }
+
+    /// Whether nothing is due: the timer has fired or its time has not come, and the interval is not over.
+    /// Never allocates.
+    pub fn is_still(&self, now: Moment) -> bool
+        ensures { IsTrue result ↔ IsIntervalStill now self.now }
+    {
+        (self.done || now < self.fire) && now < self.begin + u64::from(self.len)
+    }
+
+    /// The first moment after now and before `best` at which the timer fires or the interval ends; else `best`.
+    /// Never allocates.
+    pub fn next_due(&self, now: Moment, best: Moment) -> Moment
+        ensures { IsSooner (IsIntervalDue self.now) now best result }
+    {
+        let first = if self.done {
+            best
+        } else {
+            sooner(now, best, self.fire)
+        };
+        sooner(now, first, self.begin + u64::from(self.len))
     }
 
     /// Begins the next interval now, twice as long and no longer than `LONGEST_INTERVAL` (RFC 6206, section 4.2,

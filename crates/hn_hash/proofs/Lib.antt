@@ -3,3 +3,4 @@ pub mod Leaves
 pub mod Laws
 pub mod Places
 pub mod Parts
+mod HashBytes

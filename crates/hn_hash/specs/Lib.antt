@@ -1,3 +1,4 @@
 pub mod Agreement
 pub mod Hash
+pub mod Laws
 pub mod Network

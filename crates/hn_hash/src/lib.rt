@@ -11,7 +11,7 @@ mod part;
 
 pub use agreement::{Agreement, agree};
 pub use hash::h;
-pub use law::equal_hashes_agree_or_collide;
+pub use law::{equal_hashes_agree_or_collide, hash_has_eight_bytes};
 pub use leaf::Leaf;
 pub use network_state::{network, network_of};
 pub use part::Part;

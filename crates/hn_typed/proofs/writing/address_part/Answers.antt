@@ -1,8 +1,0 @@
-use Rattle.std.proofs.Common.{arith}
-use Rattle.hn_typed.proofs.writing.address_part.Goals as goal
-
-pub returns-in-Delegated-clause-in_range : goal.returns-in-Delegated-clause-in_range
-returns-in-Delegated-clause-in_range c = rw c.in-Delegated.is (λ a p. (omega arith, omega arith, c.prefix.ensures.valid))
-
-pub returns-in-Assigned-clause-in_range : goal.returns-in-Assigned-clause-in_range
-returns-in-Assigned-clause-in_range c = rw c.in-Assigned.is (λ a p. (omega arith, p, c.prefix-in-Assigned.ensures.valid))

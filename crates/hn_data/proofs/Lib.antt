@@ -5,3 +5,4 @@ pub mod Walking
 pub mod AskedLemmas
 pub mod Pieces
 pub mod Written
+mod Laters

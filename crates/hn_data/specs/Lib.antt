@@ -8,3 +8,4 @@ pub mod OwnData
 pub mod View
 pub mod Links
 pub mod Laws
+pub mod Later

@@ -7,16 +7,11 @@ use Rattle.std.specs.List.Sorted.{IsStrictlySortedBy}
 use Rattle.hn_base.specs.Byte.{IsByte}
 use Rattle.hn_tlv.specs.Grammar.{spelling}
 use Rattle.hn_typed.specs.Item.{PlainItem}
-use Rattle.hn_typed.specs.Written.{tlv_of, IsWritable}
+use Rattle.hn_typed.specs.Written.{tlv_of, IsWritable, IsEncoding}
 
 -- each has eight bits
 abbrev pub AreBytes : List ℕ → Type 0
 AreBytes bytes = All IsByte bytes
-
--- the bytes are the one TLV that is written for an item
-pub record IsEncoding (bytes : List ℕ) (item : PlainItem) : Type 0 where
-  pub writable : IsWritable item
-  pub spelled : bytes ≡ spelling (tlv_of item)
 
 -- the one TLV that is written for some item
 abbrev pub IsEncoded : List ℕ → Type 0

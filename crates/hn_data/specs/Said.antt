@@ -1,7 +1,8 @@
--- What others ask of node data beside its peers: version, keep-alive intervals, assigned prefixes.
+-- What others ask of node data beside its peers: version, keep-alive intervals, assigned prefixes, addresses.
 use Rattle.std.specs.Prelude.{◌≡◌, ℕ, List, ◌==◌, if◌then◌else◌, Option, Some, None, Contains, unwrap_or}
 use Rattle.std.specs.List.{filter_map}
-use Rattle.hn_typed.specs.Item.{PlainCaps, PlainItem, Version, KeepAlive, Assigned}
+use Rattle.hn_typed.specs.Item.{PlainCaps, PlainItem, Version, KeepAlive, Assigned, Address}
+use Rattle.hn_base.specs.declared.ids.EpId.{EpId}
 use Rattle.hn_data.specs.Items.{Reads, first_of}
 use Rattle.hn_data.specs.declared.said.Interval.{Interval}
 use Rattle.hn_data.specs.declared.said.AssignedPrefix.{AssignedPrefix}
@@ -38,6 +39,15 @@ assigned_of _ = None
 -- the node data have that assigned prefix
 abbrev pub HasAssigned : List ℕ → AssignedPrefix → Type 0
 HasAssigned bytes a = Reads bytes (λ items. Contains (filter_map assigned_of items) a)
+
+-- the endpoint and the address that a Node-Address has (RFC 7788, section 10.4)
+abbrev pub address_of : PlainItem → Option (EpId × ℕ)
+address_of (Address endpoint address subs) = Some (record { 0 = endpoint }, address)
+address_of _ = None
+
+-- the node data have that address
+abbrev pub HasAddress : List ℕ → EpId × ℕ → Type 0
+HasAddress bytes a = Reads bytes (λ items. Contains (filter_map address_of items) a)
 
 -- the node data have an HNCP-Version
 abbrev pub HasVersion : List ℕ → Type 0

@@ -8,13 +8,13 @@ ghost use Rattle.hn_typed.specs.Item.{PlainItem};
 ghost use Rattle.hn_typed.specs.Table.{IsItem};
 ghost use Rattle.hn_typed.specs.View.{plain_item, plain_caps};
 ghost use Rattle.hn_data.specs.Peers.{peer_of};
-ghost use Rattle.hn_data.specs.Said.{caps_of, interval_of, assigned_of};
+ghost use Rattle.hn_data.specs.Said.{caps_of, interval_of, assigned_of, address_of};
 ghost use Rattle.hn_data.specs.Delegations.{IsConnected};
 ghost use Rattle.hn_data.specs.Kept.{AreKept, AreKeptOf};
 
 use crate::delegations::add_delegations;
 use crate::said::{AssignedPrefix, Delegation, Interval, PeerLink};
-use hn_base::{Caps, NoMemory};
+use hn_base::{Caps, EpId, NoMemory};
 use hn_tlv::Tlv;
 use hn_typed::{Item, read};
 use std::alloc::Global;
@@ -28,6 +28,7 @@ pub(crate) struct Kept {
     pub(crate) intervals: Vec<Interval>,
     pub(crate) delegations: Vec<Delegation>,
     pub(crate) assigned: Vec<AssignedPrefix>,
+    pub(crate) addresses: Vec<(EpId, u128)>,
 }
 
 // The priorities of an HNCP-Version.
@@ -101,6 +102,20 @@ fn assigned_of(item: &Item<'_>) -> Option<AssignedPrefix>
     }
 }
 
+// What a Node-Address says.
+fn address_of(item: &Item<'_>) -> Option<(EpId, u128)>
+    ensures { result ≡ address_of (plain_item item.now) }
+{
+    match item {
+        Item::Address {
+            endpoint,
+            address,
+            ..
+        } => Some((*endpoint, *address)),
+        _ => None,
+    }
+}
+
 /// Adds what is said to a list, if anything is.
 pub(crate) fn push_said<T: Drop>(list: &mut Vec<T>, said: Option<T>) -> Result<(), NoMemory>
     ensures { OnOk result (list.new.items ≡ list.old.items ++ option_to_list said) }
@@ -123,6 +138,7 @@ impl Kept {
             intervals: Vec::new(alloc),
             delegations: Vec::new(alloc),
             assigned: Vec::new(alloc),
+            addresses: Vec::new(alloc),
         }
     }
 
@@ -136,6 +152,7 @@ impl Kept {
         push_said(&mut self.peers, peer_of(item))?;
         push_said(&mut self.intervals, interval_of(item))?;
         push_said(&mut self.assigned, assigned_of(item))?;
+        push_said(&mut self.addresses, address_of(item))?;
         add_delegations(&mut self.delegations, item)
     }
 

@@ -1,12 +1,11 @@
-//! Laws of the items of node data (RFC 7787, section 7).
+//! Laws of node data (RFC 7787, section 7) and of views.
 //!
 //! Each is the contract of a function that does nothing: call it to know its law.
 
-ghost use Rattle.std.specs.Prelude.{◌≡◌, ℕ, List};
 ghost use Rattle.hn_tlv.specs.Grammar.{HasTlvs};
 ghost use Rattle.hn_data.specs.Items.{Reads};
-ghost use Rattle.hn_data.specs.Laws.{ItemsAreUnique};
-ghost use Rattle.hn_data.specs.OwnData.{AreBytes, IsAscendingSet};
+ghost use Rattle.hn_data.specs.Laws.{ItemsAreUnique, AscendingSetIsUnique, LaterIsANetwork};
+ghost use Rattle.hn_data.specs.OwnData.{AreBytes};
 
 use crate::node_data::NodeData;
 use hn_tlv::list_is_unique;
@@ -31,7 +30,12 @@ pub fn node_data_has_items(node_data: &NodeData)
 
 /// Pieces have at most one such bytes: those of the pieces in ascending order, each once.
 pub fn ascending_set_is_unique()
-    ensures { (pieces : List (List ℕ)) (a b : List ℕ) → IsAscendingSet pieces a → IsAscendingSet pieces b → a ≡ b }
+    ensures { AscendingSetIsUnique }
+{}
+
+/// A network stays one while time passes.
+pub fn later_is_a_network()
+    ensures { LaterIsANetwork }
 {}
 
 /// Bytes have eight bits.

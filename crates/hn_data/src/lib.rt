@@ -16,9 +16,11 @@ mod view;
 mod walk;
 
 pub use asked::{keep_alive, linked, version};
-pub use laws::{ascending_set_is_unique, items_are_unique, node_data_has_items};
+pub use hn_typed::encode;
+pub use laws::{
+    ascending_set_is_unique, items_are_unique, later_is_a_network, node_data_has_items,
+};
 pub use node_data::NodeData;
-pub use own_data::encode;
 pub use place::{peer_place, place_of};
 pub use said::{AssignedPrefix, Delegation, Interval, PeerLink};
 pub use view::{Entry, View};

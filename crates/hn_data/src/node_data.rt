@@ -9,7 +9,8 @@ ghost use Rattle.hn_data.specs.Walk.{IsPlace, IsFoundAt, Decodes};
 ghost use Rattle.hn_data.specs.Kept.{IsKept};
 ghost use Rattle.hn_data.specs.Peers.{HasPeer, peer_cmp};
 ghost use Rattle.hn_data.specs.Delegations.{HasDelegation, HasExternal};
-ghost use Rattle.hn_data.specs.Said.{HasAssigned};
+ghost use Rattle.hn_data.specs.Said.{HasAssigned, HasAddress};
+ghost use Rattle.hn_base.specs.declared.ids.EpId.{EpId};
 
 use crate::kept::Kept;
 use crate::laws::{are_bytes, items_are_unique, node_data_has_items};
@@ -17,12 +18,11 @@ use crate::own_data::ascending_set;
 use crate::reading::read_kept;
 use crate::said::{AssignedPrefix, Delegation, PeerLink};
 use crate::walk::tlv_at;
-use hn_base::{Bytes, NoMemory};
+use hn_base::{Bytes, EpId, NoMemory, Shared};
 use hn_tlv::{ListFault, check, list_grows, spelling_is_prefix_free, tlv_is_unique};
 use hn_typed::{Item, ItemFault, item_is_unique, read, written_is_read};
 use std::alloc::Global;
 use std::marker::Model;
-use std::rc::Rc;
 
 /// Node data, and what others ask of it.
 #[derive(Debug, Drop)]
@@ -35,7 +35,7 @@ struct Inner {
 /// What is shared shares its memory.
 #[derive(Debug, Drop)]
 pub struct NodeData {
-    shared: Rc<Inner, Global>,
+    shared: Shared<Inner>,
 }
 
 impl Model for NodeData {
@@ -44,9 +44,9 @@ impl Model for NodeData {
 
     ghost Value = { List ℕ };
 
-    ghost view = { λ d. d.shared.value.bytes };
+    ghost view = { λ d. d.shared.bytes };
 
-    ghost invariant = { λ d. IsKept d.shared.value.bytes d.shared.value.kept };
+    ghost invariant = { λ d. IsKept d.shared.bytes d.shared.kept };
 }
 
 // Reads a list of TLVs.
@@ -56,7 +56,7 @@ fn read_data(alloc: Global, bytes: Bytes) -> Result<NodeData, NoMemory>
 {
     let kept = read_kept(alloc, bytes.as_slice())?;
     Ok(NodeData {
-        shared: Rc::new(alloc, Inner { bytes, kept })?,
+        shared: Shared::new(alloc, Inner { bytes, kept })?,
     })
 }
 
@@ -96,7 +96,7 @@ impl NodeData {
     pub fn bytes(&self) -> &[u8]
         ensures { result.now ≡ self.now }
     {
-        self.shared.bytes.as_slice()
+        self.shared.get().bytes.as_slice()
     }
 
     /// What is kept beside the bytes, which is of all their items.
@@ -105,7 +105,7 @@ impl NodeData {
         ensures unique { (a b : List PlainItem) → AreItems self.now a → AreItems self.now b → a ≡ b }
     {
         items_are_unique();
-        &self.shared.kept
+        &self.shared.get().kept
     }
 
     /// The TLV at a place: its item, or why it has none (RFC 7787, section 7; RFC 7788, section 10), and the place
@@ -158,6 +158,13 @@ impl NodeData {
         ensures { (a : AssignedPrefix) → Contains result.now a ↔ HasAssigned self.now a }
     {
         self.kept().assigned.as_slice()
+    }
+
+    /// The node's addresses, each with the endpoint that it is on (RFC 7788, section 10.4). Never allocates.
+    pub fn addresses(&self) -> &[(EpId, u128)]
+        ensures { (a : EpId × ℕ) → Contains result.now a ↔ HasAddress self.now a }
+    {
+        self.kept().addresses.as_slice()
     }
 
     /// Whether the node has an External-Connection (RFC 7788, section 10.2). Never allocates.

@@ -1,16 +1,13 @@
 //! Node data made of items (RFC 7787, section 7.2.3).
 
-ghost use Rattle.std.specs.Prelude.{◌≡◌, ◌↔◌, ◌≤◌, ℕ, List, length, map, Contains, IfOk};
+ghost use Rattle.std.specs.Prelude.{◌≡◌, ◌↔◌, ℕ, List, map, Contains, IfOk};
 ghost use Rattle.std.specs.Ordering.{nat_cmp};
 ghost use Rattle.std.specs.Cmp.Lexicographic.{slice_cmp};
 ghost use Rattle.std.specs.List.{concat};
 ghost use Rattle.std.specs.List.Sorted.{IsStrictlySortedBy};
-ghost use Rattle.hn_typed.specs.Written.{value_of, HasPriority, HasTlvsAfter, HasOtherKind};
-ghost use Rattle.hn_typed.specs.View.{plain_item};
-ghost use Rattle.hn_data.specs.OwnData.{IsEncoding, IsAscendingSet};
+ghost use Rattle.hn_data.specs.OwnData.{IsAscendingSet};
 
 use hn_base::{Bytes, NoMemory};
-use hn_typed::{Item, read_is_writable, write};
 use std::alloc::Global;
 
 // The pieces in ascending order of their bytes, each once.
@@ -44,19 +41,4 @@ pub(crate) fn ascending_set(alloc: Global, pieces: &[Bytes]) -> Result<Bytes, No
 {
     let sorted = in_order(alloc, pieces)?;
     Ok(Bytes::from(joined(alloc, sorted.as_slice())?))
-}
-
-/// The one TLV that is written for the item (RFC 7787, section 7; RFC 7788, section 10), under the conditions of
-/// `hn_typed::write`.
-pub fn encode(alloc: Global, item: &Item<'_>) -> Result<Bytes, NoMemory>
-    requires short { length (value_of (plain_item item.now)) ≤ 65535 }
-    requires priority { HasPriority (plain_item item.now) }
-    requires subs { HasTlvsAfter (plain_item item.now) }
-    requires other_kind { HasOtherKind (plain_item item.now) }
-    ensures { IfOk result (λ bytes. IsEncoding bytes (plain_item item.now)) }
-{
-    read_is_writable();
-    let mut bytes = Vec::new(alloc);
-    write(item, &mut bytes)?;
-    Ok(Bytes::from(bytes))
 }

@@ -12,8 +12,8 @@ use Rattle.hn_base.specs.Prefix.{IsPrefix}
 use Rattle.hn_tlv.specs.Grammar.{IsTlv, IsTlvList, HasTlvs, spelling}
 use Rattle.hn_typed.specs.Fields.{word, bytes_for, prefix_field}
 use Rattle.hn_typed.specs.Item.{PlainItem, External}
-use Rattle.hn_typed.specs.Written.{tlv_of, value_of, IsWritable}
-use Rattle.hn_data.specs.OwnData.{AreBytes, IsEncoding, IsEncoded}
+use Rattle.hn_typed.specs.Written.{tlv_of, value_of, IsWritable, IsEncoding}
+use Rattle.hn_data.specs.OwnData.{AreBytes, IsEncoded}
 use Rattle.hn_own.specs.declared.own_prefixes.OwnPrefix.{OwnPrefix}
 use Rattle.hn_own.specs.Lifetimes.{seconds_left}
 use Rattle.hn_own.specs.Own.{delegated_item, external_items, encodings}

@@ -3,8 +3,7 @@
 ghost use Rattle.std.specs.Prelude.{◌≡◌, ◌+◌, ◌++◌, ◌≤◌, ◌^◌, ◌<◌, map, length, All, IfOk, OnOk, IsTrue, ◌↔◌};
 ghost use Rattle.std.specs.List.{flat_map};
 ghost use Rattle.hn_tlv.specs.Grammar.{spelling};
-ghost use Rattle.hn_typed.specs.Written.{tlv_of, IsWritable};
-ghost use Rattle.hn_data.specs.OwnData.{IsEncoding};
+ghost use Rattle.hn_typed.specs.Written.{tlv_of, IsWritable, IsEncoding};
 ghost use Rattle.hn_own.specs.Own.{links_at, links_of, peer_item, delegated_item, external_items, assigned_item, items_of, encodings, pieces_of, AreFew, IsOwnData};
 ghost use Rattle.hn_own.specs.HeldPairs.{published_in};
 

@@ -1,10 +1,10 @@
 -- Laws of the item table.
-use Rattle.std.specs.Prelude.{◌≡◌, ◌⊎◌, ℕ}
+use Rattle.std.specs.Prelude.{◌≡◌, ◌⊎◌, ◌≤◌, ℕ, length}
 use Rattle.hn_tlv.specs.Grammar.{PlainTlv, IsTlv}
 use Rattle.hn_typed.specs.Item.{PlainItem}
 use Rattle.hn_typed.specs.Table.{IsItem}
 use Rattle.hn_typed.specs.Fault.{IsItemFault}
-use Rattle.hn_typed.specs.Written.{tlv_of, IsWritable}
+use Rattle.hn_typed.specs.Written.{value_of, tlv_of, IsWritable}
 
 -- A TLV decodes to at most one item.
 abbrev pub ItemIsUnique : Type 0
@@ -26,3 +26,7 @@ ItemOrFault =
 -- What is written is read as that item again.
 abbrev pub WrittenIsRead : Type 0
 WrittenIsRead = (item : PlainItem) → IsWritable item → IsItem (tlv_of item) item
+
+-- What was read can be written, if its value is not too long.
+abbrev pub ReadIsWritable : Type 0
+ReadIsWritable = (tlv : PlainTlv) (item : PlainItem) → IsItem tlv item → length (value_of item) ≤ 65535 → IsWritable item

@@ -2,15 +2,8 @@
 use Rattle.std.specs.Prelude.{◌≡◌, length}
 use Rattle.hn_typed.specs.declared.writing.Tail.{Tail}
 use Rattle.hn_typed.specs.declared.writing.Tail.TheVariants.{Subs, Bytes}
-use Rattle.hn_typed.specs.Item.{PlainItem, Delegated, Assigned, Address}
+use Rattle.hn_typed.specs.Item.{PlainItem}
 use Rattle.hn_typed.specs.Written.{fixed_of, tail_of, zeros_before, zeros_of}
-
--- an item with a prefix or an address
-abbrev pub HasAddress : PlainItem → Type 0
-HasAddress (Delegated valid preferred prefix subs) = Unit {0}
-HasAddress (Assigned endpoint priority prefix subs) = Unit {0}
-HasAddress (Address endpoint address subs) = Unit {0}
-HasAddress _ = ⊥
 
 -- what the program found after an item's fixed part is what has to stand there
 abbrev pub IsTailOf : Tail → PlainItem → Type 0

@@ -1,8 +1,8 @@
 -- The TLV that is written for an item: its fixed fields, zeros where sub-TLVs follow, and what stands after.
-use Rattle.std.specs.Prelude.{ℕ, ◌≤◌, List, [], ◌∷◌, ◌++◌, length, replicate}
+use Rattle.std.specs.Prelude.{◌≡◌, ℕ, ◌≤◌, List, [], ◌∷◌, ◌++◌, length, replicate}
 use Rattle.std.specs.Int.{w128, to_be_bytes}
 use Rattle.std.specs.Str.{IsUtf8}
-use Rattle.hn_tlv.specs.Grammar.{PlainTlv, HasTlvs, padding}
+use Rattle.hn_tlv.specs.Grammar.{PlainTlv, HasTlvs, padding, spelling}
 use Rattle.hn_typed.specs.Item.{PlainItem, RequestNetwork, RequestNode, NodeEndpoint, NetworkState, NodeState, Peer, KeepAlive, Version, External, Delegated, Assigned, Address, Other}
 use Rattle.hn_typed.specs.Fields.{word, two_in_byte, prefix_field}
 use Rattle.hn_typed.specs.Table.{IsOtherKind, Fits, InRange}
@@ -103,3 +103,8 @@ pub record IsWritable (item : PlainItem) : Type 0 where
   pub other_kind : HasOtherKind item
   pub tlvs_after : HasTlvsAfter item
   pub short : length (value_of item) ≤ 65535
+
+-- the bytes are the one TLV that is written for an item
+pub record IsEncoding (bytes : List ℕ) (item : PlainItem) : Type 0 where
+  pub writable : IsWritable item
+  pub spelled : bytes ≡ spelling (tlv_of item)

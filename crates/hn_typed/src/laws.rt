@@ -2,12 +2,7 @@
 //!
 //! Each is the contract of a function that does nothing: call it to know its law.
 
-ghost use Rattle.std.specs.Prelude.{◌≤◌, length};
-ghost use Rattle.hn_tlv.specs.Grammar.{PlainTlv};
-ghost use Rattle.hn_typed.specs.Item.{PlainItem};
-ghost use Rattle.hn_typed.specs.Table.{IsItem};
-ghost use Rattle.hn_typed.specs.Written.{value_of, IsWritable};
-ghost use Rattle.hn_typed.specs.Laws.{ItemIsUnique, ItemHasNoFault, ItemFaultIsUnique, ItemOrFault, WrittenIsRead};
+ghost use Rattle.hn_typed.specs.Laws.{ItemIsUnique, ItemHasNoFault, ItemFaultIsUnique, ItemOrFault, WrittenIsRead, ReadIsWritable};
 
 use hn_tlv::{first_fault_is_unique, list_or_first_fault};
 
@@ -37,6 +32,5 @@ pub fn written_is_read()
 
 /// What was read can be written, if its value is not too long.
 pub fn read_is_writable()
-    ensures { (tlv : PlainTlv) (item : PlainItem) → IsItem tlv item → length (value_of item) ≤ 65535
-        → IsWritable item }
+    ensures { ReadIsWritable }
 {}

@@ -4,6 +4,7 @@
 //! multiple of 4 follow and then a list of TLVs, the sub-TLVs. What is read is lent by the text that it was read from.
 #![tactic(auto)]
 
+mod encoding;
 mod fault;
 mod fields;
 mod fixed;
@@ -18,6 +19,7 @@ mod subs;
 mod tests;
 mod writing;
 
+pub use encoding::encode;
 pub use fault::{FIELDS_CUT, ItemFault, NO_PREFIX, NO_SUBS, NO_TEXT};
 pub use item::Item;
 pub use kind::{

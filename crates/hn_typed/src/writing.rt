@@ -7,7 +7,7 @@ ghost use Rattle.hn_typed.specs.Fields.{two_in_byte};
 ghost use Rattle.hn_typed.specs.Table.{Fits, IsItem, InRange};
 ghost use Rattle.hn_typed.specs.Written.{kind_of, fixed_of, tail_of, zeros_before, zeros_of, value_of, tlv_of, HasTlvsAfter, HasPriority, HasOtherKind, HasText};
 ghost use Rattle.hn_typed.specs.View.{plain_item};
-ghost use Rattle.hn_typed.specs.Tail.{HasAddress, IsTailOf};
+ghost use Rattle.hn_typed.specs.Tail.{IsTailOf};
 
 use crate::fields::join_halves;
 use crate::fixed::FixedPart;
@@ -52,36 +52,7 @@ fn caps_part(caps: &Caps) -> FixedPart
     ])
 }
 
-// The fixed fields of an item with a prefix or an address.
-fn address_part(item: &Item<'_>) -> FixedPart
-    ensures fixed { HasAddress (plain_item item.now) → result ≡ fixed_of (plain_item item.now) }
-    ensures in_range { HasAddress (plain_item item.now) → HasPriority (plain_item item.now)
-        → InRange (plain_item item.now) }
-{
-    let part = FixedPart::new();
-    match item {
-        Item::Delegated {
-            valid,
-            preferred,
-            prefix,
-            ..
-        } => part.word(*valid).word(*preferred).prefix(prefix),
-        Item::Assigned {
-            endpoint,
-            priority,
-            prefix,
-            ..
-        } => part.word(endpoint.0).then(&[*priority]).prefix(prefix),
-        Item::Address {
-            endpoint,
-            address,
-            ..
-        } => part.word(endpoint.0).then(&address.to_be_bytes()),
-        _ => part,
-    }
-}
-
-// The fixed fields, with each reserved bit zero.
+// The fixed fields, with each reserved bit zero: a table with a line for each kind.
 fn fixed_part(item: &Item<'_>) -> FixedPart
     ensures fixed { result ≡ fixed_of (plain_item item.now) }
     ensures in_range { HasPriority (plain_item item.now) → Fits 16 (kind_of (plain_item item.now))
@@ -112,9 +83,23 @@ fn fixed_part(item: &Item<'_>) -> FixedPart
             ..
         } => part.word(endpoint.0).word(*interval),
         Item::Version { caps, .. } => caps_part(caps),
-        Item::Delegated { .. } => address_part(item),
-        Item::Assigned { .. } => address_part(item),
-        Item::Address { .. } => address_part(item),
+        Item::Delegated {
+            valid,
+            preferred,
+            prefix,
+            ..
+        } => part.word(*valid).word(*preferred).prefix(prefix),
+        Item::Assigned {
+            endpoint,
+            priority,
+            prefix,
+            ..
+        } => part.word(endpoint.0).then(&[*priority]).prefix(prefix),
+        Item::Address {
+            endpoint,
+            address,
+            ..
+        } => part.word(endpoint.0).then(&address.to_be_bytes()),
     }
 }
 

@@ -14,6 +14,7 @@ returns c =
         intervals_are = says.intervals_are;
         delegations_are = says.delegations_are;
         assigned_are = says.assigned_are;
+        addresses_are = says.addresses_are;
       };
       peers_ascend = c.sort_to_set.ensures.ascending;
     }

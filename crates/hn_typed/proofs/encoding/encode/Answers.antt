@@ -1,7 +1,7 @@
 use Rattle.std.proofs.Common.{◌∙◌}
 use Rattle.hn_typed.specs.Written.{tlv_of}
 use Rattle.hn_typed.specs.View.{plain_item}
-use Rattle.hn_data.proofs.own_data.encode.Goals as goal
+use Rattle.hn_typed.proofs.encoding.encode.Goals as goal
 
 pub returns : goal.returns
 returns c =

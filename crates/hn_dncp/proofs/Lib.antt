@@ -2,3 +2,4 @@ mod PeerLemmas
 mod Filling
 mod Packings
 mod Hearing
+mod Stills

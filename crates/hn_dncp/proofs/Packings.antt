@@ -49,6 +49,10 @@ module _ (own : NodeId) (endpoint : EpId) where
   packing_short tlvs (datagram ∷ datagrams) packing (suc k) d within =
       subst (λ all. IsShort all (get_or datagrams k d)) (sym packing.2) (shorter packing.0 packing.1 (get_or datagrams k d) (packing_short packing.1 datagrams packing.4 k d (omega arith)))
 
+  pub packing_not_empty : (tlvs datagrams : List (List ℕ)) → IsPacking own endpoint tlvs datagrams → 0 < length tlvs → 0 < length datagrams
+  packing_not_empty tlvs [] packing some = absurd (let none = ap length packing in omega (arith, none, some))
+  packing_not_empty tlvs (datagram ∷ datagrams) packing some = omega arith
+
   -- ---- there is one packing at most
 
   -- of two fronts of one list the longer one goes on with a part of what the shorter one leaves

@@ -5,4 +5,5 @@ pub mod Ask
 pub mod Hash
 pub mod Tick
 pub mod Packing
+pub mod Due
 pub mod Laws

@@ -15,7 +15,8 @@ sender_tlv own endpoint = tlv_of (NodeEndpoint own.0 endpoint.0 [])
 abbrev pub datagram_of : NodeId → EpId → List (List ℕ) → List ℕ
 datagram_of own endpoint tlvs = spelling (sender_tlv own endpoint) ++ concat tlvs
 
--- with the next TLV, if there is one, so many bytes become more than 4,000
+-- with the next TLV, if there is one, so many bytes become more than 4,000 (the limit is that of RFC 7788, section 3;
+-- that the next TLV then begins a new datagram is this project's own)
 abbrev pub IsFullBefore : List (List ℕ) → ℕ → Type 0
 IsFullBefore [] len = Unit {0}
 IsFullBefore (tlv ∷ tlvs) len = 4000 < len + length tlv

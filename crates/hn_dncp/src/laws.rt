@@ -1,25 +1,30 @@
-//! Laws of packing (RFC 7787, section 4.2) and of the peers of an endpoint.
+//! Laws of packing (RFC 7787, section 4.2), of the peers of an endpoint, and of what is due there.
 //!
 //! Each is the contract of a function that does nothing: call it to know its law.
 
-ghost use Rattle.std.specs.Prelude.{ℕ, List, map, All};
-ghost use Rattle.hn_base.specs.declared.ids.NodeId.{NodeId};
-ghost use Rattle.hn_base.specs.declared.ids.EpId.{EpId};
-ghost use Rattle.hn_tlv.specs.Grammar.{PlainTlv, IsTlv, spelling};
-ghost use Rattle.hn_dncp.specs.Laws.{PackingIsUnique, MeetingKeepsPeers, ContactKeepsPeers};
-ghost use Rattle.hn_dncp.specs.Packing.{IsPacking, AreRead};
+ghost use Rattle.hn_dncp.specs.Laws.{PackingIsUnique, PackingIsShort, PackingIsNotEmpty, PackingIsRead, MeetingKeepsPeers, ContactKeepsPeers, StillPortIsIdle, StillPortStays};
+
+use hn_timers::still_interval_stays;
 
 /// There is at most one packing of a list of TLVs.
 pub fn packing_is_unique()
     ensures { PackingIsUnique }
 {}
 
+/// A datagram has at most 4,000 bytes, or those of one of the TLVs and the 12 of the sender's Node Endpoint.
+pub fn packing_is_short()
+    ensures { PackingIsShort }
+{}
+
+/// Where there are TLVs there are datagrams.
+pub fn packing_is_not_empty()
+    ensures { PackingIsNotEmpty }
+{}
+
 /// The datagrams that TLVs are packed into are read as lists of TLVs: in each first the Node Endpoint of its sender,
 /// and after these the TLVs that were packed, in order.
 pub fn packing_is_read()
-    ensures { (own : NodeId) (endpoint : EpId) (tlvs : List PlainTlv) (datagrams : List (List ℕ))
-        → All IsTlv tlvs → IsPacking own endpoint (map spelling tlvs) datagrams
-        → AreRead own endpoint tlvs datagrams }
+    ensures { PackingIsRead }
 {}
 
 /// Whoever is heard, the peers of an endpoint stay at most 64, and each endpoint of a node is there once.
@@ -27,3 +32,15 @@ pub fn peers_stay()
     ensures met { MeetingKeepsPeers }
     ensures contacted { ContactKeepsPeers }
 {}
+
+/// A tick does nothing at an endpoint if and only if nothing is due there.
+pub fn still_port()
+    ensures { StillPortIsIdle }
+{}
+
+/// Where nothing is due at an endpoint, nothing is until something is.
+pub fn still_port_stays()
+    ensures { StillPortStays }
+{
+    still_interval_stays();
+}

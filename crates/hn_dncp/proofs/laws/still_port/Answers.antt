@@ -1,0 +1,5 @@
+use Rattle.hn_dncp.proofs.Stills.{still_is_idle}
+use Rattle.hn_dncp.proofs.laws.still_port.Goals as goal
+
+pub returns : goal.returns
+returns c = still_is_idle

@@ -1,0 +1,5 @@
+use Rattle.hn_dncp.proofs.Stills.{still_later}
+use Rattle.hn_dncp.proofs.laws.still_port_stays.Goals as goal
+
+pub returns : goal.returns
+returns c = still_later c.still_interval_stays.ensures

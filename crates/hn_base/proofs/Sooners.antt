@@ -1,5 +1,6 @@
 -- Moments that are next due.
-use Rattle.std.proofs.Common.{◌≡◌, ◌∙◌, ◌↔◌, ℕ, ◌<◌, ◌≤◌, ◌+◌, ◌⊎◌, List, [], ◌∷◌, ◌++◌, length, take, get_or, inl, inr, sym, subst, refl, arith}
+use Rattle.std.proofs.Common.{◌≡◌, ◌∙◌, ◌↔◌, ℕ, ◌<◌, ◌≤◌, ◌+◌, ◌⊎◌, List, [], ◌∷◌, ◌++◌, length, take, get_or, min, inl, inr, sym, subst, refl, arith}
+use Rattle.std.proofs.lemmas.Bool.{cases_lt}
 use Rattle.std.proofs.lemmas.List.{take_more}
 use Rattle.std.proofs.lemmas.List.Elements.{Contains-append_cases, Contains-append_left, Contains-append_right}
 use Rattle.hn_base.specs.Sooner.{IsSooner, IsOfOne}
@@ -57,6 +58,25 @@ next_stays P now later best n goes before h = record {
   least = λ m is after. h.least m is (omega (arith, goes, after));
   is = elim h.is [ inl same ↦ inl same | inr (is, after) ↦ inr (is, before) ];
 }
+
+-- a moment that is cut to one that is not before `best`
+pub sooner_cut : (now best n moment cut most : ℕ) → best ≤ most → cut ≡ min moment most → IsSooner (λ m. m ≡ cut) now best n → IsSooner (λ m. m ≡ moment) now best n
+sooner_cut now best n moment cut most within is h = record {
+  at_most = h.at_most;
+  least = λ m same after. by_cut m same after (cases_lt most moment);
+  is = elim h.is [
+    | inl same ↦ inl same
+    | inr (at, after) ↦
+        elim (cases_lt most moment) [
+          | inl over ↦ let less = h.at_most in inl (omega (arith, less, within, is, at, over))
+          | inr under ↦ inr (omega (arith, is, at, under), after)
+        ]
+  ];
+}
+  where
+    by_cut : (m : ℕ) → m ≡ moment → now < m → (most < moment) ⊎ (moment ≤ most) → n ≤ m
+    by_cut m same after (inl over) = let less = h.at_most in omega (arith, less, within, same, over)
+    by_cut m same after (inr under) = h.least m (omega (arith, is, same, under)) after
 
 -- ---- of a list
 

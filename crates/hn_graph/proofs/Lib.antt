@@ -4,3 +4,4 @@ mod Marking
 mod Found
 mod Progress
 mod Staying
+mod Laters

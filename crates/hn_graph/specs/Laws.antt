@@ -1,8 +1,10 @@
 -- Laws of reachability.
-use Rattle.std.specs.Prelude.{◌≡◌, ℕ, List, Contains, ◌↔◌}
+use Rattle.std.specs.Prelude.{◌≡◌, ℕ, ◌<◌, List, Contains, ◌↔◌}
 use Rattle.hn_data.specs.declared.view.Entry.{Entry}
-use Rattle.hn_data.specs.View.{ids_of, IsNetwork}
+use Rattle.hn_data.specs.View.{PlainView, ids_of, IsNetwork}
+use Rattle.hn_data.specs.Later.{IsLater}
 use Rattle.hn_graph.specs.Path.{IsRecent, IsReachable}
+use Rattle.hn_graph.specs.Later.{IsAgeLimit}
 
 -- The own node is reachable.
 abbrev pub OwnIsReachable : Type 0
@@ -28,3 +30,10 @@ abbrev pub ReachabilityStays : Type 0
 ReachabilityStays =
     (own : ℕ) (before after : List Entry) → KeepsReach own before after
     → (y : ℕ) → IsReachable own before y ↔ IsReachable own after y
+
+-- While time passes and no age comes to its limit, the same nodes are reachable.
+abbrev pub ReachabilityOfLater : Type 0
+ReachabilityOfLater =
+    (before after : PlainView) → IsLater before after
+    → ((m : ℕ) → IsAgeLimit before.nodes before.now m → before.now < m → after.now < m)
+    → (y : ℕ) → IsReachable before.own before.nodes y ↔ IsReachable after.own after.nodes y

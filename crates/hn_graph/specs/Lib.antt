@@ -1,3 +1,4 @@
 pub mod Path
 pub mod Search
+pub mod Later
 pub mod Laws

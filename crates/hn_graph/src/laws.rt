@@ -1,6 +1,6 @@
 //! Laws of reachability. Each is the contract of a function that does nothing: call it to know its law.
 
-ghost use Rattle.hn_graph.specs.Laws.{OwnIsReachable, ReachableIsANode, ReachabilityStays};
+ghost use Rattle.hn_graph.specs.Laws.{OwnIsReachable, ReachableIsANode, ReachabilityStays, ReachabilityOfLater};
 
 /// The own node is reachable.
 pub fn own_is_reachable()
@@ -16,4 +16,9 @@ pub fn reachable_is_a_node()
 /// are not reachable changes nothing, nor does time while no age comes to its limit.
 pub fn reachability_stays()
     ensures { ReachabilityStays }
+{}
+
+/// While time passes and no age comes to its limit, the same nodes are reachable.
+pub fn reachability_of_later()
+    ensures { ReachabilityOfLater }
 {}

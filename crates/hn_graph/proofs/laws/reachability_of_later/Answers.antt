@@ -1,0 +1,5 @@
+use Rattle.hn_graph.proofs.Laters.{reach_of_later}
+use Rattle.hn_graph.proofs.laws.reachability_of_later.Goals as goal
+
+pub returns : goal.returns
+returns c = reach_of_later

@@ -18,11 +18,12 @@ use crate::own_data::ascending_set;
 use crate::reading::read_kept;
 use crate::said::{AssignedPrefix, Delegation, PeerLink};
 use crate::walk::tlv_at;
-use hn_base::{Bytes, EpId, NoMemory, Shared};
+use hn_base::{Bytes, EpId, NoMemory};
 use hn_tlv::{ListFault, check, list_grows, spelling_is_prefix_free, tlv_is_unique};
 use hn_typed::{Item, ItemFault, item_is_unique, read, written_is_read};
 use std::alloc::Global;
 use std::marker::Model;
+use std::rc::Rc;
 
 /// Node data, and what others ask of it.
 #[derive(Debug, Drop)]
@@ -35,7 +36,7 @@ struct Inner {
 /// What is shared shares its memory.
 #[derive(Debug, Drop)]
 pub struct NodeData {
-    shared: Shared<Inner>,
+    shared: Rc<Inner, Global>,
 }
 
 impl Model for NodeData {
@@ -44,9 +45,9 @@ impl Model for NodeData {
 
     ghost Value = { List ℕ };
 
-    ghost view = { λ d. d.shared.bytes };
+    ghost view = { λ d. d.shared.value.bytes };
 
-    ghost invariant = { λ d. IsKept d.shared.bytes d.shared.kept };
+    ghost invariant = { λ d. IsKept d.shared.value.bytes d.shared.value.kept };
 }
 
 // Reads a list of TLVs.
@@ -56,7 +57,7 @@ fn read_data(alloc: Global, bytes: Bytes) -> Result<NodeData, NoMemory>
 {
     let kept = read_kept(alloc, bytes.as_slice())?;
     Ok(NodeData {
-        shared: Shared::new(alloc, Inner { bytes, kept })?,
+        shared: Rc::new(alloc, Inner { bytes, kept })?,
     })
 }
 
@@ -96,7 +97,7 @@ impl NodeData {
     pub fn bytes(&self) -> &[u8]
         ensures { result.now ≡ self.now }
     {
-        self.shared.get().bytes.as_slice()
+        self.shared.bytes.as_slice()
     }
 
     /// What is kept beside the bytes, which is of all their items.
@@ -105,7 +106,7 @@ impl NodeData {
         ensures unique { (a b : List PlainItem) → AreItems self.now a → AreItems self.now b → a ≡ b }
     {
         items_are_unique();
-        &self.shared.get().kept
+        &self.shared.kept
     }
 
     /// The TLV at a place: its item, or why it has none (RFC 7787, section 7; RFC 7788, section 10), and the place

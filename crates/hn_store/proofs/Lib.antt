@@ -6,3 +6,5 @@ pub mod Changing
 pub mod Uniqueness
 mod Listed
 mod Tables
+mod Broughts
+mod Forgettings

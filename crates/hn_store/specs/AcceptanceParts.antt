@@ -1,15 +1,14 @@
 -- Parts of what comes of a node state.
-use Rattle.std.specs.Prelude.{◌≡◌, ◌⊎◌, ◌≤◌, ℕ, List, length, Option}
+use Rattle.std.specs.Prelude.{◌≡◌, ◌⊎◌, ◌≤◌, length, Option}
 use Rattle.hn_base.specs.Causes.{LineElse}
 use Rattle.hn_tlv.specs.Grammar.{HasTlvs}
 use Rattle.hn_hash.specs.Hash.{hash_of}
 use Rattle.hn_hash.specs.declared.part.Part.{Part}
-use Rattle.hn_store.specs.declared.stored.HeldNode.{HeldNode}
 use Rattle.hn_store.specs.declared.state.OwnLeaf.{OwnLeaf}
 use Rattle.hn_store.specs.declared.state.Took.{Took}
 use Rattle.hn_store.specs.declared.state.Took.TheVariants.{Kept, Renumbered, Ask, BadBody}
 use Rattle.hn_store.specs.Nodes.{Nodes}
-use Rattle.hn_store.specs.Acceptance.{PlainState, known_of, CarriesData, IsStale, IsFull, IsNews, entries_after}
+use Rattle.hn_store.specs.Acceptance.{PlainState, known_of, CarriesData, IsStale, IsFull, IsNews}
 
 -- none of the first three lines holds
 pub record IsPassed (nodes : Nodes) (own : OwnLeaf) (s : PlainState) : Type 0 where
@@ -28,7 +27,3 @@ IsOfData s took = (¬ (HasTlvs s.body) × (took ≡ BadBody)) ⊎ (HasTlvs s.bod
 -- what comes of a state without data
 abbrev pub IsOfNumber : Option Part → PlainState → Took → Type 0
 IsOfNumber known s took = LineElse (IsNews known s) (took ≡ Ask) (took ≡ Renumbered)
-
--- an answer that leaves what is held as it is
-abbrev pub ChangesNothing : List HeldNode → PlainState → Took → Type 0
-ChangesNothing entries s took = (now : ℕ) → entries_after entries s now took ≡ entries

@@ -3,4 +3,6 @@ pub mod Place
 pub mod Acceptance
 pub mod AcceptanceParts
 pub mod Loss
+pub mod Due
+pub mod Brought
 pub mod Laws

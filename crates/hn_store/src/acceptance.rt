@@ -1,10 +1,10 @@
-ghost use Rattle.std.specs.Prelude.{◌≡◌, ◌≢◌, ◌↔◌, ◌≤◌, length, IsTrue, IfOk, OnOk, OnErr, IfSome, IfNone, None, Some};
+ghost use Rattle.std.specs.Prelude.{◌≡◌, ◌≢◌, ◌↔◌, ◌≤◌, ℕ, length, IsTrue, IsSome, IfOk, OnOk, OnErr, IfSome, IfNone, None, Some};
 ghost use Rattle.std.specs.Bool.{OnTrue, OnFalse};
 ghost use Rattle.hn_tlv.specs.Grammar.{HasTlvs};
 ghost use Rattle.hn_hash.specs.Hash.{hash_of};
 ghost use Rattle.hn_store.specs.Nodes.{held, put};
-ghost use Rattle.hn_store.specs.Acceptance.{plain_state, held_part, known_of, CarriesData, HasWrongHash, IsStale, IsFull, IsAnswer, kept, entries_after, Accepts};
-ghost use Rattle.hn_store.specs.AcceptanceParts.{HasRightHash, IsPassed, IsOfData, IsOfNumber, ChangesNothing};
+ghost use Rattle.hn_store.specs.Acceptance.{plain_state, held_part, known_of, CarriesData, HasWrongHash, IsStale, IsFull, kept, entries_after, Accepts};
+ghost use Rattle.hn_store.specs.AcceptanceParts.{HasRightHash, IsPassed, IsOfData, IsOfNumber};
 
 use crate::place::place_of;
 use crate::state::{OwnLeaf, State, Took};
@@ -73,10 +73,11 @@ impl Table {
         known.is_none() && self.len() == self.limit()
     }
 
-    /// Why a state is not looked into any further: it is stale, there is no room for its node, or it is too long.
-    fn refusal(&self, own: &OwnLeaf, state: &State<'_>) -> Option<Took>
-        ensures refused { IfSome result (IsAnswer self.now own.now (plain_state state.now)) }
-        ensures unchanged { IfSome result (ChangesNothing self.now.entries (plain_state state.now)) }
+    /// The answer to a state that is not looked into: it is stale, there is no room for its node, or it is too long.
+    /// Then the table stays as it is. `None` if and only if the state is to be looked into. Never allocates.
+    pub fn refusal(&self, own: &OwnLeaf, state: &State<'_>) -> Option<Took>
+        ensures accepts { IfSome result (λ took. (now : ℕ) → Accepts self.now own.now (plain_state state.now) now self.now took) }
+        ensures refused { IsSome result → ¬ (IsPassed self.now own.now (plain_state state.now)) }
         ensures passed { IfNone result (IsPassed self.now own.now (plain_state state.now)) }
     {
         let known = self.known_of(own, state.node);

@@ -2,7 +2,7 @@
 //!
 //! Each is the contract of a function that does nothing: call it to know its law.
 
-ghost use Rattle.hn_store.specs.Laws.{PutChangesOneNode, AcceptanceIsUnique, OthersStay, OwnStays, HeldIsOfAnEntry, NoNodesAreTable, AcceptanceKeepsTable, MarksKeepTable, ForgettingKeepsTable};
+ghost use Rattle.hn_store.specs.Laws.{PutChangesOneNode, AcceptanceIsUnique, OthersStay, OwnStays, HeldIsOfAnEntry, NoNodesAreTable, AcceptanceKeepsTable, MarksKeepTable, ForgettingKeepsTable, HeldWasBrought, MarkedWasHeld, RememberedWasHeld, TrueDataAreKept, ForgettingIsAMoment, NoneIsForgotten, UnlostStay};
 
 use hn_tlv::{first_fault_is_unique, list_is_of_bytes, list_or_first_fault};
 
@@ -46,4 +46,28 @@ pub fn loss_keeps_table()
     ensures none { NoNodesAreTable }
     ensures marks { MarksKeepTable }
     ensures forgetting { ForgettingKeepsTable }
+{}
+
+/// What is held after a node state was held before, or the state brought it. Marks and forgetting leave number and data
+/// of what is still held.
+pub fn held_was_brought()
+    ensures state { HeldWasBrought }
+    ensures marks { MarkedWasHeld }
+    ensures forgetting { RememberedWasHeld }
+{}
+
+/// Node data of another node that are newer are held, where there is room and they have the hash that their state says.
+pub fn true_data_are_kept()
+    ensures { TrueDataAreKept }
+{}
+
+/// Some node is forgotten from one moment on.
+pub fn forgetting_is_a_moment()
+    ensures { ForgettingIsAMoment }
+{}
+
+/// Forgetting changes nothing if and only if no node is forgotten, and what is held of a node that is not lost stays.
+pub fn forgetting_leaves()
+    ensures none { NoneIsForgotten }
+    ensures unlost { UnlostStay }
 {}

@@ -1,11 +1,13 @@
 ghost use Rattle.std.specs.Prelude.{◌≡◌, ℕ, false, IsTrue, length, map, count_by};
 ghost use Rattle.std.specs.List.{list_any};
 ghost use Rattle.std.specs.List.Sorted.{IsNonDecreasingBy};
+ghost use Rattle.hn_base.specs.Sooner.{IsSooner};
+ghost use Rattle.hn_store.specs.Due.{IsForgottenFrom, IsForgetting};
 ghost use Rattle.hn_store.specs.Loss.{is_among, lost_after, is_to_mark, marked_node, marked, is_forgotten, remembered};
 
 use crate::stored::HeldNode;
 use crate::table::Table;
-use hn_base::{Moment, NodeId};
+use hn_base::{Moment, NodeId, sooner};
 
 /// How long a node stays held that is not reachable, in milliseconds.
 pub const GRACE: u64 = 42_000;
@@ -61,6 +63,27 @@ fn is_forgotten(node: &HeldNode, now: Moment) -> bool
     }
 }
 
+/// The moment from which a node is forgotten, where that is after now and before `best`; else `best`.
+fn next_forgotten(node: &HeldNode, now: Moment, best: Moment) -> Moment
+    ensures { IsSooner (IsForgottenFrom node.now) now best result }
+{
+    match node.stored.lost {
+        Some(moment) => sooner(now, best, moment.saturating_add(GRACE)),
+        None => best,
+    }
+}
+
+/// The first of these moments of nodes.
+fn first_forgotten(nodes: &[HeldNode], now: Moment, best: Moment) -> Moment
+    ensures { IsSooner (IsForgetting nodes.now) now best result }
+{
+    let mut first = best;
+    for node in nodes {
+        first = next_forgotten(node, now, first);
+    }
+    first
+}
+
 /// Whether the moment of loss of some node is to change.
 fn has_to_mark(nodes: &[HeldNode], reach: &[NodeId]) -> bool
     ensures { result ≡ list_any (is_to_mark reach.now) nodes.now }
@@ -110,5 +133,13 @@ impl Table {
         ensures unneeded { result ≡ false → remembered now self.now ≡ self.now }
     {
         has_forgotten(&self.nodes, now)
+    }
+
+    /// The first moment after now and before `best` from which a node is forgotten, if it stays lost; else `best`.
+    /// Never allocates.
+    pub fn next_forgetting(&self, now: Moment, best: Moment) -> Moment
+        ensures { IsSooner (IsForgetting self.now.entries) now best result }
+    {
+        first_forgotten(&self.nodes, now, best)
     }
 }

@@ -1,19 +1,38 @@
-use Rattle.std.proofs.Common.{subst, rules}
+use Rattle.std.proofs.Common.{refl, subst, rules, arith}
 use Rattle.std.specs.Prelude.{Option}
 use Rattle.hn_hash.specs.declared.part.Part.{Part}
-use Rattle.hn_store.specs.Acceptance.{plain_state, IsStale, IsFull}
-use Rattle.hn_store.proofs.Answering.{stale, full, too_long}
+use Rattle.hn_store.specs.declared.state.Took.TheVariants.{Stale, Full, TooLong}
+use Rattle.hn_store.specs.Acceptance.{plain_state, known_of, IsStale, IsFull}
+use Rattle.hn_store.proofs.Answering.{stale, full, too_long, unchanged}
 use Rattle.hn_store.proofs.table.Table.refusal.Goals as goal
 
+pub returns-then-is_stale-clause-accepts : goal.returns-then-is_stale-clause-accepts
+returns-then-is_stale-clause-accepts c now =
+    let s = plain_state c.args.state.now in
+    let is : IsStale (known_of c.args.self.now.entries c.args.own.now s.node) s = subst (λ (known : Option Part). IsStale known s) c.known_of-known.ensures (c.is_stale.ensures.0 c.if-is_stale.true) in
+    unchanged c.args.self.now c.args.own.now s now Stale refl (stale c.args.self.now c.args.own.now s is)
+
 pub returns-then-is_stale-clause-refused : goal.returns-then-is_stale-clause-refused
-returns-then-is_stale-clause-refused c =
-    let is : IsStale c.known_of-known.result (plain_state c.args.state.now) = c.is_stale.ensures.0 c.if-is_stale.true in
-    stale c.args.self.now c.args.own.now (plain_state c.args.state.now) (subst (λ (known : Option Part). IsStale known (plain_state c.args.state.now)) c.known_of-known.ensures is)
+returns-then-is_stale-clause-refused c _ passed =
+    let s = plain_state c.args.state.now in
+    passed.fresh (subst (λ (known : Option Part). IsStale known s) c.known_of-known.ensures (c.is_stale.ensures.0 c.if-is_stale.true))
+
+pub returns-then-is_full-clause-accepts : goal.returns-then-is_full-clause-accepts
+returns-then-is_full-clause-accepts c now =
+    let s = plain_state c.args.state.now in
+    let is : IsFull c.args.self.now (known_of c.args.self.now.entries c.args.own.now s.node) = subst (λ (known : Option Part). IsFull c.args.self.now known) c.known_of-known.ensures (c.is_full.ensures.0 c.if-is_full.true) in
+    unchanged c.args.self.now c.args.own.now s now Full refl (full c.args.self.now c.args.own.now s (search rules) is)
 
 pub returns-then-is_full-clause-refused : goal.returns-then-is_full-clause-refused
-returns-then-is_full-clause-refused c =
-    full c.args.self.now c.args.own.now (plain_state c.args.state.now) (search rules) (subst (λ (known : Option Part). IsFull c.args.self.now known) c.known_of-known.ensures (c.is_full.ensures.0 c.if-is_full.true))
+returns-then-is_full-clause-refused c _ passed =
+    passed.room (subst (λ (known : Option Part). IsFull c.args.self.now known) c.known_of-known.ensures (c.is_full.ensures.0 c.if-is_full.true))
+
+pub returns-then-state-gt-BODY_LIMIT-clause-accepts :
+    goal.returns-then-state-gt-BODY_LIMIT-clause-accepts
+returns-then-state-gt-BODY_LIMIT-clause-accepts c now =
+    let s = plain_state c.args.state.now in
+    unchanged c.args.self.now c.args.own.now s now TooLong refl (too_long c.args.self.now c.args.own.now s (search rules) (search rules) c.if-state-gt-BODY_LIMIT.true)
 
 pub returns-then-state-gt-BODY_LIMIT-clause-refused :
     goal.returns-then-state-gt-BODY_LIMIT-clause-refused
-returns-then-state-gt-BODY_LIMIT-clause-refused c = too_long c.args.self.now c.args.own.now (plain_state c.args.state.now) (search rules) (search rules) c.if-state-gt-BODY_LIMIT.true
+returns-then-state-gt-BODY_LIMIT-clause-refused c _ passed = let short = passed.short in let long = c.if-state-gt-BODY_LIMIT.true in omega (arith, short, long)

@@ -1,0 +1,5 @@
+use Rattle.hn_store.proofs.Broughts.{true_kept}
+use Rattle.hn_store.proofs.laws.true_data_are_kept.Goals as goal
+
+pub returns : goal.returns
+returns c = true_kept

@@ -56,10 +56,10 @@ next_across nodes x links n place all are recent = (
     y = leads.y;
     at = leads.at;
     recent = recent;
-    neighbors = record { here = across.x.endpoint.0; there = across.x.peer_endpoint.0; linked = leads.linked };
+    adjacent = record { here = across.x.endpoint.0; there = across.x.peer_endpoint.0; linked = leads.linked };
   },
   λ next.
-      let near = next.neighbors in
+      let near = next.adjacent in
       let link = peer_link next.y.id.0 near.there near.here in
       let listed = (are link).1 near.linked.there in
       let at : slice_get links listed.0 ≡ Some link = slice_get_read links (length links) listed.0 link refl listed.1 (sym listed.2) in

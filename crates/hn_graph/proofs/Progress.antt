@@ -11,7 +11,7 @@ use Rattle.hn_base.proofs.AscendingLists.{Contains-one, nothing_in}
 use Rattle.hn_base.proofs.Parts.{part_stands, part_is, one_place, contains_at}
 use Rattle.hn_data.specs.View.{ids_of}
 use Rattle.hn_data.specs.declared.view.Entry.{Entry}
-use Rattle.hn_graph.specs.Path.{AreNeighbors, IsReachable}
+use Rattle.hn_graph.specs.Path.{AreAdjacent, IsReachable}
 use Rattle.hn_graph.specs.Search.{IsFound, IsNext, HasMarked, HasFound}
 use Rattle.hn_graph.proofs.Ways.{HasWay, way_to_own, way_further, path_from_way, along_path}
 
@@ -62,7 +62,7 @@ visit own nodes x place places found rest found' visits' u at next m =
           let n = (next k).0 new.0 in
           let one : n.y ≡ y = same_Some n.y y (sym n.at ∙ is) in
           let way = u.sound place x at (u.visits_found place (Contains-push rest place)) in
-          way_further own nodes x y way n.recent (subst (AreNeighbors x) one n.neighbors) (contains_at nodes k y is))
+          way_further own nodes x y way n.recent (subst (AreAdjacent x) one n.adjacent) (contains_at nodes k y is))
           (m.marks_only k h);
       closed = λ k y j is h on. ⊎_elim
           (λ (old : IsFound found k). ⊎_elim
@@ -88,9 +88,9 @@ finish own nodes found id u = (
   λ r.
       let last = along_path own nodes (IsMarked nodes found)
       (λ x there is. let at = slice_get_read nodes (length nodes) there.0 x refl there.1 (sym there.2) in (there.0, at, u.own_found there.0 x at is))
-      (λ x z marked recent neighbors there.
+      (λ x z marked recent adjacent there.
       let at = slice_get_read nodes (length nodes) there.0 z refl there.1 (sym there.2) in
-      let on : IsNext nodes x there.0 = record { y = z; at = at; recent = recent; neighbors = neighbors } in
+      let on : IsNext nodes x there.0 = record { y = z; at = at; recent = recent; adjacent = adjacent } in
       ⊎_elim (λ (waits : Contains [] marked.0). absurd (nothing_in marked.0 waits)) (λ (found_too : IsFound found there.0). (there.0, at, found_too)) (u.closed marked.0 x there.0 marked.1 marked.2 on))
       id.0 r in
       record { place = last.1.0; node = last.0; at = last.1.1; marked = last.1.2; is_it = ap (λ n. record { 0 = n }) last.2 },

@@ -1,13 +1,13 @@
 -- Paths among other nodes.
 use Rattle.std.proofs.Common.{◌≡◌, ◌∙◌, ℕ, List, Contains, subst}
 use Rattle.hn_data.specs.declared.view.Entry.{Entry}
-use Rattle.hn_graph.specs.Path.{AreNeighbors, IsRecent, IsReachable}
+use Rattle.hn_graph.specs.Path.{AreAdjacent, IsRecent, IsReachable}
 use Rattle.hn_graph.specs.Laws.{IsLike, KeepsReach, ReachabilityStays}
 use Rattle.hn_graph.proofs.Ways.{HasWay, way_to_own, way_further, path_from_way, along_path}
 
--- what neighbors know of a node is its identifier and its node data
-like_neighbors : (x y z w : Entry) → IsLike x z → IsLike y w → AreNeighbors x y → AreNeighbors z w
-like_neighbors x y z w to_z to_w are = record {
+-- what adjacent nodes know of a node is its identifier and its node data
+like_adjacent : (x y z w : Entry) → IsLike x z → IsLike y w → AreAdjacent x y → AreAdjacent z w
+like_adjacent x y z w to_z to_w are = record {
   here = are.here;
   there = are.there;
   linked = rw (to_z.body, to_z.id, to_w.body, to_w.id) are.linked;
@@ -32,11 +32,11 @@ module _ (own : ℕ) (before after : List Entry) (keeps : KeepsReach own before 
       let next = keeps.kept x there (path_from_way own before x was) in
       record { was = was; is = record { node = next.0; there = next.1; way = way_to_own own after next.0 next.1 (next.2.id ∙ is_own); like = next.2 } }
 
-  forth_step : (x z : Entry) → HasBoth x → IsRecent x → AreNeighbors x z → Contains before z → HasBoth z
+  forth_step : (x z : Entry) → HasBoth x → IsRecent x → AreAdjacent x z → Contains before z → HasBoth z
   forth_step x z both recent are there =
       let was = way_further own before x z both.was recent are there in
       let next = keeps.kept z there (path_from_way own before z was) in
-      let further = way_further own after both.is.node next.0 both.is.way (both.is.like.recent recent) (like_neighbors x z both.is.node next.0 both.is.like next.2 are) next.1 in
+      let further = way_further own after both.is.node next.0 both.is.way (both.is.like.recent recent) (like_adjacent x z both.is.node next.0 both.is.like next.2 are) next.1 in
       record { was = was; is = record { node = next.0; there = next.1; way = further; like = next.2 } }
 
   forth : (y : ℕ) → IsReachable own before y → IsReachable own after y
@@ -49,10 +49,10 @@ module _ (own : ℕ) (before after : List Entry) (keeps : KeepsReach own before 
       let old = keeps.known y there in
       record { node = old.0; there = old.1; way = way_to_own own before old.0 old.1 (old.2.id ∙ is_own); like = old.2 }
 
-  back_step : (y z : Entry) → HasLikeWay own before y → IsRecent y → AreNeighbors y z → Contains after z → HasLikeWay own before z
+  back_step : (y z : Entry) → HasLikeWay own before y → IsRecent y → AreAdjacent y z → Contains after z → HasLikeWay own before z
   back_step y z was recent are there =
       let old = keeps.known z there in
-      let further = way_further own before was.node old.0 was.way (was.like.recent recent) (like_neighbors y z was.node old.0 was.like old.2 are) old.1 in
+      let further = way_further own before was.node old.0 was.way (was.like.recent recent) (like_adjacent y z was.node old.0 was.like old.2 are) old.1 in
       record { node = old.0; there = old.1; way = further; like = old.2 }
 
   back : (y : ℕ) → IsReachable own after y → IsReachable own before y

@@ -7,13 +7,13 @@ use Rattle.std.proofs.lemmas.List.Elements.{All-push, All-nil, All-head, All-tai
 use Rattle.std.proofs.lemmas.Option.{same_Some, none-some}
 use Rattle.hn_data.specs.View.{ids_of}
 use Rattle.hn_data.specs.declared.view.Entry.{Entry}
-use Rattle.hn_graph.specs.Path.{AreNeighbors, IsRecent, IsReachable}
+use Rattle.hn_graph.specs.Path.{AreAdjacent, IsRecent, IsReachable}
 
 -- a path to the node z itself, after the nodes in front
 pub record IsWay (own : ℕ) (nodes front : List Entry) (z : Entry) : Type 0 where
   pub of_nodes : All (λ x. Contains nodes x) (front ++ z ∷ [])
   pub from_own : slice_get (ids_of (front ++ z ∷ [])) 0 ≡ Some own
-  pub neighbors : AllAdjacentBelow AreNeighbors (front ++ z ∷ []) (length front + 1)
+  pub adjacent : AllAdjacentBelow AreAdjacent (front ++ z ∷ []) (length front + 1)
   pub recent : All IsRecent front
 
 -- some path leads to the node
@@ -26,7 +26,7 @@ way_to_own own nodes x there is = (
   record {
     of_nodes = All-push (λ y. Contains nodes y) [] x (All-nil (λ y. Contains nodes y)) there;
     from_own = ap Some is;
-    neighbors = λ k d lt. absurd (omega arith);
+    adjacent = λ k d lt. absurd (omega arith);
     recent = All-nil IsRecent;
   },
 )
@@ -35,9 +35,9 @@ first_stays : (front : List Entry) (x z : Entry) (own : ℕ) → slice_get (ids_
 first_stays [] x z own h = h
 first_stays (y ∷ front) x z own h = h
 
-neighbors_more : (front : List Entry) (x z : Entry) → AllAdjacentBelow AreNeighbors (front ++ x ∷ []) (length front + 1) → AreNeighbors x z
-    → AllAdjacentBelow AreNeighbors ((front ++ x ∷ []) ++ z ∷ []) (length (front ++ x ∷ []) + 1)
-neighbors_more front x z were are k d lt =
+adjacent_more : (front : List Entry) (x z : Entry) → AllAdjacentBelow AreAdjacent (front ++ x ∷ []) (length front + 1) → AreAdjacent x z
+    → AllAdjacentBelow AreAdjacent ((front ++ x ∷ []) ++ z ∷ []) (length (front ++ x ∷ []) + 1)
+adjacent_more front x z were are k d lt =
     let xs = front ++ x ∷ [] in
     let long : length xs ≡ length front + 1 = length_push front x in
     let first : get_or (xs ++ z ∷ []) k d ≡ get_or xs k d = get_or_append_left xs (z ∷ []) d k (omega arith) in
@@ -51,13 +51,13 @@ neighbors_more front x z were are k d lt =
     (cases_lt (k + 1) (length front + 1))
 
 -- one step further
-pub way_further : (own : ℕ) (nodes : List Entry) (x z : Entry) → HasWay own nodes x → IsRecent x → AreNeighbors x z → Contains nodes z → HasWay own nodes z
+pub way_further : (own : ℕ) (nodes : List Entry) (x z : Entry) → HasWay own nodes x → IsRecent x → AreAdjacent x z → Contains nodes z → HasWay own nodes z
 way_further own nodes x z (front, way) recent are there = (
   front ++ x ∷ [],
   record {
     of_nodes = All-push (λ y. Contains nodes y) (front ++ x ∷ []) z way.of_nodes there;
     from_own = first_stays front x z own way.from_own;
-    neighbors = neighbors_more front x z way.neighbors are;
+    adjacent = adjacent_more front x z way.adjacent are;
     recent = All-push IsRecent front x way.recent recent;
   },
 )
@@ -77,37 +77,37 @@ path_from_way own nodes z (front, way) =
         of_nodes = way.of_nodes;
         from_own = way.from_own;
         to_y = rw before_last (last_is front z);
-        neighbors = λ k d lt. way.neighbors k d (omega arith);
+        adjacent = λ k d lt. way.adjacent k d (omega arith);
         recent = All-same IsRecent _ front kept way.recent;
       },
     )
 
 -- what each step keeps, and the first node has, the last node of a path has
 pub along : (nodes : List Entry) (P : Entry → Type 0)
-    → ((x z : Entry) → P x → IsRecent x → AreNeighbors x z → Contains nodes z → P z)
+    → ((x z : Entry) → P x → IsRecent x → AreAdjacent x z → Contains nodes z → P z)
     → (x : Entry) (rest : List Entry) (y : ℕ) → P x
-    → All (λ z. Contains nodes z) (x ∷ rest) → AllAdjacentBelow AreNeighbors (x ∷ rest) (length (x ∷ rest)) → All IsRecent (take (length rest) (x ∷ rest))
+    → All (λ z. Contains nodes z) (x ∷ rest) → AllAdjacentBelow AreAdjacent (x ∷ rest) (length (x ∷ rest)) → All IsRecent (take (length rest) (x ∷ rest))
     → slice_get (ids_of (x ∷ rest)) (length rest) ≡ Some y → (z : Entry) × P z × (z.id.0 ≡ y)
-along nodes P step x [] y here of_nodes neighbors recent last = (x, here, same_Some x.id.0 y last)
-along nodes P step x (w ∷ rest) y here of_nodes neighbors recent last =
-    let are : AreNeighbors x w = neighbors 0 x (omega arith) in
+along nodes P step x [] y here of_nodes adjacent recent last = (x, here, same_Some x.id.0 y last)
+along nodes P step x (w ∷ rest) y here of_nodes adjacent recent last =
+    let are : AreAdjacent x w = adjacent 0 x (omega arith) in
     let now : IsRecent x = All-head IsRecent x (take (length rest) (w ∷ rest)) recent in
     let others = All-tail (λ z. Contains nodes z) x (w ∷ rest) of_nodes in
     let there : Contains nodes w = All-head (λ z. Contains nodes z) w rest others in
     along nodes P step w rest y (step x w here now are there) others
     (λ k d lt.
     let e : suc k + 1 ≡ suc (k + 1) = omega arith in
-    let f = neighbors (suc k) d (omega arith) in
+    let f = adjacent (suc k) d (omega arith) in
     rw e at f)
     (All-tail IsRecent x (take (length rest) (w ∷ rest)) recent) last
 
 -- the same, for a path
 pub along_path : (own : ℕ) (nodes : List Entry) (P : Entry → Type 0)
     → ((x : Entry) → Contains nodes x → x.id.0 ≡ own → P x)
-    → ((x z : Entry) → P x → IsRecent x → AreNeighbors x z → Contains nodes z → P z)
+    → ((x z : Entry) → P x → IsRecent x → AreAdjacent x z → Contains nodes z → P z)
     → (y : ℕ) → IsReachable own nodes y → (z : Entry) × P z × (z.id.0 ≡ y)
 along_path own nodes P start step y ([], is) = absurd (none-some own is.from_own)
 along_path own nodes P start step y (x ∷ rest, is) =
     let there : Contains nodes x = All-head (λ z. Contains nodes z) x rest is.of_nodes in
     let e : length (x ∷ rest) - 1 ≡ length rest = omega arith in
-    along nodes P step x rest y (start x there (same_Some x.id.0 own is.from_own)) is.of_nodes is.neighbors (rw e at is.recent) (rw e at is.to_y)
+    along nodes P step x rest y (start x there (same_Some x.id.0 own is.from_own)) is.of_nodes is.adjacent (rw e at is.recent) (rw e at is.to_y)

@@ -6,7 +6,7 @@ use Rattle.hn_data.specs.View.{ids_of}
 use Rattle.hn_data.specs.declared.view.Entry.{Entry}
 
 -- some endpoint of one node is linked with some endpoint of the other
-pub record AreNeighbors (x y : Entry) : Type 0 where
+pub record AreAdjacent (x y : Entry) : Type 0 where
   pub here : ℕ
   pub there : ℕ
   pub linked : IsLinked x.body x.id.0 here y.body y.id.0 there
@@ -15,13 +15,13 @@ pub record AreNeighbors (x y : Entry) : Type 0 where
 abbrev pub IsRecent : Entry → Type 0
 IsRecent x = x.age < 2 ^ 32 - 2 ^ 15
 
--- A path to y is a list of nodes, from the own node to y. Each node and the next are neighbors. The data of each node
+-- A path to y is a list of nodes, from the own node to y. Each node and the next are adjacent. The data of each node
 -- but the last are recent.
 pub record IsPath (own : ℕ) (nodes : List Entry) (y : ℕ) (path : List Entry) : Type 0 where
   pub of_nodes : All (λ x. Contains nodes x) path
   pub from_own : slice_get (ids_of path) 0 ≡ Some own
   pub to_y : slice_get (ids_of path) (length path - 1) ≡ Some y
-  pub neighbors : AllAdjacentBelow AreNeighbors path (length path)
+  pub adjacent : AllAdjacentBelow AreAdjacent path (length path)
   pub recent : All IsRecent (take (length path - 1) path)
 
 -- some path leads to y

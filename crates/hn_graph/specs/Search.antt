@@ -3,14 +3,14 @@ use Rattle.std.specs.Prelude.{◌≡◌, ℕ, ◌+◌, ◌⊎◌, Bool, true, fa
 use Rattle.std.specs.List.{Contains, count_by}
 use Rattle.hn_base.specs.declared.ids.NodeId.{NodeId}
 use Rattle.hn_data.specs.declared.view.Entry.{Entry}
-use Rattle.hn_graph.specs.Path.{AreNeighbors, IsRecent}
+use Rattle.hn_graph.specs.Path.{AreAdjacent, IsRecent}
 
 -- a path may go from x to the node at this place
 pub record IsNext (nodes : List Entry) (x : Entry) (place : ℕ) : Type 0 where
   pub y : Entry
   pub at : slice_get nodes place ≡ Some y
   pub recent : IsRecent x
-  pub neighbors : AreNeighbors x y
+  pub adjacent : AreAdjacent x y
 
 -- the place is marked
 abbrev pub IsFound : List Bool → ℕ → Type 0

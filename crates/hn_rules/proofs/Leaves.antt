@@ -10,7 +10,7 @@ use Rattle.hn_hash.specs.Hash.{hash_of}
 use Rattle.hn_hash.specs.Network as network
 use Rattle.hn_hash.specs.Network.{AreNumbered}
 use Rattle.hn_data.specs.declared.view.Entry.{Entry}
-use Rattle.hn_store.specs.Nodes.{held, stored_part, IsSound}
+use Rattle.hn_store.specs.Nodes.{held, stored_part, IsIntact}
 use Rattle.hn_store.specs.declared.stored.Stored.{Stored}
 use Rattle.hn_rules.specs.declared.state.State.{State}
 use Rattle.hn_rules.specs.Nodes.{own_entry, held_entry, entry_of, view_of, leaf_of, leaves_of, part_of, parts_of}
@@ -32,8 +32,8 @@ module _ (held_of_entry : HeldIsOfAnEntry) (s : State) (well : IsWell s) where
       → option_map stored_part h ≡ option_map leaf_part (option_map (λ stored. held_entry s.moment (record { id = id; stored = stored })) h)
   held_part id None is = refl
   held_part id (Some stored) is =
-      let sound : IsSound stored = held_all held_of_entry IsSound s.table.entries id.0 stored well.table.sound is in
-      ap (λ (hash : List ℕ). let part : Part = record { number = stored.number; hash = hash } in Some part) sound.hashed
+      let intact : IsIntact stored = held_all held_of_entry IsIntact s.table.entries id.0 stored well.table.intact is in
+      ap (λ (hash : List ℕ). let part : Part = record { number = stored.number; hash = hash } in Some part) intact.hashed
 
   part_is : (id : NodeId) → part_of s id ≡ option_map leaf_part (entry_of s id)
   part_is id = by_test (id.0 == s.id.0)

@@ -10,7 +10,7 @@ use Rattle.hn_store.specs.declared.state.Took.{Took}
 use Rattle.hn_store.specs.declared.state.Took.TheVariants.{Kept, Renumbered, Ask, Stale, BadHash, BadBody, TooLong, Full, Own}
 use Rattle.hn_store.specs.declared.stored.HeldNode.{HeldNode}
 use Rattle.hn_store.specs.Nodes.{Nodes}
-use Rattle.hn_store.specs.Acceptance.{PlainState, held_part, known_of, CarriesData, HasWrongHash, IsStale, IsFull, IsNews, IsAnswer, entries_after, Accepts}
+use Rattle.hn_store.specs.Acceptance.{PlainState, held_part, known_of, CarriesData, HasWrongHash, IsStale, HasNoRoom, IsNews, IsAnswer, entries_after, Accepts}
 use Rattle.hn_store.specs.AcceptanceParts.{HasRightHash, IsPassed, IsOfData, IsOfNumber}
 
 pub stale : (nodes : Nodes) (own : OwnLeaf) (s : PlainState) → IsStale (known_of nodes.entries own s.node) s → IsAnswer nodes own s Stale
@@ -18,12 +18,12 @@ unfolding IsAnswer
 stale nodes own s is = inl (is, refl)
 
 pub full : (nodes : Nodes) (own : OwnLeaf) (s : PlainState) → ¬ (IsStale (known_of nodes.entries own s.node) s)
-    → IsFull nodes (known_of nodes.entries own s.node) → IsAnswer nodes own s Full
+    → HasNoRoom nodes (known_of nodes.entries own s.node) → IsAnswer nodes own s Full
 unfolding IsAnswer
 full nodes own s fresh is = inr (fresh, inl (is, refl))
 
 pub too_long : (nodes : Nodes) (own : OwnLeaf) (s : PlainState) → ¬ (IsStale (known_of nodes.entries own s.node) s)
-    → ¬ (IsFull nodes (known_of nodes.entries own s.node)) → 60000 < length s.body → IsAnswer nodes own s TooLong
+    → ¬ (HasNoRoom nodes (known_of nodes.entries own s.node)) → 60000 < length s.body → IsAnswer nodes own s TooLong
 unfolding IsAnswer
 too_long nodes own s fresh room is = inr (fresh, inr (room, inl (is, refl)))
 

@@ -8,7 +8,7 @@ use Rattle.hn_hash.specs.declared.part.Part.{Part}
 use Rattle.hn_store.specs.declared.state.Took.TheVariants.{Renumbered, Ask}
 use Rattle.hn_store.specs.declared.stored.Stored.{Stored}
 use Rattle.hn_store.specs.declared.stored.HeldNode.{HeldNode}
-use Rattle.hn_store.specs.Nodes.{IsTable, IsSound, held, entry, put}
+use Rattle.hn_store.specs.Nodes.{IsTable, IsIntact, held, entry, put}
 use Rattle.hn_store.specs.Place.{IsPlaceOf, IsGapFor}
 use Rattle.hn_store.specs.Acceptance.{PlainState, held_part, kept, renumbered, changed, entries_after}
 use Rattle.hn_store.specs.AcceptanceParts.{IsOfNumber}
@@ -31,16 +31,16 @@ pub put_there : (xs : List HeldNode) (id i : ℕ) (x : HeldNode) (stored : Store
 put_there xs id i x stored p is = ap (set xs i) (entry_is xs id i x stored p is) ∙ put-at xs id i stored p
 
 pub IsTable-there : (limit : ℕ) (xs : List HeldNode) (id i : ℕ) (x : HeldNode) (stored : Stored) → IsTable (record { limit = limit; entries = xs })
-    → IsPlaceOf xs id i → x ≡ get_or xs i x → IsSound stored
+    → IsPlaceOf xs id i → x ≡ get_or xs i x → IsIntact stored
     → IsTable (record { limit = limit; entries = set xs i (record { id = x.id; stored = stored }) })
 IsTable-there limit xs id i x stored are p is one =
     let P = λ (node : HeldNode). IsTable (record { limit = limit; entries = set xs i node }) in
     subst P (sym (entry_is xs id i x stored p is)) (IsTable-set limit id i stored xs are p one)
 
--- what is held of a node is sound
-pub sound_there : (limit : ℕ) (xs : List HeldNode) (id i : ℕ) (x : HeldNode) → IsTable (record { limit = limit; entries = xs })
-    → IsPlaceOf xs id i → x ≡ get_or xs i x → IsSound x.stored
-sound_there limit xs id i x are p is = subst (λ (node : HeldNode). IsSound node.stored) (sym is) (are.sound i x p.within)
+-- what is held of a node is intact
+pub intact_there : (limit : ℕ) (xs : List HeldNode) (id i : ℕ) (x : HeldNode) → IsTable (record { limit = limit; entries = xs })
+    → IsPlaceOf xs id i → x ≡ get_or xs i x → IsIntact x.stored
+intact_there limit xs id i x are p is = subst (λ (node : HeldNode). IsIntact node.stored) (sym is) (are.intact i x p.within)
 
 -- ---- a state without data
 
@@ -69,14 +69,14 @@ pub after_renumbered : (xs : List HeldNode) (i : ℕ) (x : HeldNode) (s : PlainS
 after_renumbered xs i x s now p is =
     put_there xs s.node i x (renumbered s now x.stored) p is ∙ sym (ap (λ (before : Option Stored). changed s.node (renumbered s now) before xs) (held_there xs s.node i x p is))
 
-pub sound_renumbered : (s : PlainState) (now : ℕ) (stored : Stored) → IsSound stored → IsSound (renumbered s now stored)
-sound_renumbered s now stored one = record { short = one.short; listed = one.listed; hashed = one.hashed }
+pub intact_renumbered : (s : PlainState) (now : ℕ) (stored : Stored) → IsIntact stored → IsIntact (renumbered s now stored)
+intact_renumbered s now stored one = record { short = one.short; listed = one.listed; hashed = one.hashed }
 
 -- ---- a state with data
 
-pub sound_kept : (s : PlainState) (now : ℕ) (before : Option Stored) (body : List ℕ) → body ≡ s.body → length body ≤ 60000 → HasTlvs body → s.hash ≡ hash_of body
-    → IsSound (kept s now before)
-sound_kept s now before body same short listed hashed = record {
+pub intact_kept : (s : PlainState) (now : ℕ) (before : Option Stored) (body : List ℕ) → body ≡ s.body → length body ≤ 60000 → HasTlvs body → s.hash ≡ hash_of body
+    → IsIntact (kept s now before)
+intact_kept s now before body same short listed hashed = record {
   short = subst (λ (bytes : List ℕ). length bytes ≤ 60000) same short;
   listed = subst HasTlvs same listed;
   hashed = hashed ∙ ap hash_of same;

@@ -17,7 +17,7 @@ use Rattle.std.proofs.lemmas.List.{length-map}
 use Rattle.std.proofs.lemmas.List.Elements.{All-map, All-weaker}
 use Rattle.std.proofs.lemmas.List.Filters.{length-filter_both}
 use Rattle.std.proofs.lemmas.List.Sums.{length-filter}
-use Rattle.hn_store.specs.Nodes.{IsTable, IsSound, ids_of}
+use Rattle.hn_store.specs.Nodes.{IsTable, IsIntact, ids_of}
 use Rattle.hn_store.proofs.Places.{order_rises}
 use Rattle.hn_store.specs.Loss.{is_among, lost_after, marked_node, is_to_mark, is_forgotten}
 
@@ -75,11 +75,11 @@ ids-marked : (reach : List NodeId) (now : ℕ) (nodes : List HeldNode) → ids_o
 ids-marked reach now [] = refl
 ids-marked reach now (node ∷ nodes) = ap (λ ids. node.id.0 ∷ ids) (ids-marked reach now nodes)
 
-abbrev SoundNode : HeldNode → Type 0
-SoundNode node = IsSound node.stored
+abbrev IntactNode : HeldNode → Type 0
+IntactNode node = IsIntact node.stored
 
-sound_marked : (reach : List NodeId) (now : ℕ) (node : HeldNode) → SoundNode node → SoundNode (marked_node reach now node)
-sound_marked reach now node one = record { short = one.short; listed = one.listed; hashed = one.hashed }
+intact_marked : (reach : List NodeId) (now : ℕ) (node : HeldNode) → IntactNode node → IntactNode (marked_node reach now node)
+intact_marked reach now node one = record { short = one.short; listed = one.listed; hashed = one.hashed }
 
 pub IsTable-marked : (limit : ℕ) (reach : List NodeId) (now : ℕ) (nodes : List HeldNode) → IsTable (record { limit = limit; entries = nodes })
     → IsTable (record { limit = limit; entries = map (marked_node reach now) nodes })
@@ -87,7 +87,7 @@ IsTable-marked limit reach now nodes are = record {
   limit_is = are.limit_is;
   within = rw length-map are.within;
   ascending = subst (IsStrictlySortedBy nat_cmp) (sym (ids-marked reach now nodes)) are.ascending;
-  sound = All-map SoundNode (marked_node reach now) nodes (All-weaker SoundNode (λ node. SoundNode (marked_node reach now node)) (sound_marked reach now) nodes are.sound);
+  intact = All-map IntactNode (marked_node reach now) nodes (All-weaker IntactNode (λ node. IntactNode (marked_node reach now node)) (intact_marked reach now) nodes are.intact);
 }
 
 -- what a write to each element of a list leaves

@@ -12,7 +12,7 @@ use Rattle.std.proofs.lemmas.List.Sums.{length-filter, count_by-le-length}
 use Rattle.hn_base.specs.NodeIds.{node_cmp}
 use Rattle.hn_store.specs.declared.stored.Stored.{Stored}
 use Rattle.hn_store.specs.declared.stored.HeldNode.{HeldNode}
-use Rattle.hn_store.specs.Nodes.{IsTable, IsSound, ids_of, entry, put}
+use Rattle.hn_store.specs.Nodes.{IsTable, IsIntact, ids_of, entry, put}
 use Rattle.hn_store.specs.Place.{IsPlaceOf, IsGapFor}
 use Rattle.hn_store.proofs.Places.{put-at, put-in}
 use Rattle.hn_base.proofs.AscendingNumbers.{ascending-filter, ascending-around}
@@ -24,32 +24,32 @@ ascending-put id stored xs up = ascending-around (λ (node : HeldNode). node.id.
 
 -- ---- the facts of a table
 
-abbrev pub SoundNode : HeldNode → Type 0
-SoundNode node = IsSound node.stored
+abbrev pub IntactNode : HeldNode → Type 0
+IntactNode node = IsIntact node.stored
 
-sound-put : (id : ℕ) (stored : Stored) (xs : List HeldNode) → IsSound stored → All SoundNode xs → All SoundNode (put id stored xs)
-sound-put id stored xs one all =
-    All-append SoundNode (filter (λ x. nat_lt x.id.0 id) xs) (entry id stored ∷ filter (λ x. nat_lt id x.id.0) xs)
-    (All-filter (λ x. nat_lt x.id.0 id) SoundNode xs all)
-    (All-cons SoundNode (entry id stored) (filter (λ x. nat_lt id x.id.0) xs) one (All-filter (λ x. nat_lt id x.id.0) SoundNode xs all))
+intact-put : (id : ℕ) (stored : Stored) (xs : List HeldNode) → IsIntact stored → All IntactNode xs → All IntactNode (put id stored xs)
+intact-put id stored xs one all =
+    All-append IntactNode (filter (λ x. nat_lt x.id.0 id) xs) (entry id stored ∷ filter (λ x. nat_lt id x.id.0) xs)
+    (All-filter (λ x. nat_lt x.id.0 id) IntactNode xs all)
+    (All-cons IntactNode (entry id stored) (filter (λ x. nat_lt id x.id.0) xs) one (All-filter (λ x. nat_lt id x.id.0) IntactNode xs all))
 
-pub are_put : (limit id : ℕ) (stored : Stored) (xs ys : List HeldNode) → IsTable (record { limit = limit; entries = xs }) → IsSound stored
+pub are_put : (limit id : ℕ) (stored : Stored) (xs ys : List HeldNode) → IsTable (record { limit = limit; entries = xs }) → IsIntact stored
     → ys ≡ put id stored xs → length ys ≤ limit → IsTable (record { limit = limit; entries = ys })
 are_put limit id stored xs ys are one is within = record {
   limit_is = are.limit_is;
   within = within;
   ascending = subst (λ (zs : List HeldNode). IsStrictlySortedBy nat_cmp (ids_of zs)) (sym is) (ascending-put id stored xs are.ascending);
-  sound = subst (All SoundNode) (sym is) (sound-put id stored xs one are.sound);
+  intact = subst (All IntactNode) (sym is) (intact-put id stored xs one are.intact);
 }
 
 -- another entry in the place of a node
-pub IsTable-set : (limit id i : ℕ) (stored : Stored) (xs : List HeldNode) → IsTable (record { limit = limit; entries = xs }) → IsPlaceOf xs id i → IsSound stored
+pub IsTable-set : (limit id i : ℕ) (stored : Stored) (xs : List HeldNode) → IsTable (record { limit = limit; entries = xs }) → IsPlaceOf xs id i → IsIntact stored
     → IsTable (record { limit = limit; entries = set xs i (entry id stored) })
 IsTable-set limit id i stored xs are p one =
     are_put limit id stored xs (set xs i (entry id stored)) are one (put-at xs id i stored p) (rw length-set are.within)
 
 -- an entry where there was none
-pub IsTable-insert : (limit id i : ℕ) (stored : Stored) (xs : List HeldNode) → IsTable (record { limit = limit; entries = xs }) → IsGapFor xs id i → length xs < limit → IsSound stored
+pub IsTable-insert : (limit id i : ℕ) (stored : Stored) (xs : List HeldNode) → IsTable (record { limit = limit; entries = xs }) → IsGapFor xs id i → length xs < limit → IsIntact stored
     → IsTable (record { limit = limit; entries = insert xs i (entry id stored) })
 IsTable-insert limit id i stored xs are g room one =
     let len = length-insert xs i (entry id stored) g.within in
@@ -58,7 +58,7 @@ IsTable-insert limit id i stored xs are g room one =
 -- no nodes
 pub IsTable-none : (limit : ℕ) → (limit ≡ 256) ⊎ (limit ≡ 1024) → IsTable (record { limit = limit; entries = [] })
 unfolding IsStrictlySortedBy
-IsTable-none limit is = record { limit_is = is; within = omega arith; ascending = tt; sound = All-nil SoundNode }
+IsTable-none limit is = record { limit_is = is; within = omega arith; ascending = tt; intact = All-nil IntactNode }
 
 -- some of the nodes
 pub IsTable-filter : (limit : ℕ) (p : HeldNode → Bool) (xs : List HeldNode) → IsTable (record { limit = limit; entries = xs }) → IsTable (record { limit = limit; entries = filter p xs })
@@ -66,7 +66,7 @@ IsTable-filter limit p xs are = record {
   limit_is = are.limit_is;
   within = omega (arith, length-filter p xs, count_by-le-length p xs, are.within);
   ascending = ascending-filter (λ (node : HeldNode). node.id.0) p xs are.ascending;
-  sound = All-filter p SoundNode xs are.sound;
+  intact = All-filter p IntactNode xs are.intact;
 }
 
 -- ---- the identifiers as they are

@@ -13,12 +13,12 @@ use Rattle.hn_store.specs.declared.stored.HeldNode.{HeldNode}
 use Rattle.hn_store.specs.declared.state.OwnLeaf.{OwnLeaf}
 use Rattle.hn_store.specs.declared.state.Took.{Took}
 use Rattle.hn_store.specs.declared.state.Took.TheVariants.{Kept, Renumbered, Ask, Stale, BadHash, BadBody, TooLong, Full, Own}
-use Rattle.hn_store.specs.Nodes.{Nodes, IsTable, IsSound, held, entry, put, stored_part}
-use Rattle.hn_store.specs.Acceptance.{PlainState, known_of, CarriesData, HasWrongHash, IsFull, IsAnswer, kept, renumbered, changed, entries_after}
+use Rattle.hn_store.specs.Nodes.{Nodes, IsTable, IsIntact, held, entry, put, stored_part}
+use Rattle.hn_store.specs.Acceptance.{PlainState, known_of, CarriesData, HasWrongHash, HasNoRoom, IsAnswer, kept, renumbered, changed, entries_after}
 use Rattle.hn_store.specs.Laws.{HeldIsOfAnEntry, AcceptanceKeepsTable}
 use Rattle.hn_store.proofs.Answering.{known_of-other}
 use Rattle.hn_base.proofs.AscendingNumbers.{around-few, around-fewer}
-use Rattle.hn_store.proofs.Maps.{are_put, SoundNode}
+use Rattle.hn_store.proofs.Maps.{are_put, IntactNode}
 use Rattle.hn_base.proofs.Decisions.{texts_cases}
 use Rattle.hn_store.proofs.Listed.{not_not}
 
@@ -55,32 +55,32 @@ held_of_entry (x ∷ xs) id stored is = by_test (is_of id x) refl (held_of_entry
     by_test true here more at = (x, Contains-head x xs, eqb-true x.id.0 id here, cc)
     by_test false other more at = let found = more at in (found.0, Contains-tail x xs found.0 found.1, found.2, found.3)
 
-held_sound : (xs : List HeldNode) (id : ℕ) (stored : Stored) → All SoundNode xs → held xs id ≡ Some stored → IsSound stored
-held_sound xs id stored all is = let found = held_of_entry xs id stored is in subst IsSound found.3 (All-contains SoundNode xs found.0 all found.1)
+held_intact : (xs : List HeldNode) (id : ℕ) (stored : Stored) → All IntactNode xs → held xs id ≡ Some stored → IsIntact stored
+held_intact xs id stored all is = let found = held_of_entry xs id stored is in subst IsIntact found.3 (All-contains IntactNode xs found.0 all found.1)
 
 -- ---- the table after each answer
 
 abbrev After : Nodes → PlainState → ℕ → Took → Type 0
 After nodes s now took = IsTable (record nodes { entries = entries_after nodes.entries s now took })
 
-put_table : (nodes : Nodes) (id : ℕ) (stored : Stored) → IsTable nodes → IsSound stored → (held nodes.entries id ≡ None → length nodes.entries ≢ nodes.limit)
+put_table : (nodes : Nodes) (id : ℕ) (stored : Stored) → IsTable nodes → IsIntact stored → (held nodes.entries id ≡ None → length nodes.entries ≢ nodes.limit)
     → IsTable (record nodes { entries = put id stored nodes.entries })
 put_table nodes id stored are one room =
     are_put nodes.limit id stored nodes.entries (put id stored nodes.entries) are one refl (put_within nodes.limit id stored nodes.entries are.within room)
 
-has_room : (nodes : Nodes) (own : OwnLeaf) (s : PlainState) → ¬ (IsFull nodes (known_of nodes.entries own s.node)) → s.node ≢ own.id.0
+has_room : (nodes : Nodes) (own : OwnLeaf) (s : PlainState) → ¬ (HasNoRoom nodes (known_of nodes.entries own s.node)) → s.node ≢ own.id.0
     → held nodes.entries s.node ≡ None → length nodes.entries ≢ nodes.limit
 has_room nodes own s room other none full =
     room (known_of-other nodes.entries own s.node other ∙ ap (option_map stored_part) none, full)
 
 kept_table : (nodes : Nodes) (own : OwnLeaf) (s : PlainState) (now : ℕ) → (HasTlvs s.body ⊎ (¬ (HasTlvs s.body))) → IsTable nodes
-    → ¬ (IsFull nodes (known_of nodes.entries own s.node)) → ¬ (60000 < length s.body) → ¬ (HasWrongHash s) → s.node ≢ own.id.0
+    → ¬ (HasNoRoom nodes (known_of nodes.entries own s.node)) → ¬ (60000 < length s.body) → ¬ (HasWrongHash s) → s.node ≢ own.id.0
     → ¬ (CarriesData s × ¬ (HasTlvs s.body)) → CarriesData s → After nodes s now Kept
 kept_table nodes own s now reading are room short right other listed carries =
     let hash_is : hash_of s.body ≡ s.hash = not_not (hash_of s.body ≡ s.hash) (texts_cases (hash_of s.body) s.hash) (λ wrong. right (carries, wrong)) in
     let list : HasTlvs s.body = not_not (HasTlvs s.body) reading (λ none. listed (carries, none)) in
     let few : length s.body ≤ 60000 = elim (cases_lt 60000 (length s.body)) [ inl long ↦ absurd (short long) | inr le ↦ le ] in
-    let one : IsSound (kept s now (held nodes.entries s.node)) = record { short = few; listed = list; hashed = sym hash_is } in
+    let one : IsIntact (kept s now (held nodes.entries s.node)) = record { short = few; listed = list; hashed = sym hash_is } in
     put_table nodes s.node (kept s now (held nodes.entries s.node)) are one (has_room nodes own s room other)
 
 renumbered_table : (nodes : Nodes) (s : PlainState) (now : ℕ) → IsTable nodes → After nodes s now Renumbered
@@ -89,7 +89,7 @@ renumbered_table nodes s now are = by_held (held nodes.entries s.node) refl
     by_held : (h : Option Stored) → held nodes.entries s.node ≡ h → IsTable (record nodes { entries = changed s.node (renumbered s now) h nodes.entries })
     by_held None is = are
     by_held (Some stored) is =
-        let one = held_sound nodes.entries s.node stored are.sound is in
+        let one = held_intact nodes.entries s.node stored are.intact is in
         put_table nodes s.node (renumbered s now stored) are (record { short = one.short; listed = one.listed; hashed = one.hashed }) (λ none. absurd (let clash = sym none ∙ is in cc))
 
 same_table : (nodes : Nodes) (s : PlainState) (now : ℕ) (took line : Took) → After nodes s now line → took ≡ line → After nodes s now took

@@ -47,8 +47,8 @@ IsStale None s = ⊥
 IsStale (Some known) s = ¬ (IsOlder known.number s.number) × ¬ ((known.number ≡ s.number) × (known.hash ≢ s.hash))
 
 -- Nothing is known of the node, and as many nodes are held as there may be.
-abbrev pub IsFull : Nodes → Option Part → Type 0
-IsFull nodes known = (known ≡ None) × (length nodes.entries ≡ nodes.limit)
+abbrev pub HasNoRoom : Nodes → Option Part → Type 0
+HasNoRoom nodes known = (known ≡ None) × (length nodes.entries ≡ nodes.limit)
 
 -- Nothing is known of the node, or another hash.
 abbrev pub IsNews : Option Part → PlainState → Type 0
@@ -61,7 +61,7 @@ unfoldable pub IsAnswer : Nodes → OwnLeaf → PlainState → Took → Type 0
 IsAnswer nodes own s took =
     let known = known_of nodes.entries own s.node in
     LineElse (IsStale known s) (took ≡ Stale)
-    (LineElse (IsFull nodes known) (took ≡ Full)
+    (LineElse (HasNoRoom nodes known) (took ≡ Full)
     (LineElse (60000 < length s.body) (took ≡ TooLong)
     (LineElse (HasWrongHash s) (took ≡ BadHash)
     (LineElse (s.node ≡ own.id.0) (took ≡ Own)

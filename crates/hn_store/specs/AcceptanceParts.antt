@@ -8,12 +8,12 @@ use Rattle.hn_store.specs.declared.state.OwnLeaf.{OwnLeaf}
 use Rattle.hn_store.specs.declared.state.Took.{Took}
 use Rattle.hn_store.specs.declared.state.Took.TheVariants.{Kept, Renumbered, Ask, BadBody}
 use Rattle.hn_store.specs.Nodes.{Nodes}
-use Rattle.hn_store.specs.Acceptance.{PlainState, known_of, CarriesData, IsStale, IsFull, IsNews}
+use Rattle.hn_store.specs.Acceptance.{PlainState, known_of, CarriesData, IsStale, HasNoRoom, IsNews}
 
 -- none of the first three lines holds
 pub record IsPassed (nodes : Nodes) (own : OwnLeaf) (s : PlainState) : Type 0 where
   pub fresh : ¬ (IsStale (known_of nodes.entries own s.node) s)
-  pub room : ¬ (IsFull nodes (known_of nodes.entries own s.node))
+  pub room : ¬ (HasNoRoom nodes (known_of nodes.entries own s.node))
   pub short : length s.body ≤ 60000
 
 -- the data that a state carries have the hash that it says

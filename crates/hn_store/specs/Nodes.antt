@@ -36,7 +36,7 @@ put id stored entries =
     filter (λ node. nat_lt node.id.0 id) entries ++ entry id stored ∷ filter (λ node. nat_lt id node.id.0) entries
 
 -- The node data are a list of TLVs of at most 60,000 bytes, and the hash is theirs.
-pub record IsSound (stored : Stored) : Type 0 where
+pub record IsIntact (stored : Stored) : Type 0 where
   pub short : length stored.body ≤ 60000
   pub listed : HasTlvs stored.body
   pub hashed : stored.hash ≡ hash_of stored.body
@@ -46,4 +46,4 @@ pub record IsTable (nodes : Nodes) : Type 0 where
   pub limit_is : (nodes.limit ≡ 256) ⊎ (nodes.limit ≡ 1024)
   pub within : length nodes.entries ≤ nodes.limit
   pub ascending : IsStrictlySortedBy nat_cmp (ids_of nodes.entries)
-  pub sound : All (λ node. IsSound node.stored) nodes.entries
+  pub intact : All (λ node. IsIntact node.stored) nodes.entries

@@ -3,7 +3,7 @@ ghost use Rattle.std.specs.Bool.{OnTrue, OnFalse};
 ghost use Rattle.hn_tlv.specs.Grammar.{HasTlvs};
 ghost use Rattle.hn_hash.specs.Hash.{hash_of};
 ghost use Rattle.hn_store.specs.Nodes.{held, put};
-ghost use Rattle.hn_store.specs.Acceptance.{plain_state, held_part, known_of, CarriesData, HasWrongHash, IsStale, IsFull, kept, entries_after, Accepts};
+ghost use Rattle.hn_store.specs.Acceptance.{plain_state, held_part, known_of, CarriesData, HasWrongHash, IsStale, HasNoRoom, kept, entries_after, Accepts};
 ghost use Rattle.hn_store.specs.AcceptanceParts.{HasRightHash, IsPassed, IsOfData, IsOfNumber};
 
 use crate::place::place_of;
@@ -68,7 +68,7 @@ impl Table {
 
     /// Whether a node of which this is known is not held, and there is no room for it.
     fn is_full(&self, known: Option<Part>) -> bool
-        ensures { IsTrue result ↔ IsFull self.now known }
+        ensures { IsTrue result ↔ HasNoRoom self.now known }
     {
         known.is_none() && self.len() == self.limit()
     }

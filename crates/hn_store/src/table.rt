@@ -2,7 +2,7 @@ ghost use Rattle.std.specs.Prelude.{◌≡◌, ◌⊎◌, length, map, [], IfOk,
 ghost use Rattle.std.specs.Option.{option_copied};
 ghost use Rattle.std.specs.List.Sorted.{IsStrictlySortedBy};
 ghost use Rattle.hn_base.specs.NodeIds.{node_cmp};
-ghost use Rattle.hn_store.specs.Nodes.{held, IsTable, IsSound};
+ghost use Rattle.hn_store.specs.Nodes.{held, IsTable, IsIntact};
 
 use crate::place::place_of;
 use crate::stored::{HeldNode, Stored};
@@ -87,7 +87,7 @@ impl Table {
     /// What it holds of a node. Never allocates.
     pub fn get(&self, id: NodeId) -> Option<&Stored>
         ensures held { option_copied result ≡ held self.now.entries id.0 }
-        ensures sound { IfSome result (λ stored. IsSound stored.now) }
+        ensures intact { IfSome result (λ stored. IsIntact stored.now) }
     {
         match place_of(&self.nodes, id) {
             Ok(place) => Some(&self.nodes[place].stored),

@@ -2,7 +2,7 @@ use Rattle.std.proofs.Common.{refl, subst, rules, arith}
 use Rattle.std.specs.Prelude.{Option}
 use Rattle.hn_hash.specs.declared.part.Part.{Part}
 use Rattle.hn_store.specs.declared.state.Took.TheVariants.{Stale, Full, TooLong}
-use Rattle.hn_store.specs.Acceptance.{plain_state, known_of, IsStale, IsFull}
+use Rattle.hn_store.specs.Acceptance.{plain_state, known_of, IsStale, HasNoRoom}
 use Rattle.hn_store.proofs.Answering.{stale, full, too_long, unchanged}
 use Rattle.hn_store.proofs.table.Table.refusal.Goals as goal
 
@@ -20,12 +20,12 @@ returns-then-is_stale-clause-refused c _ passed =
 pub returns-then-is_full-clause-accepts : goal.returns-then-is_full-clause-accepts
 returns-then-is_full-clause-accepts c now =
     let s = plain_state c.args.state.now in
-    let is : IsFull c.args.self.now (known_of c.args.self.now.entries c.args.own.now s.node) = subst (λ (known : Option Part). IsFull c.args.self.now known) c.known_of-known.ensures (c.is_full.ensures.0 c.if-is_full.true) in
+    let is : HasNoRoom c.args.self.now (known_of c.args.self.now.entries c.args.own.now s.node) = subst (λ (known : Option Part). HasNoRoom c.args.self.now known) c.known_of-known.ensures (c.is_full.ensures.0 c.if-is_full.true) in
     unchanged c.args.self.now c.args.own.now s now Full refl (full c.args.self.now c.args.own.now s (search rules) is)
 
 pub returns-then-is_full-clause-refused : goal.returns-then-is_full-clause-refused
 returns-then-is_full-clause-refused c _ passed =
-    passed.room (subst (λ (known : Option Part). IsFull c.args.self.now known) c.known_of-known.ensures (c.is_full.ensures.0 c.if-is_full.true))
+    passed.room (subst (λ (known : Option Part). HasNoRoom c.args.self.now known) c.known_of-known.ensures (c.is_full.ensures.0 c.if-is_full.true))
 
 pub returns-then-state-gt-BODY_LIMIT-clause-accepts :
     goal.returns-then-state-gt-BODY_LIMIT-clause-accepts

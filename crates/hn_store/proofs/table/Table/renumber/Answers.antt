@@ -6,7 +6,7 @@ use Rattle.hn_store.specs.Nodes.{Nodes, IsTable}
 use Rattle.hn_store.specs.Place.{IsPlaceOf}
 use Rattle.hn_store.specs.Acceptance.{plain_state, held_part, renumbered, entries_after}
 use Rattle.hn_store.specs.AcceptanceParts.{IsOfNumber}
-use Rattle.hn_store.proofs.Changing.{ask_unknown, ask_other, renumber_same, IsTable-there, sound_there, sound_renumbered, after_renumbered}
+use Rattle.hn_store.proofs.Changing.{ask_unknown, ask_other, renumber_same, IsTable-there, intact_there, intact_renumbered, after_renumbered}
 use Rattle.hn_store.proofs.table.Table.renumber.Goals as goal
 
 pub returns-in_default-clause-took : goal.returns-in_default-clause-took
@@ -28,9 +28,9 @@ invariant_of-self-2 c =
     let s = plain_state c.args.state.now in
     let place = subst (λ (es : List HeldNode). IsPlaceOf es s.node c.in-Ok.place) c.deref.ensures.value c.in-Ok.ensures.found in
     let x = c.index_mut-node.result.now in
-    let one = sound_there c.self.inside.limit c.self.inside.nodes.items s.node c.in-Ok.place x c.self.invariant place c.index_mut-node.ensures.value in
+    let one = intact_there c.self.inside.limit c.self.inside.nodes.items s.node c.in-Ok.place x c.self.invariant place c.index_mut-node.ensures.value in
     let P = λ (stored : Stored). IsTable (record { limit = c.self.inside.limit; entries = set c.self.inside.nodes.items c.in-Ok.place (record { id = x.id; stored = stored }) }) in
-    subst P (sym c.renumber.ensures) (IsTable-there c.self.inside.limit c.self.inside.nodes.items s.node c.in-Ok.place x (renumbered s c.args.now x.stored) c.self.invariant place c.index_mut-node.ensures.value (sound_renumbered s c.args.now x.stored one))
+    subst P (sym c.renumber.ensures) (IsTable-there c.self.inside.limit c.self.inside.nodes.items s.node c.in-Ok.place x (renumbered s c.args.now x.stored) c.self.invariant place c.index_mut-node.ensures.value (intact_renumbered s c.args.now x.stored one))
 
 pub returns-clause-took : goal.returns-clause-took
 returns-clause-took c =

@@ -6,7 +6,7 @@ use Rattle.hn_store.specs.Place.{IsPlaceOf, IsGapFor}
 use Rattle.hn_store.specs.Acceptance.{plain_state, kept}
 use Rattle.hn_store.proofs.Places.{held-none}
 use Rattle.hn_store.proofs.Maps.{IsTable-insert}
-use Rattle.hn_store.proofs.Changing.{IsTable-there, sound_kept, after_replaced, after_inserted}
+use Rattle.hn_store.proofs.Changing.{IsTable-there, intact_kept, after_replaced, after_inserted}
 use Rattle.hn_store.proofs.table.Table.store.Goals as goal
 
 pub invariant_of-self : goal.invariant_of-self
@@ -15,7 +15,7 @@ invariant_of-self c =
     let xs = c.self.inside.nodes.items in
     let x = c.index_mut-node.result.now in
     let place = subst (λ (es : List HeldNode). IsPlaceOf es s.node c.in-Ok.place) c.deref.ensures.value c.in-Ok.ensures.found in
-    let one = sound_kept s c.args.now (Some x.stored) c.args.body c.requires.same c.requires.short c.requires.listed c.requires.hashed in
+    let one = intact_kept s c.args.now (Some x.stored) c.args.body c.requires.same c.requires.short c.requires.listed c.requires.hashed in
     let P = λ (body : List ℕ). IsTable (record { limit = c.self.inside.limit; entries = set xs c.in-Ok.place (record { id = x.id; stored = record (kept s c.args.now (Some x.stored)) { body = body } }) }) in
     subst P (sym c.requires.same) (IsTable-there c.self.inside.limit xs s.node c.in-Ok.place x (kept s c.args.now (Some x.stored)) c.self.invariant place c.index_mut-node.ensures.value one)
 
@@ -36,7 +36,7 @@ invariant_of-self-in-Err c =
     let s = plain_state c.args.state.now in
     let xs = c.self.inside.nodes.items in
     let gap = subst (λ (es : List HeldNode). IsGapFor es s.node c.in-Err.place) c.deref.ensures.value c.in-Err.ensures.absent in
-    let one = sound_kept s c.args.now None c.args.body c.requires.same c.requires.short c.requires.listed c.requires.hashed in
+    let one = intact_kept s c.args.now None c.args.body c.requires.same c.requires.short c.requires.listed c.requires.hashed in
     let room : length xs ≢ c.self.inside.limit = subst (λ (n : Nodes). held n.entries s.node ≡ None → length n.entries ≢ n.limit) (sym c.self.view_is) c.requires.room (held-none xs s.node c.in-Err.place gap) in
     let within = c.self.invariant.within in
     let less : length xs < c.self.inside.limit = omega arith in

@@ -12,10 +12,10 @@ use Rattle.hn_script.specs.declared.fault.ScriptFault.{ScriptFault}
 use Rattle.hn_script.specs.declared.line.Line.{Line}
 use Rattle.hn_script.specs.declared.script.Script.{Script}
 use Rattle.hn_base.specs.declared.version.Version.{Version}
+use Rattle.hn_base.specs.declared.version.Version.TheVariants.{One}
 use Rattle.hn_script.proofs.Entries.{no_line_fault, no_first_fault}
 use Rattle.hn_script.proofs.SameFields.{same_line}
-use Rattle.hn_base.proofs.Fronts.{tail_is}
-use Rattle.hn_base.proofs.Fields.{one_version}
+use Rattle.hn_base.proofs.Fronts.{head_is, tail_is}
 use Rattle.hn_base.proofs.Causes.{one_cause}
 
 -- ---- one script
@@ -39,13 +39,18 @@ same_entries one (a ∷ left) (b ∷ right) (text ∷ texts) h k =
     let tail = same_entries one left right texts h.1 k.1 in
     cc
 
+-- versions have different first lines
+same_version : (a b : Version) → first_line a ≡ first_line b → a ≡ b
+same_version One One same = refl
+
 pub one_script : PrefixTextIsOfOne → AtMostOneScript
 one_script one bytes script other h k =
     let texts : h.texts ≡ k.texts = tail_is (sym h.parts ∙ k.parts) in
     let given = subst (λ found. AllZip IsEntry k.lines.0 found) (sym texts) k.lines.1 in
     let entries = same_entries one h.lines.0 k.lines.0 h.texts h.lines.1 given in
     let lines : script.lines ≡ other.lines = h.lines.2 ∙ ap (numbered 2) entries ∙ sym k.lines.2 in
-    rw (one_version script.version other.version, lines) refl
+    let version : script.version ≡ other.version = same_version script.version other.version (head_is (sym h.parts ∙ k.parts)) in
+    rw (version, lines) refl
 
 -- ---- no fault of a script
 

@@ -4,16 +4,10 @@
 mod audit;
 mod knowing;
 mod laws;
-#[cfg(test)]
-mod quiet_tests;
 mod reached;
 mod rest;
 mod resting;
-#[cfg(test)]
-mod settled_tests;
 mod spots;
-#[cfg(test)]
-mod staging;
 
 pub use audit::Audit;
 pub use laws::{

@@ -17,8 +17,6 @@ mod reports;
 mod rounds;
 mod scripts;
 mod stream;
-#[cfg(test)]
-mod tests;
 mod treated;
 
 pub use end::End;

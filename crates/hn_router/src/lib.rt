@@ -3,17 +3,11 @@
 #![tactic(auto)]
 
 mod act;
-#[cfg(test)]
-mod advert_tests;
 mod advertising;
 mod event;
 mod events;
 mod laws;
-#[cfg(test)]
-mod prefix_tests;
 mod router;
-#[cfg(test)]
-mod tests;
 mod tick;
 
 pub use event::Event;

@@ -15,8 +15,6 @@ mod plain_events;
 mod published;
 mod receivers;
 mod refusal;
-#[cfg(test)]
-mod tests;
 mod trace;
 mod world;
 

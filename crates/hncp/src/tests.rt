@@ -3,7 +3,6 @@ use crate::status::{BAD_USAGE, DONE, REFUSED, SINK_FAILED, SOURCE_FAILED};
 use crate::words::Form;
 use hn_io::{IoFault, MemSink, MemSource, Sink, Source};
 use std::alloc::{AllocError, Global};
-use std::process::Abort;
 use std::test::Fail;
 
 /// The script of two lone routers.
@@ -11,69 +10,6 @@ const TWO_ROUTERS: &str = "hncp 1\nrouter A 00000001\nrouter B 00000002\nshow A\
 
 const TWO_ROUTERS_TEXT: &str =
     "show A id=00000001 number=1 reach=1 held=0 running=yes\ncompare A B net=same ids=other\n";
-
-/// The script of a home of two that is settled, quiet and sound.
-const AUDITED_HOME: &str = "hncp 1\n\
-    router A 00000001\n\
-    router B 00000002\n\
-    link L\n\
-    attach A 1 L\n\
-    attach B 1 L\n\
-    external A 2001:db8::/56 7200 3600\n\
-    run 20000 100\n\
-    audit A\n\
-    show A\n\
-    prefixes A\n\
-    prefixes B\n";
-
-/// Its text.
-const AUDITED_HOME_TEXT: &str = "audit A settled=yes quiet=yes sound=yes\n\
-    show A id=00000001 number=5 reach=2 held=1 running=yes\n\
-    prefixes A 1\n\
-    prefix A ep=1 in=2001:db8::/56 is=2001:db8::/64 published=no applied=yes\n\
-    prefixes B 1\n\
-    prefix B ep=1 in=2001:db8::/56 is=2001:db8::/64 published=2 applied=yes\n";
-
-/// The same home, and a router that it does not know.
-const NEW_NEIGHBOR: &str = "hncp 1\n\
-    router A 00000001\n\
-    router B 00000002\n\
-    link L\n\
-    attach A 1 L\n\
-    attach B 1 L\n\
-    external A 2001:db8::/56 7200 3600\n\
-    run 20000 100\n\
-    audit A\n\
-    show A\n\
-    prefixes A\n\
-    prefixes B\n\
-    router C 00000003\n\
-    attach C 1 L\n\
-    audit A\n";
-
-/// Its text.
-const NEW_NEIGHBOR_TEXT: &str = "audit A settled=yes quiet=yes sound=yes\n\
-    show A id=00000001 number=5 reach=2 held=1 running=yes\n\
-    prefixes A 1\n\
-    prefix A ep=1 in=2001:db8::/56 is=2001:db8::/64 published=no applied=yes\n\
-    prefixes B 1\n\
-    prefix B ep=1 in=2001:db8::/56 is=2001:db8::/64 published=2 applied=yes\n\
-    audit A settled=no\n";
-
-/// A router's advertisement before its link has a prefix, and after.
-const ADVERTISED_LINK: &str = "hncp 1\n\
-    router A 00000001\n\
-    link L\n\
-    attach A 1 L\n\
-    advert A 1\n\
-    external A 2001:db8:0:1::/64 1800 900\n\
-    run 10200 100\n\
-    advert A 1\n";
-
-/// Its text.
-const ADVERTISED_LINK_TEXT: &str = "advert A 1 86000000400000000000000000000000\n\
-    advert A 1 86000000400007080000000000000000\
-    030440c0000006fe0000037a0000000020010db8000000010000000000000000\n";
 
 /// A source that gives, or a sink that takes, one byte at a time.
 #[derive(Drop)]
@@ -124,120 +60,15 @@ fn play<S: Source, K: Sink>(
     Ok((played.status, events))
 }
 
-/// Runs a form of the program on an input, and asserts its status and its text.
-fn expect(
-    rt: &(impl Abort + AllocGlobal),
-    form: &str,
-    input: &str,
-    status: u8,
-    text: &str,
-) -> Result<(), Fail> {
+#[test]
+fn texts_that_are_no_hexadecimal(rt: HostRuntime) -> Result<(), Fail> {
     let alloc = rt.alloc();
-    let mut source = MemSource::new(input.as_bytes().to_vec(alloc)?, Vec::new(alloc));
-    let mut sink = MemSink::new(alloc, Vec::new(alloc));
-    let (came_to, _) = play(alloc, &["hncp", form], &mut source, &mut sink)?;
-    assert_eq!(rt; came_to, status, "{form} of {input:?}");
-    assert_eq!(rt; sink.held(), text.as_bytes(), "{form} of {input:?}");
-    Ok(())
-}
-
-#[test]
-fn scripts_and_their_texts(rt: HostRuntime) -> Result<(), Fail> {
-    let cases = [
-        (TWO_ROUTERS, DONE, TWO_ROUTERS_TEXT),
-        (AUDITED_HOME, DONE, AUDITED_HOME_TEXT),
-        (NEW_NEIGHBOR, DONE, NEW_NEIGHBOR_TEXT),
-        (
-            "hncp 1\nrouter A 00000001\nstop A\naudit A\n",
-            REFUSED,
-            "refused 4 12\n",
-        ),
-        ("hncp 1\naudit Z\n", REFUSED, "refused 2 7\n"),
-        (ADVERTISED_LINK, DONE, ADVERTISED_LINK_TEXT),
-        ("hncp 1\nadvert Z 1\n", REFUSED, "refused 2 7\n"),
-        (
-            "hncp 1\nrouter A 00000001\nadvert A 1\n",
-            REFUSED,
-            "refused 3 11\n",
-        ),
-        (
-            "hncp 1\nrouter A 00000001\nstop A\nadvert A 1\n",
-            REFUSED,
-            "refused 4 12\n",
-        ),
-        (
-            "hncp 1\nrouter A 00000001\nrouter B 00000002\nshow A\nshow B\n",
-            DONE,
-            "show A id=00000001 number=1 reach=1 held=0 running=yes\nshow B id=00000002 number=1 reach=1 held=0 running=yes\n",
-        ),
-        (
-            "hncp 1\nrouter A 00000001\nrouter B 00000002\ncaps B 0 0 4 0\nshow B\ncompare A B\n",
-            DONE,
-            "show B id=00000002 number=2 reach=1 held=0 running=yes\ncompare A B net=differ\n",
-        ),
-        (
-            "hncp 1\nrouter A 00000001\ncompare A A\n",
-            DONE,
-            "compare A A net=same ids=same\n",
-        ),
-        (
-            "hncp 1\nrouter A 0000000a\ncaps A 1 2 3 4\ncaps A 1 2 3 4\nshow A\n",
-            DONE,
-            "show A id=0000000a number=2 reach=1 held=0 running=yes\n",
-        ),
-        ("hncp 1\n", DONE, ""),
-        ("", REFUSED, "refused 1 1\n"),
-        ("hncp 1\nfly\n", REFUSED, "refused 2 2\n"),
-        ("hncp 1\nshow Z\n", REFUSED, "refused 2 7\n"),
-        (
-            "hncp 1\nrouter A 00000001\nrouter A 00000002\n",
-            REFUSED,
-            "refused 3 8\n",
-        ),
-        (
-            "hncp 1\nrouter A 00000001\nshow A\ncompare A Z\nshow A\n",
-            REFUSED,
-            "show A id=00000001 number=1 reach=1 held=0 running=yes\nrefused 4 7\n",
-        ),
-        ("hncp 1\ncaps Z 0 0 0 0\n", REFUSED, "refused 2 7\n"),
-    ];
-    for (script, status, text) in cases {
-        expect(&rt, "lab", script, status, text)?;
-    }
-    Ok(())
-}
-
-#[test]
-fn datagrams_and_their_contents(rt: HostRuntime) -> Result<(), Fail> {
-    let cases = [
-        ("", DONE, "tlvs 0\n"),
-        (" \n\n", DONE, "tlvs 0\n"),
-        ("007B000178000000", DONE, "tlvs 1\n0 123 1 other value=78\n"),
-        (
-            "00 7b 00 01\n780000 00\n",
-            DONE,
-            "tlvs 1\n0 123 1 other value=78\n",
-        ),
-        (
-            "002100140022001000001C2000000E103820010DB8000000",
-            DONE,
-            "tlvs 1\n0 33 20 external\n  4 34 16 delegated valid=7200 preferred=3600 prefix=2001:db8::/56\n",
-        ),
-        (
-            "007B000178000000\n007c0001 79000000\n",
-            DONE,
-            "tlvs 2\n0 123 1 other value=78\n8 124 1 other value=79\n",
-        ),
-        ("007B000178000001", REFUSED, "malformed place=7 why=4\n"),
-        ("000100", REFUSED, "malformed place=0 why=1\n"),
-        ("0001FFFF00000000", REFUSED, "malformed place=0 why=2\n"),
-        ("007B000178", REFUSED, "malformed place=5 why=3\n"),
-        ("007B00017800000", REFUSED, "refused 0 4\n"),
-        ("007B0001780000x0", REFUSED, "refused 0 4\n"),
-        ("007B0001\t78000000", REFUSED, "refused 0 4\n"),
-    ];
-    for (input, status, text) in cases {
-        expect(&rt, "decode", input, status, text)?;
+    for text in ["007B00017800000", "007B0001780000x0", "007B0001\t78000000"] {
+        let mut source = MemSource::new(text.as_bytes().to_vec(alloc)?, Vec::new(alloc));
+        let mut sink = MemSink::new(alloc, Vec::new(alloc));
+        let (status, _) = play(alloc, &["hncp", "decode"], &mut source, &mut sink)?;
+        assert_eq!(rt; status, REFUSED, "{text:?}");
+        assert_eq!(rt; sink.held(), b"refused 0 4\n".as_slice(), "{text:?}");
     }
     Ok(())
 }
@@ -293,8 +124,6 @@ fn words_that_are_bad_usage(rt: HostRuntime) -> Result<(), Fail> {
 fn each_read_and_write_fails_in_turn(rt: HostRuntime) -> Result<(), Fail> {
     let alloc = rt.alloc();
     let first_line = "show A id=00000001 number=1 reach=1 held=0 running=yes\n";
-    let two_lines = "audit A settled=yes quiet=yes sound=yes\n\
-        show A id=00000001 number=5 reach=2 held=1 running=yes\n";
     let hex = "007B000178000000";
     let contents = "tlvs 1\n0 123 1 other value=78\n";
     let nested = "0021000400210000";
@@ -306,7 +135,6 @@ fn each_read_and_write_fails_in_turn(rt: HostRuntime) -> Result<(), Fail> {
         ("lab", TWO_ROUTERS, 0, 1, SINK_FAILED, ""),
         ("lab", TWO_ROUTERS, 0, 2, SINK_FAILED, first_line),
         ("lab", TWO_ROUTERS, 0, 3, DONE, TWO_ROUTERS_TEXT),
-        ("lab", AUDITED_HOME, 0, 3, SINK_FAILED, two_lines),
         ("decode", hex, 1, 0, SOURCE_FAILED, ""),
         ("decode", hex, 2, 0, SOURCE_FAILED, ""),
         ("decode", hex, 0, 1, SINK_FAILED, ""),

@@ -1,0 +1,10 @@
+use Rattle.std.proofs.Common.{codes, string_bytes}
+use Rattle.std.specs.Fmt.{decimal}
+use Rattle.hn_base.specs.HexText.{id_text}
+use Rattle.hn_decode.proofs.ItemLemmas.{added, two_fields}
+use Rattle.hn_decode.proofs.item_text.push_node_endpoint.Goals as goal
+
+pub returns : goal.returns
+returns c =
+    let same = two_fields (codes "node-endpoint node=") (id_text c.args.node.0) (codes " endpoint=") (decimal c.args.endpoint.0) in
+    added c.write.result (string_bytes c.args.out.now) (string_bytes c.write.new.self) _ _ same c.write.ensures.bytes

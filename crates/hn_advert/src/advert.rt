@@ -2,7 +2,7 @@ use hn_base::Sequence;
 use hn_prefix::Prefix;
 
 /// A prefix that is advertised, with its lifetimes (RFC 4861, section 4.6.2).
-#[derive(Clone, Copy, Debug, PartialEq, Eq)]
+#[derive(Clone, Copy)]
 pub struct Info {
     pub prefix: Prefix,
     /// The valid lifetime in seconds; 4294967295 is one that never ends.
@@ -15,7 +15,7 @@ pub struct Info {
 pub type Infos = Sequence<Info>;
 
 /// A Router Advertisement (RFC 4861, section 4.2).
-#[derive(Debug, Drop)]
+#[derive(Drop)]
 pub struct Advert {
     /// The flag M: addresses are available by DHCPv6.
     pub managed: bool,

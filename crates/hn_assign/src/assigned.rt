@@ -2,7 +2,7 @@ use hn_base::{Endpoints, EpId, Key, Moment};
 use hn_prefix::Prefix;
 
 /// A prefix that a node advertises as assigned to the link of one of its endpoints (RFC 7695, section 2).
-#[derive(Clone, Copy, Debug, PartialEq, Eq, PartialOrd, Ord)]
+#[derive(Clone, Copy, PartialEq, Eq, PartialOrd, Ord)]
 pub struct Advertised {
     pub key: Key,
     pub prefix: Prefix,
@@ -10,7 +10,7 @@ pub struct Advertised {
 
 /// A prefix that a router has assigned to the link of one of its endpoints, inside a delegated prefix (RFC 7695,
 /// section 2).
-#[derive(Clone, Copy, Debug, PartialEq, Eq)]
+#[derive(Clone, Copy, PartialEq, Eq)]
 pub struct Assigned {
     pub delegated: Prefix,
     pub endpoint: EpId,
@@ -24,7 +24,7 @@ pub struct Assigned {
 }
 
 /// What a router asks for one pair of a delegated prefix and an endpoint.
-#[derive(Debug, Drop)]
+#[derive(Drop)]
 pub struct Wish {
     pub delegated: Prefix,
     /// Whether the delegated prefix is wanted (RFC 7788, section 6.3).

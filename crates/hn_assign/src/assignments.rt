@@ -15,7 +15,7 @@ use std::marker::Model;
 const APPLY_DELAY: u64 = 10_000;
 
 /// A router's assignments, strictly ascending by delegated prefix and endpoint. Contracts see their list.
-#[derive(Debug, Drop)]
+#[derive(Drop)]
 pub struct Assignments {
     items: Vec<Assigned>,
 }

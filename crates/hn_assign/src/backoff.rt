@@ -3,7 +3,7 @@ use hn_prefix::Prefix;
 
 /// A pair of a delegated prefix and an endpoint that waits before an assignment is made for it (RFC 7695,
 /// section 4.1).
-#[derive(Clone, Copy, Debug, PartialEq, Eq)]
+#[derive(Clone, Copy, PartialEq, Eq)]
 pub struct Backoff {
     pub delegated: Prefix,
     pub endpoint: EpId,

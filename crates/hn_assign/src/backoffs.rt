@@ -11,7 +11,7 @@ use std::alloc::Global;
 use std::marker::Model;
 
 /// A router's backoffs, strictly ascending by delegated prefix and endpoint. Contracts see their list.
-#[derive(Debug, Drop)]
+#[derive(Drop)]
 pub struct Backoffs {
     items: Vec<Backoff>,
 }

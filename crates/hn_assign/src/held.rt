@@ -9,14 +9,14 @@ use hn_base::{NoMemory, Words};
 use std::alloc::Global;
 
 /// What a router holds for its pairs.
-#[derive(Debug, Drop)]
+#[derive(Drop)]
 pub struct Held {
     pub assigned: Assignments,
     pub backoffs: Backoffs,
 }
 
 /// What the assignment subroutine leaves, and the random words that it took, in order.
-#[derive(Debug, Drop)]
+#[derive(Drop)]
 pub struct Ran {
     pub held: Held,
     pub words: Words,

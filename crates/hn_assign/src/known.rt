@@ -14,7 +14,7 @@ use std::alloc::Global;
 use std::marker::Model;
 
 /// The advertised prefixes, and the same without their keys. Contracts see the list of the former.
-#[derive(Debug, Drop)]
+#[derive(Drop)]
 pub struct Known {
     advertised: AdvertisedPrefixes,
     taken: Vec<Prefix>,

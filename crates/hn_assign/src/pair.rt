@@ -7,7 +7,7 @@ use hn_prefix::Prefix;
 
 /// A delegated prefix and an endpoint: what an assignment is for (RFC 7695, section 4.1). Ordered by the delegated
 /// prefix, then the endpoint.
-#[derive(Clone, Copy, Debug, PartialEq, Eq, PartialOrd, Ord)]
+#[derive(Clone, Copy, PartialEq, Eq, PartialOrd, Ord)]
 pub struct Pair {
     pub delegated: Prefix,
     pub endpoint: EpId,

@@ -8,7 +8,7 @@ use hn_base::{Moment, NodeId};
 use hn_prefix::Prefix;
 
 /// What a pair is judged by: the router and the moment, the wish for the pair, and the advertised prefixes.
-#[derive(Clone, Copy, Debug)]
+#[derive(Clone, Copy)]
 pub struct Scene<'a> {
     pub own: NodeId,
     pub now: Moment,

@@ -4,14 +4,14 @@ use crate::assigned::Assigned;
 use crate::backoff::Backoff;
 
 /// What a pair has: its assignment and its backoff, where it has them.
-#[derive(Clone, Copy, Debug, PartialEq, Eq)]
+#[derive(Clone, Copy)]
 pub struct Slot {
     pub assigned: Option<Assigned>,
     pub backoff: Option<Backoff>,
 }
 
 /// What a pair has after its turn, and the random word that the turn took, where it took one.
-#[derive(Clone, Copy, Debug)]
+#[derive(Clone, Copy)]
 pub struct Turn {
     pub slot: Slot,
     pub word: Option<u32>,

@@ -13,7 +13,7 @@ use std::marker::Model;
 /// What a router asks for its pairs: one wish for each at most, strictly ascending by delegated prefix and endpoint.
 /// Each delegated prefix has a length of 64 at most, and each wish asks for prefixes of a length from 1 to 64.
 /// Contracts see the list of wishes.
-#[derive(Debug, Drop)]
+#[derive(Drop)]
 pub struct Wishes {
     items: Vec<Wish>,
 }

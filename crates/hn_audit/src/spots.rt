@@ -14,7 +14,7 @@ use hn_world::{Attachment, Member, World};
 use std::alloc::Global;
 
 /// An endpoint of a router that is attached to a link.
-#[derive(Clone, Copy, Debug)]
+#[derive(Clone, Copy)]
 pub(crate) struct Spot<'a> {
     pub(crate) member: &'a Member,
     pub(crate) endpoint: EpId,

@@ -2,7 +2,7 @@ ghost use Rattle.std.specs.Prelude.{◌↔◌, IsTrue};
 ghost use Rattle.hn_base.specs.Addr.{IsLinkLocal};
 
 /// Where a datagram comes from or goes to: an IPv6 address and a UDP port.
-#[derive(Clone, Copy, Debug, PartialEq, Eq)]
+#[derive(Clone, Copy)]
 pub struct Addr {
     /// The address; its first bit is the highest one.
     pub ip: u128,

@@ -2,7 +2,7 @@ ghost use Rattle.std.specs.Prelude.{◌≤◌};
 
 /// The four capabilities of an HNCP-Version TLV (RFC 7788, section 10.1). Each is the node's priority for that service,
 /// a number of 4 bits; it is 0 if the node does not offer the service.
-#[derive(Clone, Copy, Debug, PartialEq, Eq)]
+#[derive(Clone, Copy, PartialEq, Eq)]
 pub struct Caps {
     /// M: mDNS proxy.
     pub m: u8,

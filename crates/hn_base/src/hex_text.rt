@@ -12,7 +12,7 @@ use std::fmt;
 const CHUNK: usize = 32;
 
 /// Bytes that are printed as lower-case hexadecimal digits, two for each byte; no bytes are printed as `-`.
-#[derive(Clone, Copy, Debug)]
+#[derive(Clone, Copy)]
 pub struct Hex<'a>(pub &'a [u8]);
 
 // Writes the digits of a few bytes.

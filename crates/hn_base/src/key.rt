@@ -8,7 +8,7 @@ use crate::ids::{EpId, NodeId};
 /// endpoint identifier, the greatest first (RFC 7695, section 4.1; RFC 7788, section 6.3.1).
 ///
 /// Keys are ordered by priority, then node, then endpoint.
-#[derive(Clone, Copy, Debug, PartialEq, Eq, PartialOrd, Ord)]
+#[derive(Clone, Copy, PartialEq, Eq, PartialOrd, Ord)]
 pub struct Key {
     /// The priority of the assignment, 0 to 15.
     pub priority: u8,

@@ -1,5 +1,5 @@
 /// One of the four capabilities of a node (RFC 7788, section 10.1).
-#[derive(Clone, Copy, Debug, PartialEq, Eq)]
+#[derive(Clone, Copy)]
 pub enum Letter {
     /// The mDNS proxy.
     M,

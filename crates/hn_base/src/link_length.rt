@@ -3,7 +3,7 @@ ghost use Rattle.std.specs.Prelude.{◌≡◌, ◌≤◌};
 use std::marker::Model;
 
 /// The length of the prefixes that a link is assigned, 1 to 64 bits. Contracts see the number.
-#[derive(Clone, Copy, Debug, PartialEq, Eq)]
+#[derive(Clone, Copy)]
 pub struct LinkLength {
     bits: u8,
 }

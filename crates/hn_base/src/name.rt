@@ -9,7 +9,7 @@ pub const NAME_CAPACITY: usize = 16;
 
 /// The name of a router or a link: 1 to 16 ASCII letters, digits, `_` and `-`, beginning with a letter.
 /// The bytes past `len` are zero, so that equal names have equal fields.
-#[derive(Clone, Copy, Debug, PartialEq, Eq)]
+#[derive(Clone, Copy)]
 pub struct Name {
     pub len: u8,
     pub bytes: [u8; 16],

@@ -13,7 +13,7 @@ pub trait Exact: Clone {
 }
 
 /// A value with several owners; contracts see the value. A clone shares its memory.
-#[derive(Debug, Drop)]
+#[derive(Drop)]
 pub struct Shared<T> {
     inner: Rc<T, Global>,
 }

@@ -1,5 +1,5 @@
 /// The version of the language of scripts.
-#[derive(Clone, Copy, Debug, PartialEq, Eq)]
+#[derive(Clone, Copy)]
 pub enum Version {
     /// The first line of a script is `hncp 1`.
     One,

@@ -20,7 +20,7 @@ use hn_typed::{Item, read};
 use std::alloc::Global;
 
 /// What others ask of node data.
-#[derive(Debug, Drop)]
+#[derive(Drop)]
 pub(crate) struct Kept {
     pub(crate) version: Option<Caps>,
     pub(crate) external: bool,

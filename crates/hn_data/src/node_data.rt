@@ -26,7 +26,7 @@ use std::marker::Model;
 use std::rc::Rc;
 
 /// Node data, and what others ask of it.
-#[derive(Debug, Drop)]
+#[derive(Drop)]
 struct Inner {
     bytes: Bytes,
     kept: Kept,
@@ -34,7 +34,7 @@ struct Inner {
 
 /// A node's data, a list of TLVs (RFC 7787, section 7.2.3), read once when it is made; contracts see its bytes.
 /// What is shared shares its memory.
-#[derive(Debug, Drop)]
+#[derive(Drop)]
 pub struct NodeData {
     shared: Rc<Inner, Global>,
 }

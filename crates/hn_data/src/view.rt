@@ -5,7 +5,7 @@ use hn_base::{Moment, NoMemory, NodeId};
 
 /// A node as a router sees it: its identifier, its sequence number, the age of its data in milliseconds, and its data
 /// (RFC 7787, section 7.2.3).
-#[derive(Debug, Drop)]
+#[derive(Drop)]
 pub struct Entry {
     pub id: NodeId,
     pub number: u32,
@@ -29,7 +29,7 @@ impl Entry {
 
 /// The reachable nodes as a router sees them at a moment, in strictly ascending order of their identifiers. The
 /// router's own node is among them.
-#[derive(Clone, Copy, Debug)]
+#[derive(Clone, Copy)]
 pub struct View<'a> {
     pub own: NodeId,
     pub now: Moment,

@@ -4,7 +4,7 @@ ghost use Rattle.hn_deleg.specs.Used.{whole_seconds};
 use hn_prefix::Prefix;
 
 /// A delegated prefix with its remaining lifetimes in milliseconds; 2^64 - 1 is one that never ends.
-#[derive(Clone, Copy, Debug, PartialEq, Eq)]
+#[derive(Clone, Copy)]
 pub struct Delegated {
     pub prefix: Prefix,
     pub valid: u64,

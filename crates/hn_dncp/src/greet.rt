@@ -6,7 +6,7 @@ use crate::port::Port;
 use hn_base::{Addr, EpId, Moment, NoMemory, NodeId};
 
 /// What came of a Node Endpoint TLV.
-#[derive(Clone, Copy, Debug, PartialEq, Eq)]
+#[derive(Clone, Copy)]
 pub enum Greet {
     /// The sender is a peer.
     Known,

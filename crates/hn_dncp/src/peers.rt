@@ -13,7 +13,7 @@ use std::marker::Model;
 pub const MOST_PEERS: usize = 64;
 
 /// A peer of an endpoint: another node's endpoint on the same link (RFC 7787, section 2).
-#[derive(Clone, Copy, Debug, PartialEq, Eq)]
+#[derive(Clone, Copy)]
 pub struct Neighbour {
     /// The node.
     pub node: NodeId,
@@ -35,7 +35,7 @@ impl Neighbour {
 }
 
 /// The peers of an endpoint: at most 64, each endpoint of a node once. Contracts see the list.
-#[derive(Debug, Drop)]
+#[derive(Drop)]
 pub struct Peers {
     items: Vec<Neighbour>,
 }

@@ -7,7 +7,7 @@ use hn_timers::{SHORTEST_INTERVAL, Trickle};
 use std::alloc::{AllocError, Global};
 
 /// An endpoint of the own node, attached to a link (RFC 7787, section 2).
-#[derive(Debug, Drop)]
+#[derive(Drop)]
 pub struct Port {
     /// Its identifier.
     pub id: EpId,

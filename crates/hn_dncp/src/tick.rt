@@ -11,7 +11,7 @@ use hn_io::{Draw, words_join};
 use hn_timers::silent;
 
 /// What a tick did at an endpoint.
-#[derive(Clone, Copy, Debug, PartialEq, Eq)]
+#[derive(Clone, Copy)]
 pub struct Renewed {
     /// Whether to send a Network State now.
     pub sends: bool,

@@ -9,7 +9,7 @@ use hn_base::{Bytes, NoMemory};
 use std::alloc::Global;
 
 /// What two routers conclude from their network hashes.
-#[derive(Debug, Drop)]
+#[derive(Drop)]
 pub enum Agreement {
     /// The network hashes differ.
     Differ,

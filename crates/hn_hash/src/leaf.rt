@@ -1,7 +1,7 @@
 use hn_base::Bytes;
 
 /// What a node publishes, as a leaf of the hash tree (RFC 7787, section 4.1).
-#[derive(Debug, Drop)]
+#[derive(Drop)]
 pub struct Leaf {
     /// The node's sequence number.
     pub number: u32,

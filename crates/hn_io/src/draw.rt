@@ -12,7 +12,7 @@ pub trait Draw {
 }
 
 /// The words of a script without a seed: each is 0.
-#[derive(Clone, Copy, Debug, PartialEq, Eq)]
+#[derive(Clone, Copy)]
 pub struct Zeros;
 
 impl Draw for Zeros {

@@ -4,7 +4,7 @@ use crate::draw::Draw;
 use std::marker::Model;
 
 /// A draw of listed words, and zeros after them. Contracts see the words that are left.
-#[derive(Debug, Drop)]
+#[derive(Drop)]
 pub struct Listed {
     words: Vec<u32>,
     at: usize,

@@ -7,7 +7,7 @@ use std::alloc::Global;
 use std::marker::Model;
 
 /// The calls of an object, numbered from 1, and the numbers of those that fail.
-#[derive(Debug, Drop)]
+#[derive(Drop)]
 struct Calls {
     made: u64,
     fails: Vec<u64>,
@@ -49,7 +49,7 @@ impl Calls {
 }
 
 /// A source over bytes in memory. The calls whose numbers are listed fail; calls are numbered from 1.
-#[derive(Debug, Drop)]
+#[derive(Drop)]
 pub struct MemSource {
     bytes: Vec<u8>,
     at: usize,
@@ -104,7 +104,7 @@ impl Source for MemSource {
 }
 
 /// A sink that keeps its bytes in memory. The calls whose numbers are listed fail; calls are numbered from 1.
-#[derive(Debug, Drop)]
+#[derive(Drop)]
 pub struct MemSink {
     bytes: Vec<u8>,
     calls: Calls,

@@ -11,7 +11,7 @@ use std::marker::Model;
 
 /// The words of the generator PCG32 (O'Neill, "PCG: a family of simple fast space-efficient statistically good
 /// algorithms for random number generation"). Contracts see the generator's state and increment.
-#[derive(Debug, Drop)]
+#[derive(Drop)]
 pub struct Pcg {
     generator: Lcg64Xsh32,
 }

@@ -1,5 +1,5 @@
 /// How the play of a script ends.
-#[derive(Clone, Copy, Debug, PartialEq, Eq)]
+#[derive(Clone, Copy)]
 pub enum End {
     /// All lines are done.
     Done,

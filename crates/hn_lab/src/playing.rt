@@ -12,7 +12,7 @@ use hn_world::{WEvent, World, WorldFault, each_event_is_entered};
 use std::alloc::Global;
 
 /// A play so far: its world, of a hundred copies how many `flow` loses, and the random words that are to come.
-#[derive(Debug, Drop)]
+#[derive(Drop)]
 pub struct Playing {
     pub world: World,
     pub loss: u8,

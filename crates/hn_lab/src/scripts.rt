@@ -37,7 +37,7 @@ pub const SINK_FAILED: u8 = 4;
 pub const NO_MEMORY: u8 = 6;
 
 /// What a call came to: its status, and the world of the script that was played, if one was.
-#[derive(Debug, Drop)]
+#[derive(Drop)]
 pub struct Played {
     /// `DONE`, `REFUSED`, `SOURCE_FAILED`, `SINK_FAILED`, `NO_MEMORY`, or a status of the caller's own.
     pub status: u8,

@@ -7,7 +7,7 @@ ghost use Rattle.hn_lab.specs.Stage.{words_of};
 use hn_io::{Draw, Pcg};
 
 /// The random words of a play: zeros, or those of a generator.
-#[derive(Debug, Drop)]
+#[derive(Drop)]
 pub struct Stream {
     pub seeded: Option<Pcg>,
 }

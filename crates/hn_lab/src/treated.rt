@@ -9,7 +9,7 @@ use std::alloc::Global;
 use std::marker::Model;
 
 /// Lines of text, each with its LF.
-#[derive(Debug, Drop)]
+#[derive(Drop)]
 pub struct Lines {
     items: Vec<String>,
 }
@@ -23,7 +23,7 @@ impl Model for Lines {
 }
 
 /// How a line of a script ended: with the code of its refusal, if it was refused, and the lines of text that came up.
-#[derive(Debug, Drop)]
+#[derive(Drop)]
 pub struct Treated {
     pub code: Option<u8>,
     pub lines: Lines,

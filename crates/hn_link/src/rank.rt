@@ -10,7 +10,7 @@ use hn_data::{View, place_of, version};
 
 /// What decides an election, in this order: the priority for the capability, the four priorities as one number, the
 /// identifier.
-#[derive(Clone, Copy, Debug, PartialEq, Eq, PartialOrd, Ord)]
+#[derive(Clone, Copy, PartialEq, Eq, PartialOrd, Ord)]
 pub(crate) struct Rank {
     pub(crate) priority: u8,
     pub(crate) combined: u16,

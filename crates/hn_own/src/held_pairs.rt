@@ -11,7 +11,7 @@ use std::marker::Model;
 
 /// The assignments and backoffs of a router: at most 512 assignments, each inside its delegated prefix, and with
 /// priority 2 where it is published. Contracts see the lists.
-#[derive(Debug, Drop)]
+#[derive(Drop)]
 pub struct HeldPairs {
     held: Held,
 }

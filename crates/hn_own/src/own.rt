@@ -21,7 +21,7 @@ use std::marker::Model;
 
 /// The items that a router publishes of itself: its capabilities, a Peer for each peer of each endpoint, its delegated
 /// prefixes, and the assignments that it publishes (RFC 7787, section 7.3.1; RFC 7788, sections 10.1 to 10.3).
-#[derive(Debug, Drop)]
+#[derive(Drop)]
 pub struct OwnItems {
     pub caps: Caps,
     pub links: Sequence<PeerLink>,
@@ -30,7 +30,7 @@ pub struct OwnItems {
 }
 
 /// Own items, when they were published, the node data that they encode to, and its hash.
-#[derive(Debug, Drop)]
+#[derive(Drop)]
 pub struct OwnData {
     items: OwnItems,
     born: Moment,

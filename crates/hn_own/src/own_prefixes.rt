@@ -15,7 +15,7 @@ const MOST_PREFIXES: usize = 8;
 
 /// A delegated prefix of a router's own, with the moments at which its lifetimes end; one that never ends has none (RFC
 /// 7788, section 10.2.1).
-#[derive(Clone, Copy, Debug, PartialEq, Eq)]
+#[derive(Clone, Copy, PartialEq, Eq)]
 pub struct OwnPrefix {
     pub prefix: Prefix,
     pub valid_until: Option<Moment>,
@@ -37,7 +37,7 @@ impl OwnPrefix {
 }
 
 /// The delegated prefixes of a router's own, in strictly ascending order, at most 8. Contracts see the list.
-#[derive(Debug, Drop)]
+#[derive(Drop)]
 pub struct OwnPrefixes {
     items: Vec<OwnPrefix>,
 }

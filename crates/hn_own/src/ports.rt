@@ -10,7 +10,7 @@ use std::marker::Model;
 pub const MOST_ENDPOINTS: usize = 16;
 
 /// The endpoints of a router, in strictly ascending order of their numbers, at most 16. Contracts see the list.
-#[derive(Debug, Drop)]
+#[derive(Drop)]
 pub struct Ports {
     items: Vec<Port>,
 }

@@ -6,7 +6,7 @@ ghost use Rattle.hn_prefix.specs.AddressText.{address_of};
 use std::marker::Model;
 
 /// Up to eight groups, the highest first; contracts see their list.
-#[derive(Debug, Drop)]
+#[derive(Drop)]
 pub struct Groups {
     groups: [u16; 8],
     len: usize,

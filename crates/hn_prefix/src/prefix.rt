@@ -15,7 +15,7 @@ pub const LONGEST_PREFIX: u8 = 128;
 /// (RFC 4291, section 2.3). Prefixes are ordered by their bits, and of equal bits the shorter comes first.
 ///
 /// There is no `is_empty` beside `len`: the length counts bits, and `::/0` has every address inside.
-#[derive(Clone, Copy, Debug, PartialEq, Eq)]
+#[derive(Clone, Copy, PartialEq, Eq)]
 pub struct Prefix {
     bits: u128,
     len: u8,

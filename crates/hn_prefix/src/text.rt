@@ -9,7 +9,7 @@ use std::marker::Model;
 use std::net::Ipv6Addr;
 
 /// The text of an IPv6 address or prefix, which is written where it is printed. Contracts see the list of its bytes.
-#[derive(Debug, Drop)]
+#[derive(Drop)]
 pub struct PrefixText {
     address: u128,
     len: Option<u8>,

@@ -2,7 +2,7 @@ use hn_base::{Addr, Caps, EpId};
 use hn_prefix::Prefix;
 
 /// What may happen to a router.
-#[derive(Clone, Copy, Debug)]
+#[derive(Clone, Copy)]
 pub enum Event<'a> {
     /// A datagram arrives at an endpoint.
     Arrive {

@@ -30,7 +30,7 @@ use std::alloc::Global;
 use std::marker::Model;
 
 /// A home router. Contracts see its fields; what holds of a router after each event is a fact of the type.
-#[derive(Debug, Drop)]
+#[derive(Drop)]
 pub struct Router {
     state: State,
 }
@@ -47,7 +47,7 @@ impl Model for Router {
 }
 
 /// The next state of a router, which is one, and what came of the event.
-#[derive(Debug, Drop)]
+#[derive(Drop)]
 pub struct Plan {
     state: State,
     done: Done,

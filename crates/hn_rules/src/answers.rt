@@ -11,7 +11,7 @@ use hn_base::{Bytes, NoMemory, NodeId};
 use std::alloc::Global;
 
 /// What an answer is about.
-#[derive(Clone, Copy, Debug, PartialEq, Eq)]
+#[derive(Clone, Copy)]
 pub enum Subject {
     /// A Request Network State.
     NetworkRequest,
@@ -26,7 +26,7 @@ pub enum Subject {
 }
 
 /// An answer, as it was when it came up.
-#[derive(Debug, Drop)]
+#[derive(Drop)]
 pub struct Answer {
     pub subject: Subject,
     /// The TLV as it is written.

@@ -7,7 +7,7 @@ use hn_store::Took;
 use std::alloc::Global;
 
 /// A datagram that a router sends.
-#[derive(Debug, Drop)]
+#[derive(Drop)]
 pub struct Outgoing {
     /// The endpoint on which it is sent.
     pub endpoint: EpId,
@@ -18,7 +18,7 @@ pub struct Outgoing {
 }
 
 /// What a router notes of an event.
-#[derive(Clone, Copy, Debug, PartialEq, Eq)]
+#[derive(Clone, Copy)]
 pub enum Note {
     /// A datagram came from an address that is not link-local.
     Far,
@@ -38,7 +38,7 @@ pub enum Note {
 }
 
 /// Node data that a router published (RFC 7787, section 7.2.3).
-#[derive(Debug, Drop)]
+#[derive(Drop)]
 pub struct Publication {
     pub id: NodeId,
     pub number: u32,
@@ -46,7 +46,7 @@ pub struct Publication {
 }
 
 /// What came of an event, each list in the order in which it came up.
-#[derive(Debug, Drop)]
+#[derive(Drop)]
 pub struct Done {
     pub sends: Sequence<Outgoing>,
     pub notes: Sequence<Note>,

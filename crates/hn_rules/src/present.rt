@@ -4,7 +4,7 @@ use hn_base::Moment;
 use std::marker::Model;
 
 /// The present moment of a router or a world, in milliseconds, at most 2^48. Contracts see the number.
-#[derive(Clone, Copy, Debug, PartialEq, Eq)]
+#[derive(Clone, Copy)]
 pub struct Present {
     at: Moment,
 }

@@ -10,7 +10,7 @@ use hn_dncp::{Datagrams, Port};
 use std::alloc::Global;
 
 /// Where a datagram came from, and to which endpoint.
-#[derive(Clone, Copy, Debug, PartialEq, Eq)]
+#[derive(Clone, Copy)]
 pub struct Origin {
     pub endpoint: EpId,
     pub from: Addr,
@@ -18,7 +18,7 @@ pub struct Origin {
 }
 
 /// A router in the middle of an event, what came of it so far, and what an arrival carries from TLV to TLV.
-#[derive(Debug, Drop)]
+#[derive(Drop)]
 pub struct Running {
     pub state: State,
     pub done: Done,

@@ -6,7 +6,7 @@ use hn_own::{HeldPairs, OwnData, OwnPrefixes, Ports};
 use hn_store::Table;
 
 /// The fields of a router.
-#[derive(Debug, Drop)]
+#[derive(Drop)]
 pub struct State {
     /// Its identifier.
     pub id: NodeId,

@@ -8,7 +8,7 @@ use hn_base::{Bytes, EpId, Name, NoMemory};
 use std::alloc::Global;
 
 /// A line as it is read, before any memory is taken: the bytes of a datagram are still digits.
-#[derive(Debug, Drop)]
+#[derive(Drop)]
 pub(crate) enum Draft<'a> {
     Whole(Line),
     Injected(Name, EpId, How, &'a [u8]),

@@ -6,7 +6,7 @@ use hn_prefix::Prefix;
 use std::fmt;
 
 /// How an injected datagram comes.
-#[derive(Clone, Copy, Debug, PartialEq, Eq)]
+#[derive(Clone, Copy)]
 pub enum How {
     /// By unicast from fe80::, port 8231.
     Uni,
@@ -45,7 +45,7 @@ pub fn letter_text(letter: Letter) -> &'static str
 }
 
 /// A line of a script. Moments and spans of time are in milliseconds, and at most 2^48.
-#[derive(Debug, Drop)]
+#[derive(Drop)]
 pub enum Line {
     /// A new router of this name runs as the node of this identifier.
     Router(Name, NodeId),

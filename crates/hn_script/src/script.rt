@@ -20,7 +20,7 @@ pub const SOURCE_LIMIT: usize = 16_777_216;
 
 /// A script: the version of its language, and its lines with their numbers. The first line of the bytes, which tells
 /// the version, has number 1 and is not among the lines; nor are those that are skipped.
-#[derive(Debug, Drop)]
+#[derive(Drop)]
 pub struct Script {
     pub version: Version,
     pub lines: Sequence<(u32, Line)>,

@@ -1,7 +1,7 @@
 use hn_base::NodeId;
 
 /// What a router says of its own node (RFC 7787, section 4.1).
-#[derive(Clone, Copy, Debug, PartialEq, Eq)]
+#[derive(Clone, Copy)]
 pub struct OwnLeaf {
     pub id: NodeId,
     /// The sequence number.
@@ -11,7 +11,7 @@ pub struct OwnLeaf {
 }
 
 /// A Node State TLV (RFC 7787, section 7.2.3).
-#[derive(Clone, Copy, Debug)]
+#[derive(Clone, Copy)]
 pub struct State<'a> {
     pub node: NodeId,
     /// The sequence number.
@@ -25,7 +25,7 @@ pub struct State<'a> {
 }
 
 /// What came of a node state (RFC 7787, section 4.4).
-#[derive(Clone, Copy, Debug, PartialEq, Eq)]
+#[derive(Clone, Copy)]
 pub enum Took {
     /// Its data are held now.
     Kept,

@@ -9,7 +9,7 @@ use hn_hash::Part;
 use std::alloc::AllocError;
 
 /// What is held of another node (RFC 7787, section 7.2.3).
-#[derive(Debug, Drop)]
+#[derive(Drop)]
 pub struct Stored {
     /// The sequence number.
     pub number: u32,
@@ -26,7 +26,7 @@ pub struct Stored {
 }
 
 /// A node that a table holds.
-#[derive(Debug, Drop)]
+#[derive(Drop)]
 pub struct HeldNode {
     pub id: NodeId,
     pub stored: Stored,

@@ -20,7 +20,7 @@ pub const LARGE_LIMIT: usize = 1024;
 /// at most 60,000 bytes each, and the hash that is held of each is that of its data.
 ///
 /// A node is found in time that grows with the logarithm of the number of nodes.
-#[derive(Debug, Drop)]
+#[derive(Drop)]
 pub struct Table {
     limit: usize,
     pub(crate) nodes: Vec<HeldNode>,

@@ -14,7 +14,7 @@ pub const LONGEST_INTERVAL: u32 = 25_600;
 
 /// A Trickle timer with redundancy constant k = 1, in one of its intervals (RFC 6206, section 4).
 /// The length is one of the eight 200 * 2^j milliseconds with j from 0 to 7.
-#[derive(Clone, Copy, Debug, PartialEq, Eq)]
+#[derive(Clone, Copy)]
 pub struct Trickle {
     /// When the interval began.
     pub begin: Moment,

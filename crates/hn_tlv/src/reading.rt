@@ -7,7 +7,7 @@ use crate::fault::{HEADER_CUT, PADDING_CUT, PADDING_NOT_ZERO, TlvFault, VALUE_CU
 use crate::writing::{HEADER_SIZE, size};
 
 /// A TLV whose value is lent by the text that it was read from.
-#[derive(Clone, Copy, Debug, PartialEq, Eq)]
+#[derive(Clone, Copy)]
 pub struct Tlv<'a> {
     /// The type.
     pub kind: u16,

@@ -3,7 +3,7 @@ use hn_prefix::Prefix;
 
 /// A TLV by its kind (RFC 7787, section 7; RFC 7788, section 10). What is read is lent by the text that it was read
 /// from; `subs` are the bytes of the TLVs within, which are a list of TLVs.
-#[derive(Clone, Copy, Debug, PartialEq, Eq)]
+#[derive(Clone, Copy)]
 pub enum Item<'a> {
     /// Asks for the network state (RFC 7787, section 7.1.1).
     RequestNetwork {

@@ -12,14 +12,14 @@ use std::marker::Model;
 pub(crate) const MOST_BYTES: u64 = 1 << 28;
 
 /// An endpoint of a router of the world, the router by its place in order of definition.
-#[derive(Clone, Copy, Debug, PartialEq, Eq)]
+#[derive(Clone, Copy)]
 pub struct Target {
     pub place: usize,
     pub endpoint: EpId,
 }
 
 /// A copy of a datagram that a router sent, for one receiver.
-#[derive(Debug, Drop)]
+#[derive(Drop)]
 pub struct MailCopy {
     /// The receiver.
     pub to: Target,
@@ -33,7 +33,7 @@ pub struct MailCopy {
 }
 
 /// Where a copy goes, from where, and whether it waits.
-#[derive(Clone, Copy, Debug, PartialEq, Eq)]
+#[derive(Clone, Copy)]
 pub struct CopyInfo {
     /// The router that it goes to.
     pub to: Name,
@@ -45,7 +45,7 @@ pub struct CopyInfo {
 }
 
 /// Every copy that was ever made. The first that waits is found without a search.
-#[derive(Debug, Drop)]
+#[derive(Drop)]
 pub struct Copies {
     items: Vec<MailCopy>,
     first: usize,

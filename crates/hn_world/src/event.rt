@@ -4,7 +4,7 @@ use std::error::Error;
 use std::fmt;
 
 /// What may happen in a world.
-#[derive(Debug, Drop)]
+#[derive(Drop)]
 pub enum WEvent {
     /// A new running router.
     Router {
@@ -79,7 +79,7 @@ pub enum WEvent {
 }
 
 /// An event that was accepted, with the random words that it took, in order.
-#[derive(Debug, Drop)]
+#[derive(Drop)]
 pub struct Traced {
     pub event: WEvent,
     pub words: Words,

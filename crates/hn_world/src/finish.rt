@@ -20,7 +20,7 @@ use hn_rules::{Done, Note};
 use std::alloc::Global;
 
 /// What an event at a router would do.
-#[derive(Debug, Drop)]
+#[derive(Drop)]
 pub(crate) struct Prepared {
     place: usize,
     plan: Plan,

@@ -7,7 +7,7 @@ use std::alloc::Global;
 use std::marker::Model;
 
 /// The links of a world, by their names, in order of definition.
-#[derive(Debug, Drop)]
+#[derive(Drop)]
 pub struct Links {
     pub(crate) items: Vec<Name>,
 }

@@ -12,14 +12,14 @@ use std::alloc::Global;
 use std::marker::Model;
 
 /// An endpoint of a router, and the link to which it is attached, by its place in order of definition.
-#[derive(Clone, Copy, Debug, PartialEq, Eq)]
+#[derive(Clone, Copy)]
 pub struct Attachment {
     pub endpoint: EpId,
     pub link: usize,
 }
 
 /// A router of the world, under its name.
-#[derive(Debug, Drop)]
+#[derive(Drop)]
 pub struct Member {
     pub name: Name,
     pub running: bool,
@@ -28,7 +28,7 @@ pub struct Member {
 }
 
 /// The routers of a world, in order of definition.
-#[derive(Debug, Drop)]
+#[derive(Drop)]
 pub struct Members {
     pub(crate) items: Vec<Member>,
 }

@@ -7,7 +7,7 @@ use hn_base::Version;
 use hn_rules::Present;
 
 /// The fields of a world.
-#[derive(Debug, Drop)]
+#[derive(Drop)]
 pub struct Parts {
     pub version: Version,
     pub moment: Present,

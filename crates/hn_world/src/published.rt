@@ -5,7 +5,7 @@ use std::alloc::Global;
 use std::marker::Model;
 
 /// What the routers of a world published, in order.
-#[derive(Debug, Drop)]
+#[derive(Drop)]
 pub struct Publications {
     pub(crate) items: Vec<Publication>,
 }

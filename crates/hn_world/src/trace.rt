@@ -7,7 +7,7 @@ use std::alloc::Global;
 use std::marker::Model;
 
 /// The events that a world accepted, in order, and how many bytes were injected, up to 2^28.
-#[derive(Debug, Drop)]
+#[derive(Drop)]
 pub struct Trace {
     pub(crate) items: Vec<Traced>,
     pub(crate) injected: u64,

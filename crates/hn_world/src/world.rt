@@ -24,7 +24,7 @@ use std::alloc::Global;
 use std::marker::Model;
 
 /// A world: it is the replay of its trace.
-#[derive(Debug, Drop)]
+#[derive(Drop)]
 pub struct World {
     pub(crate) parts: Parts,
 }

@@ -195,7 +195,16 @@ fn words_that_ask_for_a_soak(rt: HostRuntime) -> Result<(), Fail> {
     ];
     for (count, chance, n, seed) in cases {
         let words = words(rt.alloc(), &["hncp", "soak", count, chance])?;
-        assert_eq!(rt; Form::of(&words), Some(Form::Soak { n, seed }));
+        let Some(
+            Form::Soak {
+                n: asked,
+                seed: with,
+            },
+        ) = Form::of(&words)
+        else {
+            return Err(Fail::from("no soak"));
+        };
+        assert_eq!(rt; (asked, with), (n, seed));
     }
     Ok(())
 }

@@ -3,7 +3,7 @@ ghost use Rattle.std.specs.Prelude.{map, IfSome, IfNone, string_bytes};
 use hn_script::number_in;
 
 /// What the program is asked for.
-#[derive(Clone, Copy, Debug, PartialEq, Eq)]
+#[derive(Clone, Copy)]
 pub enum Form {
     /// `lab`: the transcript of a script.
     Lab,

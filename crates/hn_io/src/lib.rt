@@ -23,7 +23,7 @@ pub use draw::{Draw, Zeros, below};
 pub use fault::IoFault;
 pub use law::words_join;
 pub use listed::Listed;
-pub use memory::{MemSink, MemSource};
+pub use memory::{Calls, MemSink, MemSource};
 pub use pcg::Pcg;
 pub use sink::Sink;
 pub use source::Source;

@@ -8,7 +8,7 @@ use std::marker::Model;
 
 /// The calls of an object, numbered from 1, and the numbers of those that fail.
 #[derive(Drop)]
-struct Calls {
+pub struct Calls {
     made: u64,
     fails: Vec<u64>,
 }
@@ -25,15 +25,16 @@ impl Calls {
     ghost use Rattle.hn_io.specs.Memory.{called, faults_so_far};
     ghost use Rattle.hn_io.specs.Faults.{Counts};
 
-    fn new(fails: Vec<u64>) -> Calls
+    /// The calls of which none was made. Never allocates.
+    pub fn new(fails: Vec<u64>) -> Calls
         ensures made { result.made ≡ 0 }
         ensures fails { result.fails ≡ fails.items }
     {
         Calls { made: 0, fails }
     }
 
-    /// Counts a call, and answers whether it fails.
-    fn fails_now(&mut self) -> bool
+    /// Counts a call, and answers whether it fails. Never allocates.
+    pub fn fails_now(&mut self) -> bool
         ensures called { self.new ≡ called self.old }
         ensures listed { IsTrue result ↔ (self.old.made + 1 < 2 ^ 64) × Contains self.old.fails (self.old.made + 1) }
         ensures counts { Counts (IsTrue result) (faults_so_far self.old) (faults_so_far self.new) }

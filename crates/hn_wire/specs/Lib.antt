@@ -1,0 +1,3 @@
+pub mod Memory
+pub mod Wires
+pub mod Clocks

@@ -1,0 +1,50 @@
+ghost use Rattle.std.specs.Prelude.{◌≡◌};
+
+use hn_io::IoFault;
+use std::io;
+use std::io::ErrorKind;
+use std::net::{Ipv4Addr, SocketAddr, SocketAddrV4, UdpSocket};
+
+/// A port of this machine.
+pub(crate) fn address(port: u16) -> SocketAddr {
+    SocketAddr::V4(SocketAddrV4::new(Ipv4Addr::LOCALHOST, port))
+}
+
+/// Whether the system had nothing to give.
+fn is_empty(error: &io::Error) -> bool {
+    let kind = error.kind();
+    kind == ErrorKind::WouldBlock || kind == ErrorKind::TimedOut
+}
+
+/// Sends a datagram. A call that is interrupted by a signal is tried again, as std does.
+pub(crate) fn send(socket: &UdpSocket, bytes: &[u8], to: SocketAddr) -> Result<(), IoFault> {
+    for _ in 0..u64::MAX {
+        match socket.send_to(bytes, to) {
+            Ok(_) => return Ok(()),
+            Err(error) => {
+                if error.kind() != ErrorKind::Interrupted {
+                    break;
+                }
+            }
+        }
+    }
+    Err(IoFault::Failed)
+}
+
+/// Receives a datagram, if there is one. A call that is interrupted by a signal is tried again, as std does.
+pub(crate) fn receive(socket: &UdpSocket, buf: &mut [u8]) -> Result<Option<(usize, u16)>, IoFault> {
+    for _ in 0..u64::MAX {
+        match socket.recv_from(buf) {
+            Ok((count, from)) => return Ok(Some((count, from.port()))),
+            Err(error) => {
+                if is_empty(&error) {
+                    return Ok(None);
+                }
+                if error.kind() != ErrorKind::Interrupted {
+                    break;
+                }
+            }
+        }
+    }
+    Err(IoFault::Failed)
+}

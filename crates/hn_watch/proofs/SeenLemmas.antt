@@ -24,6 +24,7 @@ use Rattle.hn_watch.specs.declared.claim.NodeNumber.{NodeNumber}
 use Rattle.hn_watch.specs.declared.remembered.Remembered.{Remembered}
 use Rattle.hn_watch.specs.Claim.{number_cmp}
 use Rattle.hn_watch.specs.Seen.{kept, AreConflicts, IsSeen, AreSeen}
+use Rattle.hn_watch.specs.Laws.{SeenIsUnique}
 use Rattle.hn_watch.specs.Remembered.{Remembers, seen_of}
 use Rattle.hn_watch.proofs.Orders.{node_total, exact_node}
 use Rattle.hn_watch.proofs.KeptLemmas.{kept_is, kept_some}
@@ -151,7 +152,7 @@ same_lists shown (x ∷ xs) (y ∷ ys) e p q =
     let rest = same_lists shown xs ys tails (All-tail (IsSeen shown) x xs p) (All-tail (IsSeen shown) y ys q) in
     cc (first, rest)
 
-pub seen_unique : (shown : List Shown) (a b : List Seen) → AreSeen shown a → AreSeen shown b → a ≡ b
+pub seen_unique : SeenIsUnique
 seen_unique shown a b p q =
     let nodes : map (λ s. s.node) a ≡ map (λ s. s.node) b =
     ascending_unique node_cmp node_total (map (λ s. s.node) a) (map (λ s. s.node) b) p.ascending q.ascending (λ n. (λ there. (q.nodes n).1 ((p.nodes n).0 there), λ there. (p.nodes n).1 ((q.nodes n).0 there))) in

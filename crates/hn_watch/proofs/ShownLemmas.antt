@@ -1,13 +1,15 @@
 -- What TLVs show: one list, and that of a list with one more.
-use Rattle.std.proofs.Common.{◌≡◌, ◌∙◌, ℕ, ◌≤◌, ◌<◌, ◌^◌, length, take, List, [], ◌∷◌, ◌++◌, ◌⊎◌, inl, inr, refl, sym, ap, subst, append_assoc, All}
+use Rattle.std.proofs.Common.{◌≡◌, ◌∙◌, ℕ, ◌≤◌, ◌<◌, ◌^◌, length, take, List, [], ◌∷◌, ◌++◌, inl, inr, refl, sym, ap, subst, append_assoc, All}
 use Rattle.std.specs.Prelude.{option_to_list}
 use Rattle.std.proofs.lemmas.List.{append-nil}
 use Rattle.std.proofs.lemmas.List.Elements.{All-nil, All-cons, All-same, All-append}
-use Rattle.hn_tlv.specs.Grammar.{PlainTlv, IsTlv, IsTlvList, HasTlvs}
+use Rattle.hn_tlv.specs.Grammar.{PlainTlv, IsTlv, IsTlvList}
+use Rattle.hn_tlv.specs.Laws.{ListIsUnique}
 use Rattle.hn_typed.specs.Item.{PlainItem, NodeState}
 use Rattle.hn_typed.specs.Table.{IsItem}
-use Rattle.hn_typed.specs.Fault.{IsItemFault}
+use Rattle.hn_typed.specs.Laws.{ItemIsUnique, ItemHasNoFault, ItemOrFault}
 use Rattle.hn_watch.specs.declared.shown.Shown.{Shown}
+use Rattle.hn_watch.specs.Laws.{ShownIsUnique, ListsShow}
 use Rattle.hn_watch.specs.Shown.{shown_by, Shows, AreShownBy, AreShownIn}
 
 -- one more TLV shows what it shows, after the others
@@ -22,9 +24,7 @@ shown_push (t ∷ tlvs) shown tlv more by shows = (
 )
 
 -- the laws of lists and of items
-module _ (same_list : (a b : List PlainTlv) (bytes : List ℕ) → IsTlvList a bytes → IsTlvList b bytes → a ≡ b)
-    (same_item : (tlv : PlainTlv) (item other : PlainItem) → IsItem tlv item → IsItem tlv other → item ≡ other)
-    (no_fault : (tlv : PlainTlv) (item : PlainItem) (why : ℕ) → IsItem tlv item → ¬ (IsItemFault tlv why)) where
+module _ (same_list : ListIsUnique) (same_item : ItemIsUnique) (no_fault : ItemHasNoFault) where
   one_shows : (tlv : PlainTlv) (a b : List Shown) → Shows tlv a → Shows tlv b → a ≡ b
   one_shows tlv a b (inl p) (inl q) = p.2 ∙ ap (λ item. option_to_list (shown_by item)) (same_item tlv p.0 q.0 p.1 q.1) ∙ sym q.2
   one_shows tlv a b (inl p) (inr q) = absurd (no_fault tlv p.0 q.0 p.1 q.1)
@@ -38,13 +38,13 @@ module _ (same_list : (a b : List PlainTlv) (bytes : List ℕ) → IsTlvList a b
       let rest = shown_by_unique tlvs p.1 q.1 p.3 q.3 in
       cc (p.4, q.4)
 
-  pub shown_unique : (datagram : List ℕ) (a b : List Shown) → AreShownIn datagram a → AreShownIn datagram b → a ≡ b
+  pub shown_unique : ShownIsUnique
   shown_unique datagram a b p q =
       let same = same_list p.tlvs q.tlvs datagram p.list q.list in
       let by : AreShownBy q.tlvs a = subst (λ (ts : List PlainTlv). AreShownBy ts a) same p.shown_by in
       shown_by_unique q.tlvs a b by q.shown_by
 
-module _ (item_or_fault : (tlv : PlainTlv) → IsTlv tlv → ((item : PlainItem) × IsItem tlv item) ⊎ ((why : ℕ) × IsItemFault tlv why)) where
+module _ (item_or_fault : ItemOrFault) where
   one_there : (tlv : PlainTlv) → IsTlv tlv → (shown : List Shown) × Shows tlv shown
   one_there tlv is = elim (item_or_fault tlv is) [ inl p ↦ (option_to_list (shown_by p.0), inl (p.0, p.1, refl)) | inr p ↦ ([], inr (p.0, p.1, refl)) ]
 
@@ -55,7 +55,7 @@ module _ (item_or_fault : (tlv : PlainTlv) → IsTlv tlv → ((item : PlainItem)
       let rest = by_there tlvs is.0 is.3 in
       (first.0 ++ rest.0, (first.0, rest.0, first.1, rest.1, refl))
 
-  pub shown_there : (datagram : List ℕ) → HasTlvs datagram → (shown : List Shown) × AreShownIn datagram shown
+  pub shown_there : ListsShow
   shown_there datagram has = let by = by_there has.0 datagram has.1 in (by.0, record { tlvs = has.0; list = has.1; shown_by = by.1 })
 
 -- ---- a walk over a datagram

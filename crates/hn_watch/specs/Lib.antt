@@ -5,3 +5,4 @@ pub mod Held
 pub mod Places
 pub mod Remembered
 pub mod Watch
+pub mod Laws

@@ -14,7 +14,7 @@ mod shown;
 mod summing;
 mod watch;
 
-pub use laws::{lists_show, seen_is_unique, shown_is_unique};
+pub use laws::{held_after_malformed, lists_show, seen_is_unique, shown_is_unique};
 pub use seen::Seen;
 pub use shown::Shown;
 pub use watch::Watch;

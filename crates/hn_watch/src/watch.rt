@@ -91,6 +91,10 @@ impl Watch {
     }
 
     /// What is seen of each node, in ascending order of identifier.
+    ///
+    /// # Errors
+    ///
+    /// Out of memory.
     pub fn seen(&self, alloc: Global) -> Result<Sequence<Seen>, NoMemory>
         ensures { IfOk result (λ seen. (shown : List Shown) → Holds shown self.now → AreSeen shown seen) }
     {

@@ -1,5 +1,5 @@
 -- Words in hexadecimal.
-use Rattle.std.proofs.Common.{◌≡◌, ◌≢◌, ℕ, ◌%◌, ◌<◌, Bool, true, false, List, [], ◌∷◌, length, codes, Ok, MatchBool, refl, sym, ◌∙◌, arith}
+use Rattle.std.proofs.Common.{◌≡◌, ◌≢◌, ℕ, ◌%◌, ◌<◌, Bool, true, false, List, [], ◌∷◌, length, codes, Ok, MatchBool, refl, sym, ap, ◌∙◌, arith}
 use Rattle.std.proofs.lemmas.Bool.{and_parts, false≢true}
 use Rattle.std.proofs.lemmas.Bool.Decides.{nat_tests}
 use Rattle.std.proofs.lemmas.List.Elements.{All-cons, All-head, All-nil, All-tail}
@@ -52,3 +52,8 @@ pub hex_cases : (b : Bool) (word : List ℕ) → length word % 2 ≡ 0 → b ≡
     → MatchBool b ((bytes : List ℕ) × (decode_of word ≡ Ok bytes)) ((bytes : List ℕ) → decode_of word ≢ Ok bytes)
 hex_cases true word even h = digits_decode word even (sym h)
 hex_cases false word even h = λ bytes found. false≢true (h ∙ all_digits_of word bytes found)
+
+-- no bytes write no bytes: those that write them are `-`
+pub no_empty_hex_word : (bytes word : List ℕ) → length word ≡ 0 → ¬ IsHexWord bytes word
+no_empty_hex_word [] word empty h = let one : length word ≡ 1 = ap length h in omega arith
+no_empty_hex_word (byte ∷ bytes) word empty h = omega (arith, (decode_of-ok word (byte ∷ bytes) h).2)

@@ -31,7 +31,7 @@ impl Draft<'_> {
 }
 
 /// The bytes that this word writes in hexadecimal.
-fn decoded(alloc: Global, word: &[u8]) -> Result<Bytes, NoMemory>
+pub(crate) fn decoded(alloc: Global, word: &[u8]) -> Result<Bytes, NoMemory>
     requires { (bytes : List ℕ) × IsHexWord bytes word.now }
     ensures { IfOk result (λ bytes. IsHexWord bytes word.now) }
 {

@@ -9,9 +9,11 @@ ghost use Rattle.hn_script.specs.Line.{priority as priority_field};
 ghost use Rattle.hn_script.specs.Reading.{ReadsField};
 
 use crate::code::MALFORMED;
+use crate::draft::decoded;
 use crate::line::How;
-use hn_base::{EpId, Letter, Name, NodeId};
+use hn_base::{Bytes, EpId, Letter, Name, NoMemory, NodeId};
 use hn_prefix::Prefix;
+use std::alloc::Global;
 
 /// The most digits of a number.
 const MOST_DIGITS: usize = 20;
@@ -136,4 +138,22 @@ pub(crate) fn digits(word: &[u8]) -> Result<&[u8], u8>
         return Ok(word);
     }
     Err(MALFORMED)
+}
+
+/// The bytes that a word writes in hexadecimal; `None` if and only if it writes none.
+///
+/// # Errors
+///
+/// Out of memory.
+pub fn hex_word(alloc: Global, word: &[u8]) -> Result<Option<Bytes>, NoMemory>
+    ensures found { IfOk result (λ bytes. IfSome bytes (λ bytes. IsHexWord bytes word.now)) }
+    ensures none { IfOk result (λ bytes. IfNone bytes ((found : List ℕ) → ¬ IsHexWord found word.now)) }
+{
+    if word.is_empty() {
+        return Ok(None);
+    }
+    match digits(word) {
+        Ok(digits) => Ok(Some(decoded(alloc, digits)?)),
+        Err(_) => Ok(None),
+    }
 }

@@ -24,7 +24,7 @@ mod words;
 
 pub use code::{LARGE, MALFORMED};
 pub use fault::{ParseFault, ScriptFault};
-pub use fields::number_in;
+pub use fields::{hex_word, number_in};
 pub use laws::{
     fault_is_unique, fault_or_script, printed_is_read, script_is_limited, script_is_unique,
     soak_is_a_script,
@@ -32,3 +32,4 @@ pub use laws::{
 pub use line::{How, Line, letter_text};
 pub use script::{SOURCE_LIMIT, Script, first_fault, parse, print};
 pub use soak::soak_script;
+pub use texts::next_line;

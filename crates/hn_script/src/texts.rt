@@ -6,7 +6,7 @@ ghost use Rattle.hn_script.specs.Texts.{words_of, lines_of};
 use hn_base::split_once;
 
 /// The first of the lines of these bytes, without its LF, and the bytes after that; `None` if there are no bytes.
-pub(crate) fn next_line(bytes: &[u8]) -> Option<(&[u8], &[u8])>
+pub fn next_line(bytes: &[u8]) -> Option<(&[u8], &[u8])>
     ensures found { IfSome result (λ next. lines_of bytes.now ≡ next.0.now ∷ lines_of next.1.now) }
     ensures shorter { IfSome result (λ next. length next.1.now < length bytes.now) }
     ensures none { IfNone result (lines_of bytes.now ≡ []) }

@@ -1,5 +1,5 @@
 -- What was written of a datagram's text before it was cut.
-use Rattle.std.proofs.Common.{◌≡◌, ◌∙◌, ◌<◌, arith, Result, Ok, Err, ℕ, List, [], ◌∷◌, ◌++◌, Option, length, ap, sym, refl, subst, append_assoc, lit<}
+use Rattle.std.proofs.Common.{◌≡◌, ◌∙◌, ◌<◌, arith, Result, Ok, Err, ℕ, List, [], ◌∷◌, ◌++◌, Option, length, ap, sym, refl, subst, append_assoc, lit<, zero, suc, ◌⊎◌, ⊎_elim, inl, inr, OnOk}
 use Rattle.std.specs.Prelude.{IfErr, Contains}
 use Rattle.std.specs.Io.KnownBytes.{Appends}
 use Rattle.hn_io.specs.declared.fault.IoFault.{IoFault}
@@ -57,3 +57,17 @@ pub written_statuses : (written : Result (Unit {0}) IoFault) → Contains (0 ∷
 written_statuses (Ok _) = (1, lit< tt, refl)
 written_statuses (Err Failed) = (2, lit< tt, refl)
 written_statuses (Err NoMemory) = (3, lit< tt, refl)
+
+-- a text of which no fault came was written whole
+pub written_whole : (written : Result (Unit {0}) IoFault) (whole : ℕ) (P : Type 0) → OnOk written P → (written_status written whole ≡ 0) ⊎ (written_status written whole ≡ 2) → (written_status written whole ≡ whole) × P
+written_whole (Ok _) whole P holds status = (refl, holds)
+written_whole (Err Failed) whole P holds status = absurd (⊎_elim (λ zero. omega arith) (λ two. omega arith) status)
+written_whole (Err NoMemory) whole P holds status = absurd (⊎_elim (λ zero. omega arith) (λ two. omega arith) status)
+
+-- of these statuses 0 or 2 is 0
+pub done_of : (status : ℕ) → Contains (0 ∷ 4 ∷ 6 ∷ []) status → (status ≡ 0) ⊎ (status ≡ 2) → status ≡ 0
+done_of status among (inl done) = done
+done_of status (zero, within, is) (inr two) = sym is
+done_of status (suc zero, within, is) (inr two) = absurd (omega arith)
+done_of status (suc (suc zero), within, is) (inr two) = absurd (omega arith)
+done_of status (suc (suc (suc k)), within, is) (inr two) = absurd (omega arith)

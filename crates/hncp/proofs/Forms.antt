@@ -5,7 +5,7 @@ use Rattle.std.proofs.lemmas.List.{get_or-map}
 use Rattle.hn_script.specs.Field.{IsNumberText}
 use Rattle.hncp.specs.Form.{IsPlainWord, AreCountedWords, IsFormOf}
 use Rattle.hncp.specs.declared.words.Form.{Form}
-use Rattle.hncp.specs.declared.words.Form.TheVariants.{Lab, Decode, Soak}
+use Rattle.hncp.specs.declared.words.Form.TheVariants.{Lab, Decode, Watch, Soak}
 
 -- the text of the word at a place
 pub word_at : {A : Type 0} (text : A → List ℕ) (words : List A) (i : ℕ) (word : A) (found : List ℕ) → i < length words → word ≡ get_or words i word → found ≡ text word → get_or (map text words) i [] ≡ found
@@ -14,11 +14,13 @@ word_at text words i word found within is found_is = get_or-map text words i wor
 plain_word : (form : Form) (words : List (List ℕ)) → length words < 3 → IsFormOf form words → IsPlainWord form (get_or words 1 [])
 plain_word Lab words few h = ap (λ (found : List (List ℕ)). get_or found 1 []) h.1
 plain_word Decode words few h = ap (λ (found : List (List ℕ)). get_or found 1 []) h.1
+plain_word Watch words few h = ap (λ (found : List (List ℕ)). get_or found 1 []) h.1
 plain_word (Soak n seed) words few h = absurd (omega (arith, ap length h.3))
 
 counted_words : (form : Form) (words : List (List ℕ)) → 4 ≤ length words → IsFormOf form words → AreCountedWords form (get_or words 1 []) (get_or words 2 []) (get_or words 3 [])
 counted_words Lab words many h = absurd (omega (arith, ap length h.1))
 counted_words Decode words many h = absurd (omega (arith, ap length h.1))
+counted_words Watch words many h = absurd (omega (arith, ap length h.1))
 counted_words (Soak n seed) words many h =
     let at : (i : ℕ) → get_or words i [] ≡ get_or (h.0 ∷ codes "soak" ∷ h.1 ∷ h.2 ∷ []) i [] = λ i. ap (λ (found : List (List ℕ)). get_or found i []) h.3 in (
       at 1,

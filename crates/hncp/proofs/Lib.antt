@@ -5,3 +5,6 @@ mod Cut
 mod Decodes
 mod Sources
 mod Spelled
+mod Captures
+mod WatchTexts
+mod WatchSources

@@ -2,12 +2,13 @@
 use Rattle.std.specs.Prelude.{◌≡◌, ℕ, ◌-◌, ◌^◌, List, [], ◌∷◌, codes}
 use Rattle.hn_script.specs.Field.{IsNumberText}
 use Rattle.hncp.specs.declared.words.Form.{Form}
-use Rattle.hncp.specs.declared.words.Form.TheVariants.{Lab, Decode, Soak}
+use Rattle.hncp.specs.declared.words.Form.TheVariants.{Lab, Decode, Watch, Soak}
 
 -- the word of a form without numbers
 abbrev pub IsPlainWord : Form → List ℕ → Type 0
 IsPlainWord Lab word = word ≡ codes "lab"
 IsPlainWord Decode word = word ≡ codes "decode"
+IsPlainWord Watch word = word ≡ codes "watch"
 IsPlainWord (Soak n seed) word = ⊥
 
 -- the word of a form with numbers, and these: 2 to 32 routers, and a seed below 2^64, each in one to twenty decimal digits
@@ -20,6 +21,7 @@ AreCountedWords _ word count_word seed_word = ⊥
 abbrev pub IsFormOf : Form → List (List ℕ) → Type 0
 IsFormOf Lab words = (program : List ℕ) × (words ≡ program ∷ codes "lab" ∷ [])
 IsFormOf Decode words = (program : List ℕ) × (words ≡ program ∷ codes "decode" ∷ [])
+IsFormOf Watch words = (program : List ℕ) × (words ≡ program ∷ codes "watch" ∷ [])
 IsFormOf (Soak n seed) words =
     (program count_word seed_word : List ℕ) × (words ≡ program ∷ codes "soak" ∷ count_word ∷ seed_word ∷ [])
     × IsNumberText 2 32 count_word n × IsNumberText 0 (2 ^ 64 - 1) seed_word seed

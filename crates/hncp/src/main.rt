@@ -1,16 +1,19 @@
 //! The program `hncp`: a laboratory of home routers, which runs a script, or that of a soak, and writes its transcript,
-//! and a reader of datagrams.
+//! a reader of datagrams, and a watch of what was claimed on a link.
 #![tactic(auto)]
 
+mod capture;
 mod decode;
 mod hex_text;
 mod output;
 mod report;
 mod run;
+mod seen_text;
 mod soak;
 mod status;
 #[cfg(test)]
 mod tests;
+mod watch;
 mod words;
 
 use hn_io::{ReaderSource, WriterSink};
@@ -34,7 +37,8 @@ fn words_of(rt: &(impl Env + AllocGlobal), alloc: Global) -> io::Result<Vec<Stri
 /// Why the program ends with this status, for people; nothing for status 0.
 fn reason(status: u8) -> &'static str {
     match status {
-        BAD_USAGE => "usage: hncp lab < SCRIPT, hncp decode < HEXTEXT, or hncp soak ROUTERS SEED",
+        BAD_USAGE =>
+            "usage: hncp lab < SCRIPT, hncp decode < HEXTEXT, hncp watch < CAPTURE, or hncp soak ROUTERS SEED",
         REFUSED => "hncp: the input was refused; the last line of the output says why",
         SOURCE_FAILED => "hncp: standard input failed",
         SINK_FAILED => "hncp: standard output failed",

@@ -1,5 +1,6 @@
 ghost use Rattle.std.specs.Prelude.{◌≡◌, ◌≢◌, ◌+◌, ◌^◌, ◌≤◌, ◌⊎◌, ℕ, List, [], ◌∷◌, None, map, length, Contains, IsSome, IfSome, string_bytes};
 ghost use Rattle.std.specs.Io.KnownBytes.{Appends, Consumes};
+ghost use Rattle.hn_base.specs.Input.{IsWhole};
 ghost use Rattle.hn_io.specs.Faults.{Counts, IsReliable};
 ghost use Rattle.hn_script.specs.Script.{IsScript, IsFirstFault};
 ghost use Rattle.hn_script.specs.Soak.{soak_text};
@@ -12,11 +13,13 @@ ghost use Rattle.hn_lab.specs.Lab.{IsLabOf, HasDonePlay, HasRefusal};
 ghost use Rattle.hncp.specs.Decode.{SpellsTlvs, WritesDecode, CutsDecode};
 ghost use Rattle.hncp.specs.Form.{IsFormOf};
 ghost use Rattle.hncp.specs.Soak.{IsSoakPlay};
+ghost use Rattle.hncp.specs.Watch.{IsCapture, WritesWatch, CutsWatch, StarvesWatch};
 ghost use Rattle.hncp.specs.declared.words.Form.{Form};
 
 use crate::decode::{each_source_decodes, run_decode};
 use crate::soak::soak;
 use crate::status::{BAD_USAGE, DONE, NO_MEMORY, REFUSED, SINK_FAILED, SOURCE_FAILED};
+use crate::watch::run_watch;
 use crate::words::Form;
 use hn_io::{IoFault, Sink, Source};
 use hn_lab::{Played, lab, read_all};
@@ -45,9 +48,34 @@ fn decode<S: Source, K: Sink>(alloc: Global, src: &mut S, out: &mut K) -> u8
     }
 }
 
+/// Reads a capture, and writes what was claimed by its datagrams. Answers the status.
+fn watch<S: Source, K: Sink>(alloc: Global, src: &mut S, out: &mut K) -> u8
+    ensures written { (result ≡ DONE) ⊎ (result ≡ REFUSED)
+        → (bytes : List ℕ) × IsWhole (S.left src.old) bytes × WritesWatch bytes result (K.held out.old) (K.held out.new) }
+    ensures broken { result ≡ SINK_FAILED
+        → (bytes : List ℕ) × IsWhole (S.left src.old) bytes × CutsWatch bytes IoFault.Failed (K.held out.old) (K.held out.new) }
+    ensures starved { result ≡ NO_MEMORY
+        → (bytes : List ℕ) × IsWhole (S.left src.old) bytes × StarvesWatch bytes (K.held out.old) (K.held out.new) }
+    ensures complete { IfSome (S.left src.old) (λ bytes. (datagrams : List (List ℕ)) → IsCapture bytes datagrams → result ≢ REFUSED) }
+    ensures statuses { Contains (DONE ∷ REFUSED ∷ SOURCE_FAILED ∷ SINK_FAILED ∷ NO_MEMORY ∷ []) result }
+    ensures source_counts { Counts (result ≡ SOURCE_FAILED) (S.faults src.old) (S.faults src.new) }
+    ensures sink_counts { Counts (result ≡ SINK_FAILED) (K.faults out.old) (K.faults out.new) }
+    ensures source_reliable { IsReliable (result ≡ SOURCE_FAILED) (S.never_fails src.old) (S.never_fails src.new) }
+    ensures sink_reliable { IsReliable (result ≡ SINK_FAILED) (K.never_fails out.old) (K.never_fails out.new) }
+    ensures unwritten { result ≡ SOURCE_FAILED → out.new ≡ out.old }
+    ensures bounded { (read : List ℕ) × (length read ≤ 2 ^ 24 + 1) × Consumes (S.left src.old) (S.left src.new) read }
+{
+    match read_all(alloc, src) {
+        Ok(bytes) => run_watch(alloc, &bytes, out),
+        Err(IoFault::Failed) => SOURCE_FAILED,
+        Err(IoFault::NoMemory) => NO_MEMORY,
+    }
+}
+
 /// Runs the program: `words` are those of the command line, the program's name first. The forms are `lab`, which reads
 /// a script, plays it and writes its transcript; `decode`, which reads hexadecimal text and writes what the datagram
-/// has; and `soak`, which plays the script of a soak and writes its transcript.
+/// has; `watch`, which reads a capture and writes what was claimed by its datagrams; and `soak`, which plays the script
+/// of a soak and writes its transcript.
 pub fn run<S: Source, K: Sink>(alloc: Global, words: &[String], src: &mut S, out: &mut K) -> Played
     ensures form { result.status ≡ BAD_USAGE → (form : Form) → IsFormOf form (map string_bytes words.now) → ⊥ }
     ensures bad_usage { ((form : Form) → IsFormOf form (map string_bytes words.now) → ⊥) → result.status ≡ BAD_USAGE }
@@ -83,6 +111,18 @@ pub fn run<S: Source, K: Sink>(alloc: Global, words: &[String], src: &mut S, out
 
     ensures no_world { IsFormOf Form.Decode (map string_bytes words.now) → result.world ≡ None }
 
+    // `watch`: what is written is the text of the capture that the source is, or after a fault a front of it. A source
+    // that does not tell its bytes may have any.
+    ensures watch { IsFormOf Form.Watch (map string_bytes words.now) → (result.status ≡ DONE) ⊎ (result.status ≡ REFUSED)
+        → (bytes : List ℕ) × IsWhole (S.left src.old) bytes × WritesWatch bytes result.status (K.held out.old) (K.held out.new) }
+    ensures watch_broken { IsFormOf Form.Watch (map string_bytes words.now) → result.status ≡ SINK_FAILED
+        → (bytes : List ℕ) × IsWhole (S.left src.old) bytes × CutsWatch bytes IoFault.Failed (K.held out.old) (K.held out.new) }
+    ensures watch_starved { IsFormOf Form.Watch (map string_bytes words.now) → result.status ≡ NO_MEMORY
+        → (bytes : List ℕ) × IsWhole (S.left src.old) bytes × StarvesWatch bytes (K.held out.old) (K.held out.new) }
+    ensures watch_complete { IsFormOf Form.Watch (map string_bytes words.now)
+        → IfSome (S.left src.old) (λ bytes. (datagrams : List (List ℕ)) → IsCapture bytes datagrams → result.status ≢ REFUSED) }
+    ensures watch_without_world { IsFormOf Form.Watch (map string_bytes words.now) → result.world ≡ None }
+
     // `soak`: status, world and what is written are those of the script of the soak; nothing is read.
     ensures soak { (n seed : ℕ) → IsFormOf (Form.Soak n seed) (map string_bytes words.now) → (written : List ℕ)
         × IsSoakPlay n seed result.status result.world written × Appends (K.held out.old) (K.held out.new) written }
@@ -108,6 +148,7 @@ pub fn run<S: Source, K: Sink>(alloc: Global, words: &[String], src: &mut S, out
     match Form::of(words) {
         Some(Form::Lab) => lab(alloc, src, out),
         Some(Form::Decode) => Played::without_world(decode(alloc, src, out)),
+        Some(Form::Watch) => Played::without_world(watch(alloc, src, out)),
         Some(Form::Soak { n, seed }) => soak(alloc, n, seed, out),
         None => Played::without_world(BAD_USAGE),
     }

@@ -127,6 +127,11 @@ fn each_read_and_write_fails_in_turn(rt: HostRuntime) -> Result<(), Fail> {
     let hex = "007B000178000000";
     let contents = "tlvs 1\n0 123 1 other value=78\n";
     let nested = "0021000400210000";
+    let capture = "00050014000000090000000200000000900150983cd24fb0\n\
+                   00050014000000090000000200000000D41D8CD98F00B204\n000100";
+    let first_of_two = "watch datagrams=3 malformed=1\n";
+    let claims = "watch datagrams=3 malformed=1\n\
+                  node 00000009 number=2 hash=900150983cd24fb0 conflicts=1\n";
     let cases = [
         // The reads are that of the whole input and that of its end, the writes are one a line.
         ("lab", TWO_ROUTERS, 1, 0, SOURCE_FAILED, ""),
@@ -148,6 +153,13 @@ fn each_read_and_write_fails_in_turn(rt: HostRuntime) -> Result<(), Fail> {
             SINK_FAILED,
             "tlvs 1\n0 33 4 external\n",
         ),
+        ("watch", capture, 1, 0, SOURCE_FAILED, ""),
+        ("watch", capture, 2, 0, SOURCE_FAILED, ""),
+        ("watch", capture, 0, 1, SINK_FAILED, ""),
+        ("watch", capture, 0, 2, SINK_FAILED, first_of_two),
+        ("watch", capture, 0, 3, DONE, claims),
+        ("watch", "-\n00 ", 0, 1, SINK_FAILED, ""),
+        ("watch", "-\n00 ", 0, 2, REFUSED, "refused 2 4\n"),
         ("decode", "x", 0, 1, SINK_FAILED, ""),
         ("decode", "000100", 0, 1, SINK_FAILED, ""),
     ];

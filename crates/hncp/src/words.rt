@@ -9,6 +9,8 @@ pub enum Form {
     Lab,
     /// `decode`: the contents of a datagram.
     Decode,
+    /// `watch`: what was claimed by the datagrams of a capture.
+    Watch,
     /// `soak N SEED`: the transcript of the script of a soak of 2 to 32 routers, with this seed.
     Soak { n: u32, seed: u64 },
 }
@@ -24,6 +26,7 @@ impl Form {
         match word {
             "lab" => Some(Form::Lab),
             "decode" => Some(Form::Decode),
+            "watch" => Some(Form::Watch),
             _ => None,
         }
     }

@@ -27,6 +27,12 @@ returns-in-Some-Decode-clause-bad_usage g c none = absurd (none c.in-Some-Decode
 pub returns-in-Some-Decode-clause-decode : goal.returns-in-Some-Decode-clause-decode
 returns-in-Some-Decode-clause-decode g c asked = rw c.without_world.ensures.status c.decode.ensures.written
 
+pub returns-in-Some-Watch-clause-bad_usage : goal.returns-in-Some-Watch-clause-bad_usage
+returns-in-Some-Watch-clause-bad_usage g c none = absurd (none c.in-Some-Watch.field-0 c.in-Some-Watch.ensures.found)
+
+pub returns-in-Some-Watch-clause-watch : goal.returns-in-Some-Watch-clause-watch
+returns-in-Some-Watch-clause-watch g c asked = rw c.without_world-in-Some-Watch.ensures.status c.watch.ensures.written
+
 pub returns-in-Some-Soak-clause-soak_done : goal.returns-in-Some-Soak-clause-soak_done
 returns-in-Some-Soak-clause-soak_done g c n seed asked =
     let read = rw c.in-Some-Soak.field-0-is at c.in-Some-Soak.ensures.found in

@@ -2,8 +2,6 @@
 use Rattle.std.proofs.Common.{◌≡◌, ◌≤◌, ℕ, refl, ap, subst}
 use Rattle.std.proofs.Props.{props}
 use Rattle.hn_base.specs.declared.caps.Caps.{Caps}
-use Rattle.hn_base.specs.declared.version.Version.{Version}
-use Rattle.hn_base.specs.declared.version.Version.TheVariants.{One}
 
 -- what is made of a value and a fact that has one proof is made of the value
 pub same_made : {A B : Type 0} (P : A → Type 0) → ((x : A) → IsProp (P x)) → (make : (x : A) → P x → B)
@@ -28,9 +26,3 @@ unfolding make_caps AreInRange
 same_caps a b m p h l =
     same_made AreInRange AreInRange-prop make_caps (a.m, a.p, a.h, a.l) (b.m, b.p, b.h, b.l) (rw (m, p, h, l) refl)
     (a.m_in_range, a.p_in_range, a.h_in_range, a.l_in_range) (b.m_in_range, b.p_in_range, b.h_in_range, b.l_in_range)
-
--- ---- versions
-
--- there is one
-pub one_version : (a b : Version) → a ≡ b
-one_version One One = refl

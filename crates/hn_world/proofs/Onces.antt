@@ -191,3 +191,11 @@ trace_of_goes before after (t ∷ ts) h =
 pub trace_of_replay : (version : Version) (ts : List Traced) (w : Parts) → Replays version ts w → w.trace ≡ ts
 unfolding Replays
 trace_of_replay version ts w h = trace_of_goes (empty_world version) w ts h
+
+version_of_goes : (before after : Parts) (ts : List Traced) → Goes before ts after → after.version ≡ before.version
+version_of_goes before after [] is = ap (λ (w : Parts). w.version) is
+version_of_goes before after (t ∷ ts) h = version_of_goes h.0 after ts h.2 ∙ ap (λ (past : Version × List Traced). past.0) (past_of_step t before h.0 h.1)
+
+pub version_of_replay : (version : Version) (ts : List Traced) (w : Parts) → Replays version ts w → w.version ≡ version
+unfolding Replays
+version_of_replay version ts w h = version_of_goes (empty_world version) w ts h

@@ -38,6 +38,10 @@ AtMostOneWorld =
 abbrev pub WorldHasItsTrace : Type 0
 WorldHasItsTrace = (version : Version) (ts : List Traced) (w : Parts) → Replays version ts w → w.trace ≡ ts
 
+-- And that version.
+abbrev pub WorldHasItsVersion : Type 0
+WorldHasItsVersion = (version : Version) (ts : List Traced) (w : Parts) → Replays version ts w → w.version ≡ version
+
 -- Each router of a replayed world is one, and no later than the world.
 abbrev pub WorldIsSound : Type 0
 WorldIsSound = (w : Parts) → IsReplayed w → IsSound w

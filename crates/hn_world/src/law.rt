@@ -7,7 +7,7 @@ ghost use Rattle.hn_world.specs.declared.parts.Parts.{Parts};
 ghost use Rattle.hn_world.specs.Replay.{IsReplayed, IsSound, Always};
 ghost use Rattle.hn_world.specs.Step.{Step};
 ghost use Rattle.hn_world.specs.Leaves.{EqualHashesAgree};
-ghost use Rattle.hn_world.specs.Laws.{StepIsUnique, EachEventIsEntered, AgreementIsUnique, AtMostOneWorld, WorldHasItsTrace, WorldIsSound, AlwaysAttached};
+ghost use Rattle.hn_world.specs.Laws.{StepIsUnique, EachEventIsEntered, AgreementIsUnique, AtMostOneWorld, WorldHasItsTrace, WorldHasItsVersion, WorldIsSound, AlwaysAttached};
 
 use hn_hash::equal_hashes_agree_or_collide;
 use hn_router::{
@@ -34,10 +34,11 @@ pub fn agreement_is_unique()
     ensures { AgreementIsUnique }
 {}
 
-/// A trace leads to at most one world, and that has this trace.
+/// A trace leads to at most one world, and that has this trace and its version.
 pub fn at_most_one_world()
     ensures one { AtMostOneWorld }
     ensures trace { WorldHasItsTrace }
+    ensures version { WorldHasItsVersion }
 {
     one_result();
     new_is_unique();

@@ -37,8 +37,6 @@ mod laws;
 mod layout;
 mod options;
 mod reading;
-#[cfg(test)]
-mod tests;
 mod writing;
 
 pub use advert::{Advert, Info, Infos};

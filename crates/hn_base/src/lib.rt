@@ -4,8 +4,6 @@
 #![tactic(auto)]
 
 mod addr;
-#[cfg(test)]
-mod addr_tests;
 mod ascending;
 mod caps;
 mod due;
@@ -23,8 +21,6 @@ mod order;
 mod sequence;
 mod shared;
 mod split;
-#[cfg(test)]
-mod tests;
 mod version;
 
 pub use addr::{Addr, link_local};

@@ -3,8 +3,6 @@
 #![tactic(auto)]
 
 mod datagram;
-#[cfg(test)]
-mod item_tests;
 mod item_text;
 mod laws;
 mod line;
@@ -12,6 +10,3 @@ mod nested;
 
 pub use datagram::{decode, first_line, push_next};
 pub use laws::{decode_text_exists, decode_text_is_unique, lines_go_on, lines_make_the_text};
-
-#[cfg(test)]
-mod tests;

@@ -15,6 +15,3 @@ pub use law::{equal_hashes_agree_or_collide, hash_has_eight_bytes};
 pub use leaf::Leaf;
 pub use network_state::{network, network_of};
 pub use part::Part;
-
-#[cfg(test)]
-mod tests;

@@ -7,16 +7,10 @@ mod draw;
 mod fault;
 mod law;
 mod listed;
-#[cfg(test)]
-mod listed_tests;
 mod memory;
 mod pcg;
-#[cfg(test)]
-mod pcg_tests;
 mod sink;
 mod source;
-#[cfg(test)]
-mod tests;
 
 pub use adapters::{ReaderSource, WriterSink};
 pub use draw::{Draw, Zeros, below};

@@ -8,11 +8,7 @@ mod groups;
 mod laws;
 mod parse;
 mod prefix;
-#[cfg(test)]
-mod tests;
 mod text;
-#[cfg(test)]
-mod text_tests;
 
 pub use free::first_free;
 pub use laws::{

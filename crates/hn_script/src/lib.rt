@@ -16,8 +16,6 @@ mod reader;
 mod script;
 mod shapes;
 mod soak;
-#[cfg(test)]
-mod tests;
 mod texts;
 mod version;
 mod words;

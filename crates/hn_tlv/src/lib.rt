@@ -21,6 +21,3 @@ pub use laws::{
 pub use list_fault::ListFault;
 pub use reading::{Tlv, check, next};
 pub use writing::{HEADER_SIZE, padding, size, write_to};
-
-#[cfg(test)]
-mod tests;

@@ -15,8 +15,6 @@ mod prefix;
 mod readers;
 mod reading;
 mod subs;
-#[cfg(test)]
-mod tests;
 mod writing;
 
 pub use encoding::encode;

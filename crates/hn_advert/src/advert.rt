@@ -2,7 +2,7 @@ use hn_base::Sequence;
 use hn_prefix::Prefix;
 
 /// A prefix that is advertised, with its lifetimes (RFC 4861, section 4.6.2).
-#[derive(Clone, Copy)]
+#[derive(Clone, Copy, PartialEq, Eq)]
 pub struct Info {
     pub prefix: Prefix,
     /// The valid lifetime in seconds; 4294967295 is one that never ends.

@@ -17,8 +17,6 @@ mod scene;
 mod slot;
 mod step;
 mod subroutines;
-#[cfg(test)]
-mod tests;
 mod turn;
 mod unassigned;
 mod wishes;

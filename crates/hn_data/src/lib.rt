@@ -10,8 +10,6 @@ mod own_data;
 mod place;
 mod reading;
 mod said;
-#[cfg(test)]
-mod tests;
 mod view;
 mod walk;
 

@@ -7,8 +7,6 @@ mod delegated;
 mod greatest;
 mod laws;
 mod nesting;
-#[cfg(test)]
-mod tests;
 mod usable;
 
 pub use choice::{outside, wanted};

@@ -10,8 +10,6 @@ mod laws;
 mod packing;
 mod peers;
 mod port;
-#[cfg(test)]
-mod tests;
 mod tick;
 
 pub use ask::LEAST_TIME_BETWEEN_REQUESTS;

@@ -5,8 +5,6 @@ mod later;
 mod laws;
 mod reachability;
 mod search;
-#[cfg(test)]
-mod tests;
 
 pub use later::next_age_limit;
 pub use laws::{own_is_reachable, reachability_of_later, reachability_stays, reachable_is_a_node};

@@ -9,6 +9,3 @@ mod rank;
 pub use common_link::common;
 pub use election::elected;
 pub use laws::{common_link_is_unique, elected_is_unique};
-
-#[cfg(test)]
-mod tests;

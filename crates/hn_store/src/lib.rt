@@ -20,6 +20,3 @@ pub use loss::GRACE;
 pub use state::{OwnLeaf, State, Took};
 pub use stored::{HeldNode, Stored};
 pub use table::{LARGE_LIMIT, LIMIT, Table};
-
-#[cfg(test)]
-mod tests;

@@ -12,6 +12,3 @@ pub use keep_alive::{
 };
 pub use laws::{expiry_is_a_moment, silence_is_a_moment, still_interval_stays};
 pub use trickle::{LONGEST_INTERVAL, SHORTEST_INTERVAL, Trickle};
-
-#[cfg(test)]
-mod tests;

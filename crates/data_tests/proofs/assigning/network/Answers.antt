@@ -1,7 +1,7 @@
 use Rattle.std.proofs.Common.{[], ◌∷◌, refl, arith}
 use Rattle.std.specs.List.Sorted.{IsStrictlySortedBy}
 use Rattle.std.specs.Ordering.{nat_cmp}
-use Rattle.hn_assign.proofs.tests.network.Goals as goal
+use Rattle.data_tests.proofs.assigning.network.Goals as goal
 
 identifiers_ascend : IsStrictlySortedBy nat_cmp (3 ∷ 4 ∷ 5 ∷ 9 ∷ [])
 unfolding IsStrictlySortedBy

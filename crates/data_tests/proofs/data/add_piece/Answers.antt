@@ -1,6 +1,6 @@
 use Rattle.std.proofs.lemmas.List.Elements.{All-push}
 use Rattle.hn_data.specs.OwnData.{IsEncoded}
-use Rattle.hn_data.proofs.tests.add_piece.Goals as goal
+use Rattle.data_tests.proofs.data.add_piece.Goals as goal
 
 pub returns : goal.returns
 returns g c = rw c.in_ok-push.ensures.items (All-push IsEncoded c.args.pieces.now.items _ c.requires (_, c.in_ok-encode.ensures))

@@ -1,0 +1,62 @@
+//! Nodes with their data, from texts.
+
+ghost use Rattle.std.specs.Prelude.{◌≡◌, IfOk};
+ghost use Rattle.hn_data.specs.View.{IsNetwork};
+
+use crate::cases::bytes;
+use hn_base::NodeId;
+use hn_data::{Entry, NodeData};
+use std::alloc::Global;
+use std::test::Fail;
+
+/// A node with data.
+pub fn entry(alloc: Global, id: u32, data: &[u8]) -> Result<Entry, Fail>
+    ensures { IfOk result (λ node. node.id.0 ≡ id) }
+{
+    Ok(Entry {
+        id: NodeId(id),
+        number: 1,
+        age: 0,
+        body: NodeData::from_bytes(alloc, data)?,
+    })
+}
+
+/// Nodes 1 to 4 with these links.
+pub fn network(alloc: Global, links: &str) -> Result<[Entry; 4], Fail>
+    ensures first { IfOk result (λ nodes. IsNetwork 1 nodes) }
+    ensures second { IfOk result (λ nodes. IsNetwork 2 nodes) }
+{
+    let nodes = [
+        entry(alloc, 1, &peers(alloc, b'1', links)?)?,
+        entry(alloc, 2, &peers(alloc, b'2', links)?)?,
+        entry(alloc, 3, &peers(alloc, b'3', links)?)?,
+        entry(alloc, 4, &peers(alloc, b'4', links)?)?,
+    ];
+    Ok(nodes)
+}
+
+/// The Peer TLVs (RFC 7787, section 7.3.1) of a node. A link is said as a node, its endpoint, the peer and the peer's
+/// endpoint, a digit each; a word of four hexadecimal digits after the node's number and an equals sign is the priorities of
+/// its HNCP-Version (RFC 7788, section 10.1).
+fn peers(alloc: Global, id: u8, links: &str) -> Result<Vec<u8>, Fail> {
+    let mut digits = String::new(alloc);
+    for word in links.split(' ') {
+        match *word.as_bytes() {
+            [node, endpoint, peer, peer_endpoint] if node == id => {
+                digits.push_str("0008000C")?;
+                for digit in [peer, peer_endpoint, endpoint] {
+                    digits.push_str("0000000")?;
+                    digits.push(char::from(digit))?;
+                }
+            }
+            [node, b'=', m, p, h, l] if node == id => {
+                digits.push_str("002000040000")?;
+                for digit in [m, p, h, l] {
+                    digits.push(char::from(digit))?;
+                }
+            }
+            _ => {}
+        }
+    }
+    bytes(alloc, digits.as_str())
+}

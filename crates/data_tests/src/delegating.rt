@@ -2,7 +2,7 @@ use crate::cases::{bytes, number_of, parts, prefix, short};
 use crate::nodes::entry;
 use hn_base::NodeId;
 use hn_data::{Entry, View};
-use hn_deleg::{Delegated, outside, used};
+use hn_deleg::{outside, used};
 use hn_prefix::Prefix;
 use hn_typed::{Item, value_len, write};
 use std::alloc::Global;
@@ -42,8 +42,11 @@ fn node(alloc: Global, id: u32, name: &str, said: &str) -> Result<Entry, Fail> {
     entry(alloc, id, &data)
 }
 
+/// A usable prefix, with its valid and its preferred lifetime in milliseconds.
+type Left = (Prefix, u64, u64);
+
 /// The usable prefixes of nodes 3, 4 and 5. The data of node 3 have this age, those of the others are new.
-fn usable(alloc: Global, age: u64, said: &str) -> Result<Vec<Delegated>, Fail> {
+fn usable(alloc: Global, age: u64, said: &str) -> Result<Vec<Left>, Fail> {
     let mut nodes = [
         node(alloc, 3, "3 ", said)?,
         node(alloc, 4, "4 ", said)?,
@@ -55,20 +58,24 @@ fn usable(alloc: Global, age: u64, said: &str) -> Result<Vec<Delegated>, Fail> {
         now: 0,
         nodes: &nodes,
     };
-    Ok(used(alloc, &view)?.into_vec())
+    let mut lefts = Vec::new(alloc);
+    for found in used(alloc, &view)?.as_slice() {
+        lefts.push((found.prefix, found.valid, found.preferred))?;
+    }
+    Ok(lefts)
 }
 
-/// The usable prefixes that a text says, with their lifetimes in milliseconds.
-fn lefts(alloc: Global, text: &str) -> Result<Vec<Delegated>, Fail> {
+/// The usable prefixes that a text says.
+fn lefts(alloc: Global, text: &str) -> Result<Vec<Left>, Fail> {
     let mut lefts = Vec::new(alloc);
     for words in text.split_terminator(',') {
         let (place, rest) = parts(words)?;
         let (valid, preferred) = parts(rest)?;
-        lefts.push(Delegated {
-            prefix: prefix(alloc, place)?,
-            valid: number_of(valid)?,
-            preferred: number_of(preferred)?,
-        })?;
+        lefts.push((
+            prefix(alloc, place)?,
+            number_of(valid)?,
+            number_of(preferred)?,
+        ))?;
     }
     Ok(lefts)
 }
@@ -147,7 +154,7 @@ fn first_thirty_two(rt: HostRuntime) -> Result<(), Fail> {
     assert!(rt; found.len() == 32);
     for (left, place) in found.iter().zip(0..32u128) {
         let bits = 0x2001_0db8_0000_0000_0000_0000_0000_0000 | (place << 72);
-        assert!(rt; left.prefix == Prefix::containing(bits, 56), "{place}");
+        assert!(rt; left.0 == Prefix::containing(bits, 56), "{place}");
     }
     Ok(())
 }

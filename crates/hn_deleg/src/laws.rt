@@ -1,10 +1,6 @@
 //! Laws of usable prefixes. Each is the contract of a function that does nothing: call it to know its law.
 
-ghost use Rattle.std.specs.Prelude.{◌<◌, ◌^◌};
-ghost use Rattle.hn_data.specs.View.{PlainView};
-ghost use Rattle.hn_deleg.specs.Laws.{UsableNeverOverlap, UsableIsUnique, InsideKeepsTheOrder};
-ghost use Rattle.hn_deleg.specs.Used.{HasLifetimes, whole_seconds};
-ghost use Rattle.hn_deleg.specs.declared.delegated.Delegated.{Delegated};
+ghost use Rattle.hn_deleg.specs.Laws.{UsableNeverOverlap, UsableIsUnique, LifetimesFit, InsideKeepsTheOrder};
 
 use hn_prefix::{overlap_is_nesting, prefixes_are_ranges};
 
@@ -22,7 +18,7 @@ pub fn usable_is_unique()
 
 /// The lifetimes of a usable prefix, in whole seconds, fit 32 bits.
 pub fn lifetimes_fit()
-    ensures { (view : PlainView) (u : Delegated) → HasLifetimes view u → (whole_seconds u.valid < 2 ^ 32) × (whole_seconds u.preferred < 2 ^ 32) }
+    ensures { LifetimesFit }
 {}
 
 /// Prefixes inside two different usable prefixes are in the order of these.

@@ -1,4 +1,4 @@
--- Who is elected on a Common Link (RFC 7788, sections 4 and 6.1).
+-- Who is elected on a Common Link (RFC 7788, sections 4 and 6.1; the order among equal priorities is this project's own).
 use Rattle.std.specs.Prelude.{◌≡◌, ℕ, ◌+◌, ◌*◌, ◌<◌, List, Option, Some, Contains, MatchOption}
 use Rattle.std.specs.Ordering.{on, then_cmp, nat_cmp}
 use Rattle.std.specs.declared.cmp.Ordering.{Ordering}

@@ -1,5 +1,6 @@
 pub mod Entries
 pub mod Families
+pub mod FirstWords
 pub mod HexTexts
 pub mod HexWords
 pub mod Limits

@@ -3,6 +3,7 @@ pub mod Fault
 pub mod Field
 pub mod Laws
 pub mod Line
+pub mod FirstWords
 pub mod Reading
 pub mod Script
 pub mod Soak

@@ -3,6 +3,7 @@
 ghost use Rattle.std.specs.Prelude.{◌≡◌, ◌≢◌, ◌<◌, ◌≤◌, length, codes, Option, MatchResult, IfSome, IfNone};
 ghost use Rattle.hn_script.specs.Fault.{IsPlain, TextFault, LineFault};
 ghost use Rattle.hn_script.specs.Reading.{ReadsLine, ReadsDraft, ReadsText};
+ghost use Rattle.hn_script.specs.FirstWords.{IsOneOf, name_words, endpoint_words, number_words, lone_words};
 ghost use Rattle.hn_script.specs.Script.{IsEntry};
 ghost use Rattle.hn_script.specs.Texts.{words_of};
 ghost use Rattle.hn_script.specs.declared.line.Line.{Line as ALine};
@@ -21,24 +22,81 @@ use crate::words::four_words;
 /// The most bytes of a line, its LF not counted.
 const MOST_BYTES: usize = 16_384;
 
+/// The line of a first word that has a name after it, and the words in `rest`.
+fn read_named(word: &str, rest: &[u8]) -> Result<Line, u8>
+    requires { IsOneOf name_words word.now }
+    ensures { ReadsLine word.now (words_of rest.now) result }
+{
+    let name = one_name(rest)?;
+    match word {
+        "link" => Ok(Line::Link(name)),
+        "stop" => Ok(Line::Stop(name)),
+        "start" => Ok(Line::Start(name)),
+        "tick" => Ok(Line::Tick(name)),
+        "show" => Ok(Line::Show(name)),
+        "hash" => Ok(Line::Hash(name)),
+        "used" => Ok(Line::Used(name)),
+        "prefixes" => Ok(Line::Prefixes(name)),
+        _ => Ok(Line::Audit(name)),
+    }
+}
+
+/// The line of a first word that has a name and an endpoint after it, and the words in `rest`.
+fn read_endpoint(word: &str, rest: &[u8]) -> Result<Line, u8>
+    requires { IsOneOf endpoint_words word.now }
+    ensures { ReadsLine word.now (words_of rest.now) result }
+{
+    let (name, endpoint) = name_and_endpoint(rest)?;
+    match word {
+        "detach" => Ok(Line::Detach(name, endpoint)),
+        _ => Ok(Line::Advert(name, endpoint)),
+    }
+}
+
+/// The line of a first word that has a number after it, and the words in `rest`.
+fn read_number(word: &str, rest: &[u8]) -> Result<Line, u8>
+    requires { IsOneOf number_words word.now }
+    ensures { ReadsLine word.now (words_of rest.now) result }
+{
+    let number = any_number(rest)?;
+    match word {
+        "seed" => Ok(Line::Seed(number)),
+        "deliver" => Ok(Line::Deliver(number)),
+        _ => Ok(Line::Drop(number)),
+    }
+}
+
+/// The line of a first word that has nothing after it, and the words in `rest`.
+fn read_lone(word: &str, rest: &[u8]) -> Result<Line, u8>
+    requires { IsOneOf lone_words word.now }
+    ensures { ReadsLine word.now (words_of rest.now) result }
+{
+    nothing(rest)?;
+    match word {
+        "flow" => Ok(Line::Flow),
+        _ => Ok(Line::Mail),
+    }
+}
+
 /// The line of this first word and the words in `rest`, unless the word is `inject`.
 fn read_line(word: &str, rest: &[u8]) -> Result<Line, u8>
     requires { word.now ≢ codes "inject" }
     ensures { ReadsLine word.now (words_of rest.now) result }
 {
     match word {
+        "link" | "stop" | "start" | "tick" | "show" | "hash" | "used" | "prefixes" | "audit" => {
+            read_named(word, rest)
+        }
+        "detach" | "advert" => read_endpoint(word, rest),
+        "seed" | "deliver" | "drop" => read_number(word, rest),
+        "flow" | "mail" => read_lone(word, rest),
         "router" => {
             let (name, id) = name_and_node(rest)?;
             Ok(Line::Router(name, id))
         }
-        "link" => Ok(Line::Link(one_name(rest)?)),
         "attach" => {
             let (name, endpoint, link) = attachment(rest)?;
             Ok(Line::Attach(name, endpoint, link))
-        }
-        "detach" => {
-            let (name, endpoint) = name_and_endpoint(rest)?;
-            Ok(Line::Detach(name, endpoint))
         }
         "external" => {
             let (name, prefix, valid, preferred) = delegation(rest)?;
@@ -52,42 +110,19 @@ fn read_line(word: &str, rest: &[u8]) -> Result<Line, u8>
             let (name, caps) = name_and_caps(rest)?;
             Ok(Line::Caps(name, caps))
         }
-        "stop" => Ok(Line::Stop(one_name(rest)?)),
-        "start" => Ok(Line::Start(one_name(rest)?)),
-        "seed" => Ok(Line::Seed(any_number(rest)?)),
         "loss" => Ok(Line::Loss(one_number(rest, 0, 100)? as u8)),
         "time" => Ok(Line::Time(moment(rest)?)),
-        "tick" => Ok(Line::Tick(one_name(rest)?)),
         "run" => {
             let (end, step) = moment_and_span(rest)?;
             Ok(Line::Run(end, step))
         }
-        "deliver" => Ok(Line::Deliver(any_number(rest)?)),
-        "drop" => Ok(Line::Drop(any_number(rest)?)),
-        "flow" => {
-            nothing(rest)?;
-            Ok(Line::Flow)
-        }
-        "show" => Ok(Line::Show(one_name(rest)?)),
-        "hash" => Ok(Line::Hash(one_name(rest)?)),
-        "used" => Ok(Line::Used(one_name(rest)?)),
-        "prefixes" => Ok(Line::Prefixes(one_name(rest)?)),
         "elect" => {
             let (name, endpoint, letter) = candidacy(rest)?;
             Ok(Line::Elect(name, endpoint, letter))
         }
-        "advert" => {
-            let (name, endpoint) = name_and_endpoint(rest)?;
-            Ok(Line::Advert(name, endpoint))
-        }
-        "audit" => Ok(Line::Audit(one_name(rest)?)),
         "compare" => {
             let (left, right) = two_names(rest)?;
             Ok(Line::Compare(left, right))
-        }
-        "mail" => {
-            nothing(rest)?;
-            Ok(Line::Mail)
         }
         _ => Err(UNKNOWN),
     }

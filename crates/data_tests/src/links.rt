@@ -15,7 +15,8 @@ fn common_link(alloc: Global, links: &str) -> Result<Vec<u64>, Fail> {
     };
     let mut link = Vec::new(alloc);
     for (node, endpoint) in common(alloc, &view, EpId(1))?.as_slice() {
-        link.push(10 * u64::from(node.0) + u64::from(endpoint.0))?;
+        let tens = u64::from(node.0).saturating_mul(10);
+        link.push(tens.saturating_add(u64::from(endpoint.0)))?;
     }
     Ok(link)
 }

@@ -9,16 +9,38 @@ use hn_data::{Entry, NodeData};
 use std::alloc::Global;
 use std::test::Fail;
 
-/// A node with data.
-pub fn entry(alloc: Global, id: u32, data: &[u8]) -> Result<Entry, Fail>
+/// A node with data of this age.
+fn aged_entry(alloc: Global, id: u32, data: &[u8], age: u64) -> Result<Entry, Fail>
     ensures { IfOk result (λ node. node.id.0 ≡ id) }
 {
     Ok(Entry {
         id: NodeId(id),
         number: 1,
-        age: 0,
+        age,
         body: NodeData::from_bytes(alloc, data)?,
     })
+}
+
+/// A node with data.
+pub fn entry(alloc: Global, id: u32, data: &[u8]) -> Result<Entry, Fail>
+    ensures { IfOk result (λ node. node.id.0 ≡ id) }
+{
+    aged_entry(alloc, id, data, 0)
+}
+
+/// Nodes 1 to 4 with these links, and data of these ages.
+pub fn aged_network(alloc: Global, links: &str, ages: [u64; 4]) -> Result<[Entry; 4], Fail>
+    ensures first { IfOk result (λ nodes. IsNetwork 1 nodes) }
+    ensures second { IfOk result (λ nodes. IsNetwork 2 nodes) }
+{
+    let [first, second, third, fourth] = ages;
+    let nodes = [
+        aged_entry(alloc, 1, &peers(alloc, b'1', links)?, first)?,
+        aged_entry(alloc, 2, &peers(alloc, b'2', links)?, second)?,
+        aged_entry(alloc, 3, &peers(alloc, b'3', links)?, third)?,
+        aged_entry(alloc, 4, &peers(alloc, b'4', links)?, fourth)?,
+    ];
+    Ok(nodes)
 }
 
 /// Nodes 1 to 4 with these links.
@@ -26,13 +48,7 @@ pub fn network(alloc: Global, links: &str) -> Result<[Entry; 4], Fail>
     ensures first { IfOk result (λ nodes. IsNetwork 1 nodes) }
     ensures second { IfOk result (λ nodes. IsNetwork 2 nodes) }
 {
-    let nodes = [
-        entry(alloc, 1, &peers(alloc, b'1', links)?)?,
-        entry(alloc, 2, &peers(alloc, b'2', links)?)?,
-        entry(alloc, 3, &peers(alloc, b'3', links)?)?,
-        entry(alloc, 4, &peers(alloc, b'4', links)?)?,
-    ];
-    Ok(nodes)
+    aged_network(alloc, links, [0; 4])
 }
 
 /// The Peer TLVs (RFC 7787, section 7.3.1) of a node. A link is said as a node, its endpoint, the peer and the peer's

@@ -1,4 +1,4 @@
-use crate::nodes::network;
+use crate::nodes::aged_network;
 use hn_base::NodeId;
 use hn_graph::reach;
 use std::alloc::Global;
@@ -13,10 +13,11 @@ const RING: &str = "1121 2111 2231 3122 3241 4132 4212 1242";
 
 /// The greatest of the nodes that node 1 reaches, and how many there are. One of the nodes has an age.
 fn reached(alloc: Global, links: &str, aged: usize, age: u64) -> Result<(u32, usize), Fail> {
-    let mut nodes = network(alloc, links)?;
-    if let Some(node) = nodes.get_mut(aged) {
-        node.age = age;
+    let mut ages = [0; 4];
+    if let Some(one) = ages.get_mut(aged) {
+        *one = age;
     }
+    let nodes = aged_network(alloc, links, ages)?;
     let reached = reach(alloc, NodeId(1), &nodes)?;
     let last = reached.as_slice().last().ok_or("a node")?;
     Ok((last.0, reached.len()))

@@ -1,7 +1,7 @@
 use Rattle.std.proofs.Common.{[], ◌∷◌, refl, arith}
 use Rattle.std.specs.List.Sorted.{IsStrictlySortedBy}
 use Rattle.std.specs.Ordering.{nat_cmp}
-use Rattle.data_tests.proofs.nodes.network.Goals as goal
+use Rattle.data_tests.proofs.nodes.aged_network.Goals as goal
 
 one_to_four_ascend : IsStrictlySortedBy nat_cmp (1 ∷ 2 ∷ 3 ∷ 4 ∷ [])
 unfolding IsStrictlySortedBy
@@ -9,12 +9,12 @@ one_to_four_ascend = ((refl, (refl, (refl, tt))), ((refl, (refl, tt)), ((refl, t
 
 pub returns-clause-first : goal.returns-clause-first
 returns-clause-first c = record {
-  ascending = rw (c.in_ok-entry.ensures, c.in_ok-entry-2.ensures, c.in_ok-entry-3.ensures, c.in_ok-entry-4.ensures) one_to_four_ascend;
-  own_is_there = (0, omega arith, c.in_ok-entry.ensures);
+  ascending = rw (c.in_ok-aged_entry.ensures, c.in_ok-aged_entry-2.ensures, c.in_ok-aged_entry-3.ensures, c.in_ok-aged_entry-4.ensures) one_to_four_ascend;
+  own_is_there = (0, omega arith, c.in_ok-aged_entry.ensures);
 }
 
 pub returns-clause-second : goal.returns-clause-second
 returns-clause-second c = record {
-  ascending = rw (c.in_ok-entry.ensures, c.in_ok-entry-2.ensures, c.in_ok-entry-3.ensures, c.in_ok-entry-4.ensures) one_to_four_ascend;
-  own_is_there = (1, omega arith, c.in_ok-entry-2.ensures);
+  ascending = rw (c.in_ok-aged_entry.ensures, c.in_ok-aged_entry-2.ensures, c.in_ok-aged_entry-3.ensures, c.in_ok-aged_entry-4.ensures) one_to_four_ascend;
+  own_is_there = (1, omega arith, c.in_ok-aged_entry-2.ensures);
 }

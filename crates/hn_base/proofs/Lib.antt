@@ -5,6 +5,7 @@ pub mod AscendingNumbers
 pub mod Ats
 pub mod BigEndian
 pub mod Causes
+pub mod Decided
 pub mod Decisions
 pub mod Elements
 pub mod Fields

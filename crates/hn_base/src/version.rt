@@ -3,4 +3,6 @@
 pub enum Version {
     /// The first line of a script is `hncp 1`.
     One,
+    /// The first line of a script is `hncp 2`.
+    Two,
 }

@@ -6,3 +6,4 @@ pub mod AskedLemmas
 pub mod Pieces
 pub mod Written
 mod Laters
+mod Existing

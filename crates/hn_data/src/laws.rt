@@ -4,12 +4,12 @@
 
 ghost use Rattle.hn_tlv.specs.Grammar.{HasTlvs};
 ghost use Rattle.hn_data.specs.Items.{Reads};
-ghost use Rattle.hn_data.specs.Laws.{ItemsAreUnique, AscendingSetIsUnique, LaterIsANetwork};
+ghost use Rattle.hn_data.specs.Laws.{ItemsAreUnique, ItemsOrNone, AscendingSetIsUnique, LaterIsANetwork};
 ghost use Rattle.hn_data.specs.OwnData.{AreBytes};
 
 use crate::node_data::NodeData;
-use hn_tlv::list_is_unique;
-use hn_typed::{item_fault_is_unique, item_is_unique};
+use hn_tlv::{first_fault_is_unique, list_is_of_bytes, list_is_unique, list_or_first_fault};
+use hn_typed::{item_fault_is_unique, item_is_unique, item_or_fault};
 
 /// Node data have at most one list of items.
 pub fn items_are_unique()
@@ -18,6 +18,16 @@ pub fn items_are_unique()
     list_is_unique();
     item_is_unique();
     item_fault_is_unique();
+}
+
+/// Numbers are node data with items, or they are none.
+pub fn items_or_none()
+    ensures { ItemsOrNone }
+{
+    list_is_of_bytes();
+    first_fault_is_unique();
+    list_or_first_fault();
+    item_or_fault();
 }
 
 /// Node data are a list of TLVs, and have items.

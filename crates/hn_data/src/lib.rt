@@ -16,7 +16,8 @@ mod walk;
 pub use asked::{keep_alive, linked, version};
 pub use hn_typed::encode;
 pub use laws::{
-    ascending_set_is_unique, items_are_unique, later_is_a_network, node_data_has_items,
+    ascending_set_is_unique, items_are_unique, items_or_none, later_is_a_network,
+    node_data_has_items,
 };
 pub use node_data::NodeData;
 pub use place::{peer_place, place_of};

@@ -97,6 +97,7 @@ fn scripts_are_read_and_printed(rt: HostRuntime) -> Result<(), Fail> {
     assert!(rt; reprinted(rt.alloc(), WRITTEN)?.as_slice() == PRINTED.as_bytes());
     assert!(rt; reprinted(rt.alloc(), NUMBERED)?.as_slice() == flow.as_bytes());
     assert!(rt; reprinted(rt.alloc(), "hncp 1")?.as_slice() == b"hncp 1\n".as_slice());
+    assert!(rt; reprinted(rt.alloc(), "hncp 2\n mail")?.as_slice() == b"hncp 2\nmail\n".as_slice());
     Ok(())
 }
 
@@ -125,7 +126,8 @@ fn are_refused(rt: &impl Abort, alloc: Global, texts: &str, line: u32, code: u8)
 
 /// Unknown words, those of later versions among them.
 const UNKNOWN: &str =
-    "hncp 1\nfly\n|hncp 1\nFlow\n|hncp 1\nflow#\n|hncp 1\nsync A B\n|hncp 1\nhncp 1\n|hncp 1\nfly 1 2 3\n";
+    "hncp 1\nfly\n|hncp 1\nFlow\n|hncp 1\nflow#\n|hncp 1\nsync A B\n|hncp 1\nhncp 1\n|hncp 1\nfly 1 2 3\n|\
+     hncp 2\nfly\n|hncp 2\nhncp 2\n";
 
 /// Too few and too many words.
 const COUNTED: &str =
@@ -166,7 +168,7 @@ fn lines_are_refused(rt: HostRuntime) {
 
 /// No first line of a script.
 const NO_VERSION: &str =
-    "|\n|hncp 2\n| hncp 1\n|hncp  1\n|hncp 1 \n|# a comment\nhncp 1\n|\nhncp 1\n";
+    "|\n|hncp 3\n|hncp 0\n| hncp 2\n| hncp 1\n|hncp  1\n|hncp 1 \n|# a comment\nhncp 1\n|\nhncp 1\n";
 
 /// Bytes that no line may have, in comments too, and in a line with another fault.
 const BYTES: &str =

@@ -9,7 +9,7 @@ use Rattle.hn_script.specs.Script.{IsEntry, AreLines, numbered, first_line, Firs
 use Rattle.hn_script.specs.Texts.{words_of}
 use Rattle.hn_script.specs.declared.line.Line.{Line}
 use Rattle.hn_base.specs.declared.version.Version.{Version}
-use Rattle.hn_base.specs.declared.version.Version.TheVariants.{One}
+use Rattle.hn_base.specs.declared.version.Version.TheVariants.{One, Two}
 
 pub no_lines : (n : ℕ) → AreLines n [] []
 no_lines n = ([], tt, refl)
@@ -55,11 +55,16 @@ pub no_line_fault : (entry : Option Line) (text : List ℕ) → IsEntry entry te
 no_line_fault entry text h code =
     no_text_fault text (WordsFault (words_of text)) code h.short h.plain (λ found. no_words_fault entry (words_of text) found h.gives)
 
+pub plain_first : (version : Version) → IsPlain (first_line version)
+plain_first One = ((omega arith, omega arith), ((omega arith, omega arith), ((omega arith, omega arith), ((omega arith, omega arith), ((omega arith, omega arith), ((omega arith, omega arith), tt))))))
+plain_first Two = ((omega arith, omega arith), ((omega arith, omega arith), ((omega arith, omega arith), ((omega arith, omega arith), ((omega arith, omega arith), ((omega arith, omega arith), tt))))))
+
+short_first : (version : Version) → length (first_line version) ≤ 16384
+short_first One = omega arith
+short_first Two = omega arith
+
 pub no_first_fault : (version : Version) (code : ℕ) → ¬ FirstLineFault (first_line version) code
-no_first_fault One code = no_text_fault (first_line One) (OnCause ((version : Version) → first_line One ≢ first_line version) 1 NoCause) code (omega arith) plain (λ found fault. elim fault [
-  | inl wrong ↦ wrong.0 One refl
+no_first_fault version code = no_text_fault (first_line version) (OnCause ((other : Version) → first_line version ≢ first_line other) 1 NoCause) code (short_first version) (plain_first version) (λ found fault. elim fault [
+  | inl wrong ↦ wrong.0 version refl
   | inr never ↦ never.1
 ])
-  where
-    plain : IsPlain (first_line One)
-    plain = ((omega arith, omega arith), ((omega arith, omega arith), ((omega arith, omega arith), ((omega arith, omega arith), ((omega arith, omega arith), ((omega arith, omega arith), tt))))))

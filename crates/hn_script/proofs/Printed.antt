@@ -29,7 +29,7 @@ use Rattle.hn_script.specs.declared.line.How.{How}
 use Rattle.hn_script.specs.declared.line.How.TheVariants.{Uni, Multi, Far}
 use Rattle.hn_script.specs.declared.line.Line.{Line}
 use Rattle.hn_base.specs.declared.version.Version.{Version}
-use Rattle.hn_base.specs.declared.version.Version.TheVariants.{One}
+use Rattle.hn_script.proofs.Entries.{plain_first}
 use Rattle.hn_script.proofs.HexTexts.{printed_id, IsWord-digits, IsWord-hex}
 use Rattle.hn_script.proofs.LineWords.{first_letters}
 use Rattle.hn_script.proofs.Pieces.{words_last, words_cut, lines_none, lines_cut}
@@ -175,7 +175,7 @@ ended_lines (text ∷ texts) h =
     ∙ ap (λ (found : List (List ℕ)). text ∷ found) (ended_lines texts h.1)
 
 first_lacks : (version : Version) → Lacks 10 (first_line version)
-first_lacks One = plain_lacks (first_line One) ((omega arith, omega arith), ((omega arith, omega arith), ((omega arith, omega arith), ((omega arith, omega arith), ((omega arith, omega arith), ((omega arith, omega arith), tt))))))
+first_lacks version = plain_lacks (first_line version) (plain_first version)
 
 pub printed_script : PrefixTextIsRead → PrintedIsRead
 printed_script print script h small = record {

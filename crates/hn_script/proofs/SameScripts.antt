@@ -1,5 +1,5 @@
 -- Bytes are one script, or have one first fault.
-use Rattle.std.proofs.Common.{◌≡◌, ◌≢◌, ℕ, ◌+◌, List, [], ◌∷◌, Option, Some, None, inl, inr, refl, sym, ap, ◌∙◌, subst, arith}
+use Rattle.std.proofs.Common.{◌≡◌, ◌≢◌, ℕ, ◌+◌, List, [], ◌∷◌, slice_index, Option, Some, None, inl, inr, refl, sym, ap, ◌∙◌, subst, arith}
 use Rattle.std.specs.List.{AllZip}
 use Rattle.hn_base.specs.Causes.{OnCause, NoCause}
 use Rattle.hn_prefix.specs.Laws.{PrefixTextIsOfOne}
@@ -12,7 +12,7 @@ use Rattle.hn_script.specs.declared.fault.ScriptFault.{ScriptFault}
 use Rattle.hn_script.specs.declared.line.Line.{Line}
 use Rattle.hn_script.specs.declared.script.Script.{Script}
 use Rattle.hn_base.specs.declared.version.Version.{Version}
-use Rattle.hn_base.specs.declared.version.Version.TheVariants.{One}
+use Rattle.hn_base.specs.declared.version.Version.TheVariants.{One, Two}
 use Rattle.hn_script.proofs.Entries.{no_line_fault, no_first_fault}
 use Rattle.hn_script.proofs.SameFields.{same_line}
 use Rattle.hn_base.proofs.Fronts.{head_is, tail_is}
@@ -42,6 +42,9 @@ same_entries one (a ∷ left) (b ∷ right) (text ∷ texts) h k =
 -- versions have different first lines
 same_version : (a b : Version) → first_line a ≡ first_line b → a ≡ b
 same_version One One same = refl
+same_version One Two same = absurd (let last : 49 ≡ 50 = ap (λ (text : List ℕ). slice_index text 5) same in omega arith)
+same_version Two One same = absurd (let last : 50 ≡ 49 = ap (λ (text : List ℕ). slice_index text 5) same in omega arith)
+same_version Two Two same = refl
 
 pub one_script : PrefixTextIsOfOne → AtMostOneScript
 one_script one bytes script other h k =

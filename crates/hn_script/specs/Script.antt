@@ -9,15 +9,16 @@ use Rattle.hn_script.specs.declared.fault.ScriptFault.{ScriptFault}
 use Rattle.hn_script.specs.declared.line.Line.{Line}
 use Rattle.hn_script.specs.declared.script.Script.{Script}
 use Rattle.hn_base.specs.declared.version.Version.{Version}
-use Rattle.hn_base.specs.declared.version.Version.TheVariants.{One}
+use Rattle.hn_base.specs.declared.version.Version.TheVariants.{One, Two}
 
 -- the most bytes of a script
 abbrev pub most_bytes : ℕ
 most_bytes = 2 ^ 24
 
--- the first line of each script
+-- the first line of the scripts of each version
 abbrev pub first_line : Version → List ℕ
 first_line One = codes "hncp 1"
+first_line Two = codes "hncp 2"
 
 -- a line after the first, and what it gives: a line, or nothing
 pub record IsEntry (entry : Option Line) (text : List ℕ) : Type 0 where

@@ -1,9 +1,10 @@
 //! The script language of the laboratory: which bytes are a script, of which lines; the first fault of bytes that are
 //! none; the reading of a script, and its printing.
 //!
-//! A script is ASCII text in lines ended by LF; the last line may lack it. The first line is `hncp 1`. In each further
-//! line words are separated by one or more spaces, and spaces at both ends are skipped. A line without words is
-//! skipped, and so is one whose first word begins with `#`. docs/FORMATS.md has the table of lines.
+//! A script is ASCII text in lines ended by LF; the last line may lack it. The first line is `hncp 1` or `hncp 2`; the
+//! lines after it are the same in both versions. In each of them words are separated by one or more spaces, and spaces
+//! at both ends are skipped. A line without words is skipped, and so is one whose first word begins with `#`.
+//! docs/FORMATS.md has the table of lines.
 #![tactic(auto)]
 
 mod code;

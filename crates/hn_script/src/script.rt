@@ -158,6 +158,7 @@ pub fn print(alloc: Global, script: &Script) -> Result<Bytes, NoMemory>
     let mut text = String::new(alloc);
     match script.version {
         Version::One => text.push_str("hncp 1\n")?,
+        Version::Two => text.push_str("hncp 2\n")?,
     }
     for (_, line) in script.lines.as_slice() {
         write!(text, "{line}\n")?;

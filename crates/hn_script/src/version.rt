@@ -12,6 +12,7 @@ fn first_line(version: Version) -> &'static [u8]
 {
     match version {
         Version::One => b"hncp 1",
+        Version::Two => b"hncp 2",
     }
 }
 
@@ -20,5 +21,8 @@ pub(crate) fn version_of(text: &[u8]) -> Option<Version>
     ensures found { IfSome result (λ version. text.now ≡ first_line version) }
     ensures none { IfNone result ((version : Version) → text.now ≢ first_line version) }
 {
-    (text == first_line(Version::One)).then_some(Version::One)
+    if text == first_line(Version::One) {
+        return Some(Version::One);
+    }
+    (text == first_line(Version::Two)).then_some(Version::Two)
 }

@@ -51,7 +51,7 @@ of_item (Assigned endpoint priority prefix subs) d is range = absurd (none-some 
 of_item (Address endpoint address subs) d is range = absurd (none-some d is)
 of_item (Other kind value) d is range = absurd (none-some d is)
 
-said_in_range : (bytes : List ℕ) (d : Delegation) → HasDelegation bytes d → IsDelegation d
+pub said_in_range : (bytes : List ℕ) (d : Delegation) → HasDelegation bytes d → IsDelegation d
 said_in_range bytes d said =
     let inside = said.2.inside in
     let found = from_filter_map delegation_of inside.0 d inside.2 in

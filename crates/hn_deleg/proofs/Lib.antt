@@ -7,3 +7,5 @@ mod Whole
 mod Unique
 mod Fits
 mod Ordered
+mod Laters
+mod Exists

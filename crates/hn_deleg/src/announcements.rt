@@ -13,7 +13,7 @@ use hn_data::{Delegation, Entry, version};
 use std::alloc::Global;
 
 /// What remains of a lifetime in seconds, in milliseconds.
-fn remaining(age: u64, seconds: u32) -> u64
+pub(crate) fn remaining(age: u64, seconds: u32) -> u64
     ensures { result ≡ remaining age seconds }
 {
     if seconds == u32::MAX {

@@ -4,6 +4,7 @@
 mod announcements;
 mod choice;
 mod delegated;
+mod ends;
 mod greatest;
 mod laws;
 mod nesting;
@@ -11,5 +12,9 @@ mod usable;
 
 pub use choice::{outside, wanted};
 pub use delegated::{Delegated, whole_seconds};
-pub use laws::{inside_keeps_the_order, lifetimes_fit, usable_is_unique, usable_never_overlap};
+pub use ends::next_end;
+pub use laws::{
+    ends_of_later, inside_keeps_the_order, lifetimes_fit, usable_exists, usable_is_unique,
+    usable_never_overlap, usable_of_later,
+};
 pub use usable::used;

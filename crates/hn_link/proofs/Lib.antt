@@ -2,3 +2,5 @@ mod Elections
 mod InView
 mod Candidates
 mod Joined
+mod Laters
+mod Exists

@@ -8,4 +8,6 @@ mod rank;
 
 pub use common_link::common;
 pub use election::elected;
-pub use laws::{common_link_is_unique, elected_is_unique};
+pub use laws::{
+    common_link_exists, common_link_is_unique, common_link_of_later, elected_is_unique,
+};

@@ -1,6 +1,6 @@
 ghost use Rattle.std.specs.Prelude.{◌≡◌, ◌↔◌, All, IsTrue, IfOk};
 ghost use Rattle.hn_data.specs.View.{IsNetwork};
-ghost use Rattle.hn_assign.specs.Facts.{IsInDelegated, IsPast};
+ghost use Rattle.hn_assign.specs.Facts.{IsInDelegated, IsAssignedPast};
 
 use crate::cases::{bytes, number_of, parts, prefix, short};
 use crate::nodes::entry;
@@ -108,7 +108,7 @@ fn are_inside(assigned: &[Assigned]) -> bool
 
 /// Whether each assignment was made at this moment or before.
 fn are_past(now: Moment, assigned: &[Assigned]) -> bool
-    ensures { IsTrue result ↔ All (IsPast now) assigned.now }
+    ensures { IsTrue result ↔ All (IsAssignedPast now) assigned.now }
 {
     assigned.iter().all(|c| c.since <= now)
 }

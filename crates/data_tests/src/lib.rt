@@ -11,6 +11,8 @@ mod data;
 #[cfg(test)]
 mod delegating;
 #[cfg(test)]
+mod indexing;
+#[cfg(test)]
 mod links;
 #[cfg(test)]
 mod nodes;

@@ -1,12 +1,14 @@
 -- A list that is strictly ascending by pairs: the part before a pair, what is there, and the part after it.
-use Rattle.std.proofs.Common.{◌≡◌, ◌↔◌, ◌⊎◌, ℕ, ◌+◌, ◌<◌, ◌≤◌, suc, zero, List, [], ◌∷◌, ◌++◌, length, take, drop, get_or, Contains, Option, Some, None, IfSome, Result, Ok, Err, false, IsTrue, is_ok, refl, sym, ap, ◌∙◌, subst, inl, inr, ⊎_elim, arith}
+use Rattle.std.proofs.Common.{◌≡◌, ◌↔◌, ◌⊎◌, ℕ, ◌+◌, ◌-◌, ◌<◌, ◌≤◌, suc, zero, List, [], ◌∷◌, ◌++◌, length, take, drop, get_or, Contains, Option, Some, None, IfSome, Result, Ok, Err, false, IsTrue, is_ok, refl, sym, ap, ◌∙◌, subst, inl, inr, ⊎_elim, arith}
 use Rattle.std.specs.declared.cmp.Ordering.TheVariants.{Less, Greater}
-use Rattle.std.specs.List.{AllByRecursion, AllWithin}
+use Rattle.std.specs.List.{AllByRecursion, AllWithin, slice_get}
 use Rattle.std.specs.List.Sorted.{IsStrictlySortedBy, IsSearchInRange, IsBinarySearchResult}
 use Rattle.std.specs.Option.{option_to_list}
 use Rattle.std.specs.Ordering.{on, ordering_reverse, is_lt}
 use Rattle.std.proofs.Math.Seq.{drop-cons}
+use Rattle.std.proofs.lemmas.Bool.{cases_lt}
 use Rattle.std.proofs.lemmas.List.{take-append-drop}
+use Rattle.std.proofs.lemmas.Option.{get_or_from_slice_get}
 use Rattle.std.proofs.lemmas.List.Elements.{All-contains, All-from_recursion, Contains-append_left, Contains-append_right, Contains-append_cases, Contains-get_or}
 use Rattle.std.proofs.lemmas.List.Sorted.{searchable_from_sorted}
 use Rattle.std.proofs.lemmas.Map.Keys.{sorted_head, sorted_tail, Less-from_sorted}
@@ -218,3 +220,18 @@ module _ {A : Type 0} (key : A → Pair) where
   -- a list in which a pair keeps what it has
   pub updates_same : (pair : Pair) (has : Option A) (xs : List A) → IsAscending key xs → HasAt key pair has xs → Updates key pair has xs xs
   updates_same pair has xs up here = record { ascending = up; here = here; others = λ x not. (λ h. h, λ h. h) }
+
+-- after a last element below the pair is its place
+pub place_at_end : {A : Type 0} (key : A → Pair) (pair : Pair) (xs : List A) (last : A) → IsAscending key xs → slice_get xs (length xs - 1) ≡ Some last
+    → pair_cmp (key last) pair ≡ Less → IsPlace key pair xs (Err (length xs))
+place_at_end {A} key pair xs last up is less = (omega arith, (λ k d from within. below k d within, λ k d from within. absurd (omega (arith, from, within))))
+  where
+    below : (k : ℕ) (d : A) → k < length xs → pair_cmp (key (get_or xs k d)) pair ≡ Less
+    below k d within =
+        let n = length xs - 1 in
+        let at : get_or xs n d ≡ last = get_or_from_slice_get xs n last d is in
+        let at_last : pair_cmp (key (get_or xs n d)) pair ≡ Less = subst (λ (x : A). pair_cmp (key x) pair ≡ Less) (sym at) less in
+        ⊎_elim
+        (λ (before : k < n). pair_total.trans (key (get_or xs k d)) (key (get_or xs n d)) pair (Less-from_sorted (on key pair_cmp) xs k n d up before (omega arith)) at_last)
+        (λ (after : n ≤ k). let same : n ≡ k = omega arith in subst (λ (m : ℕ). pair_cmp (key (get_or xs m d)) pair ≡ Less) same at_last)
+        (cases_lt k n)

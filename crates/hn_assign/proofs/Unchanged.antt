@@ -45,7 +45,7 @@ steps_in_order view [] before after up same = subst IsInOrder (sym same) up
 steps_in_order view (wish ∷ wishes) before after up steps = steps_in_order view wishes steps.0 after (step_in_order view wish steps.1 before steps.0 steps.2) steps.3
 
 -- steps for other pairs leave what a pair has
-steps_leave : (view : PlainView) (wishes : List Wish) (before after : Ran) (pair : Pair) (has : Option Assigned) → ((w : Wish) → Contains wishes w → ¬ (pair ≡ wish_pair w)) → AreSteps view wishes before after
+pub steps_leave : (view : PlainView) (wishes : List Wish) (before after : Ran) (pair : Pair) (has : Option Assigned) → ((w : Wish) → Contains wishes w → ¬ (pair ≡ wish_pair w)) → AreSteps view wishes before after
     → HasAt assigned_pair pair has before.held.assigned → HasAt assigned_pair pair has after.held.assigned
 steps_leave view [] before after pair has other same here = subst (λ (r : Ran). HasAt assigned_pair pair has r.held.assigned) (sym same) here
 steps_leave view (wish ∷ wishes) before after pair has other steps here =

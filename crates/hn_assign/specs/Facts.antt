@@ -1,5 +1,7 @@
 -- What holds of a router's wishes and assignments at each moment.
-use Rattle.std.specs.Prelude.{◌≡◌, ℕ, ◌≤◌, List, Some, All}
+use Rattle.std.specs.Prelude.{◌≡◌, ℕ, ◌≤◌, List, Some, All, Contains}
+use Rattle.hn_base.specs.declared.ids.EpId.{EpId}
+use Rattle.hn_base.specs.declared.ids.NodeId.{NodeId}
 use Rattle.hn_base.specs.Prefix.{IsWithin}
 use Rattle.hn_assign.specs.declared.assigned.Assigned.{Assigned}
 use Rattle.hn_assign.specs.declared.assigned.Wish.{Wish}
@@ -21,9 +23,18 @@ abbrev pub IsInDelegated : Assigned → Type 0
 IsInDelegated c = IsWithin c.prefix c.delegated
 
 -- an assignment was made at this moment or before
-abbrev pub IsPast : ℕ → Assigned → Type 0
-IsPast now c = c.since ≤ now
+abbrev pub IsAssignedPast : ℕ → Assigned → Type 0
+IsAssignedPast now c = c.since ≤ now
 
 -- an assignment that is published has priority 2
 abbrev pub HasOwnPriority : Assigned → Type 0
 HasOwnPriority c = (priority : ℕ) → c.published ≡ Some priority → priority ≡ 2
+
+-- an assignment of this endpoint has a prefix of this length
+abbrev pub IsOfLengthAt : EpId → ℕ → Assigned → Type 0
+IsOfLengthAt e length c = c.endpoint ≡ e → c.prefix.len ≡ length
+
+-- a wish for this endpoint asks for this length, and the node is alone on its Common Link
+abbrev pub IsAloneAt : ℕ → EpId → ℕ → Wish → Type 0
+IsAloneAt own e length wish =
+    wish.endpoint ≡ e → (wish.length ≡ length) × ((at : NodeId × EpId) → Contains wish.common at → at.0.0 ≡ own)

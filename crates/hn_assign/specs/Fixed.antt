@@ -26,10 +26,14 @@ AreDue wishes now held = (b : Backoff) → Contains held.backoffs b ↔ ((wish :
     × HasAt assigned_pair (wish_pair wish) None held.assigned
     × (b ≡ record { delegated = wish.delegated; endpoint = wish.endpoint; due = now }))
 
--- each wished pair, with the assignment that it has, is at rest
+-- a wished pair, with the assignment that it has, is at rest
+abbrev pub IsWishAtRest : List Advertised → ℕ → List Assigned → Wish → Type 0
+IsWishAtRest advertised own assigned wish =
+    (c : Option Assigned) → HasAt assigned_pair (wish_pair wish) c assigned → IsAtRest advertised own wish c
+
+-- each is
 abbrev pub AreAtRest : List Advertised → ℕ → List Wish → List Assigned → Type 0
-AreAtRest advertised own wishes assigned = (wish : Wish) → Contains wishes wish
-    → (c : Option Assigned) → HasAt assigned_pair (wish_pair wish) c assigned → IsAtRest advertised own wish c
+AreAtRest advertised own wishes assigned = (wish : Wish) → Contains wishes wish → IsWishAtRest advertised own assigned wish
 
 -- what the subroutine comes to where each wished pair without an assignment has a backoff that is due at the moment of the
 -- view

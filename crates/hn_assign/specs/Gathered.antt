@@ -1,5 +1,7 @@
 -- The prefixes that a router knows to be advertised (RFC 7695, section 2; RFC 7788, section 10.3).
-use Rattle.std.specs.Prelude.{◌≡◌, ◌≢◌, ℕ, ◌⊎◌, ◌↔◌, List, Some, Contains}
+use Rattle.std.specs.Prelude.{◌≡◌, ◌≢◌, ℕ, ◌⊎◌, ◌↔◌, List, Option, None, Some, Contains}
+use Rattle.std.specs.Option.{option_map}
+use Rattle.hn_base.specs.Prefix.{PlainPrefix}
 use Rattle.hn_data.specs.Said.{HasAssigned, HasVersion}
 use Rattle.hn_data.specs.View.{PlainView}
 use Rattle.hn_data.specs.declared.view.Entry.{Entry}
@@ -37,3 +39,12 @@ IsAdvertised view assigned a =
 -- these are the advertised prefixes
 abbrev pub AreAdvertised : PlainView → List Assigned → List Advertised → Type 0
 AreAdvertised view assigned advertised = (a : Advertised) → Contains advertised a ↔ IsAdvertised view assigned a
+
+-- what is published of a pair's assignment, if anything is: its priority and its prefix
+abbrev pub published_of : Option Assigned → Option (ℕ × PlainPrefix)
+published_of None = None
+published_of (Some c) = option_map (λ priority. (priority, c.prefix)) c.published
+
+-- what is advertised before is advertised afterwards, whatever the view
+abbrev pub AdvertiseSame : List Assigned → List Assigned → Type 0
+AdvertiseSame before after = (view : PlainView) (advertised : List Advertised) → AreAdvertised view before advertised → AreAdvertised view after advertised

@@ -1,16 +1,26 @@
 -- Laws of the assignment subroutine.
-use Rattle.std.specs.Prelude.{◌≡◌, ◌↔◌, ℕ, List, [], Option, All}
+use Rattle.std.specs.Prelude.{◌≡◌, ◌↔◌, ℕ, ◌<◌, List, [], map, Option, All, Contains}
+use Rattle.hn_base.specs.Ascending.{HaveSame}
+use Rattle.hn_base.specs.Prefix.{PlainPrefix}
 use Rattle.hn_base.specs.Words.{Begins}
+use Rattle.hn_data.specs.Later.{IsLater}
+use Rattle.hn_base.specs.declared.ids.EpId.{EpId}
 use Rattle.hn_data.specs.View.{PlainView}
 use Rattle.hn_assign.specs.declared.assigned.Advertised.{Advertised}
 use Rattle.hn_assign.specs.declared.assigned.Assigned.{Assigned}
 use Rattle.hn_assign.specs.declared.assigned.Wish.{Wish}
 use Rattle.hn_assign.specs.declared.held.Held.{Held}
 use Rattle.hn_assign.specs.declared.held.Ran.{Ran}
-use Rattle.hn_assign.specs.Facts.{IsInDelegated, IsPast, HasOwnPriority}
+use Rattle.hn_assign.specs.Due.{IsHeldDue}
+use Rattle.hn_prefix.specs.Free.{IsFirstFree}
+use Rattle.hn_assign.specs.Advertised.{Link}
+use Rattle.hn_assign.specs.Best.{IsBestIfAny, IsValid, HasNoFree}
+use Rattle.hn_assign.specs.Facts.{IsInDelegated, HasOwnPriority, IsAssignedPast, IsOfLengthAt, IsAloneAt}
 use Rattle.hn_assign.specs.Fixed.{IsUnchanged, AreDue, AreAtRest, IsDueRun}
 use Rattle.hn_assign.specs.Gathered.{AreAdvertised}
+use Rattle.hn_assign.specs.Marks.{marked}
 use Rattle.hn_assign.specs.Pair.{IsAscending, IsWished, assigned_pair, backoff_pair, wish_pair}
+use Rattle.hn_assign.specs.Rest.{IsAtRest, IsWantedNoMore}
 use Rattle.hn_assign.specs.Scene.{PlainScene, IsBestFor}
 use Rattle.hn_assign.specs.Subroutine.{IsSubroutine}
 
@@ -30,7 +40,7 @@ SubroutineKeepsInside =
 abbrev pub SubroutineKeepsPast : Type 0
 SubroutineKeepsPast =
     (view : PlainView) (wishes : List Wish) (held : Held) (ran : Ran) → IsSubroutine view wishes held ran
-    → All (IsPast view.now) held.assigned → All (IsPast view.now) ran.held.assigned
+    → All (IsAssignedPast view.now) held.assigned → All (IsAssignedPast view.now) ran.held.assigned
 
 -- Where each published priority was 2, each is afterwards.
 abbrev pub SubroutineKeepsPriority : Type 0
@@ -89,3 +99,96 @@ RestHasADueRun =
     → AreAdvertised view assigned advertised
     → AreAtRest advertised view.own wishes assigned
     → (ran : Ran) × IsDueRun view wishes assigned ran × IsUnchanged assigned ran.held.assigned × (ran.words ≡ [])
+
+-- Where all assignments are of wished pairs and each pair is at rest, the subroutine leaves all assignments as they are,
+-- marks of application aside, whatever the backoffs and the words are.
+abbrev pub RestChangesNothing : Type 0
+RestChangesNothing =
+    (view : PlainView) (wishes : List Wish) (held : Held) (ran : Ran) (advertised : List Advertised)
+    → IsAscending assigned_pair held.assigned
+    → All (λ c. IsWished wishes (assigned_pair c)) held.assigned
+    → AreAdvertised view held.assigned advertised
+    → AreAtRest advertised view.own wishes held.assigned
+    → IsSubroutine view wishes held ran
+    → IsUnchanged held.assigned ran.held.assigned
+
+-- ---- marks of application
+
+-- Marks of application change no assignment.
+abbrev pub MarksChangeNothing : Type 0
+MarksChangeNothing = (now : ℕ) (assigned : List Assigned) → IsUnchanged assigned (map (marked now) assigned)
+
+-- Where all assignments are as they were, marks of application aside, the same prefixes are advertised.
+abbrev pub AdvertisedOfUnchanged : Type 0
+AdvertisedOfUnchanged =
+    (view : PlainView) (before after : List Assigned) (advertised : List Advertised) → IsUnchanged before after
+    → AreAdvertised view before advertised ↔ AreAdvertised view after advertised
+
+-- And the same pairs are at rest.
+abbrev pub RestStays : Type 0
+RestStays =
+    (advertised : List Advertised) (own : ℕ) (wishes : List Wish) (before after : List Assigned) → IsUnchanged before after
+    → AreAtRest advertised own wishes before ↔ AreAtRest advertised own wishes after
+
+-- A pair at rest stays so where its delegated prefix is wanted no more.
+abbrev pub RestStaysUnwanted : Type 0
+RestStaysUnwanted =
+    (advertised : List Advertised) (own : ℕ) (before after : Wish) (assignment : Option Assigned) → IsWantedNoMore before after
+    → IsAtRest advertised own before assignment → IsAtRest advertised own after assignment
+
+-- ---- while time passes
+
+-- While time passes, the same prefixes are advertised.
+abbrev pub AdvertisedOfLater : Type 0
+AdvertisedOfLater =
+    (before after : PlainView) (assigned : List Assigned) (advertised : List Advertised) → IsLater before after
+    → AreAdvertised before assigned advertised ↔ AreAdvertised after assigned advertised
+
+-- Where the subroutine takes no word and leaves what is held as it is, it does so at a later moment too, while nothing
+-- that is held comes to its moment.
+abbrev pub StillRunStays : Type 0
+StillRunStays =
+    (before after : PlainView) (wishes : List Wish) (held : Held) → IsLater before after
+    → IsAscending wish_pair wishes
+    → IsSubroutine before wishes held (record { held = held; words = [] })
+    → ((m : ℕ) → IsHeldDue held m → before.now < m → after.now < m)
+    → IsSubroutine after wishes held (record { held = held; words = [] })
+
+-- ---- lists with the same elements
+
+-- What is best is one.
+abbrev pub SameHaveOneBest : Type 0
+SameHaveOneBest =
+    (a b : List Advertised) → HaveSame a b → (own : ℕ) (common : Link) (d : PlainPrefix) (x y : Option Advertised)
+    → IsBestIfAny a own common d x → IsBestIfAny b own common d y → x ≡ y
+
+-- The same assignments are valid.
+abbrev pub SameHaveSameValid : Type 0
+SameHaveSameValid =
+    (a b : List Advertised) → HaveSame a b → (own : ℕ) (common : Link) (c : Assigned)
+    → IsValid a own common c ↔ IsValid b own common c
+
+-- The first free prefix is one.
+abbrev pub SameHaveOneFirstFree : Type 0
+SameHaveOneFirstFree =
+    (a b : List Advertised) → HaveSame a b → (d : PlainPrefix) (start len : ℕ) (p q : PlainPrefix)
+    → IsFirstFree d start (map (λ x. x.prefix) a) len p → IsFirstFree d start (map (λ x. x.prefix) b) len q → p ≡ q
+
+-- Where nothing is free by the one, nothing is by the other.
+abbrev pub SameHaveSameFree : Type 0
+SameHaveSameFree =
+    (a b : List Advertised) → HaveSame a b → (d : PlainPrefix) (len : ℕ) → HasNoFree a d len ↔ HasNoFree b d len
+
+-- ---- existence, and lengths
+
+-- A view has a list of advertised prefixes, with whatever assignments.
+abbrev pub AdvertisedExists : Type 0
+AdvertisedExists = (view : PlainView) (assigned : List Assigned) → (advertised : List Advertised) × AreAdvertised view assigned advertised
+
+-- Where the own node is alone on the Common Link of an endpoint, and all wishes for that are of one length, it stays so that
+-- each assignment of the endpoint has this length.
+abbrev pub SubroutineKeepsLengths : Type 0
+SubroutineKeepsLengths =
+    (view : PlainView) (wishes : List Wish) (held : Held) (ran : Ran) (e : EpId) (length : ℕ) → IsSubroutine view wishes held ran
+    → ((wish : Wish) → Contains wishes wish → IsAloneAt view.own e length wish)
+    → All (IsOfLengthAt e length) held.assigned → All (IsOfLengthAt e length) ran.held.assigned

@@ -1,8 +1,10 @@
 pub mod Advertised
 pub mod Best
+pub mod Due
 pub mod Facts
 pub mod Fixed
 pub mod Gathered
+pub mod Indexed
 pub mod Laws
 pub mod Lines
 pub mod Marks

@@ -11,9 +11,13 @@ pub record HasFree (at : PlainScene) : Type 0 where
   pub prefix : PlainPrefix
   pub free : IsFreeFor at prefix
 
--- none is wanted, or nothing is free: the pair has no backoff
+-- none is wanted, or nothing is free
+abbrev pub HasNothingToDo : PlainScene → Type 0
+HasNothingToDo at = ¬ (IsTrue at.wish.wanted) ⊎ HasNoFreeFor at
+
+-- then the pair has no backoff
 pub record IsLeft (at : PlainScene) (before : Slot) (words : List ℕ) (after : Slot) : Type 0 where
-  pub nothing_to_do : ¬ (IsTrue at.wish.wanted) ⊎ HasNoFreeFor at
+  pub nothing_to_do : HasNothingToDo at
   pub gives : after ≡ record before { backoff = None }
   pub took : words ≡ []
 

@@ -17,6 +17,28 @@ pub(crate) fn place_of<T: Paired>(items: &[T], pair: &Pair) -> Result<usize, usi
     items.binary_search_by_key(pair, |x| x.pair())
 }
 
+/// The same, where the place is likely to be this one.
+fn place_near<T: Paired>(items: &[T], near: usize, pair: &Pair) -> Result<usize, usize>
+    requires { IsAscending T.pair_of items.now }
+    ensures { IsPlace T.pair_of pair.now items.now result }
+{
+    if near < items.len() && items[near].pair() == *pair {
+        return Ok(near);
+    }
+    place_of(items, pair)
+}
+
+/// The same, where the pair is likely to come after all others.
+pub(crate) fn place_at_end<T: Paired>(items: &[T], pair: &Pair) -> Result<usize, usize>
+    requires { IsAscending T.pair_of items.now }
+    ensures { IsPlace T.pair_of pair.now items.now result }
+{
+    match items.last() {
+        Some(last) if last.pair() < *pair => Err(items.len()),
+        _ => place_of(items, pair),
+    }
+}
+
 /// What the items have for a pair. Never allocates.
 pub(crate) fn find<T: Paired + Copy>(items: &[T], pair: &Pair) -> Option<T>
     requires { IsAscending T.pair_of items.now }
@@ -50,12 +72,12 @@ pub(crate) fn put<T: Paired + Copy>(
     Ok(())
 }
 
-/// Whether there is a wish for the pair. Never allocates.
-fn is_wished(wishes: &[Wish], pair: &Pair) -> bool
+/// Whether there is a wish for the pair, which is likely to be at a place. Never allocates.
+pub(crate) fn is_wished(wishes: &[Wish], near: usize, pair: &Pair) -> bool
     requires { IsAscending wish_pair wishes.now }
     ensures { IsTrue result ↔ IsWished wishes.now pair.now }
 {
-    place_of(wishes, pair).is_ok()
+    place_near(wishes, near, pair).is_ok()
 }
 
 /// A copy of the items that are for wished pairs.
@@ -70,7 +92,7 @@ pub(crate) fn wished<T: Paired + Copy>(
 {
     let mut kept = Vec::new(alloc);
     for x in items {
-        if is_wished(wishes, &x.pair()) {
+        if is_wished(wishes, kept.len(), &x.pair()) {
             kept.push(*x)?;
         }
     }

@@ -1,5 +1,6 @@
-ghost use Rattle.std.specs.Prelude.{◌≡◌, [], map, false, IfOk, OnOk, IfSome};
+ghost use Rattle.std.specs.Prelude.{◌≡◌, [], map, false, IsTrue, IfOk, OnOk, IfSome};
 ghost use Rattle.hn_base.specs.Ascending.{HasAt};
+ghost use Rattle.hn_assign.specs.Gathered.{AdvertiseSame, published_of};
 ghost use Rattle.hn_assign.specs.Pair.{IsAscending, Updates, KeepsWished, assigned_pair, wish_pair};
 ghost use Rattle.hn_assign.specs.Marks.{marked};
 
@@ -7,12 +8,13 @@ use crate::ascending::{find, put, wished};
 use crate::assigned::{Assigned, Wish};
 use crate::pair::Pair;
 use hn_base::{Moment, NoMemory};
+use hn_prefix::Prefix;
 use std::alloc::Global;
 use std::marker::Model;
 
 /// How long an assignment is kept before it is applied, in milliseconds: twice the flooding delay of 5 seconds
-/// (RFC 7695, section 4.3; RFC 7788, section 3).
-const APPLY_DELAY: u64 = 10_000;
+/// (RFC 7695, section 4.3; RFC 7788, sections 6.3.1 and 6.3.3).
+pub(crate) const APPLY_DELAY: u64 = 10_000;
 
 /// A router's assignments, strictly ascending by delegated prefix and endpoint. Contracts see their list.
 #[derive(Drop)]
@@ -52,6 +54,23 @@ fn mark_all(items: &mut [Assigned], now: Moment)
     }
 }
 
+/// What is published of a pair's assignment, if anything is: its priority and its prefix.
+fn published(c: &Option<Assigned>) -> Option<(u8, Prefix)>
+    ensures { result ≡ published_of c.now }
+{
+    match c {
+        None => None,
+        Some(c) => c.published.map(|priority| (priority, c.prefix)),
+    }
+}
+
+/// Whether the same is published of both.
+fn publish_same(old: &Option<Assigned>, new: &Option<Assigned>) -> bool
+    ensures { IsTrue result → published_of old.now ≡ published_of new.now }
+{
+    published(old) == published(new)
+}
+
 impl Assignments {
     /// No assignments. Never allocates.
     pub fn new(alloc: Global) -> Assignments
@@ -86,7 +105,7 @@ impl Assignments {
         find(self.items.as_slice(), pair)
     }
 
-    /// Gives a pair another assignment in place of the one that it has, or none: whether that is a change.
+    /// Gives a pair another assignment in place of the one that it has, or none: whether what is published of it changes.
     pub(crate) fn change(
         &mut self,
         pair: &Pair,
@@ -96,14 +115,14 @@ impl Assignments {
         requires had { HasAt assigned_pair pair.now old.now self.old }
         requires of_pair { IfSome new.now (λ c. assigned_pair c ≡ pair.now) }
         ensures updates { OnOk result (Updates assigned_pair pair.now new.now self.old self.new) }
-        ensures unchanged { IfOk result (λ changed. changed ≡ false → self.new ≡ self.old) }
+        ensures unchanged { IfOk result (λ changed. changed ≡ false → AdvertiseSame self.old self.new) }
     {
         let items = &mut self.items;
         if old == new {
             return Ok(false);
         }
         put(items, pair, *new)?;
-        Ok(true)
+        Ok(!publish_same(old, new))
     }
 
     /// A copy of the assignments of wished pairs.

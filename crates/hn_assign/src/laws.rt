@@ -12,11 +12,13 @@ ghost use Rattle.hn_assign.specs.declared.assigned.Wish.{Wish};
 ghost use Rattle.hn_assign.specs.declared.held.Held.{Held};
 ghost use Rattle.hn_assign.specs.declared.held.Ran.{Ran};
 ghost use Rattle.hn_assign.specs.declared.slot.Slot.{Slot};
-ghost use Rattle.hn_assign.specs.Laws.{BestIsUnique, SubroutineKeepsInside, SubroutineKeepsPast, SubroutineKeepsPriority, AssignedAscend, BackoffsAscend, AssignedAreWished, SubroutineHasOneResult, RestIsUnchanged, RestHasADueRun};
+ghost use Rattle.hn_assign.specs.Laws.{BestIsUnique, SubroutineKeepsInside, SubroutineKeepsPast, SubroutineKeepsPriority, AssignedAscend, BackoffsAscend, AssignedAreWished, SubroutineHasOneResult, RestIsUnchanged, RestHasADueRun, RestChangesNothing, MarksChangeNothing, AdvertisedOfUnchanged, RestStays, RestStaysUnwanted, AdvertisedOfLater, StillRunStays, SameHaveOneBest, SameHaveOneFirstFree, SameHaveSameFree, SameHaveSameValid, AdvertisedExists, SubroutineKeepsLengths};
 ghost use Rattle.hn_assign.specs.Lines.{IsKept, IsAdopted, IsKeptAhead, IsYielded, IsReplaced};
 ghost use Rattle.hn_assign.specs.Pair.{IsWished, backoff_pair, pair_cmp};
 ghost use Rattle.hn_assign.specs.Scene.{PlainScene};
 ghost use Rattle.hn_assign.specs.Subroutine.{IsSubroutine};
+
+use hn_data::{items_are_unique, items_or_none};
 
 /// The order of pairs is total, and only a pair itself is equal to it by this order.
 pub fn pairs_are_ordered()
@@ -38,11 +40,13 @@ pub fn lines_exclude_each_other()
 {}
 
 /// What the subroutine keeps of each assignment: its prefix is inside its delegated prefix; it was made at the moment
-/// of the view or before; where it is published, its priority is 2.
+/// of the view or before; where it is published, its priority is 2; where the own node is alone on the Common Link of its
+/// endpoint, its length is the one that is asked for.
 pub fn subroutine_keeps()
     ensures inside { SubroutineKeepsInside }
     ensures past { SubroutineKeepsPast }
     ensures priority { SubroutineKeepsPriority }
+    ensures alone { SubroutineKeepsLengths }
 {}
 
 /// What the subroutine leaves: both lists strictly ascend by delegated prefix and endpoint, and have nothing for a pair
@@ -73,3 +77,54 @@ pub fn rest_is_unchanged()
 pub fn rest_has_a_run()
     ensures { RestHasADueRun }
 {}
+
+/// Where all assignments are of wished pairs and each pair is at rest, the subroutine leaves all assignments as they are,
+/// marks of application aside, whatever the backoffs and the words are.
+pub fn rest_changes_nothing()
+    ensures { RestChangesNothing }
+{}
+
+/// Marks of application change no assignment.
+pub fn marks_change_nothing()
+    ensures { MarksChangeNothing }
+{}
+
+/// Where all assignments are as they were, marks of application aside, the same prefixes are advertised.
+pub fn advertised_of_unchanged()
+    ensures { AdvertisedOfUnchanged }
+{}
+
+/// Where all assignments are as they were, marks of application aside, the same pairs are at rest. And a pair at rest
+/// stays so where its delegated prefix is wanted no more.
+pub fn rest_stays()
+    ensures unchanged { RestStays }
+    ensures unwanted { RestStaysUnwanted }
+{}
+
+/// While time passes, the same prefixes are advertised.
+pub fn advertised_of_later()
+    ensures { AdvertisedOfLater }
+{}
+
+/// Where the subroutine takes no word and leaves what is held as it is, it does so at a later moment too, while nothing
+/// that is held comes to its moment.
+pub fn still_run_stays()
+    ensures { StillRunStays }
+{}
+
+/// Of lists with the same elements, in whatever order, the best prefix, the valid assignments and the free prefixes are
+/// the same. So an index answers what `best`, `valid` and `first_free` answer on the list that it was made of.
+pub fn answers_know_no_order()
+    ensures best { SameHaveOneBest }
+    ensures valid { SameHaveSameValid }
+    ensures first { SameHaveOneFirstFree }
+    ensures none { SameHaveSameFree }
+{}
+
+/// A view has a list of advertised prefixes.
+pub fn advertised_exists()
+    ensures { AdvertisedExists }
+{
+    items_or_none();
+    items_are_unique();
+}

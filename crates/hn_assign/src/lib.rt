@@ -6,13 +6,15 @@ mod assigned;
 mod assignments;
 mod backoff;
 mod backoffs;
+mod due;
 mod gathering;
 mod held;
-mod known;
+mod index;
 mod laws;
 mod lines;
 mod pair;
 mod precedence;
+mod rest;
 mod scene;
 mod slot;
 mod step;
@@ -27,13 +29,16 @@ pub use backoff::Backoff;
 pub use backoffs::Backoffs;
 pub use gathering::{AdvertisedPrefixes, gather};
 pub use held::{Held, Ran};
-pub use known::Known;
+pub use index::Index;
 pub use laws::{
-    lines_exclude_each_other, pairs_are_ordered, rest_has_a_run, rest_is_unchanged,
-    subroutine_has_one_result, subroutine_keeps, subroutine_leaves,
+    advertised_exists, advertised_of_later, advertised_of_unchanged, answers_know_no_order,
+    lines_exclude_each_other, marks_change_nothing, pairs_are_ordered, rest_changes_nothing,
+    rest_has_a_run, rest_is_unchanged, rest_stays, still_run_stays, subroutine_has_one_result,
+    subroutine_keeps, subroutine_leaves,
 };
 pub use pair::Pair;
 pub use precedence::{PRIORITY, best, valid};
+pub use rest::{are_at_rest, is_at_rest};
 pub use scene::Scene;
 pub use subroutines::subroutine;
 pub use wishes::Wishes;

@@ -2,8 +2,7 @@ ghost use Rattle.std.specs.Prelude.{◌≡◌, ◌≤◌, ◌↔◌, IsTrue, IfS
 ghost use Rattle.hn_assign.specs.Scene.{plain_scene, IsBestFor, IsValidFor, IsFreeFor, HasNoFreeFor, IsFirstFreeFor, new_assigned};
 
 use crate::assigned::{Advertised, Assigned, Wish};
-use crate::known::Known;
-use crate::precedence::{best, valid};
+use crate::index::Index;
 use hn_base::{Moment, NodeId};
 use hn_prefix::Prefix;
 
@@ -13,7 +12,7 @@ pub struct Scene<'a> {
     pub own: NodeId,
     pub now: Moment,
     pub wish: &'a Wish,
-    pub known: &'a Known,
+    pub known: &'a Index,
 }
 
 impl Scene<'_> {
@@ -21,24 +20,15 @@ impl Scene<'_> {
     pub fn best(&self) -> Option<Advertised>
         ensures { IsBestFor (plain_scene self.entry.now) result }
     {
-        best(
-            self.known.as_slice(),
-            self.own,
-            self.wish.common.as_slice(),
-            &self.wish.delegated,
-        )
+        let common = self.wish.common.as_slice();
+        self.known.best(self.own, common, &self.wish.delegated)
     }
 
     /// Whether an assignment of the pair is valid.
     pub fn is_valid(&self, c: &Assigned) -> bool
         ensures { IsTrue result ↔ IsValidFor (plain_scene self.entry.now) c.now }
     {
-        valid(
-            self.known.as_slice(),
-            self.own,
-            self.wish.common.as_slice(),
-            c,
-        )
+        self.known.valid(self.own, self.wish.common.as_slice(), c)
     }
 
     /// The first free prefix for the pair, in cyclic order from a place.
@@ -49,7 +39,7 @@ impl Scene<'_> {
         ensures none { IfNone result (HasNoFreeFor (plain_scene self.entry.now)) }
     {
         self.known
-            .first_free(&self.wish.delegated, start, self.wish.length)
+            .first_free(&self.wish.delegated, u128::from(start), self.wish.length)
     }
 
     /// An assignment of the pair, from now on.

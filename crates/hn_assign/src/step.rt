@@ -1,12 +1,12 @@
 ghost use Rattle.std.specs.Prelude.{◌≡◌, ◌^◌, ◌≤◌, ◌++◌, false, IfOk, OnOk};
 ghost use Rattle.std.specs.Option.{option_to_list};
 ghost use Rattle.hn_data.specs.View.{plain_view};
-ghost use Rattle.hn_assign.specs.Gathered.{AreAdvertised};
+ghost use Rattle.hn_assign.specs.Gathered.{AdvertiseSame, AreAdvertised};
 ghost use Rattle.hn_assign.specs.Step.{IsStep, StepTook};
 
 use crate::assigned::Wish;
 use crate::held::Ran;
-use crate::known::Known;
+use crate::index::Index;
 use crate::pair::Paired;
 use crate::scene::Scene;
 use hn_base::{NoMemory, Words};
@@ -14,11 +14,11 @@ use hn_data::View;
 use hn_io::Draw;
 
 impl Ran {
-    /// The turn of a pair: whether it changed an assignment.
+    /// The turn of a pair: whether it changed what the router advertises.
     pub(crate) fn step<'a, D: Draw>(
         &mut self,
         view: &View<'_>,
-        known: &'a Known,
+        known: &'a Index,
         wish: &'a Wish,
         draw: &mut D,
     ) -> Result<bool, NoMemory>
@@ -26,7 +26,7 @@ impl Ran {
         requires length { wish.now.length ≤ 64 }
         requires moment { view.now.now ≤ 2 ^ 48 }
         ensures step { IfOk result (λ _. StepTook (plain_view view.entry.now) wish.now (D.words draw.old) (D.words draw.new) self.old self.new) }
-        ensures unchanged { IfOk result (λ changed. changed ≡ false → self.new.held.assigned ≡ self.old.held.assigned) }
+        ensures unchanged { IfOk result (λ changed. changed ≡ false → AdvertiseSame self.old.held.assigned self.new.held.assigned) }
     {
         let pair = wish.pair();
         let before = self.held.slot(&pair);

@@ -1,13 +1,13 @@
 ghost use Rattle.std.specs.Prelude.{◌^◌, ◌≤◌, All, IfOk};
 ghost use Rattle.hn_base.specs.Words.{Took};
 ghost use Rattle.hn_data.specs.View.{plain_view, IsNetwork};
-ghost use Rattle.hn_assign.specs.Facts.{AreWishes, IsInDelegated, IsPast, HasOwnPriority};
+ghost use Rattle.hn_assign.specs.Facts.{AreWishes, IsInDelegated, IsAssignedPast, HasOwnPriority};
 ghost use Rattle.hn_assign.specs.Pair.{IsAscending, assigned_pair, backoff_pair, wish_pair};
 ghost use Rattle.hn_assign.specs.Subroutine.{IsBegun, IsSubroutine};
 
 use crate::assigned::Wish;
 use crate::held::{Held, Ran};
-use crate::known::Known;
+use crate::index::Index;
 use crate::wishes::Wishes;
 use hn_base::{NoMemory, Words};
 use hn_data::View;
@@ -31,7 +31,7 @@ pub fn subroutine<D: Draw>(
     requires network { IsNetwork view.now.own.0 view.now.nodes.now }
     requires moment { view.now.now ≤ 2 ^ 48 }
     requires inside { All IsInDelegated held.now.assigned }
-    requires past { All (IsPast view.now.now) held.now.assigned }
+    requires past { All (IsAssignedPast view.now.now) held.now.assigned }
     ensures subroutine { IfOk result (IsSubroutine (plain_view view.entry.now) wishes.now held.now) }
     ensures drew { IfOk result (λ ran. Took (D.words draw.old) ran.words (D.words draw.new)) }
 
@@ -39,7 +39,7 @@ pub fn subroutine<D: Draw>(
     ensures ascending { IfOk result (λ ran. IsAscending assigned_pair ran.held.assigned
         × IsAscending backoff_pair ran.held.backoffs) }
     ensures inside { IfOk result (λ ran. All IsInDelegated ran.held.assigned) }
-    ensures past { IfOk result (λ ran. All (IsPast view.entry.now.now) ran.held.assigned) }
+    ensures past { IfOk result (λ ran. All (IsAssignedPast view.entry.now.now) ran.held.assigned) }
     ensures priority { All HasOwnPriority held.now.assigned → IfOk result (λ ran. All HasOwnPriority ran.held.assigned) }
 {
     let ran = run(alloc, view, wishes.as_slice(), held, draw)?;
@@ -62,10 +62,14 @@ fn run<D: Draw>(
 {
     words_join();
     let mut ran = begin(alloc, wishes, held)?;
-    let mut known = Known::gather(alloc, view, &ran.held)?;
+    if wishes.is_empty() {
+        ran.held.assigned.mark(view.now);
+        return Ok(ran);
+    }
+    let mut known = Index::gather(alloc, view, &ran.held)?;
     for wish in wishes {
         if ran.step(view, &known, wish, draw)? {
-            known = Known::gather(alloc, view, &ran.held)?;
+            known = Index::gather(alloc, view, &ran.held)?;
         }
     }
     ran.held.assigned.mark(view.now);

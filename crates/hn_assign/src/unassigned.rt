@@ -1,10 +1,10 @@
 //! The first line of the table: a pair without a best prefix and without an assignment (RFC 7695, section 4.1).
 
-ghost use Rattle.std.specs.Prelude.{◌≡◌, ◌^◌, ◌<◌, ◌≤◌, ◌⊎◌, IsTrue, Some, None, MatchBool};
+ghost use Rattle.std.specs.Prelude.{◌≡◌, ◌^◌, ◌≤◌, Some, None, MatchBool};
 ghost use Rattle.std.specs.Option.{option_to_list};
 ghost use Rattle.hn_base.specs.Words.{Took};
-ghost use Rattle.hn_assign.specs.Scene.{plain_scene, HasNoFreeFor};
-ghost use Rattle.hn_assign.specs.Unassigned.{HasFree, IsLeft, IsPostponed, IsWaiting, IsMade, IsUnassigned};
+ghost use Rattle.hn_assign.specs.Scene.{plain_scene};
+ghost use Rattle.hn_assign.specs.Unassigned.{HasFree, HasNothingToDo, IsLeft, IsPostponed, IsWaiting, IsMade, IsUnassigned};
 
 use crate::backoff::Backoff;
 use crate::precedence::PRIORITY;
@@ -39,10 +39,9 @@ impl Scene<'_> {
     }
 
     /// Whether a prefix is wanted and one is free.
-    fn has_free(&self) -> bool
+    pub(crate) fn has_free(&self) -> bool
         requires { self.now.wish.now.length ≤ 64 }
-        ensures { MatchBool result (HasFree (plain_scene self.entry.now))
-            (¬ (IsTrue self.entry.now.wish.now.wanted) ⊎ HasNoFreeFor (plain_scene self.entry.now)) }
+        ensures { MatchBool result (HasFree (plain_scene self.entry.now)) (HasNothingToDo (plain_scene self.entry.now)) }
     {
         self.wish.wanted && self.first_free(0).is_some()
     }

@@ -3,7 +3,7 @@ ghost use Rattle.hn_assign.specs.declared.assigned.Wish.{Wish};
 ghost use Rattle.hn_assign.specs.Facts.{IsFitting, AreWishes};
 ghost use Rattle.hn_assign.specs.Pair.{IsWished, wish_pair};
 
-use crate::ascending::place_of;
+use crate::ascending::place_at_end;
 use crate::assigned::Wish;
 use crate::pair::Paired;
 use hn_base::NoMemory;
@@ -58,7 +58,7 @@ impl Wishes {
         ensures unchanged { IfOk result (λ added. added ≡ false → self.new ≡ self.old) }
         ensures err { OnErr result (self.new ≡ self.old) }
     {
-        match place_of(&self.items, &wish.pair()) {
+        match place_at_end(&self.items, &wish.pair()) {
             Ok(_) => Ok(false),
             Err(place) => {
                 self.items.insert(place, wish)?;

@@ -139,8 +139,8 @@ impl Prefix {
         self.bits <= other.last_address() && other.bits <= self.last_address()
     }
 
-    /// The highest address inside, whose bits past the length are ones.
-    pub(crate) fn last_address(&self) -> u128
+    /// The highest address inside, whose bits past the length are ones. Never allocates.
+    pub fn last_address(&self) -> u128
         ensures value { result ≡ last_address self.now }
         ensures valid { IsPrefix self.now }
     {

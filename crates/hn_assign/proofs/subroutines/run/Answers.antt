@@ -1,6 +1,5 @@
 use Rattle.std.proofs.Common.{List, sym, subst, take}
 use Rattle.hn_data.specs.View.{plain_view}
-use Rattle.hn_assign.specs.declared.assigned.Assigned.{Assigned}
 use Rattle.hn_assign.specs.declared.assigned.Wish.{Wish}
 use Rattle.hn_assign.specs.Gathered.{AreAdvertised}
 use Rattle.hn_assign.specs.Subroutine.{AreSteps}
@@ -21,9 +20,7 @@ loop-wish-preserved g c =
           (steps_more view (take i wishes) c.wish-item.result took.words c.in_ok-ran.ran c.loop-wish.ran c.step.new.self c.loop-wish.invariant.steps took.step);
       known = elim c.if-branch.branch [
         | then-branch+in_ok-known-2 w ↦ subst (AreAdvertised view c.step.new.self.held.assigned) (sym w.known-is) w.in_ok-known-2.ensures
-        | else-branch w ↦
-            subst (λ (assigned : List Assigned). AreAdvertised view assigned c.if-branch.known) (sym (c.in_ok-step.ensures.unchanged w.if-branch.false))
-            (subst (AreAdvertised view c.loop-wish.ran.held.assigned) (sym w.known-is) c.loop-wish.invariant.known)
+        | else-branch w ↦ subst (AreAdvertised view c.step.new.self.held.assigned) (sym w.known-is) (c.in_ok-step.ensures.unchanged w.if-branch.false view c.loop-wish.known c.loop-wish.invariant.known)
       ];
       drew = took_more c.words_join.ensures view c.wish-item.result _ _ _ c.loop-wish.ran c.step.new.self c.loop-wish.invariant.drew took;
     }

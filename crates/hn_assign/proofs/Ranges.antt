@@ -1,0 +1,53 @@
+-- Advertised prefixes in order of their bits: those that begin inside a prefix follow one another.
+use Rattle.std.proofs.Common.{◌≡◌, ◌↔◌, ◌∙◌, ℕ, ◌+◌, ◌-◌, ◌<◌, ◌≤◌, true, false, nat_lt, ltb-true, List, length, get_or, take, drop, Contains, sym, ap, subst, ⊎_elim, arith, length-drop}
+use Rattle.std.specs.List.Sorted.{IsPartitionPoint, IsNonDecreasingBy}
+use Rattle.std.proofs.lemmas.Bool.{cases_lt}
+use Rattle.std.proofs.lemmas.List.{get_or-take, get_or-drop, length-take}
+use Rattle.hn_base.specs.Prefix.{PlainPrefix, IsInside}
+use Rattle.hn_assign.specs.declared.assigned.Advertised.{Advertised}
+use Rattle.hn_assign.specs.Indexed.{IsFront}
+
+-- the first addresses before the place are below an address, and those from it on are not
+abbrev pub IsBelow : List Advertised → ℕ → ℕ → Type 0
+IsBelow adv first = IsPartitionPoint (λ a. nat_lt a.prefix.bits first ≡ true) (λ a. nat_lt a.prefix.bits first ≡ false) adv
+
+-- the addresses inside are those from the first to the last
+abbrev pub IsFromTo : PlainPrefix → ℕ → ℕ → Type 0
+IsFromTo outer first last = (address : ℕ) → IsInside address outer ↔ (first ≤ address) × (address ≤ last)
+
+module _ (adv : List Advertised) (outer : PlainPrefix) (first last start : ℕ) (front : List Advertised) (from_to : IsFromTo outer first last) (rises : IsNonDecreasingBy (λ (a : Advertised). a.prefix.bits) adv) (below : IsBelow adv first start) (bounded : start ≤ length adv) (is : IsFront (drop start adv) last front) where
+  rest : length (drop start adv) ≡ length adv - start
+  rest = length-drop start adv
+
+  -- one that is inside is not before the start
+  from_start : (k : ℕ) (a : Advertised) → k < length adv → get_or adv k a ≡ a → first ≤ a.prefix.bits → start ≤ k
+  from_start k a lt at low =
+      ⊎_elim
+      (λ (less : k < start).
+      let before : nat_lt a.prefix.bits first ≡ true = subst (λ (x : Advertised). nat_lt x.prefix.bits first ≡ true) at (below.0 k a (omega arith) less) in
+      let under = ltb-true _ _ before in absurd (omega (arith, low)))
+      (λ (past : start ≤ k). past) (cases_lt k start)
+
+  -- nor behind the end
+  to_end : (k : ℕ) (a : Advertised) → k < length adv → start ≤ k → get_or adv k a ≡ a → a.prefix.bits ≤ last → k - start < is.count
+  to_end k a lt from at high =
+      ⊎_elim
+      (λ (less : k - start < is.count). less)
+      (λ (past : is.count ≤ k - start).
+      let next = is.next a (omega (arith, rest)) in
+      let there : get_or (drop start adv) is.count a ≡ get_or adv (start + is.count) a = get_or-drop start adv is.count a in
+      let above : last < (get_or adv (start + is.count) a).prefix.bits = subst (λ (x : Advertised). last < x.prefix.bits) there next in
+      let up : (get_or adv (start + is.count) a).prefix.bits ≤ (get_or adv k a).prefix.bits = rises (start + is.count) k a (omega arith) lt in
+      let here : (get_or adv k a).prefix.bits ≡ a.prefix.bits = ap (λ (x : Advertised). x.prefix.bits) at in
+      absurd (omega arith))
+      (cases_lt (k - start) is.count)
+
+  pub in_front : (a : Advertised) → Contains adv a → IsInside a.prefix.bits outer → Contains front a
+  in_front a (k, lt, at) inside =
+      let here = (from_to a.prefix.bits).0 inside in
+      let low = from_start k a lt at here.0 in
+      let high = to_end k a lt low at here.1 in
+      let place : start + (k - start) ≡ k = omega arith in
+      let size = length-take is.count (drop start adv) in
+      let found : Contains (take is.count (drop start adv)) a = (k - start, omega (arith, rest), get_or-take is.count (drop start adv) (k - start) a high ∙ get_or-drop start adv (k - start) a ∙ ap (λ i. get_or adv i a) place ∙ at) in
+      subst (λ (xs : List Advertised). Contains xs a) (sym is.taken) found

@@ -1,0 +1,17 @@
+use Rattle.std.proofs.Common.{List}
+use Rattle.std.proofs.lemmas.Result.{IfOk-weaker}
+use Rattle.hn_base.specs.Ascending.{HaveSame}
+use Rattle.hn_data.specs.View.{plain_view}
+use Rattle.hn_assign.specs.declared.assigned.Advertised.{Advertised}
+use Rattle.hn_assign.specs.Gathered.{AreAdvertised}
+use Rattle.hn_assign.proofs.Indexes.{advertised_same}
+use Rattle.hn_assign.proofs.index.Index.gather.Goals as goal
+
+pub returns : goal.returns
+returns c =
+    let view = plain_view c.args.view.now in
+    let assigned = c.args.held.now.assigned in
+    let P : List Advertised → Type 0 = λ index. HaveSame index c.in_ok-advertised.advertised in
+    IfOk-weaker c.over.result P (AreAdvertised view assigned)
+    (λ index same. advertised_same view assigned index c.in_ok-advertised.advertised same c.in_ok-advertised.ensures)
+    (rw c.into_vec.ensures at c.over.ensures)

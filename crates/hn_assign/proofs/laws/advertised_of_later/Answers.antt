@@ -1,0 +1,5 @@
+use Rattle.hn_assign.proofs.Laters.{advertised_later}
+use Rattle.hn_assign.proofs.laws.advertised_of_later.Goals as goal
+
+pub returns : goal.returns
+returns c = advertised_later

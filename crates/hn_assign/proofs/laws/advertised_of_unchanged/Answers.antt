@@ -1,0 +1,5 @@
+use Rattle.hn_assign.proofs.Laters.{advertised_unchanged}
+use Rattle.hn_assign.proofs.laws.advertised_of_unchanged.Goals as goal
+
+pub returns : goal.returns
+returns c = advertised_unchanged

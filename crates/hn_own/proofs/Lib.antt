@@ -1,3 +1,4 @@
+mod Endings
 mod OwnPieces
 mod OwnSame
 mod OwnSizes

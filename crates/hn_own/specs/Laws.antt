@@ -1,8 +1,9 @@
 -- Laws of a router's own delegated prefixes and node data.
-use Rattle.std.specs.Prelude.{◌≡◌, Bool, true, List, filter}
+use Rattle.std.specs.Prelude.{◌≡◌, ◌↔◌, ◌≤◌, ℕ, Bool, true, false, List, filter}
 use Rattle.hn_own.specs.declared.own_prefixes.OwnPrefix.{OwnPrefix}
+use Rattle.hn_own.specs.Due.{IsOwnEnd}
 use Rattle.hn_own.specs.Own.{PlainData, IsOwnData}
-use Rattle.hn_own.specs.OwnPrefixes.{AreOwnPrefixes, may_delegate, delegated_with}
+use Rattle.hn_own.specs.OwnPrefixes.{AreOwnPrefixes, may_delegate, delegated_with, delegated_after, has_ended_one}
 
 -- Own items that are published at a moment encode to one node data.
 abbrev pub OwnDataIsUnique : Type 0
@@ -18,3 +19,11 @@ AddingKeepsOwnPrefixes =
 abbrev pub LeavingKeepsOwnPrefixes : Type 0
 LeavingKeepsOwnPrefixes =
     (stays : OwnPrefix → Bool) (list : List OwnPrefix) → AreOwnPrefixes list → AreOwnPrefixes (filter stays list)
+
+-- Some valid lifetime has ended if and only if the moment at which one ends has come.
+abbrev pub EndingIsAMoment : Type 0
+EndingIsAMoment = (now : ℕ) (list : List OwnPrefix) → (has_ended_one now list ≡ true) ↔ ((m : ℕ) × IsOwnEnd list m × (m ≤ now))
+
+-- All prefixes stay if and only if no valid lifetime has ended.
+abbrev pub NoneEnds : Type 0
+NoneEnds = (now : ℕ) (list : List OwnPrefix) → (delegated_after now list ≡ list) ↔ (has_ended_one now list ≡ false)

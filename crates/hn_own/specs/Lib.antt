@@ -4,3 +4,4 @@ pub mod HeldPairs
 pub mod Ports
 pub mod Own
 pub mod Laws
+pub mod Due

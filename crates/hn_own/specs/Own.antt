@@ -2,6 +2,7 @@
 use Rattle.std.specs.Prelude.{◌≡◌, ℕ, ◌^◌, ◌<◌, ◌≤◌, List, [], ◌∷◌, ◌++◌, map, codes, length, All}
 use Rattle.std.specs.List.{flat_map}
 use Rattle.hn_base.specs.Caps.{plain_caps}
+use Rattle.hn_base.specs.declared.caps.Caps.{Caps}
 use Rattle.hn_tlv.specs.Grammar.{spelling}
 use Rattle.hn_hash.specs.Hash.{hash_of}
 use Rattle.hn_typed.specs.Item.{PlainItem, Version, Peer, External, Delegated, Assigned}
@@ -33,6 +34,10 @@ pub record AreFew (own : OwnItems) : Type 0 where
   pub assigned : length own.assigned ≤ 512
   pub priority : All (λ a. a.priority ≡ 2) own.assigned
 
+-- an HNCP-Version with the user agent `hncp` (RFC 7788, section 10.1)
+abbrev pub version_item : Caps → PlainItem
+version_item caps = Version (plain_caps caps) (codes "hncp")
+
 -- a Peer
 abbrev pub peer_item : PeerLink → PlainItem
 peer_item link = Peer link.peer.0 link.peer_endpoint.0 link.endpoint.0 []
@@ -54,7 +59,7 @@ assigned_item a = Assigned a.endpoint.0 a.priority a.prefix []
 -- each peer of each endpoint, the External-Connection, and an Assigned-Prefix for each published assignment
 abbrev pub items_of : ℕ → OwnItems → List PlainItem
 items_of now own =
-    Version (plain_caps own.caps) (codes "hncp") ∷ (map peer_item own.links ++ external_items now own.delegated ++ map assigned_item own.assigned)
+    version_item own.caps ∷ (map peer_item own.links ++ external_items now own.delegated ++ map assigned_item own.assigned)
 
 -- the encodings of items, each the one TLV that is written for it
 abbrev pub encodings : List PlainItem → List (List ℕ)

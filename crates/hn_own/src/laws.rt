@@ -2,7 +2,7 @@
 //! nothing: call it to know its law.
 
 ghost use Rattle.std.specs.Prelude.{[]};
-ghost use Rattle.hn_own.specs.Laws.{OwnDataIsUnique, AddingKeepsOwnPrefixes, LeavingKeepsOwnPrefixes};
+ghost use Rattle.hn_own.specs.Laws.{OwnDataIsUnique, AddingKeepsOwnPrefixes, LeavingKeepsOwnPrefixes, EndingIsAMoment, NoneEnds};
 ghost use Rattle.hn_own.specs.OwnPrefixes.{AreOwnPrefixes};
 ghost use Rattle.hn_own.specs.Ports.{ArePorts};
 
@@ -25,4 +25,14 @@ pub fn none_are_well()
 pub fn own_prefixes_stay()
     ensures added { AddingKeepsOwnPrefixes }
     ensures some { LeavingKeepsOwnPrefixes }
+{}
+
+/// The valid lifetime of some own delegated prefix has ended from one moment on.
+pub fn ending_is_a_moment()
+    ensures { EndingIsAMoment }
+{}
+
+/// All own delegated prefixes stay if and only if no valid lifetime has ended.
+pub fn ending_leaves()
+    ensures { NoneEnds }
 {}

@@ -10,7 +10,9 @@ mod own_prefixes;
 mod ports;
 
 pub use held_pairs::HeldPairs;
-pub use laws::{none_are_well, own_data_is_unique, own_prefixes_stay};
+pub use laws::{
+    ending_is_a_moment, ending_leaves, none_are_well, own_data_is_unique, own_prefixes_stay,
+};
 pub use own::{OwnData, OwnItems};
 pub use own_prefixes::{OwnPrefix, OwnPrefixes};
 pub use ports::{MOST_ENDPOINTS, Ports};

@@ -4,7 +4,7 @@ ghost use Rattle.std.specs.Prelude.{◌≡◌, ◌+◌, ◌++◌, ◌≤◌, ◌
 ghost use Rattle.std.specs.List.{flat_map};
 ghost use Rattle.hn_tlv.specs.Grammar.{spelling};
 ghost use Rattle.hn_typed.specs.Written.{tlv_of, IsWritable, IsEncoding};
-ghost use Rattle.hn_own.specs.Own.{links_at, links_of, peer_item, delegated_item, external_items, assigned_item, items_of, encodings, pieces_of, AreFew, IsOwnData};
+ghost use Rattle.hn_own.specs.Own.{links_at, links_of, version_item, peer_item, delegated_item, external_items, assigned_item, items_of, encodings, pieces_of, AreFew, IsOwnData};
 ghost use Rattle.hn_own.specs.HeldPairs.{published_in};
 
 use crate::held_pairs::HeldPairs;
@@ -73,6 +73,19 @@ fn links_of(alloc: Global, ports: &Ports) -> Result<Sequence<PeerLink>, NoMemory
         add_links(&mut links, port)?;
     }
     Ok(links)
+}
+
+/// The HNCP-Version of a router with these capabilities.
+fn encode_version(alloc: Global, caps: Caps) -> Result<Bytes, NoMemory>
+    ensures { IfOk result (λ bytes. IsEncoding bytes (version_item caps)) }
+{
+    encode(
+        alloc,
+        &Item::Version {
+            caps,
+            agent: "hncp",
+        },
+    )
 }
 
 /// The Peer of a link.
@@ -230,13 +243,7 @@ impl OwnItems {
         ensures writable { IfOk result (λ _. All IsWritable (items_of now self.now)) }
     {
         let mut pieces = Vec::new(alloc);
-        pieces.push(encode(
-            alloc,
-            &Item::Version {
-                caps: self.caps,
-                agent: "hncp",
-            },
-        )?)?;
+        pieces.push(encode_version(alloc, self.caps)?)?;
         add_link_pieces(alloc, &mut pieces, self.links.as_slice())?;
         add_external_piece(alloc, &mut pieces, now, self.delegated.as_slice())?;
         add_assigned_pieces(alloc, &mut pieces, self.assigned.as_slice())?;

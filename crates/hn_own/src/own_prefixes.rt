@@ -1,11 +1,13 @@
 //! A router's own delegated prefixes.
 
-ghost use Rattle.std.specs.Prelude.{◌≡◌, ◌≤◌, ◌^◌, [], true, false, IfOk, OnOk};
+ghost use Rattle.std.specs.Prelude.{◌≡◌, ◌≤◌, ◌^◌, [], true, false, vec_len, vec_capacity, IfOk, OnOk, OnErr};
+ghost use Rattle.hn_base.specs.Sooner.{IsSooner, IsOfOne};
+ghost use Rattle.hn_own.specs.Due.{IsEndOf, IsOwnEnd};
 ghost use Rattle.hn_own.specs.Lifetimes.{end_after, has_ended};
 ghost use Rattle.hn_own.specs.OwnPrefixes.{AreOwnPrefixes, is_delegated, may_delegate, delegated_with, delegated_without, delegated_after, has_ended_one, own_prefix};
 
 use crate::lifetimes::{end_after, has_ended};
-use hn_base::{Exact, Moment, NoMemory, Sequence};
+use hn_base::{Exact, Moment, NoMemory, Sequence, sooner};
 use hn_prefix::{Prefix, order_is_total};
 use std::alloc::{AllocError, Global};
 use std::marker::Model;
@@ -34,6 +36,36 @@ impl OwnPrefix {
             preferred_until: end_after(now, preferred),
         }
     }
+}
+
+/// The moment at which the valid lifetime of a prefix ends, where that is after now and before `best`; else `best`.
+fn next_of_prefix(own: &OwnPrefix, now: Moment, best: Moment) -> Moment
+    ensures { IsSooner (IsEndOf own.now) now best result }
+{
+    match own.valid_until {
+        Some(end) => sooner(now, best, end),
+        None => best,
+    }
+}
+
+/// Takes a prefix out of a list, and keeps the room.
+fn leave(items: &mut Vec<OwnPrefix>, prefix: Prefix)
+    ensures list { items.new.items ≡ delegated_without prefix items.old.items }
+    ensures len { vec_len items.new ≤ vec_len items.old }
+    ensures room { vec_capacity items.new ≡ vec_capacity items.old }
+{
+    items.retain(|own| own.prefix != prefix);
+}
+
+/// The first of these moments.
+fn first_end(list: &[OwnPrefix], now: Moment, best: Moment) -> Moment
+    ensures { IsSooner (IsOfOne IsEndOf list.now) now best result }
+{
+    let mut first = best;
+    for own in list {
+        first = next_of_prefix(own, now, first);
+    }
+    first
 }
 
 /// The delegated prefixes of a router's own, in strictly ascending order, at most 8. Contracts see the list.
@@ -111,11 +143,13 @@ impl OwnPrefixes {
     /// Adds a prefix at its place in the order, or puts it in place of the same one.
     pub fn put(&mut self, own: OwnPrefix) -> Result<(), NoMemory>
         requires { may_delegate own.prefix self.old ≡ true }
-        ensures { OnOk result (self.new ≡ delegated_with own self.old) }
+        ensures put { OnOk result (self.new ≡ delegated_with own self.old) }
+        ensures err { OnErr result (self.new ≡ self.old) }
     {
         order_is_total();
         let _ = &self.items;
-        self.remove(&own.prefix);
+        self.items.reserve(1)?;
+        leave(&mut self.items, own.prefix);
         let place = self.items.partition_point(|p| p.prefix < own.prefix);
         Ok(self.items.insert(place, own)?)
     }
@@ -124,8 +158,7 @@ impl OwnPrefixes {
     pub fn remove(&mut self, prefix: &Prefix)
         ensures { self.new ≡ delegated_without prefix.now self.old }
     {
-        let prefix = *prefix;
-        self.items.retain(|own| own.prefix != prefix);
+        leave(&mut self.items, *prefix);
     }
 
     /// Whether the valid lifetime of some prefix has ended. Never allocates.
@@ -141,5 +174,13 @@ impl OwnPrefixes {
         ensures { self.new ≡ delegated_after now self.old }
     {
         self.items.retain(|own| !has_ended(now, own.valid_until));
+    }
+
+    /// The first moment after now and before `best` at which the valid lifetime of one of them ends; else `best`. Never
+    /// allocates.
+    pub fn next_end(&self, now: Moment, best: Moment) -> Moment
+        ensures { IsSooner (IsOwnEnd self.now) now best result }
+    {
+        first_end(self.items.as_slice(), now, best)
     }
 }

@@ -1,21 +1,19 @@
-use Rattle.std.proofs.Common.{[], ◌∷◌, List, map, codes, subst}
+use Rattle.std.proofs.Common.{[], ◌∷◌, List, map, subst}
 use Rattle.std.specs.Prelude.{All}
 use Rattle.std.proofs.lemmas.List.Elements.{All-cons, All-nil}
-use Rattle.hn_base.specs.Caps.{plain_caps}
-use Rattle.hn_typed.specs.Item.{Version}
 use Rattle.hn_typed.specs.Written.{IsWritable}
 use Rattle.hn_data.specs.declared.said.PeerLink.{PeerLink}
 use Rattle.hn_data.specs.declared.said.AssignedPrefix.{AssignedPrefix}
 use Rattle.hn_own.specs.declared.own_prefixes.OwnPrefix.{OwnPrefix}
-use Rattle.hn_own.specs.Own.{peer_item, external_items, assigned_item}
+use Rattle.hn_own.specs.Own.{version_item, peer_item, external_items, assigned_item}
 use Rattle.hn_own.proofs.OwnPieces.{writable_together}
 use Rattle.hn_own.proofs.own.OwnItems.pieces.Goals as goal
 
 pub returns-clause-writable : goal.returns-clause-writable
 returns-clause-writable c =
     let own = c.args.self.now in
-    let version = Version (plain_caps own.caps) (codes "hncp") in
-    let first : All IsWritable (version ∷ []) = All-cons IsWritable version [] c.in_ok-encode.ensures.writable (All-nil IsWritable) in
+    let version = version_item own.caps in
+    let first : All IsWritable (version ∷ []) = All-cons IsWritable version [] c.in_ok-encode_version.ensures.writable (All-nil IsWritable) in
     let links = subst (λ (links : List PeerLink). All IsWritable (map peer_item links)) c.as_slice.ensures c.in_ok-add_link_pieces.ensures.writable in
     let external = subst (λ (list : List OwnPrefix). All IsWritable (external_items c.args.now list)) c.as_slice-2.ensures c.in_ok-add_external_piece.ensures.writable in
     let assigned = subst (λ (assigned : List AssignedPrefix). All IsWritable (map assigned_item assigned)) c.as_slice-3.ensures c.in_ok-add_assigned_pieces.ensures.writable in

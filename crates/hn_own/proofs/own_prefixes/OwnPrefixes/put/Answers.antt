@@ -1,14 +1,17 @@
-use Rattle.std.proofs.Common.{◌≡◌, ◌≤◌, List, true, false, length, subst, ◌∙◌, rules, tests}
+use Rattle.std.proofs.Common.{◌≡◌, ◌≤◌, List, true, false, not, length, subst, sym, ap, ◌∙◌, rules, tests}
 use Rattle.std.specs.List.Sorted.{IsPartitionPoint}
 use Rattle.std.proofs.lemmas.List.Sorted.{IsPartitionPoint-from_clause}
 use Rattle.hn_own.specs.declared.own_prefixes.OwnPrefix.{OwnPrefix}
-use Rattle.hn_own.specs.OwnPrefixes.{AreOwnPrefixes, is_before, delegated_without}
+use Rattle.hn_own.specs.OwnPrefixes.{AreOwnPrefixes, is_prefix, is_before, delegated_without}
 use Rattle.hn_own.proofs.PrefixLists.{IsPlaceFor, place_for, AreOwnPrefixes-partitioned, delegated_with-insert}
-use Rattle.hn_own.proofs.PrefixOrder.{own-with}
+use Rattle.hn_own.proofs.PrefixOrder.{own-filter, own-with}
 use Rattle.hn_own.proofs.own_prefixes.OwnPrefixes.put.Goals as goal
 
-others : (c : goal.In_ok-insert) → c.self-2.inside.items.items ≡ delegated_without c.args.own.prefix c.args.self.now
-others c = c.self-2.view_is ∙ c.remove.ensures
+before : (c : goal.In_ok-insert) → AreOwnPrefixes c.args.self.now
+before c = rw (← c.self.view_is) c.self.invariant
+
+others : (c : goal.In_ok-insert) → c.leave.new.items.items ≡ delegated_without c.args.own.prefix c.args.self.now
+others c = c.leave.ensures.list ∙ ap (delegated_without c.args.own.prefix) (c.in_ok-reserve.ensures.items ∙ c.self.view_is)
 
 place : (c : goal.In_ok-insert) → IsPlaceFor c.args.own.prefix (delegated_without c.args.own.prefix c.args.self.now) c.partition_point-place.result
 place c =
@@ -16,7 +19,7 @@ place c =
     let i = c.partition_point-place.result in
     let list = c.deref.result.now in
     let same : list ≡ delegated_without at c.args.self.now = c.deref.ensures.value ∙ others c in
-    let are : AreOwnPrefixes list = rw c.deref.ensures.value c.self-2.invariant in
+    let are : AreOwnPrefixes list = subst AreOwnPrefixes (sym same) (own-filter (λ (p : OwnPrefix). not (is_prefix at p)) c.args.self.now (before c)) in
     let parts = IsPartitionPoint-from_clause (λ (p : OwnPrefix). is_before p.prefix at) list i c.partition_point-place.ensures.partitioned (AreOwnPrefixes-partitioned c.order_is_total.ensures at list are) (λ a r f k. search (rules, tests)) in
     let within : i ≤ length list = c.partition_point-place.ensures.bound in
     place_for c.order_is_total.ensures at c.args.self.now i (rw (← same) within)
@@ -26,8 +29,8 @@ pub invariant_of-self-2 : goal.invariant_of-self-2
 invariant_of-self-2 c =
     rw (c.in_ok-insert.ensures.items, others c)
     (rw (delegated_with-insert c.order_is_total.ensures c.args.own c.args.self.now c.partition_point-place.result (place c))
-    (own-with c.args.own c.args.self.now c.requires (rw (← c.self.view_is) c.self.invariant)))
+    (own-with c.args.own c.args.self.now c.requires (before c)))
 
-pub returns : goal.returns
-returns c =
+pub returns-clause-put : goal.returns-clause-put
+returns-clause-put c =
     rw (c.in_ok-insert.ensures.items, others c) (delegated_with-insert c.order_is_total.ensures c.args.own c.args.self.now c.partition_point-place.result (place c))

@@ -1,0 +1,5 @@
+use Rattle.hn_own.proofs.Endings.{ended_from}
+use Rattle.hn_own.proofs.laws.ending_is_a_moment.Goals as goal
+
+pub returns : goal.returns
+returns c = ended_from

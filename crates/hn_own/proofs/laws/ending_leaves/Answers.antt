@@ -1,0 +1,5 @@
+use Rattle.hn_own.proofs.Endings.{none_ends}
+use Rattle.hn_own.proofs.laws.ending_leaves.Goals as goal
+
+pub returns : goal.returns
+returns c = none_ends

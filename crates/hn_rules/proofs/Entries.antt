@@ -14,7 +14,7 @@ use Rattle.hn_rules.specs.Nodes.{held_entry, own_entry, entry_of}
 pub entry_own : (s : State) (id : NodeId) → id.0 ≡ s.id.0 → entry_of s id ≡ Some (own_entry s)
 entry_own s id is = cond-true (id.0 == s.id.0) _ _ (eq-eqb id.0 s.id.0 is)
 
-entry_other : (s : State) (id : NodeId) → (id.0 ≡ s.id.0 → ⊥)
+pub entry_other : (s : State) (id : NodeId) → (id.0 ≡ s.id.0 → ⊥)
     → entry_of s id ≡ option_map (λ (stored : Stored). held_entry s.moment (record { id = id; stored = stored })) (held s.table.entries id.0)
 entry_other s id differs = cond-false (id.0 == s.id.0) _ _ (ne_eqb id.0 s.id.0 differs)
 

@@ -3,7 +3,6 @@ use Rattle.std.proofs.Common.{◌≡◌, ℕ, List, Some, subst}
 use Rattle.std.specs.Prelude.{All}
 use Rattle.std.proofs.lemmas.List.Elements.{All-contains}
 use Rattle.hn_dncp.specs.Laws.{MeetingKeepsPeers, ContactKeepsPeers}
-use Rattle.hn_graph.specs.Laws.{ReachabilityStays}
 use Rattle.hn_store.specs.Nodes.{held}
 use Rattle.hn_store.specs.Laws.{OwnStays, HeldIsOfAnEntry, NoNodesAreTable, AcceptanceKeepsTable, MarksKeepTable, ForgettingKeepsTable}
 use Rattle.hn_store.specs.declared.stored.Stored.{Stored}
@@ -18,7 +17,6 @@ pub record KnownLaws : Type 0 where
   pub none : NoNodesAreTable
   pub marks : MarksKeepTable
   pub forgetting : ForgettingKeepsTable
-  pub reach_stays : ReachabilityStays
 
 -- what holds of each entry holds of the one that is held
 pub held_all : HeldIsOfAnEntry → (P : Stored → Type 0) (entries : List HeldNode) (id : ℕ) (stored : Stored) → All (λ node. P node.stored) entries → held entries id ≡ Some stored → P stored

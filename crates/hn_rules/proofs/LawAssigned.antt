@@ -1,5 +1,4 @@
 -- Assignments and backoffs stay what a router holds when prefixes are assigned.
-use Rattle.std.proofs.Common.{sym, subst}
 use Rattle.std.specs.Cmp.{IsTotalOrder}
 use Rattle.std.proofs.lemmas.List.Elements.{All-contains}
 use Rattle.hn_base.specs.Ascending.{IsExact}
@@ -9,11 +8,9 @@ use Rattle.hn_assign.specs.Laws.{SubroutineKeepsInside, SubroutineKeepsPast, Sub
 use Rattle.hn_own.specs.Ports.{ArePorts}
 use Rattle.hn_rules.specs.declared.state.State.{State}
 use Rattle.hn_rules.specs.Assigning.{IsAssigned}
-use Rattle.hn_rules.specs.Laws.{AssigningKeeps}
 use Rattle.hn_rules.specs.Seen.{seen_by}
 use Rattle.hn_rules.proofs.LawPairs.{wished_few}
-use Rattle.hn_rules.proofs.Parts.{AreHeldWell, made_from, well_from}
-use Rattle.hn_rules.proofs.Wells.{Made}
+use Rattle.hn_rules.proofs.Parts.{AreHeldWell}
 
 -- the laws of the subroutine, and of the order of pairs, on which it rests
 pub record AssignLaws : Type 0 where
@@ -45,9 +42,3 @@ module _ (laws : AssignLaws) where
         };
         past = laws.past view wishes s.held ran sub well.past;
       }
-
-  pub assigning_keeps : AssigningKeeps
-  assigning_keeps before after is router =
-      let made = made_from before.state router.well in
-      let held = held-assigned before.state is.ran is.is_assigned made.ports.are made.held in
-      well_from after.state (subst Made (sym is.gives) (record { ports = made.ports; table = made.table; own = made.own; delegated = made.delegated; held = held }))

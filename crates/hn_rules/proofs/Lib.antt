@@ -12,11 +12,16 @@ mod LawPairs
 mod LawPublished
 mod LawSpelled
 mod LawViews
+mod Leads
 mod Leaves
+mod Limits
 mod NodeLists
 mod OneResults
 mod Parts
 mod PortFacts
+mod Dues
+mod Laters
+mod Stills
 mod AtPorts
 mod Recent
 mod Refreshes
@@ -25,6 +30,7 @@ mod Restarting
 mod Routers
 mod Ticking
 mod Touched
+mod Walk
 mod Wells
 mod WishLists
 mod Without

@@ -71,7 +71,7 @@ mapped_head : {X Y Z : Type 0} (f : Y → Z) (g : X → Option Y) (xs : List X) 
 mapped_head f g xs None rest = rest
 mapped_head f g xs (Some y) rest = ap (λ zs. f y ∷ zs) rest
 
-mapped_each : {X Y Z : Type 0} (f : Y → Z) (g : X → Option Y) (xs : List X) → filter_map (λ x. option_map f (g x)) xs ≡ map f (filter_map g xs)
+pub mapped_each : {X Y Z : Type 0} (f : Y → Z) (g : X → Option Y) (xs : List X) → filter_map (λ x. option_map f (g x)) xs ≡ map f (filter_map g xs)
 mapped_each f g [] = refl
 mapped_each f g (x ∷ xs) = mapped_head f g xs (g x) (mapped_each f g xs)
 

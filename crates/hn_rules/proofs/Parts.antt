@@ -22,7 +22,7 @@ use Rattle.hn_store.specs.Laws.{NoNodesAreTable}
 use Rattle.hn_base.proofs.AscendingNumbers.{ascending-filter, ascending-around, around-few}
 use Rattle.hn_rules.specs.declared.state.State.{State}
 use Rattle.hn_own.specs.Ports.{number, ArePorts, is_port, put_port, attached, detached}
-use Rattle.hn_assign.specs.Facts.{IsInDelegated, HasOwnPriority, IsPast as IsAssignedPast}
+use Rattle.hn_assign.specs.Facts.{IsInDelegated, HasOwnPriority, IsAssignedPast}
 use Rattle.hn_assign.specs.declared.held.Held.{Held}
 use Rattle.hn_own.specs.Own.{PlainData, IsOwnData}
 use Rattle.hn_own.specs.OwnPrefixes.{AreOwnPrefixes}

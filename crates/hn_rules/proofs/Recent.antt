@@ -42,30 +42,30 @@ abbrev pub LeadsOn : ℕ → HeldNode → Type 0
 LeadsOn now node = node.stored.lost ≡ None → age_at now node.stored < 2 ^ 32 - 2 ^ 15
 
 module _ (s : State) where
-  abbrev lower : Entry → Bool
+  abbrev pub lower : Entry → Bool
   lower n = nat_lt n.id.0 s.id.0
 
-  abbrev greater : Entry → Bool
+  abbrev pub greater : Entry → Bool
   greater n = nat_lt s.id.0 n.id.0
 
-  abbrev own_at : ℕ → Entry
+  abbrev pub own_at : ℕ → Entry
   own_at moment = own_entry (record s { moment = moment })
 
-  abbrev held_at : ℕ → List Entry
+  abbrev pub held_at : ℕ → List Entry
   held_at moment = map (held_entry moment) s.table.entries
 
-  abbrev nodes_at : ℕ → List Entry
+  abbrev pub nodes_at : ℕ → List Entry
   nodes_at moment = between lower greater (own_at moment) (held_at moment)
 
   -- what a held node is at one moment and at another
-  abbrev IsHeld : ℕ → ℕ → Entry → Type 0
+  abbrev pub IsHeld : ℕ → ℕ → Entry → Type 0
   IsHeld m n x = (node : HeldNode) × Contains s.table.entries node × (held_entry m node ≡ x) × Contains (nodes_at n) (held_entry n node)
 
-  own_there : (moment : ℕ) → Contains (nodes_at moment) (own_at moment)
+  pub own_there : (moment : ℕ) → Contains (nodes_at moment) (own_at moment)
   own_there moment = Contains-append_right (filter lower (held_at moment)) (own_at moment ∷ filter greater (held_at moment)) (own_at moment) (Contains-head (own_at moment) (filter greater (held_at moment)))
 
   -- a node at one moment is the own one or a held one, which is there at the other moment
-  own_or_held : (m n : ℕ) (x : Entry) → Contains (nodes_at m) x → (x ≡ own_at m) ⊎ IsHeld m n x
+  pub own_or_held : (m n : ℕ) (x : Entry) → Contains (nodes_at m) x → (x ≡ own_at m) ⊎ IsHeld m n x
   own_or_held m n x there = by_part (Contains-append_cases (filter lower (held_at m)) (own_at m ∷ filter greater (held_at m)) x there)
     where
       held : (p : Entry → Bool) → ((node : HeldNode) → p (held_entry m node) ≡ true → p (held_entry n node) ≡ true) → ((y : Entry) → Contains (filter p (held_at n)) y → Contains (nodes_at n) y)
@@ -118,7 +118,7 @@ module _ (s : State) where
         was y (inl is) = (own_at moment, own_there moment, own_was y is)
         was y (inr (node, there, is, other)) = (held_entry moment node, other, held_was y node is)
 
-    same_reach : ReachabilityStays → IsReach s s.reach
+    pub same_reach : ReachabilityStays → IsReach s s.reach
     same_reach reach_stays = record {
       ascending = is_reach.ascending;
       exactly = λ id.

@@ -25,10 +25,11 @@ use Rattle.hn_rules.specs.Nodes.{held_entry, own_entry}
 use Rattle.hn_rules.specs.Rules.{Rule, AtPort, with_port}
 use Rattle.hn_rules.specs.Refresh.{own_items, IsPublishing, IsReaching, network_state_hash, IsPortReset, IsHashing, IsRefresh}
 use Rattle.hn_rules.specs.Tick.{IsPortSending, IsPortTick, IsPortsTick}
-use Rattle.hn_rules.specs.Router.{WasReach, IsRefreshed}
-use Rattle.hn_rules.proofs.Known.{KnownLaws}
-use Rattle.hn_rules.proofs.Parts.{IsMade, are-put}
-use Rattle.hn_rules.proofs.Wells.{Keeps, Made, keeps_option, keeps_each, keeps_refresh, keeps_ports_tick}
+use Rattle.hn_rules.specs.Changes.{EachKeeps}
+use Rattle.hn_rules.specs.Router.{IsWell, WasReach, IsRefreshed, IsRouter}
+use Rattle.hn_rules.proofs.Parts.{are-put}
+use Rattle.hn_rules.proofs.Leads.{Keeps, keeps_option, keeps_each}
+use Rattle.hn_rules.proofs.Walk.{refresh_walk, ports_walk}
 
 -- ---- endpoints that keep their number and what the router says of their peers
 
@@ -188,24 +189,25 @@ tick_keeps port r a (between, moves, sends) changed fresh =
     sent (inl (due, is)) fresh = subst Fresh (sym is.gives) fresh
     sent (inr (none, is)) fresh = subst Fresh (sym is) fresh
 
--- ---- a router with all its facts
+-- ---- a router
 
-pub record IsDone (r : Running) : Type 0 where
-  pub made : IsMade r.state
-  pub refreshed : IsRefreshed r.state
+-- what holds of a router, and what holds of it beside what a refresh makes
+abbrev pub Router : Running → Type 0
+Router r = IsRouter r.state
 
--- a refresh makes all facts of a router
-pub done_refresh : KnownLaws → (r a : Running) → IsRefresh r a → Made r → IsDone a
-done_refresh known r a refreshes made = record {
-  made = keeps_refresh known r a refreshes made;
-  refreshed = (fresh_refresh r a refreshes made.ports.are).refreshed;
-}
+abbrev pub Well : Running → Type 0
+Well r = IsWell r.state
 
-pub keeps_done_ticks : Keeps IsDone IsPortsTick
-keeps_done_ticks r a ticks done =
-    let start : Fresh r = record { ports = done.made.ports.are; refreshed = done.refreshed } in
+-- a refresh makes a router
+pub router_refresh : EachKeeps [] Well → (r a : Running) → IsRefresh r a → Well r → Router a
+router_refresh each r a refreshes well =
+    record { well = refresh_walk [] Well each r a refreshes well; refreshed = (fresh_refresh r a refreshes well.ports).refreshed }
+
+pub router_ticks : EachKeeps [] Well → Keeps Router IsPortsTick
+router_ticks each r a ticks router =
+    let start : Fresh r = record { ports = router.well.ports; refreshed = router.refreshed } in
     record {
-      made = keeps_ports_tick r a ticks done.made;
+      well = ports_walk [] Well each r a ticks router.well;
       refreshed = (keeps_each Fresh (λ at. AtPort at IsPortTick) (λ at. keeps_fresh_at at IsPortTick tick_keeps) (endpoints_of r.state.ports) r a ticks start).refreshed;
     }
 

@@ -20,7 +20,6 @@ use Rattle.hn_dncp.specs.Ask.{may_ask, asked}
 use Rattle.hn_dncp.specs.Hash.{contacted, hashed, asks_for_state}
 use Rattle.hn_rules.specs.declared.running.Running.{Running}
 use Rattle.hn_rules.specs.declared.running.Origin.{Origin}
-use Rattle.hn_rules.specs.declared.answers.Subject.{Subject}
 use Rattle.hn_rules.specs.declared.answers.Subject.TheVariants as subject
 use Rattle.hn_rules.specs.Answers.{with_answer}
 use Rattle.hn_own.specs.Ports.{ArePorts, is_port, port_at, put_port}
@@ -36,11 +35,11 @@ use Rattle.hn_store.specs.Nodes.{Nodes}
 use Rattle.hn_store.specs.Acceptance.{PlainState, entries_after}
 use Rattle.hn_store.specs.declared.state.Took.{Took}
 use Rattle.hn_store.specs.declared.state.Took.TheVariants as took
-use Rattle.hn_rules.specs.Requests.{with_some_answer, state_item, with_state, is_reached, request_node, IsNetworkRequest}
+use Rattle.hn_rules.specs.Requests.{request_node, IsNetworkRequest}
 use Rattle.hn_rules.specs.Tick.{IsExpired, Without, IsPortExpiry}
 use Rattle.hn_rules.specs.Router.{IsRefreshed}
 use Rattle.hn_rules.proofs.Refreshes.{Fresh, only_one, fresh_port, keeps_fresh_at}
-use Rattle.hn_rules.proofs.Wells.{keeps_each}
+use Rattle.hn_rules.proofs.Walk.{network_request, node_request}
 
 -- ---- in a loop
 
@@ -178,24 +177,14 @@ node_state_untouched carried how r between a none takes taken refreshed =
 
 -- ---- requests
 
-some_answer_state : (about : Subject) (o : Option PlainItem) (r : Running) → (with_some_answer about o r).state ≡ r.state
-some_answer_state about None r = refl
-some_answer_state about (Some i) r = refl
-
 abbrev Refreshed : Running → Type 0
 Refreshed r = IsRefreshed r.state
 
 pub network_request_untouched : (r a : Running) → IsNetworkRequest r a → IsRefreshed r.state → IsRefreshed a.state
-network_request_untouched r a holds refreshed =
-    keeps_each Refreshed (λ id b a. a ≡ with_state id b)
-    (λ id b a is before. subst IsRefreshed (sym (ap (λ (x : Running). x.state) is ∙ some_answer_state (subject.NodeState id) (state_item false b.state id) b)) before)
-    r.state.reach (with_answer subject.NetworkState (item.NetworkState r.state.net []) r) a holds refreshed
+network_request_untouched = network_request Refreshed (λ about i r is refreshed. refreshed)
 
 pub request_node_untouched : (id : NodeId) (r a : Running) → a ≡ request_node id r → IsRefreshed r.state → IsRefreshed a.state
-request_node_untouched id r a is refreshed =
-    let answers = with_some_answer (subject.NodeData id) (state_item true r.state id) r in
-    subst Refreshed (sym is)
-    (cond_both (is_reached id r.state.reach) answers r Refreshed (λ _. subst IsRefreshed (sym (some_answer_state (subject.NodeData id) (state_item true r.state id) r)) refreshed) (λ _. refreshed))
+request_node_untouched = node_request Refreshed (λ about i r is refreshed. refreshed)
 
 -- ---- expiry
 

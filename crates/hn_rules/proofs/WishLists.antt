@@ -6,8 +6,9 @@ use Rattle.std.specs.Option.{option_map}
 use Rattle.std.specs.declared.cmp.Ordering.TheVariants.{Less}
 use Rattle.std.proofs.lemmas.Bool.{cases_lt}
 use Rattle.std.proofs.lemmas.Bool.Decides.{same_from_decides}
-use Rattle.std.proofs.lemmas.List.{length-map, take_more}
-use Rattle.std.proofs.lemmas.List.Elements.{Contains-append_left, Contains-append_right, Contains-append_cases}
+use Rattle.std.proofs.lemmas.List.{length-map, map-append, get_or-map, take_more}
+use Rattle.std.specs.Prelude.{All}
+use Rattle.std.proofs.lemmas.List.Elements.{All-push, Contains-append_left, Contains-append_right, Contains-append_cases}
 use Rattle.std.proofs.lemmas.Map.Keys.{Less-from_sorted}
 use Rattle.std.proofs.lemmas.Option.{slice_get_within, slice_get-map, get_or_from_slice_get}
 use Rattle.hn_base.proofs.AscendingLists.{Contains-head, Contains-cases, nothing_in, not_below_itself}
@@ -21,8 +22,25 @@ use Rattle.hn_link.specs.Laws.{CommonLinkIsUnique}
 use Rattle.hn_assign.specs.declared.assigned.Wish.{Wish}
 use Rattle.hn_assign.specs.declared.pair.Pair.{Pair}
 use Rattle.hn_assign.specs.Pair.{IsWished, wish_pair}
+use Rattle.hn_rules.specs.declared.assigning.Post.{Post}
 use Rattle.hn_rules.specs.Assigning.{IsWishAt}
+use Rattle.hn_rules.specs.Posts.{HasCommonLink, endpoints_at}
 use Rattle.hn_base.proofs.Prefixes.{prefix_total}
+
+-- ---- the endpoints with their Common Links
+
+pub endpoint_of : (posts : List Post) (i : ℕ) (post : Post) (e : EpId) → i < length posts → post ≡ get_or posts i post → post.endpoint ≡ get_or (endpoints_at posts) i e
+endpoint_of posts i post e within is = ap (λ (p : Post). p.endpoint) is ∙ sym (get_or-map (λ (p : Post). p.endpoint) posts i post e within)
+
+-- one more
+pub posts_more : (view : PlainView) (posts after : List Post) (post : Post) (endpoints : List EpId) (i : ℕ) (d : EpId) → i < length endpoints → after ≡ posts ++ post ∷ []
+    → post.endpoint ≡ get_or endpoints i d → HasCommonLink view post → endpoints_at posts ≡ take i endpoints → All (HasCommonLink view) posts
+    → (endpoints_at after ≡ take (i + 1) endpoints) × All (HasCommonLink view) after
+posts_more view posts after post endpoints i d within is here link so_far links = (
+  ap endpoints_at is ∙ map-append (λ (p : Post). p.endpoint) posts (post ∷ []) ∙ ap (λ (es : List EpId). es ++ post.endpoint ∷ []) so_far
+      ∙ ap (λ (e : EpId). take i endpoints ++ e ∷ []) here ∙ sym (take_more endpoints i d within),
+  subst (All (HasCommonLink view)) (sym is) (All-push (HasCommonLink view) posts post links link),
+)
 
 -- after a wish was added
 abbrev pub HasAdded : Wish → List Wish → List Wish → Type 0

@@ -1,9 +1,10 @@
 -- Laws of the rules, and of what holds of a router.
-use Rattle.std.specs.Prelude.{◌≡◌, ◌↔◌, ℕ, ◌<◌, ◌≤◌, true, length, Contains, Some}
+use Rattle.std.specs.Prelude.{◌≡◌, ◌↔◌, ℕ, ◌<◌, ◌≤◌, true, List, [], length, Contains, Some}
 use Rattle.hn_base.specs.declared.ids.EpId.{EpId}
 use Rattle.hn_base.specs.declared.ids.NodeId.{NodeId}
 use Rattle.hn_base.specs.Prefix.{PlainPrefix}
 use Rattle.hn_hash.specs.Network.{network_hash, AreNumbered}
+use Rattle.hn_tlv.specs.Grammar.{PlainTlv}
 use Rattle.hn_typed.specs.Item.{PlainItem}
 use Rattle.hn_data.specs.Items.{Reads}
 use Rattle.hn_data.specs.Said.{HasAssigned}
@@ -19,12 +20,15 @@ use Rattle.hn_store.specs.declared.stored.Stored.{Stored}
 use Rattle.hn_rules.specs.declared.running.Running.{Running}
 use Rattle.hn_rules.specs.declared.state.State.{State}
 use Rattle.hn_rules.specs.Assigning.{IsAssigning}
+use Rattle.hn_rules.specs.Changes.{IsOfChanges, EachKeeps}
 use Rattle.hn_rules.specs.Delegating.{delegating}
+use Rattle.hn_rules.specs.Due.{IsDueAt, IsNextDue}
 use Rattle.hn_rules.specs.Events.{IsAttaching}
-use Rattle.hn_rules.specs.Nodes.{held_entry, own_entry, entry_of, leaves_of, view_of}
+use Rattle.hn_rules.specs.Nodes.{held_entry, own_entry, entry_of, leaves_of, view_of, IsReach}
 use Rattle.hn_rules.specs.Refresh.{IsRefresh}
 use Rattle.hn_rules.specs.Router.{IsWell, IsRouter}
 use Rattle.hn_rules.specs.Rules.{Rule}
+use Rattle.hn_rules.specs.Still.{at_moment, IsUneventful, IsStill}
 
 -- ---- what a router is
 
@@ -72,6 +76,29 @@ pub record EntriesAreAsKnown : Type 0 where
 abbrev pub RouterStaysLater : Type 0
 RouterStaysLater = (now : ℕ) (s : State) → IsRouter s → s.moment ≤ now → IsRouter (record s { moment = now })
 
+-- ---- when something is due
+
+-- The moment at which something is next due is one.
+abbrev pub NextDueIsOne : Type 0
+NextDueIsOne = (s : State) (m n : ℕ) → IsNextDue s m → IsNextDue s n → m ≡ n
+
+-- It stays the same while time passes before it and nothing happens.
+abbrev pub NextDueStays : Type 0
+NextDueStays =
+    (s : State) (now later due : ℕ) → IsRouter s → s.moment ≤ now → now ≤ later → later < due
+    → IsNextDue (at_moment now s) due → IsNextDue (at_moment later s) due
+
+-- While nothing that a router keeps or holds comes to its moment, the same nodes are reachable.
+abbrev pub UneventfulReaches : Type 0
+UneventfulReaches = (s : State) (now : ℕ) → IsRouter s → s.moment ≤ now → IsUneventful now s → IsReach (at_moment now s) s.reach
+
+-- Where each part of a tick leaves a router as it is, it does so until something is due.
+abbrev pub StillStays : Type 0
+StillStays =
+    (s : State) (now later : ℕ) → IsRouter s → s.moment ≤ now → now ≤ later → IsStill now s
+    → ((m : ℕ) → IsDueAt (at_moment now s) m → now < m → later < m)
+    → IsStill later s
+
 -- ---- what a rule keeps
 
 -- what holds of a router
@@ -87,6 +114,10 @@ abbrev pub KeepsEndpoints : Rule → Type 0
 KeepsEndpoints rule =
     (before after : Running) → rule before after
     → (after.state.moment ≡ before.state.moment) × (endpoints_of after.state.ports ≡ endpoints_of before.state.ports)
+
+-- how many nodes the table may hold
+abbrev pub KeepsLimit : Rule → Type 0
+KeepsLimit rule = (before after : Running) → rule before after → after.state.table.limit ≡ before.state.table.limit
 
 -- A refresh makes a router of a state of which the rest holds.
 abbrev pub RefreshMakesRouter : Type 0
@@ -107,3 +138,19 @@ abbrev pub AttachingKeeps : Type 0
 AttachingKeeps =
     (at : EpId) (before after : Running) → 0 < at.0 → length before.state.ports < 16 → IsAttaching at before after
     → IsWell before.state → IsWell after.state
+
+-- ---- elementary changes
+
+-- Each run of a rule is a list of elementary changes, which take from a datagram what its TLVs say.
+abbrev pub MakesChanges : List PlainTlv → Rule → Type 0
+MakesChanges tlvs rule = (before after : Running) → rule before after → IsOfChanges tlvs before after
+
+-- A delegated prefix is added so, where it may be.
+abbrev pub DelegatingMakesChanges : Type 0
+DelegatingMakesChanges =
+    (prefix : PlainPrefix) (valid preferred : ℕ) (before : Running) → may_delegate prefix before.state.delegated ≡ true
+    → IsOfChanges [] before (delegating prefix valid preferred before)
+
+-- Each elementary change keeps what holds of a router beside what a refresh makes.
+abbrev pub ChangesKeepWell : Type 0
+ChangesKeepWell = (tlvs : List PlainTlv) → EachKeeps tlvs (λ r. IsWell r.state)

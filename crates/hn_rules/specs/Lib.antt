@@ -1,6 +1,7 @@
 pub mod Done
 pub mod Nodes
 pub mod Seen
+pub mod Posts
 pub mod Rules
 pub mod Refresh
 pub mod Answers
@@ -13,6 +14,9 @@ pub mod Arrival
 pub mod Delegating
 pub mod Assigning
 pub mod Tick
+pub mod Due
+pub mod Still
 pub mod Events
+pub mod Changes
 pub mod Router
 pub mod Laws

@@ -6,7 +6,7 @@ use Rattle.hn_store.specs.Nodes.{held, IsTable}
 use Rattle.hn_store.specs.Loss.{is_among}
 use Rattle.hn_store.specs.declared.stored.HeldNode.{HeldNode}
 use Rattle.hn_rules.specs.declared.state.State.{State}
-use Rattle.hn_assign.specs.Facts.{IsPast as IsAssignedPast}
+use Rattle.hn_assign.specs.Facts.{IsAssignedPast}
 use Rattle.hn_own.specs.Own.{IsOwnData}
 use Rattle.hn_own.specs.OwnPrefixes.{AreOwnPrefixes}
 use Rattle.hn_own.specs.HeldPairs.{AreHeldPairs}

@@ -1,6 +1,6 @@
 //! The assignment of prefixes to the links of the attached endpoints (RFC 7788, section 6.3).
 
-ghost use Rattle.std.specs.Prelude.{◌≡◌, ◌<◌, ◌⊎◌, ◌↔◌, ℕ, false, length, Contains, IfOk, OnOk};
+ghost use Rattle.std.specs.Prelude.{◌≡◌, ◌<◌, ◌⊎◌, ◌↔◌, ℕ, false, length, All, Contains, IfOk, OnOk};
 ghost use Rattle.hn_data.specs.View.{IsNetwork, plain_view};
 ghost use Rattle.hn_deleg.specs.Used.{AreUsable};
 ghost use Rattle.hn_base.specs.Words.{Took};
@@ -13,12 +13,13 @@ ghost use Rattle.hn_rules.specs.Rules.{Ran};
 ghost use Rattle.hn_rules.specs.Seen.{seen_by};
 ghost use Rattle.hn_own.specs.HeldPairs.{AreHeldPairs};
 ghost use Rattle.hn_rules.specs.Assigning.{IsWishAt, AreAsked, IsAssigned, IsAssigning};
+ghost use Rattle.hn_rules.specs.Posts.{HasCommonLink, endpoints_at};
 
 use crate::laws::view_is_a_network;
 use crate::running::Running;
 use crate::state::State;
 use hn_assign::{Wish, Wishes, pairs_are_ordered, subroutine, subroutine_leaves};
-use hn_base::{EpId, NoMemory, Shared};
+use hn_base::{Endpoints, EpId, NoMemory, Shared};
 use hn_data::View;
 use hn_deleg::{Delegated, used, wanted};
 use hn_io::Draw;
@@ -29,24 +30,47 @@ use std::alloc::Global;
 /// The length of the prefixes that links get.
 pub const LINK_LENGTH: u8 = 64;
 
+/// An endpoint and its Common Link, which is found once for all pairs of the endpoint.
+#[derive(Drop)]
+struct Post {
+    endpoint: EpId,
+    common: Endpoints,
+}
+
+/// Each endpoint with its Common Link.
+fn posts_of(alloc: Global, view: &View<'_>, endpoints: &[EpId]) -> Result<Vec<Post>, NoMemory>
+    requires { IsNetwork view.now.own.0 view.now.nodes.now }
+    ensures endpoints { IfOk result (λ posts. endpoints_at posts.items ≡ endpoints.now) }
+    ensures common { IfOk result (λ posts. All (HasCommonLink (plain_view view.entry.now)) posts.items) }
+{
+    let mut posts = Vec::new(alloc);
+    for endpoint in endpoints {
+        posts.push(Post {
+            endpoint: *endpoint,
+            common: common(alloc, view, *endpoint)?,
+        })?;
+    }
+    Ok(posts)
+}
+
 /// What is asked for the pair of a usable delegated prefix and an endpoint.
 fn wish_at(
     alloc: Global,
     view: &View<'_>,
     usable: &[Delegated],
     place: usize,
-    endpoint: EpId,
+    post: &Post,
 ) -> Result<Wish, NoMemory>
     requires there { place < length usable.now }
-    requires network { IsNetwork view.now.own.0 view.now.nodes.now }
+    requires common { HasCommonLink (plain_view view.now) post.now }
     ensures wish { IfOk result (IsWishAt (plain_view view.entry.now) usable.now place) }
-    ensures endpoint { IfOk result (λ wish. wish.endpoint ≡ endpoint) }
+    ensures endpoint { IfOk result (λ wish. wish.endpoint ≡ post.now.endpoint) }
 {
     Ok(Wish {
         delegated: usable[place].prefix,
         wanted: wanted(usable, place),
-        endpoint,
-        common: common(alloc, view, endpoint)?,
+        endpoint: post.endpoint,
+        common: post.common.copy(alloc)?,
         length: LINK_LENGTH,
     })
 }
@@ -58,18 +82,18 @@ fn add_wishes(
     view: &View<'_>,
     usable: &[Delegated],
     place: usize,
-    endpoints: &[EpId],
+    posts: &[Post],
 ) -> Result<(), NoMemory>
     requires there { place < length usable.now }
     requires usable { AreUsable (plain_view view.now) usable.now }
-    requires network { IsNetwork view.now.own.0 view.now.nodes.now }
+    requires common { All (HasCommonLink (plain_view view.now)) posts.now }
     requires asked { (wish : Wish) → Contains wishes.old wish → (other : ℕ) × IsWishAt (plain_view view.now) usable.now other wish }
     ensures { OnOk result ((wish : Wish) → Contains wishes.new wish
-        ↔ (Contains wishes.old wish ⊎ (IsWishAt (plain_view view.entry.now) usable.now place wish × Contains endpoints.now wish.endpoint))) }
+        ↔ (Contains wishes.old wish ⊎ (IsWishAt (plain_view view.entry.now) usable.now place wish × Contains (endpoints_at posts.now) wish.endpoint))) }
 {
     common_link_is_unique();
-    for endpoint in endpoints {
-        let wish = wish_at(alloc, view, usable, place, *endpoint)?;
+    for post in posts {
+        let wish = wish_at(alloc, view, usable, place, post)?;
         wishes.add(wish)?;
     }
     Ok(())
@@ -87,9 +111,10 @@ fn all_wishes(
     ensures { IfOk result (λ wishes. (wish : Wish) → Contains wishes wish
         ↔ ((place : ℕ) × IsWishAt (plain_view view.entry.now) usable.now place wish × Contains endpoints.now wish.endpoint)) }
 {
+    let posts = posts_of(alloc, view, endpoints)?;
     let mut wishes = Wishes::new(alloc);
     for place in 0..usable.len() {
-        add_wishes(alloc, &mut wishes, view, usable, place, endpoints)?;
+        add_wishes(alloc, &mut wishes, view, usable, place, &posts)?;
     }
     Ok(wishes)
 }

@@ -1,7 +1,7 @@
 //! Laws of the rules, and of what holds of a router. Each is the contract of a function that does nothing: call it to
 //! know its law.
 
-ghost use Rattle.std.specs.Prelude.{◌≡◌, List};
+ghost use Rattle.std.specs.Prelude.{◌≡◌, ℕ, List, []};
 ghost use Rattle.hn_base.specs.declared.caps.Caps.{Caps};
 ghost use Rattle.hn_base.specs.declared.ids.EpId.{EpId};
 ghost use Rattle.hn_base.specs.Prefix.{PlainPrefix};
@@ -9,25 +9,29 @@ ghost use Rattle.hn_tlv.specs.Grammar.{PlainTlv};
 ghost use Rattle.hn_rules.specs.declared.running.Origin.{Origin};
 ghost use Rattle.hn_rules.specs.Arrival.{IsArrival};
 ghost use Rattle.hn_rules.specs.Assigning.{IsAssigning};
-ghost use Rattle.hn_rules.specs.Delegating.{withdrawing, ending};
+ghost use Rattle.hn_rules.specs.Delegating.{delegating, withdrawing, ending};
 ghost use Rattle.hn_rules.specs.Events.{IsAttaching, detaching, setting_caps, IsRestarting};
-ghost use Rattle.hn_rules.specs.Laws.{HashIsOfLeaves, AssignedIsPublished, ItemsArePublished, ViewIsNetwork, EntriesAreAsKnown, RouterStaysLater, KeepsRouter, KeepsWell, KeepsEndpoints, RefreshMakesRouter, AssigningKeeps, DelegatingKeeps, AttachingKeeps};
+ghost use Rattle.hn_rules.specs.Laws.{HashIsOfLeaves, AssignedIsPublished, ItemsArePublished, ViewIsNetwork, EntriesAreAsKnown, RouterStaysLater, NextDueIsOne, NextDueStays, UneventfulReaches, StillStays, KeepsRouter, KeepsWell, KeepsEndpoints, RefreshMakesRouter, AssigningKeeps, DelegatingKeeps, AttachingKeeps, MakesChanges, DelegatingMakesChanges, ChangesKeepWell, KeepsLimit};
 ghost use Rattle.hn_rules.specs.Refresh.{IsRefresh};
 ghost use Rattle.hn_rules.specs.Rules.{IsSole};
 ghost use Rattle.hn_rules.specs.Tick.{IsExpiry, forgetting, IsPortsTick};
 
 use hn_assign::{
-    pairs_are_ordered, subroutine_has_one_result, subroutine_keeps, subroutine_leaves,
+    pairs_are_ordered, still_run_stays, subroutine_has_one_result, subroutine_keeps,
+    subroutine_leaves,
 };
 use hn_base::{NodeId, ascending_is_unique};
 use hn_data::items_are_unique;
-use hn_deleg::usable_is_unique;
-use hn_dncp::{packing_is_unique, peers_stay};
+use hn_deleg::{ends_of_later, usable_is_unique, usable_of_later};
+use hn_dncp::{packing_is_unique, peers_stay, still_port_stays};
 use hn_graph::{own_is_reachable, reachability_stays};
-use hn_own::{own_data_is_unique, own_prefixes_stay};
+use hn_link::common_link_of_later;
+use hn_own::{ending_is_a_moment, own_data_is_unique, own_prefixes_stay};
 use hn_store::{
-    acceptance_is_unique, acceptance_keeps_table, held_is_of_an_entry, loss_keeps_table, own_stays,
+    acceptance_is_unique, acceptance_keeps_table, forgetting_is_a_moment, held_is_of_an_entry,
+    loss_keeps_table, own_stays,
 };
+use hn_timers::expiry_is_a_moment;
 use hn_tlv::{first_fault_is_unique, list_is_of_bytes, list_is_unique, spelling_is_prefix_free};
 use hn_typed::{item_fault_is_unique, item_is_unique, written_is_read};
 
@@ -79,16 +83,76 @@ pub fn router_stays_later()
     ensures { RouterStaysLater }
 {}
 
-/// A refresh makes a router of a state of which the rest holds.
-pub fn refresh_makes_a_router()
-    ensures { RefreshMakesRouter }
+/// The moment at which something is next due is one.
+pub fn next_due_is_one()
+    ensures { NextDueIsOne }
+{}
+
+/// It stays the same while time passes before it and nothing happens.
+pub fn next_due_stays()
+    ensures { NextDueStays }
+{
+    held_is_of_an_entry();
+    ends_of_later();
+}
+
+/// While nothing that a router keeps or holds comes to its moment, the same nodes are reachable.
+pub fn uneventful_reaches()
+    ensures { UneventfulReaches }
+{
+    reachability_stays();
+}
+
+/// Where each part of a tick leaves a router as it is, it does so until something is due.
+pub fn still_stays()
+    ensures { StillStays }
+{
+    expiry_is_a_moment();
+    still_port_stays();
+    ending_is_a_moment();
+    forgetting_is_a_moment();
+    held_is_of_an_entry();
+    reachability_stays();
+    usable_of_later();
+    common_link_of_later();
+    still_run_stays();
+}
+
+/// Each run of these rules is a list of elementary changes, which take from a datagram what its TLVs say.
+pub fn rules_make_changes()
+    ensures refresh { MakesChanges [] IsRefresh }
+    ensures arrival { (from : Origin) (tlvs : List PlainTlv) → MakesChanges tlvs (IsArrival from tlvs) }
+    ensures expiry { MakesChanges [] IsExpiry }
+    ensures ending { MakesChanges [] (λ b a. a ≡ ending b) }
+    ensures forgetting { MakesChanges [] (λ b a. a ≡ forgetting b) }
+    ensures assigning { MakesChanges [] IsAssigning }
+    ensures ports { MakesChanges [] IsPortsTick }
+    ensures delegating { DelegatingMakesChanges }
+    ensures withdrawing { (prefix : PlainPrefix) → MakesChanges [] (λ b a. a ≡ withdrawing prefix b) }
+    ensures caps { (caps : Caps) → MakesChanges [] (λ b a. a ≡ setting_caps caps b) }
+    ensures restarting { MakesChanges [] IsRestarting }
+{}
+
+/// Each elementary change keeps what holds of a router beside what a refresh makes.
+pub fn changes_keep_the_rest()
+    ensures { ChangesKeepWell }
 {
     peers_stay();
     held_is_of_an_entry();
     acceptance_keeps_table();
     own_stays();
     loss_keeps_table();
-    reachability_stays();
+    own_prefixes_stay();
+    pairs_are_ordered();
+    subroutine_keeps();
+    subroutine_leaves();
+}
+
+/// A refresh makes a router of a state of which the rest holds.
+pub fn refresh_makes_a_router()
+    ensures { RefreshMakesRouter }
+{
+    changes_keep_the_rest();
 }
 
 /// An arrival, the forgetting of lost nodes and what is due at the endpoints keep what holds of a router.
@@ -97,11 +161,7 @@ pub fn rules_keep_a_router()
     ensures forgetting { KeepsRouter (λ b a. a ≡ forgetting b) }
     ensures ports { KeepsRouter IsPortsTick }
 {
-    peers_stay();
-    held_is_of_an_entry();
-    acceptance_keeps_table();
-    own_stays();
-    loss_keeps_table();
+    changes_keep_the_rest();
     reachability_stays();
 }
 
@@ -117,11 +177,7 @@ pub fn rules_keep_the_rest()
     ensures caps { (caps : Caps) → KeepsWell (λ b a. a ≡ setting_caps caps b) }
     ensures restarting { KeepsWell IsRestarting }
 {
-    loss_keeps_table();
-    own_prefixes_stay();
-    pairs_are_ordered();
-    subroutine_keeps();
-    subroutine_leaves();
+    changes_keep_the_rest();
 }
 
 /// Over one stream of words each rule has at most one result.
@@ -155,4 +211,21 @@ pub fn rules_keep_the_endpoints()
     ensures assigning { KeepsEndpoints IsAssigning }
     ensures ports { KeepsEndpoints IsPortsTick }
     ensures restarting { KeepsEndpoints IsRestarting }
+{}
+
+/// No rule changes how many nodes the table may hold.
+pub fn limit_stays_by_rules()
+    ensures refresh { KeepsLimit IsRefresh }
+    ensures arrival { (from : Origin) (tlvs : List PlainTlv) → KeepsLimit (IsArrival from tlvs) }
+    ensures expiry { KeepsLimit IsExpiry }
+    ensures ending { KeepsLimit (λ b a. a ≡ ending b) }
+    ensures forgetting { KeepsLimit (λ b a. a ≡ forgetting b) }
+    ensures assigning { KeepsLimit IsAssigning }
+    ensures ports { KeepsLimit IsPortsTick }
+    ensures delegating { (prefix : PlainPrefix) (valid preferred : ℕ) → KeepsLimit (λ b a. a ≡ delegating prefix valid preferred b) }
+    ensures withdrawing { (prefix : PlainPrefix) → KeepsLimit (λ b a. a ≡ withdrawing prefix b) }
+    ensures attaching { (at : EpId) → KeepsLimit (IsAttaching at) }
+    ensures detaching { (at : EpId) → KeepsLimit (λ b a. a ≡ detaching at b) }
+    ensures caps { (caps : Caps) → KeepsLimit (λ b a. a ≡ setting_caps caps b) }
+    ensures restarting { KeepsLimit IsRestarting }
 {}

@@ -7,6 +7,7 @@ mod arrival;
 mod assigning;
 mod delegating;
 mod done;
+mod due;
 mod events;
 mod laws;
 mod nodes;
@@ -22,9 +23,11 @@ pub use answers::{Answer, Subject};
 pub use assigning::LINK_LENGTH;
 pub use done::{Done, Note, Outgoing, Publication};
 pub use laws::{
-    assigned_is_published, entries_are_as_known, hash_is_of_leaves, items_are_published,
+    assigned_is_published, changes_keep_the_rest, entries_are_as_known, hash_is_of_leaves,
+    items_are_published, limit_stays_by_rules, next_due_is_one, next_due_stays,
     refresh_makes_a_router, router_stays_later, rules_have_one_result, rules_keep_a_router,
-    rules_keep_the_endpoints, rules_keep_the_rest, view_is_a_network,
+    rules_keep_the_endpoints, rules_keep_the_rest, rules_make_changes, still_stays,
+    uneventful_reaches, view_is_a_network,
 };
 pub use present::Present;
 pub use running::{Origin, Running};

@@ -22,7 +22,7 @@ use std::alloc::Global;
 
 /// The age from which own node data is published again, in milliseconds: 2^16 before it can no longer be sent (RFC
 /// 7787, section 4.3).
-const OLDEST_OWN_DATA: u64 = (1 << 32) - (1 << 16);
+pub(crate) const OLDEST_OWN_DATA: u64 = (1 << 32) - (1 << 16);
 
 impl State {
     /// The own items as they are now.

@@ -21,7 +21,7 @@ use std::alloc::Global;
 
 impl State {
     /// The keep-alive interval of a peer, in milliseconds.
-    fn interval(&self, peer: &Neighbour) -> u32
+    pub(crate) fn interval(&self, peer: &Neighbour) -> u32
         ensures { HasInterval (held self.now.table.entries peer.now.node.0) peer.now.endpoint result }
     {
         match self.table.get().get(peer.node) {

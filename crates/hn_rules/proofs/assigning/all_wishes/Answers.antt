@@ -1,7 +1,10 @@
-use Rattle.std.proofs.Common.{List, subst, sym}
+use Rattle.std.proofs.Common.{◌∙◌, List, ap, subst, sym}
+use Rattle.std.specs.Prelude.{All}
+use Rattle.hn_base.specs.declared.ids.EpId.{EpId}
 use Rattle.hn_assign.specs.declared.assigned.Wish.{Wish}
 use Rattle.hn_data.specs.View.{plain_view}
-use Rattle.hn_rules.proofs.WishLists.{HasBelow, below_none, below_next, below_all, below_are}
+use Rattle.hn_rules.specs.Posts.{HasCommonLink, endpoints_at}
+use Rattle.hn_rules.proofs.WishLists.{HasAt, HasBelow, below_none, below_next, below_all, below_are}
 use Rattle.hn_rules.proofs.assigning.all_wishes.Goals as goal
 
 pub loop-place-init : goal.loop-place-init
@@ -13,12 +16,14 @@ pub add_wishes-requires : goal.add_wishes-requires
 add_wishes-requires c = record {
   there = c.loop-place-test.true;
   usable = c.requires.usable;
-  network = c.requires.network;
+  common = subst (All (HasCommonLink (plain_view c.args.view.now))) (sym c.deref.ensures.value) c.in_ok-posts.ensures.common;
   asked = below_are (plain_view c.args.view.now) c.args.usable.now c.args.endpoints.now c.loop-place.place c.loop-place.wishes c.loop-place.invariant;
 }
 
 pub loop-place-preserved : goal.loop-place-preserved
-loop-place-preserved c = below_next (plain_view c.args.view.now) c.args.usable.now c.args.endpoints.now c.loop-place.place c.loop-place.wishes c.add_wishes.new.wishes c.loop-place.invariant c.in_ok-add_wishes.ensures
+loop-place-preserved c = below_next (plain_view c.args.view.now) c.args.usable.now c.args.endpoints.now c.loop-place.place c.loop-place.wishes c.add_wishes.new.wishes c.loop-place.invariant
+    (subst (λ (es : List EpId). HasAt (plain_view c.args.view.now) c.args.usable.now c.loop-place.place es c.loop-place.wishes c.add_wishes.new.wishes)
+    (ap endpoints_at c.deref.ensures.value ∙ c.in_ok-posts.ensures.endpoints) c.in_ok-add_wishes.ensures)
 
 pub returns : goal.returns
 returns c = below_all (plain_view c.args.view.now) c.args.usable.now c.args.endpoints.now c.loop-place.place c.loop-place.wishes c.loop-place-test.false c.loop-place.invariant

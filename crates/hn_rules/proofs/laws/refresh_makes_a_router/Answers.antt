@@ -1,18 +1,5 @@
-use Rattle.hn_rules.proofs.Known.{KnownLaws}
 use Rattle.hn_rules.proofs.Routers.{makes_router}
 use Rattle.hn_rules.proofs.laws.refresh_makes_a_router.Goals as goal
 
 pub returns : goal.returns
-returns c =
-    let known : KnownLaws = record {
-      peers_met = c.peers_stay.ensures.met;
-      peers_contacted = c.peers_stay.ensures.contacted;
-      held_of_entry = c.held_is_of_an_entry.ensures;
-      accepts = c.acceptance_keeps_table.ensures;
-      own = c.own_stays.ensures;
-      none = c.loss_keeps_table.ensures.none;
-      marks = c.loss_keeps_table.ensures.marks;
-      forgetting = c.loss_keeps_table.ensures.forgetting;
-      reach_stays = c.reachability_stays.ensures;
-    } in
-    makes_router known
+returns c = makes_router c.changes_keep_the_rest.ensures

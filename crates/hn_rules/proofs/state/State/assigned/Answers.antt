@@ -3,7 +3,7 @@ use Rattle.std.specs.Prelude.{All}
 use Rattle.hn_data.specs.View.{PlainView, IsNetwork, plain_view}
 use Rattle.hn_deleg.specs.Used.{AreUsable}
 use Rattle.hn_assign.specs.declared.held.Held.{Held}
-use Rattle.hn_assign.specs.Facts.{IsInDelegated, IsPast, HasOwnPriority}
+use Rattle.hn_assign.specs.Facts.{IsInDelegated, IsAssignedPast, HasOwnPriority}
 use Rattle.hn_rules.specs.Seen.{seen_by}
 use Rattle.hn_rules.proofs.AssignPairs.{assigned_of, kept_of}
 use Rattle.hn_rules.proofs.state.State.assigned.Goals as goal
@@ -32,8 +32,8 @@ subroutine-requires-clause-inside g c = subst (λ (held : Held). All IsInDelegat
 
 pub subroutine-requires-clause-past : goal.subroutine-requires-clause-past
 subroutine-requires-clause-past g c =
-    subst (λ (v : PlainView). All (IsPast v.now) c.get-2.result.now.assigned) (sym c.view-view.ensures)
-    (subst (λ (held : Held). All (IsPast c.args.self.now.moment) held.assigned) (sym (c.get-2.ensures.held ∙ c.get.ensures)) c.requires.well.past.assigned)
+    subst (λ (v : PlainView). All (IsAssignedPast v.now) c.get-2.result.now.assigned) (sym c.view-view.ensures)
+    (subst (λ (held : Held). All (IsAssignedPast c.args.self.now.moment) held.assigned) (sym (c.get-2.ensures.held ∙ c.get.ensures)) c.requires.well.past.assigned)
 
 pub returns-clause-assigned : goal.returns-clause-assigned
 returns-clause-assigned g c =

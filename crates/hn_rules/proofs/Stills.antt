@@ -1,0 +1,267 @@
+-- A router for which nothing is due stays so until something is.
+use Rattle.std.proofs.Common.{◌≡◌, ◌∙◌, ◌↔◌, ◌⊎◌, ℕ, ◌+◌, ◌-◌, ◌*◌, ◌^◌, ◌<◌, ◌≤◌, Bool, true, false, List, [], map, Some, None, Contains, nat_lt, nat_le, inl, inr, refl, sym, ap, subst, arith}
+use Rattle.std.specs.Prelude.{All, ◌==◌}
+use Rattle.std.specs.List.{list_any}
+use Rattle.std.specs.Option.{option_map}
+use Rattle.std.specs.Ordering.{nat_cmp}
+use Rattle.std.proofs.lemmas.Bool.{and_parts, cases_lt, eq-eqb, eqb-true, ltb-true}
+use Rattle.std.proofs.lemmas.Cmp.{nat_cmp_total}
+use Rattle.std.proofs.lemmas.List.Elements.{All-contains}
+use Rattle.hn_base.proofs.AscendingLists.{sorted_parts}
+use Rattle.hn_base.proofs.Elements.{all_of, found_passes, in_filter_map, passing_found}
+use Rattle.hn_base.proofs.Parts.{one_of_ascending, part_at, part_stands}
+use Rattle.hn_data.specs.View.{PlainView}
+use Rattle.hn_data.specs.declared.view.Entry.{Entry}
+use Rattle.hn_dncp.specs.Due.{IsPortStill}
+use Rattle.hn_dncp.specs.Laws.{StillPortStays}
+use Rattle.hn_dncp.specs.declared.peers.Neighbour.{Neighbour}
+use Rattle.hn_dncp.specs.declared.port.Port.{Port}
+use Rattle.hn_timers.specs.KeepAlive.{expires_at}
+use Rattle.hn_timers.specs.Laws.{ExpiryIsAMoment}
+use Rattle.hn_store.specs.Due.{IsForgetting}
+use Rattle.hn_store.specs.Laws.{HeldIsOfAnEntry, ForgettingIsAMoment}
+use Rattle.hn_store.specs.Loss.{is_forgotten}
+use Rattle.hn_store.specs.Nodes.{held}
+use Rattle.hn_store.specs.declared.stored.HeldNode.{HeldNode}
+use Rattle.hn_graph.specs.Laws.{IsLike, KeepsReach, ReachabilityStays}
+use Rattle.hn_graph.specs.Path.{IsReachable}
+use Rattle.hn_data.specs.Later.{IsLater}
+use Rattle.hn_deleg.specs.Due.{IsLifetimeEnd}
+use Rattle.hn_deleg.specs.Later.{aged_delegated}
+use Rattle.hn_deleg.specs.Laws.{UsableOfLater, UnwantedOfLater}
+use Rattle.hn_deleg.specs.declared.delegated.Delegated.{Delegated}
+use Rattle.hn_link.specs.Laws.{CommonLinkOfLater}
+use Rattle.hn_assign.specs.Laws.{StillRunStays}
+use Rattle.hn_assign.specs.declared.assigned.Wish.{Wish}
+use Rattle.hn_own.specs.Due.{IsOwnEnd}
+use Rattle.hn_own.specs.Laws.{EndingIsAMoment}
+use Rattle.hn_own.specs.OwnPrefixes.{has_ended_one}
+use Rattle.hn_rules.specs.declared.state.State.{State}
+use Rattle.hn_rules.specs.Assigning.{IsWishAt, AreAsked, IsAssigned}
+use Rattle.hn_rules.specs.Due.{IsDueAt}
+use Rattle.hn_rules.specs.Laws.{UneventfulReaches, StillStays}
+use Rattle.hn_rules.specs.Nodes.{held_entry, entry_of, view_of, IsReach}
+use Rattle.hn_rules.specs.Router.{IsWell}
+use Rattle.hn_rules.specs.Seen.{seen_by}
+use Rattle.hn_rules.specs.Still.{at_moment, AreHeard}
+use Rattle.hn_rules.specs.Tick.{IsExpired}
+use Rattle.hn_rules.proofs.Entries.{entry_held}
+use Rattle.hn_rules.proofs.Laters.{view_later}
+use Rattle.hn_rules.proofs.Recent.{own_at, nodes_at, IsHeld, own_there, own_or_held, same_reach}
+
+-- the laws of the crates below that it stands on
+pub record StillLaws : Type 0 where
+  pub expiry : ExpiryIsAMoment
+  pub port : StillPortStays
+  pub ending : EndingIsAMoment
+  pub forgetting : ForgettingIsAMoment
+  pub known : HeldIsOfAnEntry
+  pub reach : ReachabilityStays
+  pub usable : UsableOfLater
+  pub unwanted : UnwantedOfLater
+  pub common : CommonLinkOfLater
+  pub run : StillRunStays
+
+-- ---- what a router keeps
+
+-- a test that holds from some moments on
+comes_later : (P : ℕ → Type 0) (test : ℕ → Bool) (now later : ℕ) → ((t : ℕ) → (test t ≡ true) ↔ ((m : ℕ) × P m × (m ≤ t)))
+    → ((m : ℕ) → P m → now < m → later < m) → test now ≡ false → test later ≡ false
+comes_later P test now later moment none is = by_test (test later) refl
+  where
+    by_test : (b : Bool) → test later ≡ b → b ≡ false
+    by_test false same = refl
+    by_test true same =
+        let (m, p, come) = (moment later).0 same in
+        elim (cases_lt now m) [
+          | inl before ↦ let after = none m p before in absurd (omega (arith, after, come))
+          | inr past ↦ let already = (moment now).1 (m, p, past) in absurd cc
+        ]
+
+module _ (laws : StillLaws) (s : State) (now later : ℕ) (goes : now ≤ later) (none : (m : ℕ) → IsDueAt (at_moment now s) m → now < m → later < m) where
+  peer_heard : (port : Port) (peer : Neighbour) → Contains s.ports port → Contains port.peers peer → ¬ (IsExpired (at_moment now s) peer) → ¬ (IsExpired (at_moment later s) peer)
+  peer_heard port peer attached there heard (interval, promised, is) =
+      let parts = and_parts (nat_lt 0 interval) (nat_le (21 * interval) (10 * (later - peer.contact))) is in
+      let some : 0 < interval = ltb-true 0 interval parts.0 in
+      let end = expires_at peer.contact interval in
+      let come : end ≤ later = (laws.expiry peer.contact interval later some).0 is in
+      elim (cases_lt now end) [
+        | inl before ↦
+            let after : later < end = none end (inl (port, attached, inl (peer, there, record { interval = interval; promised = promised; ends = (some, refl) }))) before in
+            omega (arith, come, after)
+        | inr past ↦ heard (interval, promised, (laws.expiry peer.contact interval now some).1 past)
+      ]
+
+  heard_stays : AreHeard now s → AreHeard later s
+  heard_stays heard =
+      all_of (λ (port : Port). All (λ (peer : Neighbour). ¬ (IsExpired (at_moment later s) peer)) port.peers) s.ports
+      (λ port attached.
+      let here : All (λ (peer : Neighbour). ¬ (IsExpired (at_moment now s) peer)) port.peers = All-contains (λ (p : Port). All (λ (peer : Neighbour). ¬ (IsExpired (at_moment now s) peer)) p.peers) s.ports port heard attached in
+      all_of (λ (peer : Neighbour). ¬ (IsExpired (at_moment later s) peer)) port.peers
+      (λ peer there. peer_heard port peer attached there (All-contains (λ (p : Neighbour). ¬ (IsExpired (at_moment now s) p)) port.peers peer here there)))
+
+  silent_stays : All (IsPortStill now) s.ports → All (IsPortStill later) s.ports
+  silent_stays silent =
+      all_of (IsPortStill later) s.ports
+      (λ port attached. laws.port port now later goes (All-contains (IsPortStill now) s.ports port silent attached) (λ m due. none m (inl (port, attached, inr due))))
+
+  lasting_stays : has_ended_one now s.delegated ≡ false → has_ended_one later s.delegated ≡ false
+  lasting_stays =
+      comes_later (IsOwnEnd s.delegated) (λ t. has_ended_one t s.delegated) now later (λ t. laws.ending t s.delegated) (λ m end. none m (inr (inl (inl end))))
+
+  kept_stays : list_any (is_forgotten now) s.table.entries ≡ false → list_any (is_forgotten later) s.table.entries ≡ false
+  kept_stays =
+      comes_later (IsForgetting s.table.entries) (λ t. list_any (is_forgotten t) s.table.entries) now later (λ t. laws.forgetting t s.table.entries)
+      (λ m end. none m (inr (inl (inr (inr (inl end))))))
+
+  young_stays : now - s.own.born < 2 ^ 32 - 2 ^ 16 → later - s.own.born < 2 ^ 32 - 2 ^ 16
+  young_stays young =
+      let after = none (s.own.born + (2 ^ 32 - 2 ^ 16)) (inr (inl (inr (inl refl)))) (omega (arith, young)) in
+      omega (arith, after)
+
+  -- ---- what is reachable
+
+  module _ (well : IsWell s) where
+    held_of : (node : HeldNode) → Contains s.table.entries node → held s.table.entries node.id.0 ≡ Some node.stored
+    held_of node there =
+        let test = λ (n : HeldNode). n.id.0 == node.id.0 in
+        let found = passing_found test s.table.entries node there (eq-eqb node.id.0 node.id.0 refl) in
+        let passes = found_passes test s.table.entries found.0 found.1 in
+        let up = (sorted_parts (λ (n : HeldNode). n.id.0) nat_cmp s.table.entries).1 well.table.ascending in
+        let same : found.0 ≡ node = one_of_ascending (λ (n : HeldNode). n.id.0) nat_cmp nat_cmp_total s.table.entries up found.0 node passes.0 there (eqb-true (found.0).id.0 node.id.0 passes.1) in
+        ap (option_map (λ (n : HeldNode). n.stored)) (found.1 ∙ ap Some same)
+
+    -- a held node is what a router sees of its identifier
+    seen_of : (node : HeldNode) → Contains s.table.entries node → entry_of (at_moment now s) node.id ≡ Some (held_entry now node)
+    seen_of node there =
+        let holds = held_of node there in
+        entry_held (at_moment now s) node.id node.stored (λ own. other node holds own) holds
+      where
+        other : (node : HeldNode) → held s.table.entries node.id.0 ≡ Some node.stored → node.id.0 ≡ s.id.0 → ⊥
+        other node holds own =
+            let nobody : held s.table.entries node.id.0 ≡ None = ap (held s.table.entries) own ∙ well.other in
+            absurd cc
+
+    module _ (is_reach : IsReach (at_moment now s) s.reach) (young : now - s.own.born < 2 ^ 32 - 2 ^ 16) where
+      own_like : IsLike (own_at s now) (own_at s later)
+      own_like = record { id = refl; body = refl; recent = λ recent. let stays = young_stays young in omega (arith, stays) }
+
+      node_like : (node : HeldNode) → Contains s.table.entries node → IsReachable s.id.0 (nodes_at s now) node.id.0 → IsLike (held_entry now node) (held_entry later node)
+      node_like node there reachable = record {
+        id = refl;
+        body = refl;
+        recent = λ recent.
+            let seen : Contains (view_of (at_moment now s)) (held_entry now node) =
+            in_filter_map (entry_of (at_moment now s)) s.reach node.id (held_entry now node) ((is_reach.exactly node.id).1 reachable) (seen_of node there) in
+            let limit = now + (2 ^ 32 - 2 ^ 15 - (held_entry now node).age) in
+            let after : later < limit = none limit (inr (inr (inr (held_entry now node, seen, refl)))) (omega (arith, recent)) in
+            omega (arith, after, recent, goes);
+      }
+
+      keeps : KeepsReach s.id.0 (nodes_at s now) (nodes_at s later)
+      keeps = record {
+        kept = λ x there reachable. still x reachable (own_or_held s now later x there);
+        known = λ y there. was y (own_or_held s later now y there);
+      }
+        where
+          still : (x : Entry) → IsReachable s.id.0 (nodes_at s now) x.id.0 → (x ≡ own_at s now) ⊎ IsHeld s now later x → (y : Entry) × Contains (nodes_at s later) y × IsLike x y
+          still x reachable (inl is) = (own_at s later, own_there s later, subst (λ (z : Entry). IsLike z (own_at s later)) (sym is) own_like)
+          still x reachable (inr (node, there, is, other)) =
+              let reached : IsReachable s.id.0 (nodes_at s now) node.id.0 = subst (λ (z : Entry). IsReachable s.id.0 (nodes_at s now) z.id.0) (sym is) reachable in
+              (held_entry later node, other, subst (λ (z : Entry). IsLike z (held_entry later node)) is (node_like node there reached))
+
+          was : (y : Entry) → (y ≡ own_at s later) ⊎ IsHeld s later now y → (x : Entry) × Contains (nodes_at s now) x × IsLike y x
+          was y (inl is) =
+              let like : IsLike (own_at s later) (own_at s now) = record { id = refl; body = refl; recent = λ recent. omega (arith, recent, goes) } in
+              (own_at s now, own_there s now, subst (λ (z : Entry). IsLike z (own_at s now)) (sym is) like)
+          was y (inr (node, there, is, other)) =
+              let like : IsLike (held_entry later node) (held_entry now node) = record { id = refl; body = refl; recent = λ recent. omega (arith, recent, goes) } in
+              (held_entry now node, other, subst (λ (z : Entry). IsLike z (held_entry now node)) is like)
+
+      reached_stays : IsReach (at_moment later s) s.reach
+      reached_stays = record {
+        ascending = is_reach.ascending;
+        exactly = λ id.
+            let same = laws.reach s.id.0 (nodes_at s now) (nodes_at s later) keeps id.0 in
+            let there = is_reach.exactly id in
+            (λ old. same.0 (there.0 old), λ reachable. there.1 (same.1 reachable));
+      }
+
+    -- ---- the assignment of prefixes
+
+    module _ (begun : s.moment ≤ now) (assigned : IsAssigned (at_moment now s) (record { held = s.held; words = [] })) where
+      abbrev before : PlainView
+      before = seen_by (at_moment now s)
+
+      abbrev after : PlainView
+      after = seen_by (at_moment later s)
+
+      passed : IsLater before after
+      passed = view_later laws.known s now later well.past begun goes
+
+      abbrev aged : List Delegated
+      aged = map (aged_delegated passed.time) assigned.usable
+
+      no_end : (m : ℕ) → IsLifetimeEnd before m → before.now < m → after.now < m
+      no_end m end = none m (inr (inr (inl end)))
+
+      -- a wish has no lifetime
+      wish_stays : (place : ℕ) (wish : Wish) → IsWishAt before assigned.usable place wish → IsWishAt after aged place wish
+      wish_stays place wish asked =
+          let unwanted = laws.unwanted before after passed no_end assigned.usable assigned.are_usable place in
+          record {
+            delegated = aged_delegated passed.time asked.delegated;
+            at = part_stands (aged_delegated passed.time) assigned.usable place asked.delegated asked.at;
+            prefix = asked.prefix;
+            wanted = (λ is not. asked.wanted.0 is (unwanted.1 not), λ wanted. asked.wanted.1 (λ not. wanted (unwanted.0 not)));
+            common = (laws.common before after wish.endpoint.0 wish.common passed).0 asked.common;
+            length = asked.length;
+          }
+
+      wish_was : (place : ℕ) (wish : Wish) → IsWishAt after aged place wish → IsWishAt before assigned.usable place wish
+      wish_was place wish asked =
+          let unwanted = laws.unwanted before after passed no_end assigned.usable assigned.are_usable place in
+          let young = part_at (aged_delegated passed.time) assigned.usable place asked.delegated asked.at in
+          record {
+            delegated = young.0;
+            at = young.1;
+            prefix = asked.prefix ∙ sym (ap (λ (u : Delegated). u.prefix) young.2);
+            wanted = (λ is not. asked.wanted.0 is (unwanted.0 not), λ wanted. asked.wanted.1 (λ not. wanted (unwanted.1 not)));
+            common = (laws.common before after wish.endpoint.0 wish.common passed).1 asked.common;
+            length = asked.length;
+          }
+
+      asked_stays : AreAsked after aged s.ports assigned.wishes
+      asked_stays = record {
+        are_wishes = assigned.are_asked.are_wishes;
+        exact = λ wish. (
+          λ there. let is = (assigned.are_asked.exact wish).0 there in record { place = is.place; asked = wish_stays is.place wish is.asked; attached = is.attached },
+          λ is. (assigned.are_asked.exact wish).1 (record { place = is.place; asked = wish_was is.place wish is.asked; attached = is.attached }),
+        );
+      }
+
+      rests_stays : IsAssigned (at_moment later s) (record { held = s.held; words = [] })
+      rests_stays = record {
+        usable = aged;
+        are_usable = laws.usable before after passed no_end assigned.usable assigned.are_usable;
+        wishes = assigned.wishes;
+        are_asked = asked_stays;
+        is_subroutine = laws.run before after assigned.wishes s.held passed assigned.are_asked.are_wishes.ascending assigned.is_subroutine (λ m due. none m (inr (inl (inr (inr (inr due))))));
+      }
+
+pub still_stays : StillLaws → StillStays
+still_stays laws s now later router begun goes still none = record {
+  heard = heard_stays laws s now later goes none still.heard;
+  lasting = lasting_stays laws s now later goes none still.lasting;
+  young = young_stays laws s now later goes none still.young;
+  reached = reached_stays laws s now later goes none router.well still.reached still.young;
+  kept = kept_stays laws s now later goes none still.kept;
+  rests = rests_stays laws s now later goes none router.well begun still.rests;
+  silent = silent_stays laws s now later goes none still.silent;
+}
+
+pub reached_while_uneventful : ReachabilityStays → UneventfulReaches
+reached_while_uneventful reach s now router begun quiet =
+    let was = router.refreshed.reached in
+    let past : was.moment ≤ now = (let before = was.past in omega (arith, before, begun)) in
+    same_reach (at_moment now s) was.moment past was.was router.refreshed.lost quiet.young quiet.leads reach

@@ -1,0 +1,5 @@
+use Rattle.hn_rules.proofs.Laters.{due_stays}
+use Rattle.hn_rules.proofs.laws.next_due_stays.Goals as goal
+
+pub returns : goal.returns
+returns c = due_stays c.held_is_of_an_entry.ensures c.ends_of_later.ensures

@@ -1,0 +1,14 @@
+use Rattle.std.proofs.Common.{◌∙◌, ℕ, subst}
+use Rattle.hn_base.specs.Sooner.{IsSooner}
+use Rattle.hn_data.specs.View.{plain_view}
+use Rattle.hn_graph.specs.Later.{IsAgeLimit}
+use Rattle.hn_rules.proofs.Dues.{seen_due}
+use Rattle.hn_rules.proofs.state.State.next_seen.Goals as goal
+
+pub returns : goal.returns
+returns c =
+    let nodes = c.as_slice-2.result.now in
+    let end = c.next_end-end.result in
+    seen_due c.args.self.now (plain_view c.view-view.result) nodes c.args.best end c.next_age_limit.result c.view-view.ensures
+    (c.as_slice-2.ensures.value ∙ c.in_ok-nodes.ensures) c.next_end-end.ensures
+    (subst (λ (t : ℕ). IsSooner (IsAgeLimit nodes t) t end c.next_age_limit.result) c.get.ensures.moment c.next_age_limit.ensures)

@@ -1,12 +1,12 @@
 -- A new router is one.
-use Rattle.std.proofs.Common.{◌≡◌, ◌<◌, ◌^◌, ◌∙◌, ℕ, List, [], ◌∷◌, ◌++◌, None, map, filter, inl, refl, sym, ap, subst, arith}
+use Rattle.std.proofs.Common.{◌≡◌, ◌<◌, ◌^◌, ◌∙◌, ℕ, List, [], ◌∷◌, ◌++◌, None, map, filter, refl, sym, ap, subst, arith}
 use Rattle.std.specs.Prelude.{All, Contains, ◌↔◌, nat_lt, is_none}
 use Rattle.std.specs.List.Sorted.{IsStrictlySortedBy}
 use Rattle.std.proofs.lemmas.List.Elements.{All-nil}
 use Rattle.hn_base.specs.NodeIds.{node_cmp}
 use Rattle.hn_base.specs.declared.ids.NodeId.{NodeId}
 use Rattle.hn_assign.specs.declared.held.Held.{Held}
-use Rattle.hn_assign.specs.Facts.{IsInDelegated, HasOwnPriority, IsPast as IsAssignedPast}
+use Rattle.hn_assign.specs.Facts.{IsInDelegated, HasOwnPriority, IsAssignedPast}
 use Rattle.hn_data.specs.View.{IsNetwork}
 use Rattle.hn_data.specs.declared.view.Entry.{Entry}
 use Rattle.hn_graph.specs.Path.{IsReachable}
@@ -48,14 +48,14 @@ unfolding IsStrictlySortedBy
 nothing_held = record { assigned = tt; backoffs = tt; few = omega arith; inside = All-nil IsInDelegated; priority = All-nil HasOwnPriority }
 
 pub new_is_one : NoNodesAreTable → ArePorts [] → AreOwnPrefixes [] → OwnIsReachable → ReachableIsANode → NewIsRouter
-new_is_one none no_endpoints no_delegated own_is_reachable reachable_is_a_node id now s new =
+new_is_one none no_endpoints no_delegated own_is_reachable reachable_is_a_node id limit now s sized new =
     record { well = well; refreshed = record { published = sym new.items_are; reached = reached; lost = lost; hashed = new.net_is } }
   where
     well : IsWell s
     well = record {
       ports = subst ArePorts (sym new.ports_are) no_endpoints;
       peers = subst (λ (ports : List Port). All (λ port. ArePeers port.peers) ports) (sym new.ports_are) (All-nil (λ (port : Port). ArePeers port.peers));
-      table = subst IsTable (sym new.table_is) (none 256 (inl refl));
+      table = subst IsTable (sym new.table_is) (none limit sized);
       own = new.own_is;
       delegated = subst AreOwnPrefixes (sym new.no_prefixes) no_delegated;
       pairs = subst AreHeldPairs (sym new.nothing_held) nothing_held;

@@ -1,4 +1,4 @@
--- A new router is determined by its identifier and its moment.
+-- A new router is determined by its identifier, its limit and its moment.
 use Rattle.std.proofs.Common.{◌≡◌, ◌∙◌, ℕ, List, ap, sym}
 use Rattle.hn_base.specs.Caps.{PlainCaps, plain_caps}
 use Rattle.hn_base.specs.declared.caps.Caps.{Caps}
@@ -14,7 +14,7 @@ one_caps a b same =
     same_caps a b (ap (λ (c : PlainCaps). c.m) same) (ap (λ (c : PlainCaps). c.p) same) (ap (λ (c : PlainCaps). c.h) same) (ap (λ (c : PlainCaps). c.l) same)
 
 pub one_new : OwnDataIsUnique → NewIsUnique
-one_new one_own id now a b h k =
+one_new one_own id limit now a b h k =
     let caps : a.caps ≡ b.caps = one_caps a.caps b.caps (h.caps_are ∙ sym k.caps_are) in
     let ports : a.ports ≡ b.ports = h.ports_are ∙ sym k.ports_are in
     let delegated : a.delegated ≡ b.delegated = h.no_prefixes ∙ sym k.no_prefixes in

@@ -1,5 +1,5 @@
 -- Laws of the router.
-use Rattle.std.specs.Prelude.{◌≡◌, ℕ, ◌≤◌, ◌==◌, nat_lt, not, if◌then◌else◌, List, ◌∷◌, ◌++◌, filter}
+use Rattle.std.specs.Prelude.{◌≡◌, ℕ, ◌≤◌, ◌⊎◌, ◌==◌, nat_lt, not, if◌then◌else◌, List, ◌∷◌, ◌++◌, filter}
 use Rattle.hn_base.specs.declared.ids.EpId.{EpId}
 use Rattle.hn_base.specs.declared.ids.NodeId.{NodeId}
 use Rattle.hn_base.specs.Words.{Begins}
@@ -18,13 +18,13 @@ OneResult =
     → Happened now event s a done_a → Happened now event s b done_b
     → Begins done_a.words stream → Begins done_b.words stream → (a ≡ b) × (done_a ≡ done_b)
 
--- There is at most one new router of an identifier at a moment.
+-- There is at most one new router of an identifier and a limit at a moment.
 abbrev pub NewIsUnique : Type 0
-NewIsUnique = (id : NodeId) (now : ℕ) (a b : State) → IsNew id now a → IsNew id now b → a ≡ b
+NewIsUnique = (id : NodeId) (limit now : ℕ) (a b : State) → IsNew id limit now a → IsNew id limit now b → a ≡ b
 
--- A new router is one, and what an event leaves of a router is one.
+-- A new router that may hold 256 or 1,024 nodes is one, and what an event leaves of a router is one.
 abbrev pub NewIsRouter : Type 0
-NewIsRouter = (id : NodeId) (now : ℕ) (s : State) → IsNew id now s → IsRouter s
+NewIsRouter = (id : NodeId) (limit now : ℕ) (s : State) → (limit ≡ 256) ⊎ (limit ≡ 1024) → IsNew id limit now s → IsRouter s
 
 abbrev pub RouterStays : Type 0
 RouterStays =

@@ -12,7 +12,8 @@ abbrev pub no_caps : PlainCaps
 no_caps = record { m = 0; p = 0; h = 0; l = 0 }
 
 -- A router begins: without capabilities, endpoints, delegated and assigned prefixes, with sequence number 1, and it reaches itself alone.
-pub record IsNew (id : NodeId) (now : ℕ) (s : State) : Type 0 where
+-- It may hold as many other nodes as the limit says.
+pub record IsNew (id : NodeId) (limit now : ℕ) (s : State) : Type 0 where
   pub id_is : s.id ≡ id
   pub number_is : s.number ≡ 1
   pub moment_is : s.moment ≡ now
@@ -24,6 +25,6 @@ pub record IsNew (id : NodeId) (now : ℕ) (s : State) : Type 0 where
   pub nothing_held : s.held ≡ no_pairs
   pub unclaimed : s.claimed ≡ false
   pub ports_are : s.ports ≡ []
-  pub table_is : s.table ≡ record { limit = 256; entries = [] }
+  pub table_is : s.table ≡ record { limit = limit; entries = [] }
   pub reach_is : s.reach ≡ id ∷ []
   pub net_is : s.net ≡ network_state_hash s

@@ -22,14 +22,14 @@ pub fn one_result()
     rules_have_one_result();
 }
 
-/// There is at most one new router of an identifier at a moment.
+/// There is at most one new router of an identifier and a limit at a moment.
 pub fn new_is_unique()
     ensures { NewIsUnique }
 {
     own_data_is_unique();
 }
 
-/// A new router is one.
+/// A new router that may hold 256 or 1,024 nodes is one.
 pub fn new_is_router()
     ensures { NewIsRouter }
 {

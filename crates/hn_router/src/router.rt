@@ -1,4 +1,4 @@
-ghost use Rattle.std.specs.Prelude.{◌≡◌, ◌≤◌, ◌^◌, [], ◌∷◌, nat_lt, length, IfOk, OnErr, IsTrue, ◌↔◌};
+ghost use Rattle.std.specs.Prelude.{◌≡◌, ◌≤◌, ◌^◌, ◌⊎◌, [], ◌∷◌, nat_lt, length, IfOk, OnErr, IsTrue, ◌↔◌};
 ghost use Rattle.hn_base.specs.Caps.{plain_caps};
 ghost use Rattle.hn_assign.specs.Gathered.{AreAdvertised};
 ghost use Rattle.hn_base.specs.Words.{Took};
@@ -25,7 +25,7 @@ use hn_link::{common, elected};
 use hn_own::{HeldPairs, OwnData, OwnItems, OwnPrefixes, Ports};
 use hn_prefix::Prefix;
 use hn_rules::{Done, Present, Running, State, router_stays_later, view_is_a_network};
-use hn_store::Table;
+use hn_store::{LIMIT, Table};
 use std::alloc::Global;
 use std::marker::Model;
 
@@ -82,22 +82,24 @@ fn only(alloc: Global, id: NodeId) -> Result<NodeIds, NoMemory>
     Ok(NodeIds::from(ids))
 }
 
-// A new router's state, with its node data.
+// A new router's state, with its node data, and as many other nodes at most as the limit says.
 fn new_state(
     alloc: Global,
     id: NodeId,
     now: Moment,
+    limit: usize,
     own: OwnData,
     ports: Ports,
 ) -> Result<State, NoMemory>
     requires in_range { now ≤ 2 ^ 48 }
+    requires sized { (limit ≡ 256) ⊎ (limit ≡ 1024) }
     requires no_ports { ports ≡ [] }
     requires no_links { own.items.links ≡ [] }
     requires no_prefixes { own.items.delegated ≡ [] }
     requires nothing_assigned { own.items.assigned ≡ [] }
     requires born { own.born ≡ now }
     requires no_caps { plain_caps own.items.caps ≡ no_caps }
-    ensures { IfOk result (IsNew id now) }
+    ensures { IfOk result (IsNew id limit now) }
 {
     let caps = own.items().caps;
     let part = Part {
@@ -114,7 +116,7 @@ fn new_state(
         held: Shared::new(alloc, HeldPairs::new(alloc))?,
         claimed: false,
         ports: Shared::new(alloc, ports)?,
-        table: Shared::new(alloc, Table::new(alloc))?,
+        table: Shared::new(alloc, Table::sized(alloc, limit))?,
         reach: Shared::new(alloc, only(alloc, id)?)?,
         net: network_of(&[part]),
     })
@@ -122,14 +124,27 @@ fn new_state(
 
 impl Router {
     /// A router that begins at a moment, without capabilities, endpoints, delegated and assigned prefixes, and with
-    /// sequence number 1.
+    /// sequence number 1. It may hold 256 other nodes.
     ///
     /// # Errors
     ///
     /// Out of memory.
     pub fn new(alloc: Global, id: NodeId, now: Moment) -> Result<Router, NoMemory>
         requires { now ≤ 2 ^ 48 }
-        ensures { IfOk result (IsNew id now) }
+        ensures { IfOk result (IsNew id 256 now) }
+    {
+        Router::sized(alloc, id, now, LIMIT)
+    }
+
+    /// The same for a router that may hold so many other nodes, 256 or 1,024.
+    ///
+    /// # Errors
+    ///
+    /// Out of memory.
+    pub fn sized(alloc: Global, id: NodeId, now: Moment, limit: usize) -> Result<Router, NoMemory>
+        requires in_range { now ≤ 2 ^ 48 }
+        requires sized { (limit ≡ 256) ⊎ (limit ≡ 1024) }
+        ensures { IfOk result (IsNew id limit now) }
     {
         new_is_router();
         let ports = Ports::new(alloc);
@@ -147,7 +162,7 @@ impl Router {
             &HeldPairs::new(alloc),
         )?;
         let own = OwnData::new(alloc, items, now)?;
-        let state = new_state(alloc, id, now, own, ports)?;
+        let state = new_state(alloc, id, now, limit, own, ports)?;
         Ok(Router { state })
     }
 

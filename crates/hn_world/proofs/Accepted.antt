@@ -22,10 +22,10 @@ not_so code false none = refl
 abbrev HasRoom : Parts → Type 0
 HasRoom w = unless_full_of_events w ≡ None
 
-room_to_define : (w : Parts) (name : List ℕ) (count : ℕ) → unless_new w name count ≡ None → HasRoom w
-room_to_define w name count accepted =
+room_to_define : (w : Parts) (name : List ℕ) (count most : ℕ) → unless_new w name count most ≡ None → HasRoom w
+room_to_define w name count most accepted =
     let first = neither_given (code_if 8 (is_taken name w)) _ accepted in
-    (neither_given (code_if 9 (not (nat_lt count 64))) (unless_full_of_events w) first.1).1
+    (neither_given (code_if 9 (not (nat_lt count most))) (unless_full_of_events w) first.1).1
 
 room_to_act : (w : Parts) (m : Member) → unless_acts w m ≡ None → HasRoom w
 room_to_act w m accepted = (neither_given (unless_running m) (unless_full_of_events w) accepted).1
@@ -54,8 +54,8 @@ room_to_delegate w prefix m accepted =
     (neither_given (unless_full_of_prefixes prefix m) (unless_full_of_events w) first.1).1
 
 room : (w : Parts) (event : WEvent) → refusal w event ≡ None → HasRoom w
-room w (event.Router name id) accepted = room_to_define w (name_text name) _ accepted
-room w (event.Link name) accepted = room_to_define w (name_text name) _ accepted
+room w (event.Router name id) accepted = room_to_define w (name_text name) _ _ accepted
+room w (event.Link name) accepted = room_to_define w (name_text name) _ _ accepted
 room w (event.Attach name endpoint link) accepted =
     let router = some_there 7 (λ (m : Member). of_link (unless_joined w endpoint m) (link_place (name_text link) w)) (member_named (name_text name) w) accepted in
     let at = some_there 7 (unless_joined w endpoint router.0) (link_place (name_text link) w) router.2 in

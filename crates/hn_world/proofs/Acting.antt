@@ -23,6 +23,7 @@ use Rattle.hn_world.specs.declared.finish.Prepared.{Prepared}
 use Rattle.hn_world.specs.declared.member.Attachment.{Attachment}
 use Rattle.hn_world.specs.declared.member.Member.{Member}
 use Rattle.hn_world.specs.declared.parts.Parts.{Parts}
+use Rattle.hn_world.specs.Limits.{table_limit}
 use Rattle.hn_world.specs.Mail.{copies_of}
 use Rattle.hn_world.specs.Names.{is_named, router_place, member_named}
 use Rattle.hn_world.specs.Prepared.{IsPrepared}
@@ -234,7 +235,7 @@ stopped_step name place before members trace t accepted found event entered stop
     }
 
 pub begun_step : (name : Name) (id : NodeId) (before : Parts) (router : State) (m : Member) (p : Publication) (members : List Member) (published : List Publication) (trace : List Traced) (t : Traced) → refusal before (event.Router name id) ≡ None
-    → IsNew id before.moment router → m ≡ record { name = name; running = true; router = router; attachments = [] } → p ≡ record { id = id; number = 1; body = router.own.body }
+    → IsNew id (table_limit before.version) before.moment router → m ≡ record { name = name; running = true; router = router; attachments = [] } → p ≡ record { id = id; number = 1; body = router.own.body }
     → t ≡ record { event = event.Router name id; words = [] } → members ≡ before.members ++ m ∷ [] → published ≡ before.published ++ p ∷ [] → trace ≡ before.trace ++ t ∷ []
     → Step (record { event = event.Router name id; words = [] }) [] before (record before { members = members; published = published; trace = trace })
 begun_step name id before router m p members published trace t accepted new member publication event joined added entered = record {

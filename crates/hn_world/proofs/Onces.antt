@@ -17,6 +17,7 @@ use Rattle.hn_world.specs.declared.event.Traced.{Traced}
 use Rattle.hn_base.specs.declared.version.Version.{Version}
 use Rattle.hn_world.specs.declared.member.Member.{Member}
 use Rattle.hn_world.specs.declared.parts.Parts.{Parts}
+use Rattle.hn_world.specs.Limits.{table_limit}
 use Rattle.hn_world.specs.Step.{ActsAt, Acts, Begins, Changes, Quietly, Does, Step, IsStep, acted, entered, with_member, attached_to, taken}
 use Rattle.hn_world.specs.Replay.{empty_world, Goes, Replays}
 
@@ -80,7 +81,7 @@ module _ (laws : HasLaws) (stream : ℕ → ℕ) where
 
   one_begun : (name : Name) (id : NodeId) (v w : List ℕ) (m n : List Note) (before a b : Parts) → Begins name id v m before a → Begins name id w n before b → AreOne v w m n a b
   one_begun name id v w m n before a b h k =
-      let router : h.router ≡ k.router = laws.one_new id before.moment h.router k.router h.is_new k.is_new in
+      let router : h.router ≡ k.router = laws.one_new id (table_limit before.version) before.moment h.router k.router h.is_new k.is_new in
       let made = ap (λ (s : State). record before {
         members = before.members ++ record { name = name; running = true; router = s; attachments = [] } ∷ [];
         published = before.published ++ record { id = id; number = 1; body = s.own.body } ∷ [];

@@ -1,5 +1,5 @@
 -- The routers of a replayed world.
-use Rattle.std.proofs.Common.{◌≡◌, ◌≤◌, ℕ, Bool, true, false, List, [], ◌∷◌, ◌++◌, Option, Some, None, All, slice_get, nat_lt, refl, sym, subst, arith}
+use Rattle.std.proofs.Common.{◌≡◌, ◌≤◌, ◌⊎◌, ℕ, Bool, true, false, List, [], ◌∷◌, ◌++◌, Option, Some, None, All, slice_get, nat_lt, inl, inr, refl, sym, subst, arith}
 use Rattle.std.specs.Option.{option_or}
 use Rattle.std.proofs.lemmas.Bool.{ltb-false}
 use Rattle.std.proofs.lemmas.List.Elements.{All-nil, All-push, All-set, All-weaker, All-contains}
@@ -13,8 +13,10 @@ use Rattle.hn_world.specs.declared.event.WEvent.{WEvent}
 use Rattle.hn_world.specs.declared.event.WEvent.TheVariants as event
 use Rattle.hn_world.specs.declared.event.Traced.{Traced}
 use Rattle.hn_base.specs.declared.version.Version.{Version}
+use Rattle.hn_base.specs.declared.version.Version.TheVariants.{One, Two}
 use Rattle.hn_world.specs.declared.member.Member.{Member}
 use Rattle.hn_world.specs.declared.parts.Parts.{Parts}
+use Rattle.hn_world.specs.Limits.{table_limit}
 use Rattle.hn_world.specs.Refusal.{code_if, refusal}
 use Rattle.hn_world.specs.Step.{ActsAt, Acts, Changes, Does}
 use Rattle.hn_world.specs.Replay.{empty_world, Goes, Replays, IsReplayed, IsSoundMember, IsSound, Always}
@@ -86,11 +88,15 @@ not_before false rest accepted = refl
 sound_later : (before : Parts) (moment : ℕ) → before.moment ≤ moment → IsSound before → All (IsSoundMember moment) before.members
 sound_later before moment rises all = All-weaker (IsSoundMember before.moment) (IsSoundMember moment) (λ m is. record { router = is.router; past = omega (arith, is.past) }) before.members all
 
+limit_is_size : (version : Version) → (table_limit version ≡ 256) ⊎ (table_limit version ≡ 1024)
+limit_is_size One = inl refl
+limit_is_size Two = inr refl
+
 sound_event : StayLaws → (event : WEvent) (words : List ℕ) (notes : List Note) (before after : Parts) → refusal before event ≡ None → Does event words notes before after → IsSound before → IsSound after
 sound_event laws (event.Router name id) words notes before after accepted h all =
     let moment : h.router.moment ≡ before.moment = h.is_new.moment_is in
     subst IsSound (sym h.quietly.gives) (All-push (IsSoundMember before.moment) before.members (record { name = name; running = true; router = h.router; attachments = [] }) all
-    (record { router = laws.new id before.moment h.router h.is_new; past = omega arith }))
+    (record { router = laws.new id (table_limit before.version) before.moment h.router (limit_is_size before.version) h.is_new; past = omega arith }))
 sound_event laws (event.Link name) words notes before after accepted h all = subst IsSound (sym h.gives) all
 sound_event laws (event.Attach name endpoint link) words notes before after accepted h all =
     sound_change name _ h.between after (λ moment m is. record { router = is.router; past = is.past }) h.changes (sound_acts laws name _ words notes before h.between h.acts all)

@@ -13,6 +13,7 @@ use Rattle.hn_world.specs.declared.event.WEvent.{WEvent}
 use Rattle.hn_world.specs.declared.event.WEvent.TheVariants as event
 use Rattle.hn_world.specs.declared.member.Member.{Member}
 use Rattle.hn_world.specs.declared.parts.Parts.{Parts}
+use Rattle.hn_world.specs.Limits.{most_routers}
 use Rattle.hn_world.specs.Names.{is_taken, member_named, link_place}
 use Rattle.hn_world.specs.Waiting.{bytes_of}
 use Rattle.hn_world.specs.Injected.{injected_of}
@@ -90,14 +91,15 @@ of_copy asked copy = unless_there 13 asked copy
 abbrev pub copy_at : Parts → ℕ → Option MailCopy
 copy_at w copy = if copy == 0 then None else slice_get w.copies (copy - 1)
 
--- 8: the name of a new router or link is taken; then 9, the 65th router or link, and the events
-abbrev pub unless_new : Parts → List ℕ → ℕ → Option ℕ
-unless_new w name count = option_or (code_if 8 (is_taken name w)) (option_or (code_if 9 (not (nat_lt count 64))) (unless_full_of_events w))
+-- 8: the name of a new router or link is taken; then 9, one router or link too many, and the events
+abbrev pub unless_new : Parts → List ℕ → ℕ → ℕ → Option ℕ
+unless_new w name count most =
+    option_or (code_if 8 (is_taken name w)) (option_or (code_if 9 (not (nat_lt count most))) (unless_full_of_events w))
 
 -- the code with which an event is refused; an event that is accepted has none
 abbrev pub refusal : Parts → WEvent → Option ℕ
-refusal w (event.Router name id) = unless_new w (name_text name) (length w.members)
-refusal w (event.Link name) = unless_new w (name_text name) (length w.links)
+refusal w (event.Router name id) = unless_new w (name_text name) (length w.members) (most_routers w.version)
+refusal w (event.Link name) = unless_new w (name_text name) (length w.links) 64
 refusal w (event.Attach name endpoint link) =
     of_router (λ m. of_link (unless_joined w endpoint m) (link_place (name_text link) w)) (member_named (name_text name) w)
 refusal w (event.Detach name endpoint) = of_router (unless_detached w endpoint) (member_named (name_text name) w)

@@ -17,6 +17,7 @@ use Rattle.hn_world.specs.declared.event.WEvent.TheVariants as event
 use Rattle.hn_world.specs.declared.event.Traced.{Traced}
 use Rattle.hn_world.specs.declared.member.Member.{Member}
 use Rattle.hn_world.specs.declared.parts.Parts.{Parts}
+use Rattle.hn_world.specs.Limits.{table_limit}
 use Rattle.hn_world.specs.Names.{router_place, link_place, is_of}
 use Rattle.hn_world.specs.Mail.{copies_of}
 use Rattle.hn_world.specs.Refusal.{refusal}
@@ -56,10 +57,10 @@ pub record Quietly (given : Parts) (words : List ℕ) (notes : List Note) (after
   pub noted : notes ≡ []
   pub gives : after ≡ given
 
--- a new running router; what it publishes first is a publication
+-- a new running router, which holds as many other nodes as the version says; what it publishes first is a publication
 pub record Begins (name : Name) (id : NodeId) (words : List ℕ) (notes : List Note) (before after : Parts) : Type 0 where
   pub router : State
-  pub is_new : IsNew id before.moment router
+  pub is_new : IsNew id (table_limit before.version) before.moment router
   pub quietly : Quietly (record before {
     members = before.members ++ record { name = name; running = true; router = router; attachments = [] } ∷ [];
     published = before.published ++ record { id = id; number = 1; body = router.own.body } ∷ [];

@@ -89,10 +89,11 @@ pub struct Traced {
 #[derive(Clone, Copy, Debug, PartialEq, Eq)]
 pub enum WorldFault {
     /// It is refused with this code: 7, a name is unknown or names the other kind; 8, the name of a new router or link is
-    /// taken; 9, the 65th router, the 65th link, the 17th endpoint of a router, its ninth delegated prefix, or the
-    /// 1,000,001st event; 10, the moment would fall; 11, the endpoint is in use or not attached; 12, the router is
-    /// stopped; 13, there is no such copy; 14, the router already has an endpoint on that link; 16, there are 1,000,000
-    /// copies, or they and the injected datagrams have 2^28 bytes together.
+    /// taken; 9, the 65th router in a world of version 1, the 129th in one of version 2, the 65th link, the 17th endpoint
+    /// of a router, its ninth delegated prefix, or the 1,000,001st event; 10, the moment would fall; 11, the endpoint is
+    /// in use or not attached; 12, the router is stopped; 13, there is no such copy; 14, the router already has an
+    /// endpoint on that link; 16, there are 1,000,000 copies, or they and the injected datagrams have 2^28 bytes
+    /// together.
     Refused(u8),
     /// Out of memory.
     NoMemory,

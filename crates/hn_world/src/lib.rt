@@ -7,6 +7,7 @@ mod copies;
 mod event;
 mod finish;
 mod law;
+mod limits;
 mod links;
 mod mail;
 mod member;

@@ -7,6 +7,7 @@ ghost use Rattle.hn_world.specs.Refusal.{refusal};
 ghost use Rattle.hn_world.specs.Step.{Step};
 
 use crate::event::{Traced, WEvent};
+use crate::limits::table_limit;
 use crate::links::Links;
 use crate::member::{Member, Members};
 use crate::parts::Parts;
@@ -92,7 +93,8 @@ impl Parts {
         ensures ok { OnOk result (Step (record { event = event.Router name id; words = [] }) [] self.old self.new) }
         ensures err { OnErr result (self.new ≡ self.old) }
     {
-        let router = Router::new(alloc, id, self.moment.get())?;
+        let limit = table_limit(self.version);
+        let router = Router::sized(alloc, id, self.moment.get(), limit)?;
         let publication = Publication {
             id,
             number: 1,

@@ -1,14 +1,16 @@
 //! Which events a world refuses, with which code. Nothing here allocates.
 
-ghost use Rattle.std.specs.Prelude.{◌≡◌, option_copied};
+ghost use Rattle.std.specs.Prelude.{◌≡◌, length, option_copied};
 ghost use Rattle.std.specs.List.{slice_get};
 ghost use Rattle.hn_world.specs.declared.event.WEvent.TheVariants as event;
 ghost use Rattle.hn_base.specs.Name.{name_text};
+ghost use Rattle.hn_world.specs.Limits.{most_routers};
 ghost use Rattle.hn_world.specs.Names.{is_taken, member_named};
 ghost use Rattle.hn_world.specs.Refusal.{code_if, of_router, unless_running, unless_attached, unless_free, unless_apart, unless_full_of_endpoints, unless_full_of_prefixes, unless_full_of_events, unless_full_of_mail, unless_acts, unless_delegated, unless_detached, unless_ticked, unless_received, unless_joined, copy_at, unless_new, refusal};
 
 use crate::copies::{MOST_BYTES, MailCopy};
 use crate::event::WEvent;
+use crate::limits::{MOST_LINKS, most_routers};
 use crate::member::Member;
 use crate::parts::Parts;
 use hn_base::{EpId, Name};
@@ -43,9 +45,6 @@ const LINK_IN_USE: u8 = 14;
 
 /// The code of one copy or byte of mail too many.
 const FULL_OF_MAIL: u8 = 16;
-
-/// The most routers, and the most links.
-const MOST_DEFINED: usize = 64;
 
 /// The most events.
 const MOST_EVENTS: usize = 1_000_000;
@@ -174,12 +173,19 @@ impl Parts {
         self.members.place_of(name).is_some() || self.links.place_of(name).is_some()
     }
 
-    fn unless_new(&self, name: &Name, count: usize) -> Option<u8>
-        ensures { result ≡ unless_new self.now (name_text name.now) count }
+    fn unless_new(&self, name: &Name, count: usize, most: usize) -> Option<u8>
+        ensures { result ≡ unless_new self.now (name_text name.now) count most }
     {
-        code_if(TAKEN, self.is_taken(name)).or(code_if(FULL, count >= MOST_DEFINED).or(
+        code_if(TAKEN, self.is_taken(name)).or(code_if(FULL, count >= most).or(
             self.unless_full_of_events(),
         ))
+    }
+
+    fn refuses_router(&self, name: &Name) -> Option<u8>
+        ensures { result ≡ unless_new self.now (name_text name.now) (length self.now.members) (most_routers self.now.version) }
+    {
+        let count = self.members.as_slice().len();
+        self.unless_new(name, count, most_routers(self.version))
     }
 
     /// The copy of a number.
@@ -292,8 +298,8 @@ impl Parts {
         ensures { result ≡ refusal self.now event.now }
     {
         match event {
-            WEvent::Router { name, .. } => self.unless_new(name, self.members.as_slice().len()),
-            WEvent::Link { name } => self.unless_new(name, self.links.len()),
+            WEvent::Router { name, .. } => self.refuses_router(name),
+            WEvent::Link { name } => self.unless_new(name, self.links.len(), MOST_LINKS),
             WEvent::Attach {
                 name,
                 endpoint,

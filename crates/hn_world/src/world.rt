@@ -98,9 +98,16 @@ impl World {
     pub fn new(alloc: Global) -> World
         ensures { result ≡ empty_world One }
     {
+        World::of(alloc, Version::One)
+    }
+
+    /// A world of a version at moment 0 with nothing in it. Never allocates.
+    pub fn of(alloc: Global, version: Version) -> World
+        ensures { result ≡ empty_world version }
+    {
         World {
             parts: Parts {
-                version: Version::One,
+                version,
                 moment: Present::new(0),
                 links: Links::new(alloc),
                 members: Members::new(alloc),

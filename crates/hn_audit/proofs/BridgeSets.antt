@@ -13,7 +13,6 @@ use Rattle.hn_data.specs.Said.{version_of}
 use Rattle.hn_data.specs.declared.said.PeerLink.{PeerLink}
 use Rattle.hn_own.specs.Ports.{endpoints_of}
 use Rattle.hn_data.specs.declared.view.Entry.{Entry}
-use Rattle.hn_store.specs.Nodes.{held}
 use Rattle.hn_rules.specs.declared.state.State.{State}
 use Rattle.hn_rules.specs.Laws.{ViewIsNetwork, EntriesAreAsKnown}
 use Rattle.hn_rules.specs.Nodes.{held_entry, own_entry, entry_of, view_of}

@@ -1,5 +1,5 @@
 -- What is sound of the home of a settled and quiet set is sound of its routers.
-use Rattle.std.proofs.Common.{◌≡◌, ◌≢◌, ◌∙◌, ◌⊎◌, ℕ, List, Option, is_some, Contains, IsTrue, not, inl, inr, refl, sym, ap, subst, true, false}
+use Rattle.std.proofs.Common.{◌≡◌, ◌≢◌, ◌∙◌, ◌⊎◌, ℕ, List, Option, None, Some, IsSome, is_some, Contains, IsTrue, not, inl, inr, refl, sym, ap, subst, true, false}
 use Rattle.std.specs.List.{slice_get}
 use Rattle.std.proofs.lemmas.Bool.{cases_Bool, not_from_false}
 use Rattle.hn_base.proofs.Keys.{found_is_id}
@@ -24,7 +24,10 @@ use Rattle.hn_audit.proofs.BridgeUsed.{is_unwanted, to_unwanted, place_of, deleg
 use Rattle.hn_audit.proofs.BridgeHomes.{home_of, IsEndOf, IsPlugged, to_end, of_end, to_has, of_has, port_is_numbered, on_link_is_attached}
 use Rattle.hn_audit.proofs.BridgePremises.{IsCase, uses_same, for_used, is_inside}
 use Rattle.hn_audit.proofs.BridgeSeen.{gathered_is_published}
-use Rattle.hn_audit.proofs.PairRests.{its_priority}
+
+its_priority : (o : Option ℕ) → IsSome o → (priority : ℕ) × (o ≡ Some priority)
+its_priority (Some p) some = (p, refl)
+its_priority None some = absurd (cc)
 
 -- an endpoint of a router on a link
 abbrev pub end_on : Member → EpId → ℕ → Endpoint

@@ -20,19 +20,19 @@ use Rattle.hn_assign.specs.Fixed.{AreAtRest, IsUnchanged, unmarked}
 use Rattle.hn_assign.specs.Gathered.{AreAdvertised}
 use Rattle.hn_assign.specs.Pair.{IsWished, assigned_pair, pair_cmp, wish_pair}
 use Rattle.hn_assign.specs.Rest.{IsAtRest}
-use Rattle.hn_assign.specs.Laws.{AssignedAreWished, RestIsUnchanged}
+use Rattle.hn_assign.specs.Laws.{AssignedAreWished, RestIsUnchanged, AdvertisedExists}
 use Rattle.hn_deleg.specs.declared.delegated.Delegated.{Delegated}
 use Rattle.hn_deleg.specs.Used.{AreUsable, IsUnwanted, prefixes_of}
 use Rattle.hn_deleg.specs.Laws.{UsableIsUnique}
-use Rattle.hn_link.specs.Laws.{CommonLinkIsUnique}
+use Rattle.hn_link.specs.Laws.{CommonLinkExists, CommonLinkIsUnique}
 use Rattle.hn_own.specs.Ports.{is_attached}
 use Rattle.hn_rules.specs.declared.state.State.{State}
 use Rattle.hn_rules.specs.Assigning.{AreAsked, IsWishAt}
+use Rattle.hn_rules.specs.Laws.{ViewIsNetwork}
 use Rattle.hn_rules.specs.Router.{IsRouter}
 use Rattle.hn_rules.specs.Seen.{seen_by}
-use Rattle.hn_audit.specs.Fixed.{HasLists, IsRunAnew}
-use Rattle.hn_audit.specs.Quiet.{IsForPair, IsRouterAtRest}
-use Rattle.hn_audit.specs.Resting.{RestsWhereListed}
+use Rattle.hn_audit.specs.Fixed.{IsRunAnew}
+use Rattle.hn_audit.specs.Quiet.{IsForPair, IsPairAtRest, IsRouterAtRest}
 use Rattle.hn_audit.proofs.BridgeUsed.{delegated_at, from_unwanted, is_unwanted, place_of, to_unwanted}
 use Rattle.hn_audit.proofs.Restings.{one_wish}
 
@@ -40,6 +40,9 @@ use Rattle.hn_audit.proofs.Restings.{one_wish}
 pub record FixedLaws : Type 0 where
   pub one_list : UsableIsUnique
   pub one_link : CommonLinkIsUnique
+  pub link_exists : CommonLinkExists
+  pub advertised_exists : AdvertisedExists
+  pub network : ViewIsNetwork
   pub rest : RestIsUnchanged
   pub wished : AssignedAreWished
   pub pairs_total : IsTotalOrder pair_cmp
@@ -114,66 +117,61 @@ module _ (laws : FixedLaws) (s : State) (ran : Ran) (h : IsRunAnew s ran) where
         let one = All-contains (λ (x : Assigned). IsWished h.wishes (assigned_pair x)) ran.held.assigned d.0 wished d.1 in
         (one.0, one.1, one.2 ∙ ap assigned_pair d.2)
 
-    module _ (usable : List Delegated) (are_usable : AreUsable (seen_by s) usable) where
-      same_list : h.usable ≡ usable
-      same_list = laws.one_list (seen_by s) h.usable usable h.are_usable are_usable
+    for_pair : (c : Assigned) → Contains s.held.assigned c → IsForPair s h.usable c
+    for_pair c there =
+        let wished = still_wished c there in
+        let for = (h.are_asked.exact wished.0).0 wished.1 in
+        let u = for.asked.delegated in
+        let in_list : Contains h.usable u = (for.place, slice_get_within h.usable for.place u for.asked.at, get_or_from_slice_get h.usable for.place u u for.asked.at) in
+        let delegated : u.prefix ≡ c.delegated = sym for.asked.prefix ∙ ap (λ (p : Pair). p.delegated) wished.2 in
+        let endpoint : wished.0.endpoint ≡ c.endpoint = ap (λ (p : Pair). p.endpoint) wished.2 in
+        record {
+          used = subst (Contains (prefixes_of h.usable)) delegated (Contains-map (λ (v : Delegated). v.prefix) h.usable u in_list);
+          attached = subst (λ (e : EpId). IsTrue (is_attached e s.ports)) endpoint for.attached;
+        }
 
-      pub are_for_pairs : All (IsForPair s usable) s.held.assigned
-      are_for_pairs = all_of (IsForPair s usable) s.held.assigned for_pair
-        where
-          for_pair : (c : Assigned) → Contains s.held.assigned c → IsForPair s usable c
-          for_pair c there =
-              let wished = still_wished c there in
-              let for = (h.are_asked.exact wished.0).0 wished.1 in
-              let u = for.asked.delegated in
-              let in_list : Contains h.usable u = (for.place, slice_get_within h.usable for.place u for.asked.at, get_or_from_slice_get h.usable for.place u u for.asked.at) in
-              let delegated : u.prefix ≡ c.delegated = sym for.asked.prefix ∙ ap (λ (p : Pair). p.delegated) wished.2 in
-              let endpoint : wished.0.endpoint ≡ c.endpoint = ap (λ (p : Pair). p.endpoint) wished.2 in
-              record {
-                used = subst (λ (us : List Delegated). Contains (prefixes_of us) c.delegated) same_list (subst (Contains (prefixes_of h.usable)) delegated (Contains-map (λ (v : Delegated). v.prefix) h.usable u in_list));
-                attached = subst (λ (e : EpId). IsTrue (is_attached e s.ports)) endpoint for.attached;
-              }
+    delegated_in : (place : ℕ) → place < length h.usable → (u : Delegated) × (slice_get h.usable place ≡ Some u)
+    delegated_in place within =
+        elim (slice_get_cases h.usable place).1 [
+          | inl some ↦ (some.0, some.2)
+          | inr past ↦ absurd (omega arith)
+        ]
 
-      pub each_rests : (adv : List Advertised) → AreAdvertised (seen_by s) s.held.assigned adv → IsRouter s → RestsWhereListed s usable adv
-      each_rests adv are router e attached common is_common place within =
-          let u = delegated_in place within in
-          let wish : Wish = record { delegated = u.0.prefix; wanted = not (is_unwanted usable u.0.prefix); endpoint = e; common = common; length = 64 } in
-          let asked : IsWishAt (seen_by s) usable place wish = record { delegated = u.0; at = u.1; prefix = refl; wanted = is_wanted place u.0 u.1; common = is_common; length = refl } in
-          let there : Contains h.wishes wish = is_wished laws s h.usable h.are_usable h.wishes h.are_asked place wish (subst (λ (us : List Delegated). IsWishAt (seen_by s) us place wish) (sym same_list) asked) attached in
-          let own = has_some assigned_pair pair_cmp laws.pairs_total laws.pairs_exact (wish_pair wish) s.held.assigned in
-          let all : All (λ c. IsWished h.wishes (assigned_pair c)) s.held.assigned = all_of (λ c. IsWished h.wishes (assigned_pair c)) s.held.assigned still_wished in
-          record {
-            wish = wish;
-            asked = asked;
-            of_endpoint = refl;
-            assignment = own.0;
-            its_own = own.1;
-            at_rest = (law adv router all are).0 same wish there own.0 own.1;
-          }
-        where
-          delegated_in : (place : ℕ) → place < length usable → (u : Delegated) × (slice_get usable place ≡ Some u)
-          delegated_in place within =
-              elim (slice_get_cases usable place).1 [
-                | inl some ↦ (some.0, some.2)
-                | inr past ↦ absurd (omega arith)
-              ]
+    is_wanted : (place : ℕ) (u : Delegated) → slice_get h.usable place ≡ Some u → IsTrue (not (is_unwanted h.usable u.prefix)) ↔ ¬ (IsUnwanted h.usable place)
+    is_wanted place u at = (
+      λ wanted un. let no = not-true (is_unwanted h.usable u.prefix) wanted in
+          let yes = from_unwanted h.usable h.are_usable.ascending place u at un in
+          absurd (cc (sym yes ∙ no)),
+      λ wanted. not_from_false (is_unwanted h.usable u.prefix) (false_from_ne_true (is_unwanted h.usable u.prefix) (λ un. wanted (to_unwanted h.usable h.are_usable.ascending place u at un))),
+    )
 
-          is_wanted : (place : ℕ) (u : Delegated) → slice_get usable place ≡ Some u → IsTrue (not (is_unwanted usable u.prefix)) ↔ ¬ (IsUnwanted usable place)
-          is_wanted place u at = (
-            λ wanted un. let no = not-true (is_unwanted usable u.prefix) wanted in
-                let yes = from_unwanted usable are_usable.ascending place u at un in
-                absurd (cc (sym yes ∙ no)),
-            λ wanted. not_from_false (is_unwanted usable u.prefix) (false_from_ne_true (is_unwanted usable u.prefix) (λ un. wanted (to_unwanted usable are_usable.ascending place u at un))),
-          )
+    -- each endpoint has a Common Link, so there is a wish for the pair
+    pair_rests : (adv : List Advertised) → AreAdvertised (seen_by s) s.held.assigned adv → IsRouter s → (place : ℕ) (e : EpId) → place < length h.usable → IsTrue (is_attached e s.ports) → IsPairAtRest s h.usable adv place e
+    pair_rests adv are router place e within attached =
+        let common = laws.link_exists (seen_by s) e.0 (laws.network s router) in
+        let u = delegated_in place within in
+        let wish : Wish = record { delegated = u.0.prefix; wanted = not (is_unwanted h.usable u.0.prefix); endpoint = e; common = common.0; length = 64 } in
+        let asked : IsWishAt (seen_by s) h.usable place wish = record { delegated = u.0; at = u.1; prefix = refl; wanted = is_wanted place u.0 u.1; common = common.1; length = refl } in
+        let there : Contains h.wishes wish = is_wished laws s h.usable h.are_usable h.wishes h.are_asked place wish asked attached in
+        let own = has_some assigned_pair pair_cmp laws.pairs_total laws.pairs_exact (wish_pair wish) s.held.assigned in
+        let all : All (λ c. IsWished h.wishes (assigned_pair c)) s.held.assigned = all_of (λ c. IsWished h.wishes (assigned_pair c)) s.held.assigned still_wished in
+        record {
+          wish = wish;
+          asked = asked;
+          of_endpoint = refl;
+          assignment = own.0;
+          its_own = own.1;
+          at_rest = (law adv router all are).0 same wish there own.0 own.1;
+        }
 
-    pub unchanged_rests : HasLists s → IsRouter s → IsRouterAtRest s
-    unchanged_rests lists router = record {
-      usable = h.usable;
-      are_usable = h.are_usable;
-      advertised = lists.advertised;
-      are_advertised = lists.are_advertised;
-      for_pairs = λ c there. All-contains (IsForPair s h.usable) s.held.assigned c (are_for_pairs h.usable h.are_usable) there;
-      each_pair =
-          λ place e within attached. let common = lists.common e attached in
-          each_rests h.usable h.are_usable lists.advertised lists.are_advertised router e attached common.0 common.1 place within;
-    }
+    pub unchanged_rests : IsRouter s → IsRouterAtRest s
+    unchanged_rests router =
+        let adv = laws.advertised_exists (seen_by s) s.held.assigned in
+        record {
+          usable = h.usable;
+          are_usable = h.are_usable;
+          advertised = adv.0;
+          are_advertised = adv.1;
+          for_pairs = for_pair;
+          each_pair = pair_rests adv.0 adv.1 router;
+        }

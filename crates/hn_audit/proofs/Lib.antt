@@ -15,7 +15,6 @@ mod FixedPoints
 mod FrontWorlds
 mod Judging
 mod Lists
-mod PairRests
 mod QuietSets
 mod RestRuns
 mod Restings

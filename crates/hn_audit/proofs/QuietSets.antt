@@ -9,8 +9,8 @@ use Rattle.hn_world.specs.declared.member.Member.{Member}
 use Rattle.hn_world.specs.declared.parts.Parts.{Parts}
 use Rattle.hn_world.specs.Names.{is_named, member_named}
 use Rattle.hn_world.specs.Replay.{IsSound, IsSoundMember}
-use Rattle.hn_audit.specs.Fixed.{ChangesNothing, IsFixed, MayChangeNothing, IsUnmoved}
-use Rattle.hn_audit.specs.Laws.{RestChangesNothing, RestHasARun}
+use Rattle.hn_audit.specs.Fixed.{ChangesNothing, IsFixed, MayChangeNothing}
+use Rattle.hn_audit.specs.Laws.{RestChangesNothing, RestHasARun, UnchangedIsAtRest}
 use Rattle.hn_audit.specs.Quiet.{IsRouterAtRest}
 use Rattle.hn_audit.specs.Reached.{runs, IsRunning, IsReached}
 use Rattle.hn_audit.proofs.Settling.{IsSet, each_of_set}
@@ -24,17 +24,15 @@ module _ (w : Parts) (r : Member) (set : List (Bor Member)) (is : IsSet w r set)
   quiet_changes_nothing law rest quiet s ran reached run =
       law s.router ran (router_of s reached) run ((each_of_set w r set is (λ (m : Member). IsRouterAtRest m.router)).0 (rest.0 quiet) s reached)
 
-  pub unchanged_is_quiet : (All (λ s. IsUnmoved s.now.router) set → IsTrue answer) → MayChangeNothing w r → IsTrue answer
-  unchanged_is_quiet moved may =
-      moved
-      ((each_of_set w r set is (λ (m : Member). IsUnmoved m.router)).1
-      (λ s reached.
-      let found = may s reached in
-      record { router = router_of s reached; ran = found.0; run = found.1; unchanged = found.2 }))
+  pub unchanged_is_quiet : UnchangedIsAtRest → IsTrue answer ↔ All (λ s. IsRouterAtRest s.now.router) set → MayChangeNothing w r → IsTrue answer
+  unchanged_is_quiet law rest may =
+      rest.1
+      ((each_of_set w r set is (λ (m : Member). IsRouterAtRest m.router)).1
+      (λ s reached. let found = may s reached in law s.router found.0 (router_of s reached) found.1 found.2))
 
   -- it is quiet if and only if the subroutine, with zeros for random words, comes to something that changes nothing
-  pub quiet_is_fixed : RestHasARun → IsTrue answer ↔ All (λ s. IsRouterAtRest s.now.router) set → (All (λ s. IsUnmoved s.now.router) set → IsTrue answer) → IsTrue answer ↔ IsFixed w r
-  quiet_is_fixed law rest moved = (to_fixed, λ fixed. unchanged_is_quiet moved (may fixed))
+  pub quiet_is_fixed : RestHasARun → UnchangedIsAtRest → IsTrue answer ↔ All (λ s. IsRouterAtRest s.now.router) set → IsTrue answer ↔ IsFixed w r
+  quiet_is_fixed law unchanged rest = (to_fixed, λ fixed. unchanged_is_quiet unchanged rest (may fixed))
     where
       to_fixed : IsTrue answer → IsFixed w r
       to_fixed quiet s reached =

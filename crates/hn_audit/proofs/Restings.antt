@@ -30,6 +30,12 @@ use Rattle.hn_audit.specs.Quiet.{IsForPair, IsPairAtRest, IsRouterAtRest}
 use Rattle.hn_audit.specs.Resting.{IsEachAtRest, IsEndAtRest}
 use Rattle.hn_audit.proofs.BridgeLists.{same_Bool}
 
+-- ---- advertised prefixes
+
+-- the same ones in another order
+pub advertised_same : (view : PlainView) (assigned : List Assigned) (a b : List Advertised) → HaveSame a b → AreAdvertised view assigned b → AreAdvertised view assigned a
+advertised_same view assigned a b same are x = let both = same x in let here = are x in (λ h. here.0 (both.0 h), λ h. both.1 (here.1 h))
+
 -- ---- a pair
 
 -- what is asked for a pair is one

@@ -1,20 +1,13 @@
 -- The fixed point of the assignment subroutine: a router whose subroutine, run once more, would make, change and destroy
 -- no assignment. No backoff is waited for: each pair without an assignment has one that is due.
-use Rattle.std.specs.Prelude.{◌≡◌, IsTrue, List, All}
-use Rattle.hn_base.specs.declared.ids.EpId.{EpId}
-use Rattle.hn_assign.specs.declared.assigned.Advertised.{Advertised}
+use Rattle.std.specs.Prelude.{◌≡◌, List, All}
 use Rattle.hn_assign.specs.declared.assigned.Wish.{Wish}
 use Rattle.hn_assign.specs.declared.held.Ran.{Ran}
-use Rattle.hn_assign.specs.Advertised.{Link}
 use Rattle.hn_assign.specs.Fixed.{IsDueRun, IsUnchanged}
-use Rattle.hn_assign.specs.Gathered.{AreAdvertised}
 use Rattle.hn_deleg.specs.declared.delegated.Delegated.{Delegated}
 use Rattle.hn_deleg.specs.Used.{AreUsable}
-use Rattle.hn_link.specs.CommonLink.{IsCommonLink}
-use Rattle.hn_own.specs.Ports.{is_attached}
 use Rattle.hn_rules.specs.Assigning.{AreAsked}
 use Rattle.hn_rules.specs.declared.state.State.{State}
-use Rattle.hn_rules.specs.Router.{IsRouter}
 use Rattle.hn_rules.specs.Seen.{seen_by}
 use Rattle.hn_world.specs.declared.member.Member.{Member}
 use Rattle.hn_world.specs.declared.parts.Parts.{Parts}
@@ -27,19 +20,6 @@ pub record IsRunAnew (s : State) (ran : Ran) : Type 0 where
   pub wishes : List Wish
   pub are_asked : AreAsked (seen_by s) usable s.ports wishes
   pub run : IsDueRun (seen_by s) wishes s.held.assigned ran
-
--- a router on which it comes to a result that makes, changes and destroys no assignment
-pub record IsUnmoved (s : State) : Type 0 where
-  pub router : IsRouter s
-  pub ran : Ran
-  pub run : IsRunAnew s ran
-  pub unchanged : IsUnchanged s.held.assigned ran.held.assigned
-
--- there are lists of the advertised prefixes, and of the Common Link of each attached endpoint
-pub record HasLists (s : State) : Type 0 where
-  pub advertised : List Advertised
-  pub are_advertised : AreAdvertised (seen_by s) s.held.assigned advertised
-  pub common : (e : EpId) → IsTrue (is_attached e s.ports) → (link : Link) × IsCommonLink (seen_by s) e.0 link
 
 -- whatever it comes to on a router of the set of r, with whatever random words, it makes, changes and destroys no
 -- assignment

@@ -11,7 +11,7 @@ use Rattle.hn_world.specs.Replay.{Replays, IsReplayed, Always}
 use Rattle.hn_audit.specs.Reached.{IsRunning, IsReached}
 use Rattle.hn_audit.specs.Settled.{IsSettled}
 use Rattle.hn_audit.specs.Quiet.{IsQuiet, IsRouterAtRest}
-use Rattle.hn_audit.specs.Fixed.{HasLists, IsRunAnew}
+use Rattle.hn_audit.specs.Fixed.{IsRunAnew}
 use Rattle.hn_audit.specs.Sound.{IsSound}
 
 -- In a replayed world a running router that is settled and quiet is sound.
@@ -47,7 +47,7 @@ RestChangesNothing =
 -- And where a run of it makes, changes and destroys none, the router is at rest.
 abbrev pub UnchangedIsAtRest : Type 0
 UnchangedIsAtRest =
-    (s : State) (ran : Ran) → IsRouter s → IsRunAnew s ran → HasLists s
+    (s : State) (ran : Ran) → IsRouter s → IsRunAnew s ran
     → IsUnchanged s.held.assigned ran.held.assigned → IsRouterAtRest s
 
 -- On a router at rest it has such a run, which takes no random word.

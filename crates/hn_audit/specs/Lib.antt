@@ -1,7 +1,6 @@
 pub mod Reached
 pub mod Set
 pub mod Settled
-pub mod Rest
 pub mod Quiet
 pub mod Resting
 pub mod Fixed

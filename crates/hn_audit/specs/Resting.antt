@@ -2,12 +2,9 @@
 use Rattle.std.specs.Prelude.{ℕ, ◌<◌, IsTrue, List, length}
 use Rattle.hn_base.specs.declared.ids.EpId.{EpId}
 use Rattle.hn_assign.specs.declared.assigned.Advertised.{Advertised}
-use Rattle.hn_assign.specs.Advertised.{Link}
 use Rattle.hn_deleg.specs.declared.delegated.Delegated.{Delegated}
-use Rattle.hn_link.specs.CommonLink.{IsCommonLink}
 use Rattle.hn_own.specs.Ports.{is_attached}
 use Rattle.hn_rules.specs.declared.state.State.{State}
-use Rattle.hn_rules.specs.Seen.{seen_by}
 use Rattle.hn_audit.specs.Quiet.{IsPairAtRest}
 
 -- each pair of an endpoint is at rest
@@ -17,13 +14,3 @@ IsEndAtRest s usable advertised e = (place : ℕ) → place < length usable → 
 -- each pair of each attached endpoint
 abbrev pub IsEachAtRest : State → List Delegated → List Advertised → Type 0
 IsEachAtRest s usable advertised = (e : EpId) → IsTrue (is_attached e s.ports) → IsEndAtRest s usable advertised e
-
--- each pair of an endpoint, if there is a list of its Common Link
-abbrev pub RestsIfListed : State → List Delegated → List Advertised → EpId → Type 0
-RestsIfListed s usable advertised e =
-    (common : Link) → IsCommonLink (seen_by s) e.0 common → IsEndAtRest s usable advertised e
-
--- each pair of each attached endpoint of which there is such a list
-abbrev pub RestsWhereListed : State → List Delegated → List Advertised → Type 0
-RestsWhereListed s usable advertised =
-    (e : EpId) → IsTrue (is_attached e s.ports) → RestsIfListed s usable advertised e

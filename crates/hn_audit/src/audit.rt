@@ -5,7 +5,7 @@ ghost use Rattle.hn_world.specs.declared.parts.Parts.{Parts};
 ghost use Rattle.hn_world.specs.Names.{member_named};
 ghost use Rattle.hn_audit.specs.Reached.{runs, IsOfOne};
 ghost use Rattle.hn_audit.specs.Settled.{IsSettled};
-ghost use Rattle.hn_audit.specs.Fixed.{ChangesNothing, IsFixed, IsUnmoved, MayChangeNothing};
+ghost use Rattle.hn_audit.specs.Fixed.{ChangesNothing, IsFixed, MayChangeNothing};
 ghost use Rattle.hn_audit.specs.Quiet.{IsQuiet, IsRouterAtRest};
 ghost use Rattle.hn_audit.specs.Sound.{IsSound};
 
@@ -57,8 +57,7 @@ pub trait Audit {
 
 /// Whether each router of a set is at rest.
 fn rest(alloc: Global, set: &[&Member]) -> Result<bool, NoMemory>
-    ensures rest { IfOk result (λ answer. IsTrue answer ↔ All (λ s. IsRouterAtRest s.now.router) set.now) }
-    ensures unmoved { IfOk result (λ answer. All (λ s. IsUnmoved s.now.router) set.now → IsTrue answer) }
+    ensures { IfOk result (λ answer. IsTrue answer ↔ All (λ s. IsRouterAtRest s.now.router) set.now) }
 {
     for s in set {
         if !rests(alloc, &s.router)? {

@@ -3,10 +3,12 @@
 ghost use Rattle.hn_world.specs.Leaves.{EqualHashesAgree};
 ghost use Rattle.hn_audit.specs.Laws.{SettledAndQuietIsSound, SetIsSoundAlike, AlwaysSettledAreSound, IsOfEachFront, SettledAreSound, RestChangesNothing, RestHasARun, UnchangedIsAtRest};
 
-use hn_assign::{pairs_are_ordered, rest_has_a_run, rest_is_unchanged, subroutine_leaves};
+use hn_assign::{
+    advertised_exists, pairs_are_ordered, rest_has_a_run, rest_is_unchanged, subroutine_leaves,
+};
 use hn_data::items_are_unique;
 use hn_deleg::{usable_is_unique, usable_never_overlap};
-use hn_link::common_link_is_unique;
+use hn_link::{common_link_exists, common_link_is_unique};
 use hn_rules::{
     assigned_is_published, entries_are_as_known, items_are_published, view_is_a_network,
 };
@@ -67,17 +69,19 @@ pub fn headline_of_each_front()
 
 /// On a router at rest the assignment subroutine, run once more with a due backoff for each pair without an assignment,
 /// makes, changes and destroys no assignment, whatever the random words are (RFC 7695, section 4.1); and it comes to a
-/// result, which takes no random word. Where a result makes, changes and destroys none, the router is at rest, if there
-/// are lists of the advertised prefixes and of the Common Links.
+/// result, which takes no random word. Where a result makes, changes and destroys none, the router is at rest.
 pub fn rest_is_the_fixed_point()
     ensures unchanged { RestChangesNothing }
     ensures rests { UnchangedIsAtRest }
     ensures comes { RestHasARun }
 {
+    advertised_exists();
+    common_link_exists();
     common_link_is_unique();
     pairs_are_ordered();
     rest_has_a_run();
     rest_is_unchanged();
     subroutine_leaves();
     usable_is_unique();
+    view_is_a_network();
 }

@@ -5,7 +5,6 @@ mod audit;
 mod knowing;
 mod laws;
 mod reached;
-mod rest;
 mod resting;
 mod spots;
 

@@ -4,14 +4,10 @@ ghost use Rattle.std.specs.Prelude.{◌↔◌, ◌<◌, length, IsTrue, IfOk, Al
 ghost use Rattle.hn_deleg.specs.Used.{prefixes_of};
 ghost use Rattle.hn_rules.specs.Seen.{seen_by};
 ghost use Rattle.hn_link.specs.CommonLink.{IsCommonLink};
-ghost use Rattle.hn_audit.specs.Fixed.{IsUnmoved};
 ghost use Rattle.hn_audit.specs.Quiet.{IsForPair, IsPairAtRest, IsRouterAtRest};
-ghost use Rattle.hn_audit.specs.Resting.{IsEachAtRest, IsEndAtRest, RestsIfListed, RestsWhereListed};
+ghost use Rattle.hn_audit.specs.Resting.{IsEachAtRest, IsEndAtRest};
 
-use crate::rest::is_at_rest;
-use hn_assign::{
-    Assigned, Known, Pair, Scene, Wish, pairs_are_ordered, rest_is_unchanged, subroutine_leaves,
-};
+use hn_assign::{Assigned, Index, Pair, Scene, Wish, is_at_rest, pairs_are_ordered};
 use hn_base::{Endpoints, EpId, NoMemory};
 use hn_deleg::{Delegated, usable_is_unique, wanted};
 use hn_link::common_link_is_unique;
@@ -26,7 +22,7 @@ use std::alloc::Global;
 struct Outlook<'a> {
     router: &'a Router,
     usable: &'a [Delegated],
-    known: &'a Known,
+    known: &'a Index,
 }
 
 impl Outlook<'_> {
@@ -86,10 +82,8 @@ impl Outlook<'_> {
 
     /// Whether each pair of an endpoint is at rest.
     fn endpoint_rests(&self, alloc: Global, endpoint: EpId) -> Result<bool, NoMemory>
-        ensures rest { IfOk result (λ answer. IsTrue answer
+        ensures { IfOk result (λ answer. IsTrue answer
             ↔ IsEndAtRest self.entry.now.router.now self.entry.now.usable.now self.entry.now.known.now endpoint) }
-        ensures listed { IfOk result (λ answer. RestsIfListed self.entry.now.router.now self.entry.now.usable.now self.entry.now.known.now endpoint
-            → IsTrue answer) }
     {
         let common = self.router.common(alloc, endpoint)?;
         for place in 0..self.usable.len() {
@@ -103,10 +97,8 @@ impl Outlook<'_> {
 
     /// Whether each pair of each attached endpoint is at rest.
     fn endpoints_rest(&self, alloc: Global) -> Result<bool, NoMemory>
-        ensures rest { IfOk result (λ answer. IsTrue answer
+        ensures { IfOk result (λ answer. IsTrue answer
             ↔ IsEachAtRest self.entry.now.router.now self.entry.now.usable.now self.entry.now.known.now) }
-        ensures listed { IfOk result (λ answer. RestsWhereListed self.entry.now.router.now self.entry.now.usable.now self.entry.now.known.now
-            → IsTrue answer) }
     {
         let endpoints = self.router.endpoints(alloc)?;
         for endpoint in &endpoints {
@@ -118,20 +110,16 @@ impl Outlook<'_> {
     }
 }
 
-/// Whether a router is at rest. So it is if the assignment subroutine changes nothing on it.
+/// Whether a router is at rest.
 pub(crate) fn rests(alloc: Global, router: &Router) -> Result<bool, NoMemory>
-    ensures rest { IfOk result (λ answer. IsTrue answer ↔ IsRouterAtRest router.now) }
-    ensures unmoved { IfOk result (λ answer. IsUnmoved router.now → IsTrue answer) }
+    ensures { IfOk result (λ answer. IsTrue answer ↔ IsRouterAtRest router.now) }
 {
-    common_link_is_unique();
-    pairs_are_ordered();
-    rest_is_unchanged();
-    subroutine_leaves();
     usable_is_unique();
     rest_knows_no_order();
     let usable = router.used(alloc)?;
     let advertised = router.advertised(alloc)?;
-    let known = Known::of(alloc, advertised)?;
+    let list = advertised.as_slice();
+    let known = Index::of(alloc, list)?;
     let outlook = Outlook {
         router,
         usable: usable.as_slice(),

@@ -7,6 +7,9 @@ returns-clause-unchanged c s ran router run rest =
     let laws : FixedLaws = record {
       one_list = c.usable_is_unique.ensures;
       one_link = c.common_link_is_unique.ensures;
+      link_exists = c.common_link_exists.ensures;
+      advertised_exists = c.advertised_exists.ensures;
+      network = c.view_is_a_network.ensures;
       rest = c.rest_is_unchanged.ensures;
       wished = c.subroutine_leaves.ensures.wished;
       pairs_total = c.pairs_are_ordered.ensures.total;
@@ -15,22 +18,28 @@ returns-clause-unchanged c s ran router run rest =
     changes_nothing laws s ran run rest router
 
 pub returns-clause-rests : goal.returns-clause-rests
-returns-clause-rests c s ran router run lists same =
+returns-clause-rests c s ran router run same =
     let laws : FixedLaws = record {
       one_list = c.usable_is_unique.ensures;
       one_link = c.common_link_is_unique.ensures;
+      link_exists = c.common_link_exists.ensures;
+      advertised_exists = c.advertised_exists.ensures;
+      network = c.view_is_a_network.ensures;
       rest = c.rest_is_unchanged.ensures;
       wished = c.subroutine_leaves.ensures.wished;
       pairs_total = c.pairs_are_ordered.ensures.total;
       pairs_exact = c.pairs_are_ordered.ensures.exact;
     } in
-    unchanged_rests laws s ran run same lists router
+    unchanged_rests laws s ran run same router
 
 pub returns-clause-comes : goal.returns-clause-comes
 returns-clause-comes c =
     let laws : FixedLaws = record {
       one_list = c.usable_is_unique.ensures;
       one_link = c.common_link_is_unique.ensures;
+      link_exists = c.common_link_exists.ensures;
+      advertised_exists = c.advertised_exists.ensures;
+      network = c.view_is_a_network.ensures;
       rest = c.rest_is_unchanged.ensures;
       wished = c.subroutine_leaves.ensures.wished;
       pairs_total = c.pairs_are_ordered.ensures.total;

@@ -6,13 +6,12 @@ use Rattle.hn_base.specs.declared.ids.NodeId.{NodeId}
 use Rattle.hn_world.specs.Names.{member_named}
 use Rattle.hn_world.specs.Replay.{IsSound}
 use Rattle.hn_world.specs.declared.member.Member.{Member}
-use Rattle.hn_audit.specs.Fixed.{ChangesNothing, IsFixed, IsUnmoved, MayChangeNothing}
+use Rattle.hn_audit.specs.Fixed.{ChangesNothing, IsFixed, MayChangeNothing}
 use Rattle.hn_audit.specs.Quiet.{IsQuiet, IsRouterAtRest}
 use Rattle.hn_audit.specs.Settled.{IsSettled}
 use Rattle.hn_audit.specs.Sound.{IsSound as IsSoundRouter}
 use Rattle.hn_audit.specs.Set.{is_in_set, members_of}
 use Rattle.hn_audit.proofs.QuietSets.{quiet_changes_nothing, quiet_is_fixed, unchanged_is_quiet, named_runs}
-use Rattle.hn_base.proofs.Results.{ok_both}
 use Rattle.hn_audit.proofs.Settling.{IsSet, each_of_set}
 use Rattle.hn_audit.proofs.audit.WorldAudit.quiet.Goals as goal
 use Rattle.std.proofs.lemmas.Result.{IfOk-weaker}
@@ -26,7 +25,7 @@ returns-clause-quiet c =
     let P : Bool → Type 0 = λ answer. IsTrue answer ↔ All (λ (s : Bor Member). IsRouterAtRest s.now.router) set in
     let Q : Bool → Type 0 = λ answer. (m : Member) → member_named (name_text c.args.name.now) w ≡ Some m → IsTrue answer ↔ IsQuiet w m in
     let law = each_of_set w r set is (λ (m : Member). IsRouterAtRest m.router) in
-    let said : IfOk c.rest.result P = subst (λ (s : List (Bor Member)). IfOk c.rest.result (λ answer. IsTrue answer ↔ All (λ (m : Bor Member). IsRouterAtRest m.now.router) s)) c.as_slice.ensures.value c.rest.ensures.rest in
+    let said : IfOk c.rest.result P = subst (λ (s : List (Bor Member)). IfOk c.rest.result (λ answer. IsTrue answer ↔ All (λ (m : Bor Member). IsRouterAtRest m.now.router) s)) c.as_slice.ensures.value c.rest.ensures in
     IfOk-weaker c.rest.result P Q
     (λ answer h m named.
     let same : r ≡ m = same_Some r m (c.in-Some.ensures ∙ named) in
@@ -42,7 +41,7 @@ returns-clause-unchanged c =
     let sound : IsSound w = c.always_sound.ensures.sound w c.is_replayed.ensures in
     let P : Bool → Type 0 = λ answer. IsTrue answer ↔ All (λ (s : Bor Member). IsRouterAtRest s.now.router) set in
     let Q : Bool → Type 0 = λ answer. (m : Member) → member_named (name_text c.args.name.now) w ≡ Some m → IsTrue answer → ChangesNothing w m in
-    let said : IfOk c.rest.result P = subst (λ (s : List (Bor Member)). IfOk c.rest.result (λ answer. IsTrue answer ↔ All (λ (m : Bor Member). IsRouterAtRest m.now.router) s)) c.as_slice.ensures.value c.rest.ensures.rest in
+    let said : IfOk c.rest.result P = subst (λ (s : List (Bor Member)). IfOk c.rest.result (λ answer. IsTrue answer ↔ All (λ (m : Bor Member). IsRouterAtRest m.now.router) s)) c.as_slice.ensures.value c.rest.ensures in
     IfOk-weaker c.rest.result P Q
     (λ answer rest m named.
     let same : r ≡ m = same_Some r m (c.in-Some.ensures ∙ named) in
@@ -56,16 +55,15 @@ returns-clause-fixed c =
     let set : List (Bor Member) = c.in_ok-set.set.items in
     let is : IsSet w r set = subst (λ (reach : List NodeId). members_of set ≡ filter (is_in_set reach) w.members) c.reach.ensures c.in_ok-set.ensures in
     let sound : IsSound w = c.always_sound.ensures.sound w c.is_replayed.ensures in
-    let Rest : Bool → Type 0 = λ answer. IsTrue answer ↔ All (λ (s : Bor Member). IsRouterAtRest s.now.router) set in
-    let Moved : Bool → Type 0 = λ answer. All (λ (s : Bor Member). IsUnmoved s.now.router) set → IsTrue answer in
+    let P : Bool → Type 0 = λ answer. IsTrue answer ↔ All (λ (s : Bor Member). IsRouterAtRest s.now.router) set in
     let Q : Bool → Type 0 = λ answer. (m : Member) → member_named (name_text c.args.name.now) w ≡ Some m → IsTrue answer ↔ IsFixed w m in
-    let rest : IfOk c.rest.result Rest = subst (λ (s : List (Bor Member)). IfOk c.rest.result (λ answer. IsTrue answer ↔ All (λ (m : Bor Member). IsRouterAtRest m.now.router) s)) c.as_slice.ensures.value c.rest.ensures.rest in
-    let moved : IfOk c.rest.result Moved = subst (λ (s : List (Bor Member)). IfOk c.rest.result (λ answer. All (λ (m : Bor Member). IsUnmoved m.now.router) s → IsTrue answer)) c.as_slice.ensures.value c.rest.ensures.unmoved in
-    ok_both c.rest.result Rest Moved Q
-    (λ answer at_rest unmoved m named.
+    let said : IfOk c.rest.result P = subst (λ (s : List (Bor Member)). IfOk c.rest.result (λ answer. IsTrue answer ↔ All (λ (m : Bor Member). IsRouterAtRest m.now.router) s)) c.as_slice.ensures.value c.rest.ensures in
+    IfOk-weaker c.rest.result P Q
+    (λ answer rest m named.
     let same : r ≡ m = same_Some r m (c.in-Some.ensures ∙ named) in
-    subst (λ (n : Member). IsTrue answer ↔ IsFixed w n) same (quiet_is_fixed w r set is sound answer c.rest_is_the_fixed_point.ensures.comes at_rest unmoved))
-    rest moved
+    let law = c.rest_is_the_fixed_point.ensures in
+    subst (λ (n : Member). IsTrue answer ↔ IsFixed w n) same (quiet_is_fixed w r set is sound answer law.comes law.rests rest))
+    said
 
 pub returns-clause-any_words : goal.returns-clause-any_words
 returns-clause-any_words c =
@@ -74,13 +72,13 @@ returns-clause-any_words c =
     let set : List (Bor Member) = c.in_ok-set.set.items in
     let is : IsSet w r set = subst (λ (reach : List NodeId). members_of set ≡ filter (is_in_set reach) w.members) c.reach.ensures c.in_ok-set.ensures in
     let sound : IsSound w = c.always_sound.ensures.sound w c.is_replayed.ensures in
-    let P : Bool → Type 0 = λ answer. All (λ (s : Bor Member). IsUnmoved s.now.router) set → IsTrue answer in
+    let P : Bool → Type 0 = λ answer. IsTrue answer ↔ All (λ (s : Bor Member). IsRouterAtRest s.now.router) set in
     let Q : Bool → Type 0 = λ answer. (m : Member) → member_named (name_text c.args.name.now) w ≡ Some m → MayChangeNothing w m → IsTrue answer in
-    let said : IfOk c.rest.result P = subst (λ (s : List (Bor Member)). IfOk c.rest.result (λ answer. All (λ (m : Bor Member). IsUnmoved m.now.router) s → IsTrue answer)) c.as_slice.ensures.value c.rest.ensures.unmoved in
+    let said : IfOk c.rest.result P = subst (λ (s : List (Bor Member)). IfOk c.rest.result (λ answer. IsTrue answer ↔ All (λ (m : Bor Member). IsRouterAtRest m.now.router) s)) c.as_slice.ensures.value c.rest.ensures in
     IfOk-weaker c.rest.result P Q
-    (λ answer moved m named.
+    (λ answer rest m named.
     let same : r ≡ m = same_Some r m (c.in-Some.ensures ∙ named) in
-    subst (λ (n : Member). MayChangeNothing w n → IsTrue answer) same (unchanged_is_quiet w r set is sound answer moved))
+    subst (λ (n : Member). MayChangeNothing w n → IsTrue answer) same (unchanged_is_quiet w r set is sound answer c.rest_is_the_fixed_point.ensures.rests rest))
     said
 
 pub returns-clause-sound : goal.returns-clause-sound

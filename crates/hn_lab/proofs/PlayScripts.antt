@@ -27,21 +27,21 @@ abbrev pub IsUncut : List (ℕ × Line) → Stage → Stage → Option (List ℕ
 IsUncut lines p a h k r = IfOk r (λ end. (text : List Told) × IsPlay lines end p text a × Appends h k (bytes_of text))
 
 -- lines that can be done are not refused, and lines of which one is refused are not done
-pub not_refused : PlaysAreUnique → (lines : List (ℕ × Line)) (status : ℕ) (r : Result End IoFault) (p a : Stage) (h k : Option (List ℕ)) → status ≡ play_status r → p ≡ begun → IsUncut lines p a h k r → HasDonePlay lines → status ≢ 2
-not_refused law lines status (Ok Done) p a h k is begins uncut done two = absurd (omega arith)
-not_refused law lines status (Ok (Refused number code)) p a h k is begins uncut done two =
-    let play = subst (λ (x : Stage). IsPlay lines (Refused number code) x uncut.0 a) begins uncut.1 in
-    let same = (law lines (Refused number code) Done begun a done.1 uncut.0 done.0 play done.2).0 in cc
-not_refused law lines status (Err Failed) p a h k is begins uncut done two = absurd (omega arith)
-not_refused law lines status (Err NoMemory) p a h k is begins uncut done two = absurd (omega arith)
+pub not_refused : PlaysAreUnique → (script : Script) (status : ℕ) (r : Result End IoFault) (p a : Stage) (h k : Option (List ℕ)) → status ≡ play_status r → p ≡ begun script.version → IsUncut script.lines p a h k r → HasDonePlay script → status ≢ 2
+not_refused law script status (Ok Done) p a h k is begins uncut done two = absurd (omega arith)
+not_refused law script status (Ok (Refused number code)) p a h k is begins uncut done two =
+    let play = subst (λ (x : Stage). IsPlay script.lines (Refused number code) x uncut.0 a) begins uncut.1 in
+    let same = (law script.lines (Refused number code) Done (begun script.version) a done.1 uncut.0 done.0 play done.2).0 in cc
+not_refused law script status (Err Failed) p a h k is begins uncut done two = absurd (omega arith)
+not_refused law script status (Err NoMemory) p a h k is begins uncut done two = absurd (omega arith)
 
-pub not_done : PlaysAreUnique → (lines : List (ℕ × Line)) (status : ℕ) (r : Result End IoFault) (p a : Stage) (h k : Option (List ℕ)) → status ≡ play_status r → p ≡ begun → IsUncut lines p a h k r → HasRefusal lines → status ≢ 0
-not_done law lines status (Ok Done) p a h k is begins uncut refused none =
-    let play = subst (λ (x : Stage). IsPlay lines Done x uncut.0 a) begins uncut.1 in
-    let same = (law lines Done (Refused refused.0 refused.1) begun a refused.3 uncut.0 refused.2 play refused.4).0 in cc
-not_done law lines status (Ok (Refused number code)) p a h k is begins uncut refused none = absurd (omega arith)
-not_done law lines status (Err Failed) p a h k is begins uncut refused none = absurd (omega arith)
-not_done law lines status (Err NoMemory) p a h k is begins uncut refused none = absurd (omega arith)
+pub not_done : PlaysAreUnique → (script : Script) (status : ℕ) (r : Result End IoFault) (p a : Stage) (h k : Option (List ℕ)) → status ≡ play_status r → p ≡ begun script.version → IsUncut script.lines p a h k r → HasRefusal script → status ≢ 0
+not_done law script status (Ok Done) p a h k is begins uncut refused none =
+    let play = subst (λ (x : Stage). IsPlay script.lines Done x uncut.0 a) begins uncut.1 in
+    let same = (law script.lines Done (Refused refused.0 refused.1) (begun script.version) a refused.3 uncut.0 refused.2 play refused.4).0 in cc
+not_done law script status (Ok (Refused number code)) p a h k is begins uncut refused none = absurd (omega arith)
+not_done law script status (Err Failed) p a h k is begins uncut refused none = absurd (omega arith)
+not_done law script status (Err NoMemory) p a h k is begins uncut refused none = absurd (omega arith)
 
 -- ---- statuses among others
 

@@ -3,7 +3,6 @@ use Rattle.std.specs.Prelude.{◌≡◌, ◌⊎◌, ℕ, List, [], Option, None,
 use Rattle.hn_io.specs.declared.fault.IoFault.{IoFault}
 use Rattle.hn_io.specs.declared.fault.IoFault.TheVariants.{Failed, NoMemory}
 use Rattle.hn_script.specs.declared.fault.ScriptFault.{ScriptFault}
-use Rattle.hn_script.specs.declared.line.Line.{Line}
 use Rattle.hn_script.specs.declared.script.Script.{Script}
 use Rattle.hn_script.specs.Script.{IsScript, IsFirstFault}
 use Rattle.hn_world.specs.declared.parts.Parts.{Parts}
@@ -26,44 +25,45 @@ play_status (Ok end) = status_of end
 play_status (Err Failed) = 4
 play_status (Err NoMemory) = 6
 
--- the lines can be played to their end; one of them is refused
-abbrev pub HasDonePlay : List (ℕ × Line) → Type 0
-HasDonePlay lines = (text : List Told) × (after : Stage) × IsPlay lines Done begun text after
+-- the lines of a script can be played to their end; one of them is refused
+abbrev pub HasDonePlay : Script → Type 0
+HasDonePlay script = (text : List Told) × (after : Stage) × IsPlay script.lines Done (begun script.version) text after
 
-abbrev pub HasRefusal : List (ℕ × Line) → Type 0
-HasRefusal lines = (number code : ℕ) × (text : List Told) × (after : Stage) × IsPlay lines (Refused number code) begun text after
+abbrev pub HasRefusal : Script → Type 0
+HasRefusal script =
+    (number code : ℕ) × (text : List Told) × (after : Stage) × IsPlay script.lines (Refused number code) (begun script.version) text after
 
 -- a play that nothing cut: the whole text is written
-pub record IsWholePlay (lines : List (ℕ × Line)) (status : ℕ) (world : Option Parts) (written : List ℕ) : Type 0 where
+pub record IsWholePlay (script : Script) (status : ℕ) (world : Option Parts) (written : List ℕ) : Type 0 where
   pub end : End
   pub text : List Told
   pub after : Stage
-  pub play : IsPlay lines end begun text after
+  pub play : IsPlay script.lines end (begun script.version) text after
   pub status_is : status ≡ status_of end
   pub world_is : world ≡ Some after.world
   pub written_is : written ≡ bytes_of text
 
 -- a play that a failed sink cut: all lines before some one are written, and a proper part of that
-pub record IsBrokenPlay (lines : List (ℕ × Line)) (status : ℕ) (world : Option Parts) (written : List ℕ) : Type 0 where
+pub record IsBrokenPlay (script : Script) (status : ℕ) (world : Option Parts) (written : List ℕ) : Type 0 where
   pub text : List Told
   pub last : Parts
-  pub play : IsCutPlay lines begun text last
+  pub play : IsCutPlay script.lines (begun script.version) text last
   pub status_is : status ≡ 4
   pub world_is : world ≡ Some last
   pub written_is : IsCutText text written
 
 -- a play that ran out of memory: a front of the text is written
-pub record IsStarvedPlay (lines : List (ℕ × Line)) (status : ℕ) (world : Option Parts) (written : List ℕ) : Type 0 where
+pub record IsStarvedPlay (script : Script) (status : ℕ) (world : Option Parts) (written : List ℕ) : Type 0 where
   pub text : List Told
-  pub play : IsFrontPlay lines begun text
+  pub play : IsFrontPlay script.lines (begun script.version) text
   pub status_is : status ≡ 6
   pub world_is : world ≡ None
   pub written_is : IsFront written (bytes_of text)
 
 -- what `play` comes to
-abbrev pub Plays : List (ℕ × Line) → ℕ → Option Parts → List ℕ → Type 0
-Plays lines status world written =
-    IsWholePlay lines status world written ⊎ (IsBrokenPlay lines status world written ⊎ IsStarvedPlay lines status world written)
+abbrev pub Plays : Script → ℕ → Option Parts → List ℕ → Type 0
+Plays script status world written =
+    IsWholePlay script status world written ⊎ (IsBrokenPlay script status world written ⊎ IsStarvedPlay script status world written)
 
 -- what is written of a line, by the status: the whole line, a proper part of it, or a front
 abbrev pub IsLineWritten : List ℕ → ℕ → List ℕ → Type 0
@@ -81,7 +81,7 @@ pub record IsNoPlay (bytes : List ℕ) (status : ℕ) (world : Option Parts) (wr
 pub record IsScriptPlay (bytes : List ℕ) (status : ℕ) (world : Option Parts) (written : List ℕ) : Type 0 where
   pub script : Script
   pub is_script : IsScript script bytes
-  pub plays : Plays script.lines status world written
+  pub plays : Plays script status world written
 
 -- out of memory before anything is written
 abbrev pub IsUnread : ℕ → Option Parts → List ℕ → Type 0

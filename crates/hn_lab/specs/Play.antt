@@ -1,7 +1,7 @@
 -- The play of a script.
 use Rattle.std.specs.Prelude.{◌≡◌, ℕ, List, [], ◌∷◌, ◌++◌, None, Some}
 use Rattle.hn_script.specs.declared.line.Line.{Line}
-use Rattle.hn_base.specs.declared.version.Version.TheVariants.{One}
+use Rattle.hn_base.specs.declared.version.Version.{Version}
 use Rattle.hn_world.specs.declared.parts.Parts.{Parts}
 use Rattle.hn_world.specs.Replay.{empty_world}
 use Rattle.hn_lab.specs.declared.end.End.{End}
@@ -11,9 +11,9 @@ use Rattle.hn_lab.specs.Line.{LineEnds}
 use Rattle.hn_lab.specs.Reports.{refused_line}
 use Rattle.hn_lab.specs.Told.{Told, told}
 
--- where a play begins: nothing has happened, no copy is lost, and each word is 0
-abbrev pub begun : Stage
-begun = record { world = empty_world One; loss = 0; words = λ _. 0 }
+-- where the play of a script of a version begins: nothing has happened, no copy is lost, and each word is 0
+abbrev pub begun : Version → Stage
+begun version = record { world = empty_world version; loss = 0; words = λ _. 0 }
 
 -- lines are done, one after another; each comes with its number
 abbrev pub LinesDone : List (ℕ × Line) → Stage → List Told → Stage → Type 0

@@ -7,7 +7,7 @@ ghost use Rattle.hn_lab.specs.Stage.{stage_of};
 
 use crate::stream::Stream;
 use crate::treated::Treated;
-use hn_base::{Name, NoMemory};
+use hn_base::{Name, NoMemory, Version};
 use hn_world::{WEvent, World, WorldFault, each_event_is_entered};
 use std::alloc::Global;
 
@@ -20,12 +20,12 @@ pub struct Playing {
 }
 
 impl Playing {
-    /// A play that begins. Never allocates.
-    pub(crate) fn new(alloc: Global) -> Playing
-        ensures { stage_of result ≡ begun }
+    /// The play of a script of a version, as it begins. Never allocates.
+    pub(crate) fn new(alloc: Global, version: Version) -> Playing
+        ensures { stage_of result ≡ begun version }
     {
         Playing {
-            world: World::new(alloc),
+            world: World::of(alloc, version),
             loss: 0,
             words: Stream::zeros(),
         }

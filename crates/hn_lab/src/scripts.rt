@@ -93,9 +93,9 @@ fn refuse<K: Sink>(alloc: Global, fault: ScriptFault, out: &mut K) -> Played
 /// Plays a script, and writes its transcript.
 pub fn play<K: Sink>(alloc: Global, script: Script, out: &mut K) -> Played
     requires { AllByRecursion (λ line. IsLimited line.1) script.lines }
-    ensures plays { (written : List ℕ) × Plays script.lines result.status result.world written × Appends (K.held out.old) (K.held out.new) written }
-    ensures done { HasDonePlay script.lines → result.status ≢ REFUSED }
-    ensures refused { HasRefusal script.lines → result.status ≢ DONE }
+    ensures plays { (written : List ℕ) × Plays script result.status result.world written × Appends (K.held out.old) (K.held out.new) written }
+    ensures done { HasDonePlay script → result.status ≢ REFUSED }
+    ensures refused { HasRefusal script → result.status ≢ DONE }
     ensures no_world { result.status ≡ NO_MEMORY → result.world ≡ None }
     ensures world { result.status ≢ NO_MEMORY → IsSome result.world }
     ensures replayed { IfSome result.world IsReplayed }
@@ -108,7 +108,7 @@ pub fn play<K: Sink>(alloc: Global, script: Script, out: &mut K) -> Played
     at_most_one_play();
     equal_hashes_always_agree();
     settled_are_always_sound();
-    let mut playing = Playing::new(alloc);
+    let mut playing = Playing::new(alloc, script.version);
     let end = playing.play(alloc, script.lines.into_vec(), out);
     let status = play_status(&end);
     if status == NO_MEMORY {
@@ -124,8 +124,8 @@ pub fn play<K: Sink>(alloc: Global, script: Script, out: &mut K) -> Played
 /// Plays the script that bytes are, or writes the line of their first fault.
 fn play_bytes<K: Sink>(alloc: Global, bytes: &[u8], out: &mut K) -> Played
     ensures lab { (written : List ℕ) × IsLabOf bytes.now result.status result.world written × Appends (K.held out.old) (K.held out.new) written }
-    ensures done { (script : AScript) → IsScript script bytes.now → HasDonePlay script.lines → result.status ≢ REFUSED }
-    ensures refused { (script : AScript) → IsScript script bytes.now → HasRefusal script.lines → result.status ≢ DONE }
+    ensures done { (script : AScript) → IsScript script bytes.now → HasDonePlay script → result.status ≢ REFUSED }
+    ensures refused { (script : AScript) → IsScript script bytes.now → HasRefusal script → result.status ≢ DONE }
     ensures no_script { (fault : AFault) → IsFirstFault fault bytes.now → result.status ≢ DONE }
     ensures no_world { result.status ≡ NO_MEMORY → result.world ≡ None }
     ensures done_world { result.status ≡ DONE → IsSome result.world }
@@ -150,8 +150,8 @@ fn play_bytes<K: Sink>(alloc: Global, bytes: &[u8], out: &mut K) -> Played
 pub fn lab<S: Source, K: Sink>(alloc: Global, src: &mut S, out: &mut K) -> Played
     ensures lab { result.status ≢ SOURCE_FAILED → IfSome (S.left src.old) (λ bytes. (written : List ℕ)
         × IsLabOf bytes result.status result.world written × Appends (K.held out.old) (K.held out.new) written) }
-    ensures done { IfSome (S.left src.old) (λ bytes. (script : AScript) → IsScript script bytes → HasDonePlay script.lines → result.status ≢ REFUSED) }
-    ensures refused { IfSome (S.left src.old) (λ bytes. (script : AScript) → IsScript script bytes → HasRefusal script.lines → result.status ≢ DONE) }
+    ensures done { IfSome (S.left src.old) (λ bytes. (script : AScript) → IsScript script bytes → HasDonePlay script → result.status ≢ REFUSED) }
+    ensures refused { IfSome (S.left src.old) (λ bytes. (script : AScript) → IsScript script bytes → HasRefusal script → result.status ≢ DONE) }
     ensures no_script { IfSome (S.left src.old) (λ bytes. (fault : AFault) → IsFirstFault fault bytes → result.status ≢ DONE) }
     ensures no_world { (result.status ≡ SOURCE_FAILED) ⊎ (result.status ≡ NO_MEMORY) → result.world ≡ None }
     ensures done_world { result.status ≡ DONE → IsSome result.world }

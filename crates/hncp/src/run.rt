@@ -85,9 +85,9 @@ pub fn run<S: Source, K: Sink>(alloc: Global, words: &[String], src: &mut S, out
     ensures lab { IsFormOf Form.Lab (map string_bytes words.now) → result.status ≢ SOURCE_FAILED → IfSome (S.left src.old) (λ bytes. (written : List ℕ)
         × IsLabOf bytes result.status result.world written × Appends (K.held out.old) (K.held out.new) written) }
     ensures lab_done { IsFormOf Form.Lab (map string_bytes words.now) → IfSome (S.left src.old) (λ bytes. (script : Script)
-        → IsScript script bytes → HasDonePlay script.lines → result.status ≢ REFUSED) }
+        → IsScript script bytes → HasDonePlay script → result.status ≢ REFUSED) }
     ensures lab_refused { IsFormOf Form.Lab (map string_bytes words.now) → IfSome (S.left src.old) (λ bytes. (script : Script)
-        → IsScript script bytes → HasRefusal script.lines → result.status ≢ DONE) }
+        → IsScript script bytes → HasRefusal script → result.status ≢ DONE) }
     ensures no_script { IsFormOf Form.Lab (map string_bytes words.now) → IfSome (S.left src.old) (λ bytes. (fault : ScriptFault)
         → IsFirstFault fault bytes → result.status ≢ DONE) }
     ensures lab_world { IsFormOf Form.Lab (map string_bytes words.now) → result.status ≡ DONE → IsSome result.world }
@@ -127,9 +127,9 @@ pub fn run<S: Source, K: Sink>(alloc: Global, words: &[String], src: &mut S, out
     ensures soak { (n seed : ℕ) → IsFormOf (Form.Soak n seed) (map string_bytes words.now) → (written : List ℕ)
         × IsSoakPlay n seed result.status result.world written × Appends (K.held out.old) (K.held out.new) written }
     ensures soak_done { (n seed : ℕ) → IsFormOf (Form.Soak n seed) (map string_bytes words.now) → (script : Script)
-        → IsScript script (soak_text n seed) → HasDonePlay script.lines → result.status ≢ REFUSED }
+        → IsScript script (soak_text n seed) → HasDonePlay script → result.status ≢ REFUSED }
     ensures soak_refused { (n seed : ℕ) → IsFormOf (Form.Soak n seed) (map string_bytes words.now) → (script : Script)
-        → IsScript script (soak_text n seed) → HasRefusal script.lines → result.status ≢ DONE }
+        → IsScript script (soak_text n seed) → HasRefusal script → result.status ≢ DONE }
     ensures soak_world { (n seed : ℕ) → IsFormOf (Form.Soak n seed) (map string_bytes words.now) → result.status ≢ NO_MEMORY → IsSome result.world }
     ensures soak_statuses { (n seed : ℕ) → IsFormOf (Form.Soak n seed) (map string_bytes words.now)
         → Contains (DONE ∷ REFUSED ∷ SINK_FAILED ∷ NO_MEMORY ∷ []) result.status }

@@ -22,8 +22,8 @@ pub fn soak<K: Sink>(alloc: Global, n: u32, seed: u64, out: &mut K) -> Played
     requires at_least { 2 ≤ n }
     requires at_most { n ≤ 32 }
     ensures soak { (written : List ℕ) × IsSoakPlay n seed result.status result.world written × Appends (K.held out.old) (K.held out.new) written }
-    ensures done { (script : Script) → IsScript script (soak_text n seed) → HasDonePlay script.lines → result.status ≢ REFUSED }
-    ensures refused { (script : Script) → IsScript script (soak_text n seed) → HasRefusal script.lines → result.status ≢ DONE }
+    ensures done { (script : Script) → IsScript script (soak_text n seed) → HasDonePlay script → result.status ≢ REFUSED }
+    ensures refused { (script : Script) → IsScript script (soak_text n seed) → HasRefusal script → result.status ≢ DONE }
     ensures no_world { result.status ≡ NO_MEMORY → result.world ≡ None }
     ensures world { result.status ≢ NO_MEMORY → IsSome result.world }
     ensures replayed { IfSome result.world IsReplayed }

@@ -18,13 +18,13 @@ returns-in-Ok-clause-lab g c _ =
 
 pub returns-in-Ok-clause-done : goal.returns-in-Ok-clause-done
 returns-in-Ok-clause-done g c =
-    let P : Script → Type 0 = λ script. HasDonePlay script.lines → c.play_bytes.result.status ≢ 2 in
+    let P : Script → Type 0 = λ script. HasDonePlay script → c.play_bytes.result.status ≢ 2 in
     let R : List ℕ → Type 0 = λ bytes. (script : Script) → IsScript script bytes → P script in
     of_source R (script_longer P) (g.S.Source.left c.args.src.now) (g.S.Source.left c.read_all.new.src) c.in-Ok.bytes.items c.in-Ok.ensures.all c.in-Ok.ensures.whole (subst R c.deref.ensures.value c.play_bytes.ensures.done)
 
 pub returns-in-Ok-clause-refused : goal.returns-in-Ok-clause-refused
 returns-in-Ok-clause-refused g c =
-    let P : Script → Type 0 = λ script. HasRefusal script.lines → c.play_bytes.result.status ≢ 0 in
+    let P : Script → Type 0 = λ script. HasRefusal script → c.play_bytes.result.status ≢ 0 in
     let R : List ℕ → Type 0 = λ bytes. (script : Script) → IsScript script bytes → P script in
     of_source R (script_longer P) (g.S.Source.left c.args.src.now) (g.S.Source.left c.read_all.new.src) c.in-Ok.bytes.items c.in-Ok.ensures.all c.in-Ok.ensures.whole (subst R c.deref.ensures.value c.play_bytes.ensures.refused)
 

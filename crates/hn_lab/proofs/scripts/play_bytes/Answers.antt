@@ -1,5 +1,4 @@
 use Rattle.std.proofs.Common.{Err, inl, inr, ap, subst}
-use Rattle.hn_script.specs.declared.script.Script.{Script}
 use Rattle.hn_lab.specs.Lab.{HasDonePlay, HasRefusal}
 use Rattle.hn_lab.proofs.PlayScripts.{among_more}
 use Rattle.hn_lab.proofs.scripts.play_bytes.Goals as goal
@@ -11,11 +10,11 @@ returns-in-Ok-clause-lab g c =
 
 pub returns-in-Ok-clause-done : goal.returns-in-Ok-clause-done
 returns-in-Ok-clause-done g c script is done =
-    c.play.ensures.done (subst (λ (s : Script). HasDonePlay s.lines) (c.script_is_unique.ensures c.args.bytes.now script c.in-Ok.script is c.in-Ok.ensures.script) done)
+    c.play.ensures.done (subst HasDonePlay (c.script_is_unique.ensures c.args.bytes.now script c.in-Ok.script is c.in-Ok.ensures.script) done)
 
 pub returns-in-Ok-clause-refused : goal.returns-in-Ok-clause-refused
 returns-in-Ok-clause-refused g c script is refused =
-    c.play.ensures.refused (subst (λ (s : Script). HasRefusal s.lines) (c.script_is_unique.ensures c.args.bytes.now script c.in-Ok.script is c.in-Ok.ensures.script) refused)
+    c.play.ensures.refused (subst HasRefusal (c.script_is_unique.ensures c.args.bytes.now script c.in-Ok.script is c.in-Ok.ensures.script) refused)
 
 pub returns-in-Err-Script-clause-done : goal.returns-in-Err-Script-clause-done
 returns-in-Err-Script-clause-done g c script is _ _ =

@@ -36,13 +36,13 @@ returns-in-Some-Watch-clause-watch g c asked = rw c.without_world-in-Some-Watch.
 pub returns-in-Some-Soak-clause-soak_done : goal.returns-in-Some-Soak-clause-soak_done
 returns-in-Some-Soak-clause-soak_done g c n seed asked =
     let read = rw c.in-Some-Soak.field-0-is at c.in-Some-Soak.ensures.found in
-    let P : ℕ → ℕ → Type 0 = λ x y. (script : Script) → IsScript script (soak_text x y) → HasDonePlay script.lines → c.soak.result.status ≢ 2 in
+    let P : ℕ → ℕ → Type 0 = λ x y. (script : Script) → IsScript script (soak_text x y) → HasDonePlay script → c.soak.result.status ≢ 2 in
     as_asked P c.in-Some-Soak.n c.in-Some-Soak.seed n seed _ read asked c.soak.ensures.done
 
 pub returns-in-Some-Soak-clause-soak_refused : goal.returns-in-Some-Soak-clause-soak_refused
 returns-in-Some-Soak-clause-soak_refused g c n seed asked =
     let read = rw c.in-Some-Soak.field-0-is at c.in-Some-Soak.ensures.found in
-    let P : ℕ → ℕ → Type 0 = λ x y. (script : Script) → IsScript script (soak_text x y) → HasRefusal script.lines → c.soak.result.status ≢ 0 in
+    let P : ℕ → ℕ → Type 0 = λ x y. (script : Script) → IsScript script (soak_text x y) → HasRefusal script → c.soak.result.status ≢ 0 in
     as_asked P c.in-Some-Soak.n c.in-Some-Soak.seed n seed _ read asked c.soak.ensures.refused
 
 pub returns-in-Some-Soak-clause-soak_statuses : goal.returns-in-Some-Soak-clause-soak_statuses

@@ -1,4 +1,4 @@
-ghost use Rattle.std.specs.Prelude.{◌≡◌, [], map, false, IsTrue, IfOk, OnOk, IfSome};
+ghost use Rattle.std.specs.Prelude.{◌≡◌, ◌==◌, [], map, filter, not, false, IsTrue, IfOk, OnOk, IfSome};
 ghost use Rattle.hn_base.specs.Ascending.{HasAt};
 ghost use Rattle.hn_assign.specs.Gathered.{AdvertiseSame, published_of};
 ghost use Rattle.hn_assign.specs.Pair.{IsAscending, Updates, KeepsWished, assigned_pair, wish_pair};
@@ -7,7 +7,7 @@ ghost use Rattle.hn_assign.specs.Marks.{marked};
 use crate::ascending::{find, put, wished};
 use crate::assigned::{Assigned, Wish};
 use crate::pair::Pair;
-use hn_base::{Moment, NoMemory};
+use hn_base::{EpId, Moment, NoMemory};
 use hn_prefix::Prefix;
 use std::alloc::Global;
 use std::marker::Model;
@@ -103,6 +103,13 @@ impl Assignments {
         ensures { HasAt assigned_pair pair.now result self.now }
     {
         find(self.items.as_slice(), pair)
+    }
+
+    /// Takes out the assignments of an endpoint. Never allocates.
+    pub fn remove(&mut self, at: EpId)
+        ensures { self.new ≡ filter (λ c. not (c.endpoint.0 == at.0)) self.old }
+    {
+        self.items.retain(|c| c.endpoint != at);
     }
 
     /// Gives a pair another assignment in place of the one that it has, or none: whether what is published of it changes.

@@ -1,4 +1,4 @@
-ghost use Rattle.std.specs.Prelude.{◌≡◌, [], false, IfOk, OnOk, IfSome};
+ghost use Rattle.std.specs.Prelude.{◌≡◌, ◌==◌, [], filter, not, false, IfOk, OnOk, IfSome};
 ghost use Rattle.hn_base.specs.Ascending.{HasAt};
 ghost use Rattle.hn_assign.specs.Pair.{IsAscending, Updates, KeepsWished, backoff_pair, wish_pair};
 
@@ -6,7 +6,7 @@ use crate::ascending::{find, put, wished};
 use crate::assigned::Wish;
 use crate::backoff::Backoff;
 use crate::pair::Pair;
-use hn_base::NoMemory;
+use hn_base::{EpId, NoMemory};
 use std::alloc::Global;
 use std::marker::Model;
 
@@ -60,6 +60,13 @@ impl Backoffs {
         ensures { HasAt backoff_pair pair.now result self.now }
     {
         find(self.items.as_slice(), pair)
+    }
+
+    /// Takes out the backoffs of an endpoint. Never allocates.
+    pub fn remove(&mut self, at: EpId)
+        ensures { self.new ≡ filter (λ b. not (b.endpoint.0 == at.0)) self.old }
+    {
+        self.items.retain(|b| b.endpoint != at);
     }
 
     /// Gives a pair another backoff in place of the one that it has, or none: whether that is a change.

@@ -12,7 +12,7 @@ use Rattle.hn_base.proofs.Parts.{part_stands, part_is, one_place, contains_at}
 use Rattle.hn_data.specs.View.{ids_of}
 use Rattle.hn_data.specs.declared.view.Entry.{Entry}
 use Rattle.hn_graph.specs.Path.{AreAdjacent, IsReachable}
-use Rattle.hn_graph.specs.Search.{IsFound, IsNext, HasMarked, HasFound}
+use Rattle.hn_graph.specs.Search.{IsFound, IsNext, HasMarked, HasFound, AreNext}
 use Rattle.hn_graph.proofs.Ways.{HasWay, way_to_own, way_further, path_from_way, along_path}
 
 -- Each marked node is reached by a path, and the own one is marked. Where a path may go on from a marked node, that node
@@ -48,18 +48,18 @@ begin own nodes start found visits up lt is m = record {
 
 -- a visit: the nodes that may follow are marked
 pub visit : (own : ℕ) (nodes : List Entry) (x : Entry) (place : ℕ) (places : List ℕ) (found : List Bool) (rest : List ℕ) (found' : List Bool) (visits' : List ℕ)
-    → IsUnderway own nodes found (rest ++ place ∷ []) → slice_get nodes place ≡ Some x → ((j : ℕ) → Contains places j ↔ IsNext nodes x j)
+    → IsUnderway own nodes found (rest ++ place ∷ []) → slice_get nodes place ≡ Some x → AreNext nodes x found places
     → HasMarked places found rest found' visits' → IsUnderway own nodes found' visits'
 visit own nodes x place places found rest found' visits' u at next m =
     let old_visit = λ (k : ℕ) (h : Contains rest k). Contains-append_left rest (place ∷ []) k h in
     record {
       same_length = m.same_length ∙ u.same_length;
-      visits_nodes = λ k h. ⊎_elim (λ (old : Contains rest k). u.visits_nodes k (old_visit k old)) (λ (new : Contains places k). let n = (next k).0 new in slice_get_within nodes k n.y n.at) (m.visits_only k h);
+      visits_nodes = λ k h. ⊎_elim (λ (old : Contains rest k). u.visits_nodes k (old_visit k old)) (λ (new : Contains places k). let n = next.only k new in slice_get_within nodes k n.y n.at) (m.visits_only k h);
       visits_found = λ k h. ⊎_elim (λ (old : Contains rest k). m.marks_stay k (u.visits_found k (old_visit k old))) (m.marks_given k) (m.visits_only k h);
       own_found = λ k y is own_is. m.marks_stay k (u.own_found k y is own_is);
       sound = λ k y is h. ⊎_elim (u.sound k y is)
           (λ (new : Contains places k × Contains visits' k).
-          let n = (next k).0 new.0 in
+          let n = next.only k new.0 in
           let one : n.y ≡ y = same_Some n.y y (sym n.at ∙ is) in
           let way = u.sound place x at (u.visits_found place (Contains-push rest place)) in
           way_further own nodes x y way n.recent (subst (AreAdjacent x) one n.adjacent) (contains_at nodes k y is))
@@ -69,7 +69,7 @@ visit own nodes x place places found rest found' visits' u at next m =
           (λ (waits : Contains (rest ++ place ∷ []) k). ⊎_elim (λ (still : Contains rest k). inl (m.visits_stay k still))
           (λ (now : place ≡ k).
           let one : y ≡ x = same_Some y x (sym is ∙ ap (slice_get nodes) (sym now) ∙ at) in
-          inr (m.marks_given j ((next j).1 (subst (λ (z : Entry). IsNext nodes z j) one on))))
+          inr (⊎_elim (m.marks_stay j) (m.marks_given j) (next.all j (subst (λ (z : Entry). IsNext nodes z j) one on))))
           (Contains-push_cases rest place k waits))
           (λ (marked : IsFound found j). inr (m.marks_stay j marked))
           (u.closed k y j is old on))

@@ -16,6 +16,11 @@ pub record IsNext (nodes : List Entry) (x : Entry) (place : ℕ) : Type 0 where
 abbrev pub IsFound : List Bool → ℕ → Type 0
 IsFound found place = slice_index_or found place false ≡ true
 
+-- Paths may go from x to these places, and to no others but those that are marked.
+pub record AreNext (nodes : List Entry) (x : Entry) (found : List Bool) (places : List ℕ) : Type 0 where
+  pub only : (place : ℕ) → Contains places place → IsNext nodes x place
+  pub all : (place : ℕ) → IsNext nodes x place → IsFound found place ⊎ Contains places place
+
 -- The given places are marked too, and no others; those newly marked are to be visited, and no others.
 pub record HasMarked (places : List ℕ) (found : List Bool) (visits : List ℕ) (found' : List Bool) (visits' : List ℕ) : Type 0 where
   pub same_length : length found' ≡ length found

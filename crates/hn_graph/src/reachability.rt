@@ -25,7 +25,7 @@ pub fn reach(alloc: Global, own: NodeId, nodes: &[Entry]) -> Result<NodeIds, NoM
     };
     mark(&[start], &mut found, &mut visits)?;
     while let Some(place) = visits.pop() {
-        let places = next_places(alloc, nodes, &nodes[place])?;
+        let places = next_places(alloc, nodes, &nodes[place], &found)?;
         mark(&places, &mut found, &mut visits)?;
     }
     found_ids(alloc, nodes, &found)

@@ -1,5 +1,5 @@
 -- What the place of a node says of the map.
-use Rattle.std.proofs.Common.{◌≡◌, ◌<◌, ◌≤◌, ℕ, suc, false, List, length, filter, take, drop, get_or, set, Some, None, Result, Ok, Err, sym, ap, inl, inr, arith}
+use Rattle.std.proofs.Common.{◌≡◌, ◌∙◌, ◌<◌, ◌≤◌, ℕ, suc, false, List, length, filter, take, drop, get_or, set, Some, None, Result, Ok, Err, sym, ap, inl, inr, arith}
 use Rattle.std.specs.Prelude.{insert, IfOk, IfErr, ◌==◌, nat_lt}
 use Rattle.std.specs.Option.{option_map}
 use Rattle.std.specs.List.{HoldsAt}
@@ -10,7 +10,7 @@ use Rattle.std.proofs.lemmas.Bool.{lt-ltb, le-ltb, eq-eqb, ne_eqb, cases_lt}
 use Rattle.std.specs.Cmp.{ranked}
 use Rattle.std.specs.Ordering.{ordering_index}
 use Rattle.std.specs.declared.cmp.Ordering.TheVariants.{Less, Equal, Greater}
-use Rattle.std.proofs.lemmas.List.{get_or-map, length-map, set_split}
+use Rattle.std.proofs.lemmas.List.{get_or_default, get_or-map, length-map, set_split}
 use Rattle.std.proofs.lemmas.Map.Keys.{below_from_sorted}
 use Rattle.hn_base.proofs.Fronts.{filter-front, filter-back, find-at, find-none}
 use Rattle.hn_store.specs.declared.stored.Stored.{Stored}
@@ -39,6 +39,18 @@ searchable xs id up i j d le within =
       | inl lt ↦ order_rises (get_or xs i d).id.0 (get_or xs j d).id.0 id (let less = rises xs up i j d lt within in omega arith)
       | inr ge ↦ let same : i ≡ j = omega arith in rw same (omega arith)
     ]
+
+-- a node that stands in a place stands alone there
+pub stands-at : (xs : List HeldNode) (id i : ℕ) (x : HeldNode) → IsStrictlySortedBy nat_cmp (ids_of xs) → i < length xs → (get_or xs i x).id.0 ≡ id → IsPlaceOf xs id i
+stands-at xs id i x up within same = record {
+  within = within;
+  here = here;
+  before = λ k d low lt. let is = here d in let less = rises xs up k i d lt within in omega arith;
+  after = λ k d lt in'. let is = here d in let less = rises xs up i k d (omega arith) in' in omega arith;
+}
+  where
+    here : HoldsAt (λ (node : HeldNode). node.id.0 ≡ id) xs i
+    here d = ap (λ (node : HeldNode). node.id.0) (get_or_default xs i d x within) ∙ same
 
 pub searched : (xs : List HeldNode) (id : ℕ) (r : Result ℕ ℕ) → IsStrictlySortedBy nat_cmp (ids_of xs) → IsSearchInRange r (length xs)
     → IsBinarySearchResult (λ y. nat_cmp y.id.0 id) xs r → IfOk r (IsPlaceOf xs id) × IfErr r (IsGapFor xs id)

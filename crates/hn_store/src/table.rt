@@ -4,7 +4,7 @@ ghost use Rattle.std.specs.List.Sorted.{IsStrictlySortedBy};
 ghost use Rattle.hn_base.specs.NodeIds.{node_cmp};
 ghost use Rattle.hn_store.specs.Nodes.{held, IsTable, IsIntact};
 
-use crate::place::place_of;
+use crate::place::{near, place_of};
 use crate::stored::{HeldNode, Stored};
 use hn_base::{Exact, NoMemory, NodeId, NodeIds};
 use std::alloc::{AllocError, Global};
@@ -92,6 +92,21 @@ impl Table {
         match place_of(&self.nodes, id) {
             Ok(place) => Some(&self.nodes[place].stored),
             Err(_) => None,
+        }
+    }
+
+    /// What it holds of a node, which is looked for at a place first. The place moves past the node where it is found.
+    /// Where the nodes of a table are looked for in ascending order from place 0 on, most are found at once. Never allocates.
+    pub fn next_to(&self, place: &mut usize, id: NodeId) -> Option<&Stored>
+        ensures held { option_copied result ≡ held self.now.entries id.0 }
+        ensures intact { IfSome result (λ stored. IsIntact stored.now) }
+    {
+        match near(&self.nodes, *place, id) {
+            Some(at) => {
+                *place = at + 1;
+                Some(&self.nodes[at].stored)
+            }
+            None => None,
         }
     }
 

@@ -3,7 +3,7 @@ use Rattle.std.proofs.lemmas.List.Elements.{Contains-push, Contains-get_or}
 use Rattle.std.proofs.lemmas.List.{nil_from_length}
 use Rattle.std.proofs.lemmas.Result.{IfOk-weaker}
 use Rattle.std.proofs.lemmas.Option.{slice_get_read, slice_get_within}
-use Rattle.hn_graph.specs.Search.{HasMarked, HasFound}
+use Rattle.hn_graph.specs.Search.{AreNext, HasMarked, HasFound}
 use Rattle.hn_graph.proofs.Progress.{IsUnderway, begin, visit, finish}
 use Rattle.hn_graph.proofs.reachability.reach.Goals as goal
 
@@ -26,9 +26,9 @@ offset_bounds-nodes-place c =
 
 pub mark-requires-in-Some-pop : goal.mark-requires-in-Some-pop
 mark-requires-in-Some-pop c k d lt =
-    let there : Contains c.in_ok-places.places.items (get_or c.deref.result.now k d) = rw (← c.deref.ensures.value) (Contains-get_or c.deref.result.now k d lt) in
-    let next = (c.in_ok-places.ensures (get_or c.deref.result.now k d)).0 there in
-    let within = slice_get_within c.args.nodes.now (get_or c.deref.result.now k d) next.y next.at in
+    let there : Contains c.in_ok-places.places.items (get_or c.deref-in-Some-pop.result.now k d) = rw (← c.deref-in-Some-pop.ensures.value) (Contains-get_or c.deref-in-Some-pop.result.now k d lt) in
+    let next = c.in_ok-places.ensures.only (get_or c.deref-in-Some-pop.result.now k d) there in
+    let within = slice_get_within c.args.nodes.now (get_or c.deref-in-Some-pop.result.now k d) next.y next.at in
     let same = c.loop-place.invariant.same_length in
     omega arith
 
@@ -41,8 +41,9 @@ loop-place-preserved c =
     let within = c.loop-place.invariant.visits_nodes place (rw popped (Contains-push c.pop.new.self.items place)) in
     let at : slice_get nodes place ≡ Some x = slice_get_read nodes (length nodes) place x refl within c.index-nodes-place.is in
     let u : IsUnderway c.args.own.0 nodes c.loop-place.found.items (c.pop.new.self.items ++ place ∷ []) = rw (← popped) c.loop-place.invariant in
-    let m : HasMarked c.in_ok-places.places.items c.loop-place.found.items c.pop.new.self.items c.mark-in-Some-pop.new.found.items c.mark-in-Some-pop.new.visits.items = rw (← c.deref.ensures.value) c.in_ok-mark-2.ensures in
-    visit c.args.own.0 nodes x place c.in_ok-places.places.items c.loop-place.found.items c.pop.new.self.items c.mark-in-Some-pop.new.found.items c.mark-in-Some-pop.new.visits.items u at c.in_ok-places.ensures m
+    let m : HasMarked c.in_ok-places.places.items c.loop-place.found.items c.pop.new.self.items c.mark-in-Some-pop.new.found.items c.mark-in-Some-pop.new.visits.items = rw (← c.deref-in-Some-pop.ensures.value) c.in_ok-mark-2.ensures in
+    let next : AreNext nodes x c.loop-place.found.items c.in_ok-places.places.items = rw (← c.deref.ensures.value) c.in_ok-places.ensures in
+    visit c.args.own.0 nodes x place c.in_ok-places.places.items c.loop-place.found.items c.pop.new.self.items c.mark-in-Some-pop.new.found.items c.mark-in-Some-pop.new.visits.items u at next m
 
 pub returns-clause-exact : goal.returns-clause-exact
 returns-clause-exact c =

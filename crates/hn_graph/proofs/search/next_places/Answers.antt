@@ -1,3 +1,4 @@
+use Rattle.std.proofs.Common.{ℕ}
 use Rattle.std.proofs.lemmas.Option.{slice_get-get_or}
 use Rattle.hn_graph.proofs.Leads.{across_more, across_same, next_across}
 use Rattle.hn_graph.proofs.search.next_places.Goals as goal
@@ -9,13 +10,16 @@ loop-link-preserved c =
     let node = c.args.node.now in
     let links = c.peers-link-items.result.now in
     let n = c.loop-link.link-index in
-    elim c.match-peer_place.branch [
-      | in-Some+in_ok-push w ↦ rw (w.places-is, w.in_ok-push.ensures.items) (across_more nodes node links n c.loop-link.places.items _ w.in-Some.place c.requires c.loop-link.invariant (slice_get-get_or links n _ c.loop-link-test.true) w.in-Some.ensures.found)
-      | in_default w ↦ rw w.places-is (across_same nodes node links n c.loop-link.places.items _ c.loop-link.invariant (slice_get-get_or links n _ c.loop-link-test.true) w.in_default.ensures.absent)
+    elim c.match-open_place.branch [
+      | in-Some+in_ok-push w ↦ rw (w.places-is, w.in_ok-push.ensures.items) (across_more nodes node links c.args.found.now n c.loop-link.places.items _ w.in-Some.place c.requires.ascending c.loop-link.invariant (slice_get-get_or links n _ c.loop-link-test.true) w.in-Some.ensures.found)
+      | in_default w ↦ rw w.places-is (across_same nodes node links c.args.found.now n c.loop-link.places.items _ c.loop-link.invariant (slice_get-get_or links n _ c.loop-link-test.true) w.in_default.ensures.absent)
     ]
 
 pub returns : goal.returns
-returns c place =
-    let across = next_across c.args.nodes.now c.args.node.now c.peers-link-items.result.now c.loop-link.link-index place c.loop-link-test.false c.peers-link-items.ensures.exact c.if-node-ge-AGE_LIMIT.false in
-    let are = c.loop-link.invariant place in
-    (λ h. across.0 (are.0 h), λ next. are.1 (across.1 next))
+returns c =
+    let across = λ (place : ℕ). next_across c.args.nodes.now c.args.node.now c.peers-link-items.result.now c.loop-link.link-index place c.loop-link-test.false c.peers-link-items.ensures.exact c.if-node-ge-AGE_LIMIT.false in
+    let are = c.loop-link.invariant in
+    record {
+      only = λ place there. (across place).0 ((are place).0 there);
+      all = λ place next. (are place).1 ((across place).1 next);
+    }

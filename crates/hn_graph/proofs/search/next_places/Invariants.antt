@@ -2,4 +2,4 @@ use Rattle.hn_graph.proofs.Leads.{AreAcross}
 use Rattle.hn_graph.proofs.search.next_places.Given as goal
 
 abbrev pub invariant-loop-link : goal.invariant-loop-link
-invariant-loop-link l = AreAcross l.nodes l.node l.link-items l.link-index l.places.items
+invariant-loop-link l = AreAcross l.nodes l.node l.link-items l.found l.link-index l.places.items

@@ -1,3 +1,4 @@
+mod AddressLists
 mod Endings
 mod OwnPieces
 mod OwnSame
@@ -5,5 +6,6 @@ mod OwnSizes
 mod OwnSums
 mod PairLists
 mod PortLists
+mod PostLists
 mod PrefixLists
 mod PrefixOrder

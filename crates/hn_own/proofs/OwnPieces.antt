@@ -94,6 +94,8 @@ external_added now list subs piece old one is = ap (λ (p : List ℕ). old ++ p 
 
 -- ---- all of them
 
-pub writable_together : (version links external assigned : List PlainItem) → All IsWritable version → All IsWritable links → All IsWritable external → All IsWritable assigned → All IsWritable (version ++ ((links ++ external) ++ assigned))
-writable_together version links external assigned first are_links are_external are_assigned =
-    All-append IsWritable version ((links ++ external) ++ assigned) first (All-append IsWritable (links ++ external) assigned (All-append IsWritable links external are_links are_external) are_assigned)
+pub writable_together : (version links external assigned addresses : List PlainItem) → All IsWritable version → All IsWritable links → All IsWritable external → All IsWritable assigned → All IsWritable addresses
+    → All IsWritable (version ++ (((links ++ external) ++ assigned) ++ addresses))
+writable_together version links external assigned addresses first are_links are_external are_assigned are_addresses =
+    let joined = All-append IsWritable (links ++ external) assigned (All-append IsWritable links external are_links are_external) are_assigned in
+    All-append IsWritable version (((links ++ external) ++ assigned) ++ addresses) first (All-append IsWritable ((links ++ external) ++ assigned) addresses joined are_addresses)

@@ -14,6 +14,7 @@ use Rattle.hn_base.specs.Prefix.{PlainPrefix}
 use Rattle.hn_data.specs.Peers.{peer_link}
 use Rattle.hn_data.specs.declared.said.PeerLink.{PeerLink}
 use Rattle.hn_data.specs.declared.said.AssignedPrefix.{AssignedPrefix}
+use Rattle.hn_own.specs.Addresses.{OwnAddress}
 use Rattle.hn_own.specs.declared.own.OwnItems.{OwnItems}
 use Rattle.hn_own.specs.declared.own_prefixes.OwnPrefix.{OwnPrefix}
 
@@ -74,7 +75,22 @@ assigned_decided a b =
     (λ (same : a ≡ b). (ap (λ (p : AssignedPrefix). p.endpoint.0) same, (ap (λ (p : AssignedPrefix). p.priority) same, ap (λ (p : AssignedPrefix). p.prefix) same)))
     parts
 
--- ---- all four
+-- ---- addresses
+
+abbrev address_with : ℕ → ℕ → OwnAddress
+address_with endpoint address = (record { 0 = endpoint }, address)
+
+same_address : (a b : OwnAddress) → a.0.0 ≡ b.0.0 → a.1 ≡ b.1 → a ≡ b
+same_address a b endpoint address = ap (λ (n : ℕ). address_with n a.1) endpoint ∙ ap (address_with b.0.0) address
+
+pub address_decided : (a b : OwnAddress) → Decides (a.0.0 == b.0.0 && a.1 == b.1) (a ≡ b)
+address_decided a b =
+    Decides-like _
+    (λ (same : (a.0.0 ≡ b.0.0) × (a.1 ≡ b.1)). same_address a b same.0 same.1)
+    (λ (same : a ≡ b). (ap (λ (x : OwnAddress). x.0.0) same, ap (λ (x : OwnAddress). x.1) same))
+    (Decides-and _ _ (Decides-eqb a.0.0 b.0.0) (Decides-eqb a.1 b.1))
+
+-- ---- all five
 
 -- what `==` says of the lists that two slices show
 pub lists_decided : {A : Type 0} {E : A → A → Bool} → ((a b : A) → Decides (E a b) (a ≡ b)) → (xs ys shown other : List A) (r : Bool) → r ≡ pointwise E shown other → shown ≡ xs → other ≡ ys → Decides r (xs ≡ ys)
@@ -89,17 +105,18 @@ then_next r test next first second is same = (λ e. (first.0 is, second.0 (sym s
 pub else_false : {P : Type 0} (Q : Type 0) (r test : Bool) → Decides test P → test ≡ false → r ≡ test → Decides r (P × Q)
 else_false Q r test first is same = (λ e. absurd (false≢true (sym is ∙ sym same ∙ e)), λ both. absurd (false≢true (sym is ∙ first.1 both.0)))
 
-abbrev items_with : Caps → List PeerLink → List OwnPrefix → List AssignedPrefix → OwnItems
-items_with caps links delegated assigned = record { caps = caps; links = links; delegated = delegated; assigned = assigned }
+abbrev items_with : Caps → List PeerLink → List OwnPrefix → List AssignedPrefix → List OwnAddress → OwnItems
+items_with caps links delegated assigned addresses = record { caps = caps; links = links; delegated = delegated; assigned = assigned; addresses = addresses }
 
-same_items : (a b : OwnItems) → a.caps ≡ b.caps → a.links ≡ b.links → a.delegated ≡ b.delegated → a.assigned ≡ b.assigned → a ≡ b
-same_items a b caps links delegated assigned =
-    ap (λ (c : Caps). items_with c a.links a.delegated a.assigned) caps ∙ ap (λ (ls : List PeerLink). items_with b.caps ls a.delegated a.assigned) links
-    ∙ ap (λ (ps : List OwnPrefix). items_with b.caps b.links ps a.assigned) delegated ∙ ap (items_with b.caps b.links b.delegated) assigned
+same_items : (a b : OwnItems) → a.caps ≡ b.caps → a.links ≡ b.links → a.delegated ≡ b.delegated → a.assigned ≡ b.assigned → a.addresses ≡ b.addresses → a ≡ b
+same_items a b caps links delegated assigned addresses =
+    ap (λ (c : Caps). items_with c a.links a.delegated a.assigned a.addresses) caps ∙ ap (λ (ls : List PeerLink). items_with b.caps ls a.delegated a.assigned a.addresses) links
+    ∙ ap (λ (ps : List OwnPrefix). items_with b.caps b.links ps a.assigned a.addresses) delegated ∙ ap (λ (cs : List AssignedPrefix). items_with b.caps b.links b.delegated cs a.addresses) assigned
+    ∙ ap (items_with b.caps b.links b.delegated b.assigned) addresses
 
-pub items_decided : (a b : OwnItems) (r : Bool) → Decides r ((((a.caps ≡ b.caps) × (a.links ≡ b.links)) × (a.delegated ≡ b.delegated)) × (a.assigned ≡ b.assigned)) → Decides r (a ≡ b)
+pub items_decided : (a b : OwnItems) (r : Bool) → Decides r (((((a.caps ≡ b.caps) × (a.links ≡ b.links)) × (a.delegated ≡ b.delegated)) × (a.assigned ≡ b.assigned)) × (a.addresses ≡ b.addresses)) → Decides r (a ≡ b)
 items_decided a b r all =
     Decides-like r
-    (λ (same : (((a.caps ≡ b.caps) × (a.links ≡ b.links)) × (a.delegated ≡ b.delegated)) × (a.assigned ≡ b.assigned)). same_items a b same.0.0.0 same.0.0.1 same.0.1 same.1)
-    (λ (same : a ≡ b). (((ap (λ (i : OwnItems). i.caps) same, ap (λ (i : OwnItems). i.links) same), ap (λ (i : OwnItems). i.delegated) same), ap (λ (i : OwnItems). i.assigned) same))
+    (λ (same : ((((a.caps ≡ b.caps) × (a.links ≡ b.links)) × (a.delegated ≡ b.delegated)) × (a.assigned ≡ b.assigned)) × (a.addresses ≡ b.addresses)). same_items a b same.0.0.0.0 same.0.0.0.1 same.0.0.1 same.0.1 same.1)
+    (λ (same : a ≡ b). ((((ap (λ (i : OwnItems). i.caps) same, ap (λ (i : OwnItems). i.links) same), ap (λ (i : OwnItems). i.delegated) same), ap (λ (i : OwnItems). i.assigned) same), ap (λ (i : OwnItems). i.addresses) same))
     all

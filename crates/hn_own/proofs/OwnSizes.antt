@@ -1,5 +1,5 @@
--- How long the encodings of own items are, and that their node data has less than 2^15 bytes.
-use Rattle.std.proofs.Common.{◌≡◌, ◌≤◌, ◌<◌, ◌+◌, ◌*◌, ◌^◌, ◌∙◌, lit≤, ℕ, List, [], ◌∷◌, ◌++◌, length, map, get_or, Decides, refl, ap, subst, arith, codes, length-append}
+-- How long the encodings of own items are, and that their node data has less than 36,864 bytes.
+use Rattle.std.proofs.Common.{◌≡◌, ◌≤◌, ◌<◌, ◌+◌, ◌*◌, ◌∙◌, lit≤, ℕ, List, [], ◌∷◌, ◌++◌, length, map, get_or, Decides, refl, ap, subst, arith, codes, length-append}
 use Rattle.std.specs.Cmp.Lexicographic.{slice_cmp}
 use Rattle.std.specs.Int.{w128, to_be_bytes}
 use Rattle.std.specs.List.{concat, flat_map, sum_by}
@@ -20,9 +20,10 @@ use Rattle.hn_typed.specs.Written.{tlv_of, value_of}
 use Rattle.hn_data.specs.OwnData.{IsAscendingSet}
 use Rattle.hn_data.specs.declared.said.PeerLink.{PeerLink}
 use Rattle.hn_data.specs.declared.said.AssignedPrefix.{AssignedPrefix}
+use Rattle.hn_own.specs.Addresses.{OwnAddress}
 use Rattle.hn_own.specs.declared.own.OwnItems.{OwnItems}
 use Rattle.hn_own.specs.declared.own_prefixes.OwnPrefix.{OwnPrefix}
-use Rattle.hn_own.specs.Own.{AreFew, peer_item, delegated_item, external_items, assigned_item, encodings, pieces_of}
+use Rattle.hn_own.specs.Own.{AreFew, peer_item, delegated_item, external_items, assigned_item, address_item, encodings, pieces_of}
 use Rattle.hn_own.proofs.OwnSums.{sum_by-le_from_Contains}
 
 spelling_size : (tlv : PlainTlv) → length (spelling tlv) ≤ length tlv.value + 7
@@ -47,6 +48,9 @@ assigned_size a =
     let field = prefix_size a.prefix in
     let value : length (value_of (assigned_item a)) ≤ 22 = simp (length-append) (omega arith) in
     omega (arith, spelling_size (tlv_of (assigned_item a)))
+
+address_size : (a : OwnAddress) → length (spelling (tlv_of (address_item a))) ≤ 27
+address_size a = lit≤ tt
 
 all_delegated_size : (now : ℕ) (list : List OwnPrefix) → length (flat_map (λ own. spelling (tlv_of (delegated_item now own))) list) ≤ 32 * length list
 all_delegated_size now [] = omega arith
@@ -75,35 +79,43 @@ external_size now (own ∷ list) few =
 joined_size : (pieces : List (List ℕ)) → length (concat pieces) ≡ sum_by length pieces
 joined_size pieces = ap length (concat_is pieces) ∙ length-flat_map (λ (piece : List ℕ). piece) pieces
 
-pieces_size : (now : ℕ) (own : OwnItems) → AreFew own → sum_by length (pieces_of now own) ≤ 31507
-pieces_size now own are =
-    let links = encodings (map peer_item own.links) in
-    let external = encodings (external_items now own.delegated) in
-    let assigned = encodings (map assigned_item own.assigned) in
-    let version = spelling (tlv_of (Version (plain_caps own.caps) (codes "hncp"))) in
+-- the bytes of items of one kind, each of at most so many bytes
+kind_size : {X : Type 0} (item_of : X → PlainItem) (most : ℕ) (xs : List X) → ((x : X) → length (spelling (tlv_of (item_of x))) ≤ most)
+    → sum_by length (encodings (map item_of xs)) ≤ length xs * most
+kind_size {X} item_of most xs each =
     let spelled : PlainItem → List ℕ = λ item. spelling (tlv_of item) in
-    let split : encodings ((map peer_item own.links ++ external_items now own.delegated) ++ map assigned_item own.assigned) ≡ (links ++ external) ++ assigned =
-    map-append spelled (map peer_item own.links ++ external_items now own.delegated) (map assigned_item own.assigned)
-    ∙ ap (λ (ps : List (List ℕ)). ps ++ assigned) (map-append spelled (map peer_item own.links) (external_items now own.delegated))
+    let sizes : sum_by length (encodings (map item_of xs)) ≤ length (encodings (map item_of xs)) * most =
+    sum_by-le (length {A = ℕ}) most (encodings (map item_of xs)) (All-map (λ (piece : List ℕ). length piece ≤ most) spelled (map item_of xs) (All-map (λ (item : PlainItem). length (spelled item) ≤ most) item_of xs (λ k d within. each (get_or xs k d))))
     in
-    let whole : sum_by length (pieces_of now own) ≡ 12 + sum_by length ((links ++ external) ++ assigned) = sum_by-cons (length {A = ℕ}) version (encodings ((map peer_item own.links ++ external_items now own.delegated) ++ map assigned_item own.assigned)) ∙ ap (λ (ps : List (List ℕ)). 12 + sum_by length ps) split in
-    let peers : sum_by length links ≤ length links * 16 =
-    sum_by-le (length {A = ℕ}) 16 links (All-map (λ (piece : List ℕ). length piece ≤ 16) spelled (map peer_item own.links) (All-map (λ (item : PlainItem). length (spelled item) ≤ 16) peer_item own.links (λ k d within. lit≤ tt)))
-    in
-    let prefixes : sum_by length assigned ≤ length assigned * 29 =
-    sum_by-le (length {A = ℕ}) 29 assigned (All-map (λ (piece : List ℕ). length piece ≤ 29) spelled (map assigned_item own.assigned) (All-map (λ (item : PlainItem). length (spelled item) ≤ 29) assigned_item own.assigned (λ k d within. assigned_size (get_or own.assigned k d))))
-    in
+    let count : length (encodings (map item_of xs)) ≡ length xs = length-map (map item_of xs) spelled ∙ length-map xs item_of in
+    subst (λ (n : ℕ). sum_by length (encodings (map item_of xs)) ≤ n * most) count sizes
+
+-- the bytes of two groups of items
+group_size : (xs ys : List PlainItem) → sum_by length (encodings (xs ++ ys)) ≡ sum_by length (encodings xs) + sum_by length (encodings ys)
+group_size xs ys =
+    let spelled : PlainItem → List ℕ = λ item. spelling (tlv_of item) in
+    ap (sum_by length) (map-append spelled xs ys) ∙ sum_by-append (length {A = ℕ}) (encodings xs) (encodings ys)
+
+pieces_size : (now : ℕ) (own : OwnItems) → AreFew own → sum_by length (pieces_of now own) ≤ 34163
+pieces_size now own are =
+    let links = map peer_item own.links in
+    let external = external_items now own.delegated in
+    let assigned = map assigned_item own.assigned in
+    let addresses = map address_item own.addresses in
+    let version = spelling (tlv_of (Version (plain_caps own.caps) (codes "hncp"))) in
+    let whole : sum_by length (pieces_of now own) ≡ 12 + sum_by length (encodings (((links ++ external) ++ assigned) ++ addresses)) = sum_by-cons (length {A = ℕ}) version (encodings (((links ++ external) ++ assigned) ++ addresses)) in
     let few_links = are.links in
     let few_assigned = are.assigned in
+    let few_addresses = are.addresses in
     omega (
       arith,
       external_size now own.delegated are.delegated,
-      sum_by-append (length {A = ℕ}) (links ++ external) assigned,
-      sum_by-append (length {A = ℕ}) links external,
-      length-map (map peer_item own.links) spelled,
-      length-map own.links peer_item,
-      length-map (map assigned_item own.assigned) spelled,
-      length-map own.assigned assigned_item,
+      group_size ((links ++ external) ++ assigned) addresses,
+      group_size (links ++ external) assigned,
+      group_size links external,
+      kind_size peer_item 16 own.links peer_size,
+      kind_size assigned_item 29 own.assigned assigned_size,
+      kind_size address_item 27 own.addresses address_size,
     )
 
 same_bytes : (a b : List ℕ) → Decides (eq_by_cmp (slice_cmp nat_cmp) a b) (a ≡ b)
@@ -113,7 +125,7 @@ same_bytes a b = (
 )
 
 -- the node data of own items
-pub own_data_short : (now : ℕ) (own : OwnItems) (bytes : List ℕ) → AreFew own → IsAscendingSet (pieces_of now own) bytes → length bytes < 2 ^ 15
+pub own_data_short : (now : ℕ) (own : OwnItems) (bytes : List ℕ) → AreFew own → IsAscendingSet (pieces_of now own) bytes → length bytes < 36864
 own_data_short now own bytes are set =
     let each = sum_by-le_from_Contains (length {A = ℕ}) same_bytes set.ascending (pieces_of now own) (IsDistinct-from_sorted (slice_cmp nat_cmp) set.ascending set.in_order) (λ piece. (set.same piece).0) in
     let size = ap length set.joined ∙ joined_size set.ascending in

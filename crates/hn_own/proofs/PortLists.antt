@@ -1,5 +1,5 @@
 -- The endpoints of a router, when one is put in place, added or taken out.
-use Rattle.std.proofs.Common.{◌≡◌, ◌≢◌, ◌<◌, ◌≤◌, ◌+◌, ◌-◌, ◌∙◌, ℕ, zero, suc, Bool, true, false, List, [], ◌∷◌, length, map, filter, take, drop, set, get_or, refl, sym, subst, arith, Some, inl, inr, length-set}
+use Rattle.std.proofs.Common.{◌≡◌, ◌≢◌, ◌<◌, ◌≤◌, ◌+◌, ◌-◌, ◌^◌, ◌∙◌, ℕ, zero, suc, Bool, true, false, List, [], ◌∷◌, length, map, filter, take, drop, set, get_or, refl, sym, subst, arith, Some, inl, inr, length-set}
 use Rattle.std.specs.Prelude.{insert, position, nat_lt}
 use Rattle.std.specs.Ordering.{nat_cmp}
 use Rattle.std.specs.List.Sorted.{IsStrictlySortedBy, IsPartitionPoint, IsPartitionedBy, IsNonDecreasingBy}
@@ -18,6 +18,10 @@ use Rattle.hn_base.proofs.AscendingNumbers.{ascending-filter}
 use Rattle.hn_base.proofs.Passing.{map-one}
 use Rattle.hn_base.proofs.Fronts.{filter-front, filter-back}
 use Rattle.hn_own.specs.Ports.{number, ArePorts, is_port, is_attached, put_port, attached}
+
+-- an endpoint has a number of 4 bytes other than 0
+abbrev pub IsNumber : Port → Type 0
+IsNumber p = (0 < p.id.0) × (p.id.0 < 2 ^ 32)
 
 abbrev numbers : List Port → List ℕ
 numbers ports = map number ports
@@ -99,7 +103,7 @@ ArePorts-set ports i port are found =
     record {
       ascending = rw (map-set_same number ports i port port (sym here)) are.ascending;
       few = let few = are.few in omega (arith, length-set {A = Port});
-      numbered = All-set (λ (p : Port). 0 < p.id.0) ports i port (rw (← here) (are.numbered i port at.0)) are.numbered;
+      numbered = All-set IsNumber ports i port (rw (← here) (are.numbered i port at.0)) are.numbered;
     }
 
 -- ---- one more
@@ -145,7 +149,7 @@ numbers-insert : (ports : List Port) (i : ℕ) (port : Port) → numbers (insert
 numbers-insert ports i port =
     map-append number (take i ports) (port ∷ drop i ports) ∙ (let front = take-map number i ports in let back = drop-map number i ports in cc)
 
-pub ArePorts-insert : (ports : List Port) (i : ℕ) (port : Port) → ArePorts ports → IsPlaceFor port.id ports i → 0 < port.id.0 → length ports < 16 → ArePorts (insert ports i port)
+pub ArePorts-insert : (ports : List Port) (i : ℕ) (port : Port) → ArePorts ports → IsPlaceFor port.id ports i → IsNumber port → length ports < 16 → ArePorts (insert ports i port)
 ArePorts-insert ports i port are place one room =
     let long = length-map ports number in
     let up = sorted-insert (numbers ports) i port.id.0 are.ascending (rw long place.within)
@@ -155,19 +159,19 @@ ArePorts-insert ports i port are place one room =
     record {
       ascending = rw (numbers-insert ports i port) up;
       few = omega (arith, length-insert ports i port place.within);
-      numbered = All-append (λ (p : Port). 0 < p.id.0) (take i ports) (port ∷ drop i ports) (All-take (λ (p : Port). 0 < p.id.0) i ports are.numbered)
-          (All-cons (λ (p : Port). 0 < p.id.0) port (drop i ports) one (All-drop (λ (p : Port). 0 < p.id.0) i ports are.numbered));
+      numbered = All-append IsNumber (take i ports) (port ∷ drop i ports) (All-take IsNumber i ports are.numbered)
+          (All-cons IsNumber port (drop i ports) one (All-drop IsNumber i ports are.numbered));
     }
 
 -- ---- none, and some
 
 pub ArePorts-none : ArePorts []
 unfolding IsStrictlySortedBy
-ArePorts-none = record { ascending = tt; few = omega arith; numbered = All-nil (λ (p : Port). 0 < p.id.0) }
+ArePorts-none = record { ascending = tt; few = omega arith; numbered = All-nil IsNumber }
 
 pub ArePorts-filter : (q : Port → Bool) (ports : List Port) → ArePorts ports → ArePorts (filter q ports)
 ArePorts-filter q ports are = record {
   ascending = ascending-filter number q ports are.ascending;
   few = let few = are.few in omega (arith, length-filter q ports, count_by-le-length q ports);
-  numbered = All-filter q (λ (p : Port). 0 < p.id.0) ports are.numbered;
+  numbered = All-filter q IsNumber ports are.numbered;
 }

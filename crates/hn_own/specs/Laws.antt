@@ -1,9 +1,18 @@
--- Laws of a router's own delegated prefixes and node data.
-use Rattle.std.specs.Prelude.{◌≡◌, ◌↔◌, ◌≤◌, ℕ, Bool, true, false, List, filter}
+-- Laws of a router's posts, own delegated prefixes, own addresses and node data.
+use Rattle.std.specs.Prelude.{◌≡◌, ◌↔◌, ◌≤◌, ℕ, Bool, true, false, IsTrue, List, length, filter, Option, All}
+use Rattle.std.specs.Ordering.{on, nat_cmp}
+use Rattle.std.specs.List.Sorted.{IsStrictlySortedBy}
+use Rattle.hn_base.specs.declared.ids.EpId.{EpId}
+use Rattle.hn_assign.specs.declared.held.Held.{Held}
+use Rattle.hn_dncp.specs.declared.port.Port.{Port}
 use Rattle.hn_own.specs.declared.own_prefixes.OwnPrefix.{OwnPrefix}
+use Rattle.hn_own.specs.Addresses.{OwnAddress, AreAddresses, may_address, addresses_without}
 use Rattle.hn_own.specs.Due.{IsOwnEnd}
+use Rattle.hn_own.specs.HeldPairs.{AreHeldPairs, without_private}
 use Rattle.hn_own.specs.Own.{PlainData, IsOwnData}
 use Rattle.hn_own.specs.OwnPrefixes.{AreOwnPrefixes, may_delegate, delegated_with, delegated_after, has_ended_one}
+use Rattle.hn_own.specs.Ports.{ArePorts, is_attached}
+use Rattle.hn_own.specs.Posts.{posts_of}
 
 -- Own items that are published at a moment encode to one node data.
 abbrev pub OwnDataIsUnique : Type 0
@@ -27,3 +36,25 @@ EndingIsAMoment = (now : ℕ) (list : List OwnPrefix) → (has_ended_one now lis
 -- All prefixes stay if and only if no valid lifetime has ended.
 abbrev pub NoneEnds : Type 0
 NoneEnds = (now : ℕ) (list : List OwnPrefix) → (delegated_after now list ≡ list) ↔ (has_ended_one now list ≡ false)
+
+-- A router's posts are in strictly ascending order of their numbers: each is there once.
+abbrev pub PostsAscend : Type 0
+PostsAscend = (private : Option ℕ) (ports : List Port) → ArePorts ports → IsStrictlySortedBy (on (λ (e : EpId). e.0) nat_cmp) (posts_of private ports)
+
+-- There are at most 17.
+abbrev pub FewPosts : Type 0
+FewPosts = (private : Option ℕ) (ports : List Port) → ArePorts ports → length (posts_of private ports) ≤ 17
+
+-- What a router holds stays such without what it holds for a private link.
+abbrev pub HeldStays : Type 0
+HeldStays = (held : Held) → AreHeldPairs held → AreHeldPairs (without_private held)
+
+-- Own addresses stay such without those of an endpoint.
+abbrev pub AddressesStay : Type 0
+AddressesStay = (at : EpId) (list : List OwnAddress) → AreAddresses list → AreAddresses (addresses_without at list)
+
+-- A list that may be the own addresses is such, each of an attached endpoint.
+abbrev pub AddressesMayBe : Type 0
+AddressesMayBe =
+    (list : List OwnAddress) (ports : List Port) → may_address list ports ≡ true
+    → AreAddresses list × All (λ a. IsTrue (is_attached a.0 ports)) list

@@ -2,6 +2,8 @@ pub mod Lifetimes
 pub mod OwnPrefixes
 pub mod HeldPairs
 pub mod Ports
+pub mod Posts
+pub mod Addresses
 pub mod Own
 pub mod Laws
 pub mod Due

@@ -1,11 +1,11 @@
 -- A router's own items and the node data that they encode to (RFC 7787, section 7.3; RFC 7788, section 10).
-use Rattle.std.specs.Prelude.{◌≡◌, ℕ, ◌^◌, ◌<◌, ◌≤◌, List, [], ◌∷◌, ◌++◌, map, codes, length, All}
+use Rattle.std.specs.Prelude.{◌≡◌, ℕ, ◌<◌, ◌≤◌, List, [], ◌∷◌, ◌++◌, map, codes, length, All}
 use Rattle.std.specs.List.{flat_map}
 use Rattle.hn_base.specs.Caps.{plain_caps}
 use Rattle.hn_base.specs.declared.caps.Caps.{Caps}
 use Rattle.hn_tlv.specs.Grammar.{spelling}
 use Rattle.hn_hash.specs.Hash.{hash_of}
-use Rattle.hn_typed.specs.Item.{PlainItem, Version, Peer, External, Delegated, Assigned}
+use Rattle.hn_typed.specs.Item.{PlainItem, Version, Peer, External, Delegated, Assigned, Address}
 use Rattle.hn_typed.specs.Written.{tlv_of, IsWritable}
 use Rattle.hn_data.specs.OwnData.{IsAscendingSet}
 use Rattle.hn_data.specs.declared.said.PeerLink.{PeerLink}
@@ -14,6 +14,7 @@ use Rattle.hn_dncp.specs.declared.peers.Neighbour.{Neighbour}
 use Rattle.hn_dncp.specs.declared.port.Port.{Port}
 use Rattle.hn_own.specs.declared.own.OwnItems.{OwnItems}
 use Rattle.hn_own.specs.declared.own_prefixes.OwnPrefix.{OwnPrefix}
+use Rattle.hn_own.specs.Addresses.{OwnAddress}
 use Rattle.hn_own.specs.Lifetimes.{seconds_left}
 
 -- what a router says of a peer of an endpoint
@@ -31,8 +32,9 @@ links_of ports = flat_map links_at ports
 pub record AreFew (own : OwnItems) : Type 0 where
   pub links : length own.links ≤ 1024
   pub delegated : length own.delegated ≤ 8
-  pub assigned : length own.assigned ≤ 512
+  pub assigned : length own.assigned ≤ 544
   pub priority : All (λ a. a.priority ≡ 2) own.assigned
+  pub addresses : length own.addresses ≤ 64
 
 -- an HNCP-Version with the user agent `hncp` (RFC 7788, section 10.1)
 abbrev pub version_item : Caps → PlainItem
@@ -55,11 +57,17 @@ external_items now (p ∷ ps) = External (flat_map (λ own. spelling (tlv_of (de
 abbrev pub assigned_item : AssignedPrefix → PlainItem
 assigned_item a = Assigned a.endpoint.0 a.priority a.prefix []
 
+-- a Node-Address
+abbrev pub address_item : OwnAddress → PlainItem
+address_item a = Address a.0.0 a.1 []
+
 -- the items of the standards that the own items are at a moment: one HNCP-Version with the user agent `hncp`, a Peer for
--- each peer of each endpoint, the External-Connection, and an Assigned-Prefix for each published assignment
+-- each peer of each endpoint, the External-Connection, an Assigned-Prefix for each published assignment, and a
+-- Node-Address for each own address
 abbrev pub items_of : ℕ → OwnItems → List PlainItem
 items_of now own =
-    version_item own.caps ∷ (map peer_item own.links ++ external_items now own.delegated ++ map assigned_item own.assigned)
+    version_item own.caps
+    ∷ (map peer_item own.links ++ external_items now own.delegated ++ map assigned_item own.assigned ++ map address_item own.addresses)
 
 -- the encodings of items, each the one TLV that is written for it
 abbrev pub encodings : List PlainItem → List (List ℕ)
@@ -76,9 +84,9 @@ pub record PlainData : Type 0 where
   pub body : List ℕ
   pub hash : List ℕ
 
--- what holds of them: each item can be written, and the node data has less than 2^15 bytes
+-- what holds of them: each item can be written, and the node data has less than 36,864 bytes
 pub record IsOwnData (own : PlainData) : Type 0 where
   pub writable : All IsWritable (items_of own.born own.items)
   pub encoded : IsAscendingSet (pieces_of own.born own.items) own.body
   pub hashed : own.hash ≡ hash_of own.body
-  pub short : length own.body < 2 ^ 15
+  pub short : length own.body < 36864

@@ -1,5 +1,5 @@
 -- The endpoints of a router.
-use Rattle.std.specs.Prelude.{ℕ, Bool, ◌<◌, ◌≤◌, ◌==◌, not, nat_lt, if◌then◌else◌, List, ◌∷◌, ◌++◌, length, map, filter, find, Option, is_some, All}
+use Rattle.std.specs.Prelude.{ℕ, Bool, ◌<◌, ◌≤◌, ◌^◌, ◌==◌, not, nat_lt, if◌then◌else◌, List, ◌∷◌, ◌++◌, length, map, filter, find, Option, is_some, All}
 use Rattle.std.specs.Ordering.{nat_cmp}
 use Rattle.std.specs.List.Sorted.{IsStrictlySortedBy}
 use Rattle.hn_base.specs.declared.ids.EpId.{EpId}
@@ -9,11 +9,12 @@ use Rattle.hn_dncp.specs.declared.port.Port.{Port}
 abbrev pub number : Port → ℕ
 number port = port.id.0
 
--- what holds of the endpoints of a router: they are in strictly ascending order, at most 16, and none has number 0
+-- what holds of the endpoints of a router: they are in strictly ascending order, at most 16, and each has a number of 4
+-- bytes other than 0
 pub record ArePorts (ports : List Port) : Type 0 where
   pub ascending : IsStrictlySortedBy nat_cmp (map number ports)
   pub few : length ports ≤ 16
-  pub numbered : All (λ p. 0 < p.id.0) ports
+  pub numbered : All (λ p. (0 < p.id.0) × (p.id.0 < 2 ^ 32)) ports
 
 -- the numbers of the endpoints
 abbrev pub endpoints_of : List Port → List EpId

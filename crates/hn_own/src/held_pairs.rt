@@ -1,15 +1,16 @@
 //! What a router holds for its pairs of a delegated prefix and an endpoint (RFC 7695, section 4.1).
 
 ghost use Rattle.std.specs.Prelude.{◌≡◌, ◌≤◌, length, All, IfOk};
-ghost use Rattle.hn_own.specs.HeldPairs.{AreHeldPairs, no_pairs, published_of, published_in};
+ghost use Rattle.hn_own.specs.HeldPairs.{AreHeldPairs, no_pairs, published_of, published_in, without_private};
 
+use crate::posts::PRIVATE_POST;
 use hn_assign::{Assigned, Held};
 use hn_base::{NoMemory, Sequence};
 use hn_data::AssignedPrefix;
 use std::alloc::Global;
 use std::marker::Model;
 
-/// The assignments and backoffs of a router: at most 512 assignments, each inside its delegated prefix, and with
+/// The assignments and backoffs of a router: at most 544 assignments, each inside its delegated prefix, and with
 /// priority 2 where it is published. Contracts see the lists.
 #[derive(Drop)]
 pub struct HeldPairs {
@@ -65,10 +66,20 @@ impl HeldPairs {
         &self.held
     }
 
+    /// What is held for other posts than endpoint 0, that of a private link, in new memory.
+    pub fn without_private(&self, alloc: Global) -> Result<HeldPairs, NoMemory>
+        ensures { IfOk result (λ held. held ≡ without_private self.now) }
+    {
+        let mut held = self.held.copy(alloc)?;
+        held.assigned.remove(PRIVATE_POST);
+        held.backoffs.remove(PRIVATE_POST);
+        Ok(HeldPairs { held })
+    }
+
     /// What the router publishes of the assignments.
     pub fn published(&self, alloc: Global) -> Result<Sequence<AssignedPrefix>, NoMemory>
         ensures published { IfOk result (λ published. published ≡ published_in self.now.assigned) }
-        ensures few { IfOk result (λ published. length published ≤ 512) }
+        ensures few { IfOk result (λ published. length published ≤ 544) }
         ensures priority { IfOk result (All (λ a. a.priority ≡ 2)) }
     {
         let mut published = Sequence::new(alloc);

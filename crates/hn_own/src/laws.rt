@@ -2,7 +2,8 @@
 //! nothing: call it to know its law.
 
 ghost use Rattle.std.specs.Prelude.{[]};
-ghost use Rattle.hn_own.specs.Laws.{OwnDataIsUnique, AddingKeepsOwnPrefixes, LeavingKeepsOwnPrefixes, EndingIsAMoment, NoneEnds};
+ghost use Rattle.hn_own.specs.Laws.{OwnDataIsUnique, AddingKeepsOwnPrefixes, LeavingKeepsOwnPrefixes, EndingIsAMoment, NoneEnds, PostsAscend, FewPosts, HeldStays, AddressesStay, AddressesMayBe};
+ghost use Rattle.hn_own.specs.Addresses.{AreAddresses};
 ghost use Rattle.hn_own.specs.OwnPrefixes.{AreOwnPrefixes};
 ghost use Rattle.hn_own.specs.Ports.{ArePorts};
 
@@ -15,10 +16,11 @@ pub fn own_data_is_unique()
     ascending_set_is_unique();
 }
 
-/// The empty list is one of a router's endpoints, and one of own delegated prefixes.
+/// The empty list is one of a router's endpoints, one of own delegated prefixes, and one of own addresses.
 pub fn none_are_well()
     ensures endpoints { ArePorts [] }
     ensures prefixes { AreOwnPrefixes [] }
+    ensures addresses { AreAddresses [] }
 {}
 
 /// Own delegated prefixes stay such where one is added that may be, and where only some of them stay.
@@ -35,4 +37,22 @@ pub fn ending_is_a_moment()
 /// All own delegated prefixes stay if and only if no valid lifetime has ended.
 pub fn ending_leaves()
     ensures { NoneEnds }
+{}
+
+/// A router's posts are in strictly ascending order of their numbers, and at most 17.
+pub fn posts_ascend()
+    ensures ascending { PostsAscend }
+    ensures few { FewPosts }
+{}
+
+/// What a router holds stays such without what it holds for a private link.
+pub fn held_without_private()
+    ensures { HeldStays }
+{}
+
+/// Own addresses stay such without those of an endpoint. A list that may be the own addresses is such, each of an attached
+/// endpoint.
+pub fn addresses_stay()
+    ensures some { AddressesStay }
+    ensures may_be { AddressesMayBe }
 {}

@@ -1,17 +1,18 @@
 //! A router's own items and the node data that they encode to.
 
-ghost use Rattle.std.specs.Prelude.{◌≡◌, ◌+◌, ◌++◌, ◌≤◌, ◌^◌, ◌<◌, map, length, All, IfOk, OnOk, IsTrue, ◌↔◌};
+ghost use Rattle.std.specs.Prelude.{◌≡◌, ◌+◌, ◌++◌, ◌≤◌, ◌<◌, map, length, All, IfOk, OnOk, IsTrue, ◌↔◌};
 ghost use Rattle.std.specs.List.{flat_map};
 ghost use Rattle.hn_tlv.specs.Grammar.{spelling};
 ghost use Rattle.hn_typed.specs.Written.{tlv_of, IsWritable, IsEncoding};
-ghost use Rattle.hn_own.specs.Own.{links_at, links_of, version_item, peer_item, delegated_item, external_items, assigned_item, items_of, encodings, pieces_of, AreFew, IsOwnData};
+ghost use Rattle.hn_own.specs.Own.{links_at, links_of, version_item, peer_item, delegated_item, external_items, assigned_item, address_item, items_of, encodings, pieces_of, AreFew, IsOwnData};
 ghost use Rattle.hn_own.specs.HeldPairs.{published_in};
 
+use crate::addresses::Addresses;
 use crate::held_pairs::HeldPairs;
 use crate::lifetimes::seconds_left;
 use crate::own_prefixes::{OwnPrefix, OwnPrefixes};
 use crate::ports::Ports;
-use hn_base::{Bytes, Caps, Moment, NoMemory, Sequence};
+use hn_base::{Bytes, Caps, EpId, Moment, NoMemory, Sequence};
 use hn_data::{AssignedPrefix, NodeData, PeerLink, encode};
 use hn_dncp::Port;
 use hn_hash::h;
@@ -20,13 +21,15 @@ use std::alloc::Global;
 use std::marker::Model;
 
 /// The items that a router publishes of itself: its capabilities, a Peer for each peer of each endpoint, its delegated
-/// prefixes, and the assignments that it publishes (RFC 7787, section 7.3.1; RFC 7788, sections 10.1 to 10.3).
+/// prefixes, the assignments that it publishes, and its addresses (RFC 7787, section 7.3.1; RFC 7788, sections 10.1 to
+/// 10.4).
 #[derive(Drop)]
 pub struct OwnItems {
     pub caps: Caps,
     pub links: Sequence<PeerLink>,
     pub delegated: Sequence<OwnPrefix>,
     pub assigned: Sequence<AssignedPrefix>,
+    pub addresses: Sequence<(EpId, u128)>,
 }
 
 /// Own items, when they were published, the node data that they encode to, and its hash.
@@ -146,6 +149,20 @@ fn encode_assigned(alloc: Global, a: &AssignedPrefix) -> Result<Bytes, NoMemory>
     )
 }
 
+/// The Node-Address of an own address.
+fn encode_address(alloc: Global, a: &(EpId, u128)) -> Result<Bytes, NoMemory>
+    ensures { IfOk result (λ bytes. IsEncoding bytes (address_item a.now)) }
+{
+    encode(
+        alloc,
+        &Item::Address {
+            endpoint: a.0,
+            address: a.1,
+            subs: &[],
+        },
+    )
+}
+
 /// Adds the encodings of links.
 fn add_link_pieces(
     alloc: Global,
@@ -201,6 +218,21 @@ fn add_assigned_pieces(
     Ok(())
 }
 
+/// Adds the encodings of own addresses.
+fn add_address_pieces(
+    alloc: Global,
+    pieces: &mut Vec<Bytes>,
+    addresses: &[(EpId, u128)],
+) -> Result<(), NoMemory>
+    ensures pieces { OnOk result (pieces.new.items ≡ pieces.old.items ++ encodings (map address_item addresses.now)) }
+    ensures writable { OnOk result (All IsWritable (map address_item addresses.now)) }
+{
+    for a in addresses {
+        pieces.push(encode_address(alloc, a)?)?;
+    }
+    Ok(())
+}
+
 impl OwnItems {
     /// The own items of a router as it is.
     pub fn of(
@@ -209,12 +241,14 @@ impl OwnItems {
         ports: &Ports,
         delegated: &OwnPrefixes,
         held: &HeldPairs,
+        addresses: &Addresses,
     ) -> Result<OwnItems, NoMemory>
         ensures items { IfOk result (λ items. items ≡ record {
           caps = caps;
           links = links_of ports.now;
           delegated = delegated.now;
           assigned = published_in held.now.assigned;
+          addresses = addresses.now;
         }) }
         ensures few { IfOk result AreFew }
     {
@@ -223,6 +257,7 @@ impl OwnItems {
             links: links_of(alloc, ports)?,
             delegated: delegated.copy(alloc)?,
             assigned: held.published(alloc)?,
+            addresses: addresses.copy(alloc)?,
         })
     }
 
@@ -234,6 +269,7 @@ impl OwnItems {
             && self.links.as_slice() == other.links.as_slice()
             && self.delegated.as_slice() == other.delegated.as_slice()
             && self.assigned.as_slice() == other.assigned.as_slice()
+            && self.addresses.as_slice() == other.addresses.as_slice()
     }
 
     /// The encodings of the items at a moment.
@@ -247,6 +283,7 @@ impl OwnItems {
         add_link_pieces(alloc, &mut pieces, self.links.as_slice())?;
         add_external_piece(alloc, &mut pieces, now, self.delegated.as_slice())?;
         add_assigned_pieces(alloc, &mut pieces, self.assigned.as_slice())?;
+        add_address_pieces(alloc, &mut pieces, self.addresses.as_slice())?;
         Ok(pieces)
     }
 }
@@ -286,7 +323,7 @@ impl OwnData {
     /// The node data.
     pub fn body(&self) -> &NodeData
         ensures body { result.now ≡ self.now.body }
-        ensures short { length result.now < 2 ^ 15 }
+        ensures short { length result.now < 36864 }
     {
         &self.body
     }

@@ -1,4 +1,4 @@
-ghost use Rattle.std.specs.Prelude.{◌≡◌, ◌≢◌, ◌<◌, ◌≤◌, [], false, nat_lt, length, position, IfOk, OnOk, OnErr, option_copied};
+ghost use Rattle.std.specs.Prelude.{◌≡◌, ◌≢◌, ◌<◌, ◌≤◌, ◌^◌, [], false, nat_lt, length, position, IfOk, OnOk, OnErr, option_copied};
 ghost use Rattle.hn_own.specs.Ports.{ArePorts, is_port, port_at, is_attached, put_port, attached, detached, endpoints_of};
 
 use hn_base::{EpId, Exact, NoMemory};
@@ -47,6 +47,11 @@ fn place_of(ports: &[Port], at: EpId) -> Option<usize>
 {
     ports.iter().position(|port| port.id == at)
 }
+
+/// The number of an endpoint has 4 bytes.
+fn number_fits(at: EpId)
+    ensures { at.0 < 2 ^ 32 }
+{}
 
 impl Ports {
     /// No endpoints. Never allocates.
@@ -115,6 +120,7 @@ impl Ports {
         ensures ok { OnOk result (self.new ≡ attached port self.old) }
         ensures err { OnErr result (self.new ≡ self.old) }
     {
+        number_fits(port.id);
         let place = self.items.partition_point(|p| p.id < port.id);
         Ok(self.items.insert(place, port)?)
     }

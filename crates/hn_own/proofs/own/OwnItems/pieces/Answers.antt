@@ -5,7 +5,8 @@ use Rattle.hn_typed.specs.Written.{IsWritable}
 use Rattle.hn_data.specs.declared.said.PeerLink.{PeerLink}
 use Rattle.hn_data.specs.declared.said.AssignedPrefix.{AssignedPrefix}
 use Rattle.hn_own.specs.declared.own_prefixes.OwnPrefix.{OwnPrefix}
-use Rattle.hn_own.specs.Own.{version_item, peer_item, external_items, assigned_item}
+use Rattle.hn_own.specs.Addresses.{OwnAddress}
+use Rattle.hn_own.specs.Own.{version_item, peer_item, external_items, assigned_item, address_item}
 use Rattle.hn_own.proofs.OwnPieces.{writable_together}
 use Rattle.hn_own.proofs.own.OwnItems.pieces.Goals as goal
 
@@ -17,4 +18,5 @@ returns-clause-writable c =
     let links = subst (λ (links : List PeerLink). All IsWritable (map peer_item links)) c.as_slice.ensures c.in_ok-add_link_pieces.ensures.writable in
     let external = subst (λ (list : List OwnPrefix). All IsWritable (external_items c.args.now list)) c.as_slice-2.ensures c.in_ok-add_external_piece.ensures.writable in
     let assigned = subst (λ (assigned : List AssignedPrefix). All IsWritable (map assigned_item assigned)) c.as_slice-3.ensures c.in_ok-add_assigned_pieces.ensures.writable in
-    writable_together (version ∷ []) (map peer_item own.links) (external_items c.args.now own.delegated) (map assigned_item own.assigned) first links external assigned
+    let addresses = subst (λ (addresses : List OwnAddress). All IsWritable (map address_item addresses)) c.as_slice-4.ensures c.in_ok-add_address_pieces.ensures.writable in
+    writable_together (version ∷ []) (map peer_item own.links) (external_items c.args.now own.delegated) (map assigned_item own.assigned) (map address_item own.addresses) first links external assigned addresses

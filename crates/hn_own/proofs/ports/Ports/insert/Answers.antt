@@ -17,7 +17,7 @@ place c =
 
 pub invariant_of-self-2 : goal.invariant_of-self-2
 invariant_of-self-2 c =
-    rw c.in_ok-insert.ensures.items (ArePorts-insert c.self.inside.items.items c.partition_point-place.result c.args.port c.self.invariant (place c) c.requires.numbered (rw c.self.view_is c.requires.room))
+    rw c.in_ok-insert.ensures.items (ArePorts-insert c.self.inside.items.items c.partition_point-place.result c.args.port c.self.invariant (place c) (c.requires.numbered, c.number_fits.ensures) (rw c.self.view_is c.requires.room))
 
 pub returns-clause-ok : goal.returns-clause-ok
 returns-clause-ok c = rw (c.in_ok-insert.ensures.items, ← c.self.view_is) (attached-insert c.args.port c.self.inside.items.items c.partition_point-place.result (place c))

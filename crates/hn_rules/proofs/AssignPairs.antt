@@ -1,16 +1,14 @@
--- What is asked for attached endpoints, and what the subroutine makes of it.
+-- What is asked for a router's posts, and what the subroutine makes of it.
 use Rattle.std.proofs.Common.{◌≡◌, ◌↔◌, ℕ, List, Contains, Result, Ok, Err, sym, subst}
 use Rattle.std.specs.Prelude.{All, IfOk}
 use Rattle.std.specs.Cmp.{IsTotalOrder}
 use Rattle.std.proofs.lemmas.List.Elements.{All-contains}
 use Rattle.hn_base.specs.declared.ids.EpId.{EpId}
-use Rattle.hn_base.proofs.Keys.{id_is_found, found_is_id}
 use Rattle.hn_base.specs.declared.memory.NoMemory.{NoMemory}
 use Rattle.hn_base.specs.Ascending.{IsExact}
 use Rattle.hn_data.specs.View.{PlainView}
 use Rattle.hn_deleg.specs.declared.delegated.Delegated.{Delegated}
 use Rattle.hn_deleg.specs.Used.{AreUsable}
-use Rattle.hn_dncp.specs.declared.port.Port.{Port}
 use Rattle.hn_assign.specs.declared.assigned.Wish.{Wish}
 use Rattle.hn_assign.specs.declared.held.Held.{Held}
 use Rattle.hn_assign.specs.declared.held.Ran.{Ran}
@@ -19,7 +17,9 @@ use Rattle.hn_assign.specs.Pair.{assigned_pair, backoff_pair, pair_cmp, IsAscend
 use Rattle.hn_assign.specs.Subroutine.{IsSubroutine}
 use Rattle.hn_assign.specs.Laws.{AssignedAreWished}
 use Rattle.hn_own.specs.HeldPairs.{AreHeldPairs}
-use Rattle.hn_own.specs.Ports.{ArePorts, endpoints_of}
+use Rattle.hn_own.specs.Laws.{FewPosts}
+use Rattle.hn_own.specs.Ports.{ArePorts}
+use Rattle.hn_own.specs.Posts.{posts_of}
 use Rattle.hn_rules.specs.declared.state.State.{State}
 use Rattle.hn_rules.specs.Seen.{seen_by}
 use Rattle.hn_rules.specs.Assigning.{IsWishAt, AreAsked, IsAssigned}
@@ -27,24 +27,28 @@ use Rattle.hn_rules.proofs.LawPairs.{wished_few}
 
 -- ---- what is asked
 
-pub are_asked : (view : PlainView) (usable : List Delegated) (ports : List Port) (endpoints : List EpId) (wishes : List Wish) → AreWishes wishes → endpoints ≡ endpoints_of ports
-    → ((wish : Wish) → Contains wishes wish ↔ ((place : ℕ) × IsWishAt view usable place wish × Contains endpoints wish.endpoint)) → AreAsked view usable ports wishes
-are_asked view usable ports endpoints wishes are same exact = record {
-  are_wishes = are;
+pub are_asked : (s : State) (view : PlainView) (usable : List Delegated) (posts : List EpId) (wishes : List Wish) → AreWishes wishes → view ≡ seen_by s → posts ≡ posts_of s.private s.ports
+    → ((wish : Wish) → Contains wishes wish ↔ ((place : ℕ) × IsWishAt s.private view usable place wish × Contains posts wish.endpoint)) → AreAsked s usable wishes
+are_asked s view usable posts wishes are same_view same exact = record {
+  ascending = are.ascending;
   exact = λ wish. (
     λ there. let found = (exact wish).0 there in record {
       place = found.0;
-      asked = found.1;
-      attached = id_is_found (λ (p : Port). p.id) ports wish.endpoint (subst (λ (es : List EpId). Contains es wish.endpoint) same found.2);
+      asked = subst (λ (v : PlainView). IsWishAt s.private v usable found.0 wish) same_view found.1;
+      post = subst (λ (es : List EpId). Contains es wish.endpoint) same found.2;
     },
-    λ is. (exact wish).1 (is.place, is.asked, subst (λ (es : List EpId). Contains es wish.endpoint) (sym same) (found_is_id (λ (p : Port). p.id) ports wish.endpoint is.attached)),
+    λ is. (exact wish).1 (
+      is.place,
+      subst (λ (v : PlainView). IsWishAt s.private v usable is.place wish) (sym same_view) is.asked,
+      subst (λ (es : List EpId). Contains es wish.endpoint) (sym same) is.post,
+    ),
   );
 }
 
 -- ---- what the subroutine makes
 
 pub assigned_of : (s : State) (view : PlainView) (usable : List Delegated) (wishes : List Wish) (held : Held) (r : Result Ran NoMemory) → view ≡ seen_by s → held ≡ s.held
-    → AreUsable (seen_by s) usable → AreAsked (seen_by s) usable s.ports wishes → IfOk r (IsSubroutine view wishes held) → IfOk r (IsAssigned s)
+    → AreUsable (seen_by s) usable → AreAsked s usable wishes → IfOk r (IsSubroutine view wishes held) → IfOk r (IsAssigned s)
 assigned_of s view usable wishes held (Err e) same_view same_held are asked run = tt
 assigned_of s view usable wishes held (Ok ran) same_view same_held are asked run = record {
   usable = usable;
@@ -54,14 +58,14 @@ assigned_of s view usable wishes held (Ok ran) same_view same_held are asked run
   is_subroutine = subst (λ (h : Held). IsSubroutine (seen_by s) wishes h ran) same_held (subst (λ (v : PlainView). IsSubroutine v wishes held ran) same_view run);
 }
 
-pub kept_of : IsTotalOrder pair_cmp → IsExact pair_cmp → AssignedAreWished → (s : State) (r : Result Ran NoMemory) → ArePorts s.ports → IfOk r (IsAssigned s)
+pub kept_of : FewPosts → IsTotalOrder pair_cmp → IsExact pair_cmp → AssignedAreWished → (s : State) (r : Result Ran NoMemory) → ArePorts s.ports → IfOk r (IsAssigned s)
     → IfOk r (λ ran. IsAscending assigned_pair ran.held.assigned × IsAscending backoff_pair ran.held.backoffs)
     → IfOk r (λ ran. All IsInDelegated ran.held.assigned) → IfOk r (λ ran. All HasOwnPriority ran.held.assigned) → IfOk r (λ ran. AreHeldPairs ran.held)
-kept_of total exact leaves s (Err e) ports is up inside priority = tt
-kept_of total exact leaves s (Ok ran) ports is up inside priority = record {
+kept_of posts total exact leaves s (Err e) ports is up inside priority = tt
+kept_of posts total exact leaves s (Ok ran) ports is up inside priority = record {
   assigned = up.0;
   backoffs = up.1;
-  few = wished_few (seen_by s) is.usable s.ports is.wishes is.are_asked assigned_pair total exact ran.held.assigned is.are_usable.few ports.few up.0
+  few = wished_few s is.usable is.wishes is.are_asked assigned_pair total exact ran.held.assigned is.are_usable.few (posts s.private s.ports ports) up.0
       (λ c there. All-contains (λ c. IsWished is.wishes (assigned_pair c)) ran.held.assigned c (leaves (seen_by s) is.wishes s.held ran is.is_subroutine) there);
   inside = inside;
   priority = priority;

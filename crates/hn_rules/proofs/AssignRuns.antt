@@ -10,6 +10,7 @@ use Rattle.std.proofs.lemmas.Slice.Eq.{slice_eq-Decides}
 use Rattle.hn_base.proofs.Decisions.{option_decided}
 use Rattle.hn_base.specs.Words.{Drew, Took}
 use Rattle.hn_assign.specs.declared.assigned.Assigned.{Assigned}
+use Rattle.hn_assign.specs.declared.backoff.Backoff.{Backoff}
 use Rattle.hn_assign.specs.declared.held.Held.{Held}
 use Rattle.hn_assign.specs.declared.held.Ran.{Ran as Left}
 use Rattle.hn_rules.specs.declared.running.Running.{Running}
@@ -29,7 +30,7 @@ abbrev same_test : Assigned → Assigned → Bool
 same_test a b =
     is_one_prefix a.delegated b.delegated && (a.endpoint.0 == b.endpoint.0 && (is_one_prefix a.prefix b.prefix && (option_eq nat_eq a.published b.published && (a.since == b.since && beq a.applied b.applied))))
 
-assigned_decided : (a b : Assigned) → Decides (same_test a b) (a ≡ b)
+pub assigned_decided : (a b : Assigned) → Decides (same_test a b) (a ≡ b)
 assigned_decided a b =
     Decides-like _
     (λ (same : SameParts a b). λ i. record {
@@ -46,6 +47,15 @@ assigned_decided a b =
     ))
     (Decides-and _ _ (prefix_decided a.delegated b.delegated) (Decides-and _ _ (Decides-eqb a.endpoint.0 b.endpoint.0) (Decides-and _ _ (prefix_decided a.prefix b.prefix)
     (Decides-and _ _ (option_decided a.published b.published) (Decides-and _ _ (Decides-eqb a.since b.since) (booleans_Decides a.applied b.applied))))))
+
+-- ---- when backoffs are the same
+
+pub backoff_decided : (a b : Backoff) → Decides (is_one_prefix a.delegated b.delegated && (a.endpoint.0 == b.endpoint.0 && a.due == b.due)) (a ≡ b)
+backoff_decided a b =
+    Decides-like _
+    (λ (same : (a.delegated ≡ b.delegated) × ((a.endpoint.0 ≡ b.endpoint.0) × (a.due ≡ b.due))). λ i. record { delegated = same.0 i; endpoint = record { 0 = same.1.0 i }; due = same.1.1 i })
+    (λ (same : a ≡ b). (ap (λ (c : Backoff). c.delegated) same, (ap (λ (c : Backoff). c.endpoint.0) same, ap (λ (c : Backoff). c.due) same)))
+    (Decides-and _ _ (prefix_decided a.delegated b.delegated) (Decides-and _ _ (Decides-eqb a.endpoint.0 b.endpoint.0) (Decides-eqb a.due b.due)))
 
 -- assignments of which `!=` answered no
 pub same_assigned : (xs ys : List Assigned) (answer : Bool) → answer ≡ not (pointwise same_test xs ys) → answer ≡ false → xs ≡ ys

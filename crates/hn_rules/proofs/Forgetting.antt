@@ -64,7 +64,7 @@ not_lost : (now : ℕ) (lost : Option ℕ) → is_none lost ≡ true → not (op
 not_lost now None is = refl
 not_lost now (Some moment) is = absurd cc
 
-abbrev stays : ℕ → HeldNode → Bool
+abbrev pub stays : ℕ → HeldNode → Bool
 stays now node = not (is_forgotten now node)
 
 abbrev pub IsMarked : List NodeId → HeldNode → Type 0

@@ -5,6 +5,7 @@ use Rattle.hn_base.specs.Ascending.{IsExact}
 use Rattle.hn_assign.specs.declared.held.Ran.{Ran as Assigned}
 use Rattle.hn_assign.specs.Pair.{IsWished, assigned_pair, pair_cmp}
 use Rattle.hn_assign.specs.Laws.{SubroutineKeepsInside, SubroutineKeepsPast, SubroutineKeepsPriority, AssignedAscend, BackoffsAscend, AssignedAreWished}
+use Rattle.hn_own.specs.Laws.{FewPosts}
 use Rattle.hn_own.specs.Ports.{ArePorts}
 use Rattle.hn_rules.specs.declared.state.State.{State}
 use Rattle.hn_rules.specs.Assigning.{IsAssigned}
@@ -22,6 +23,7 @@ pub record AssignLaws : Type 0 where
   pub wished : AssignedAreWished
   pub pairs_total : IsTotalOrder pair_cmp
   pub pairs_exact : IsExact pair_cmp
+  pub posts : FewPosts
 
 module _ (laws : AssignLaws) where
   pub held-assigned : (s : State) (ran : Assigned) → IsAssigned s ran → ArePorts s.ports → AreHeldWell s.moment s.held → AreHeldWell s.moment ran.held
@@ -35,7 +37,7 @@ module _ (laws : AssignLaws) where
         are = record {
           assigned = ascending;
           backoffs = laws.backoffs view wishes s.held ran sub;
-          few = wished_few view is.usable s.ports wishes is.are_asked assigned_pair laws.pairs_total laws.pairs_exact ran.held.assigned is.are_usable.few ports.few ascending
+          few = wished_few s is.usable wishes is.are_asked assigned_pair laws.pairs_total laws.pairs_exact ran.held.assigned is.are_usable.few (laws.posts s.private s.ports ports) ascending
               (λ c there. All-contains (λ c. IsWished wishes (assigned_pair c)) ran.held.assigned c wished there);
           inside = laws.inside view wishes s.held ran sub well.are.inside;
           priority = laws.priority view wishes s.held ran sub well.are.priority;

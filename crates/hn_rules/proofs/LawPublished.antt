@@ -1,8 +1,10 @@
 -- The Assigned-Prefixes of a router's node data are those of the assignments that it publishes.
 use Rattle.std.proofs.Common.{◌≡◌, ◌↔◌, ◌∙◌, ℕ, List, [], ◌++◌, map, refl, sym, ap, subst}
-use Rattle.std.specs.Prelude.{Contains}
+use Rattle.std.specs.Prelude.{All, Contains}
 use Rattle.std.specs.List.{filter_map}
-use Rattle.std.proofs.lemmas.List.Elements.{All-contains, All-contains_itself, All-weaker, Contains-append_right}
+use Rattle.std.proofs.lemmas.List.Elements.{All-contains, All-contains_itself, All-weaker, Contains-append_left, Contains-append_right, filter_map-append}
+use Rattle.std.proofs.lemmas.List.{append-nil}
+use Rattle.hn_base.specs.Byte.{IsByte}
 use Rattle.hn_base.proofs.AscendingLists.{Contains-tail, Contains-map, Contains-from_map}
 use Rattle.hn_tlv.specs.Grammar.{IsTlvList}
 use Rattle.hn_tlv.specs.Laws.{SpellingIsPrefixFree, ListIsOfBytes}
@@ -11,11 +13,13 @@ use Rattle.hn_typed.specs.Written.{tlv_of}
 use Rattle.hn_typed.specs.Laws.{ItemIsUnique, WrittenIsRead}
 use Rattle.hn_data.specs.Items.{AreItems}
 use Rattle.hn_data.specs.Laws.{ItemsAreUnique}
+use Rattle.hn_data.specs.Peers.{peer_of, HasPeer}
 use Rattle.hn_data.specs.Said.{assigned_of, HasAssigned}
 use Rattle.hn_data.specs.declared.said.AssignedPrefix.{AssignedPrefix}
+use Rattle.hn_data.specs.declared.said.PeerLink.{PeerLink}
 use Rattle.hn_own.specs.declared.own.OwnItems.{OwnItems}
 use Rattle.hn_own.specs.declared.own_prefixes.OwnPrefix.{OwnPrefix}
-use Rattle.hn_own.specs.Own.{PlainData, IsOwnData, peer_item, external_items, assigned_item, items_of}
+use Rattle.hn_own.specs.Own.{PlainData, IsOwnData, peer_item, external_items, assigned_item, address_item, items_of}
 use Rattle.hn_rules.specs.Laws.{AssignedIsPublished, ItemsArePublished}
 use Rattle.hn_base.proofs.Elements.{in_filter_map, from_filter_map, all_given, none_given, given_by_parts, none_or_some}
 use Rattle.hn_rules.proofs.LawSpelled.{AreRead, encoding, own_fit, are_read, same_encoded}
@@ -27,14 +31,33 @@ assigned_among now own =
     let links = none_given assigned_of peer_item (λ _. refl) own.links in
     let external : filter_map assigned_of (external_items now own.delegated) ≡ [] =
     none_or_some (λ (list : List OwnPrefix). filter_map assigned_of (external_items now list) ≡ []) refl (λ p ps. refl) own.delegated in
+    let before = map peer_item own.links ++ external_items now own.delegated ++ map assigned_item own.assigned in
     let parts = given_by_parts assigned_of (map peer_item own.links) (external_items now own.delegated) (map assigned_item own.assigned) in
-    parts ∙ rw (links, external) (all_given assigned_of assigned_item (λ _. refl) own.assigned)
+    let assigned : filter_map assigned_of before ≡ own.assigned = parts ∙ rw (links, external) (all_given assigned_of assigned_item (λ _. refl) own.assigned) in
+    let addresses = none_given assigned_of address_item (λ _. refl) own.addresses in
+    filter_map-append assigned_of before (map address_item own.addresses) ∙ rw (assigned, addresses) (append-nil own.assigned)
+
+-- ---- the Peers among them
+
+peers_among : (now : ℕ) (own : OwnItems) → filter_map peer_of (items_of now own) ≡ own.links
+peers_among now own =
+    let links = all_given peer_of peer_item (λ _. refl) own.links in
+    let external : filter_map peer_of (external_items now own.delegated) ≡ [] =
+    none_or_some (λ (list : List OwnPrefix). filter_map peer_of (external_items now list) ≡ []) refl (λ p ps. refl) own.delegated in
+    let assigned = none_given peer_of assigned_item (λ _. refl) own.assigned in
+    let addresses = none_given peer_of address_item (λ _. refl) own.addresses in
+    let before = map peer_item own.links ++ external_items now own.delegated ++ map assigned_item own.assigned in
+    let parts = given_by_parts peer_of (map peer_item own.links) (external_items now own.delegated) (map assigned_item own.assigned) in
+    let peers : filter_map peer_of before ≡ own.links = parts ∙ rw (links, external, assigned) (append-nil (own.links ++ []) ∙ append-nil own.links) in
+    filter_map-append peer_of before (map address_item own.addresses) ∙ rw (peers, addresses) (append-nil own.links)
 
 assigned_there : (now : ℕ) (own : OwnItems) (a : AssignedPrefix) → Contains own.assigned a → Contains (items_of now own) (assigned_item a)
 assigned_there now own a there =
     let before = map peer_item own.links ++ external_items now own.delegated in
-    Contains-tail _ (before ++ map assigned_item own.assigned) (assigned_item a)
-    (Contains-append_right before (map assigned_item own.assigned) (assigned_item a) (Contains-map assigned_item own.assigned a there))
+    let addresses = map address_item own.addresses in
+    Contains-tail _ ((before ++ map assigned_item own.assigned) ++ addresses) (assigned_item a)
+    (Contains-append_left (before ++ map assigned_item own.assigned) addresses (assigned_item a)
+    (Contains-append_right before (map assigned_item own.assigned) (assigned_item a) (Contains-map assigned_item own.assigned a there)))
 
 -- ---- and in own node data
 
@@ -66,6 +89,13 @@ module _ (laws : ReadLaws) (own : PlainData) (is : IsOwnData own) where
       let among : Contains items from.0 = All-contains (Contains items) read_is.read from.0 read_is.of_items (subst (λ (list : List PlainItem). Contains list from.0) same from.1) in
       subst (λ (list : List AssignedPrefix). Contains list a) (assigned_among own.born own.items) (in_filter_map assigned_of items from.0 a among from.2)
 
+  pub peer_from : (link : PeerLink) → HasPeer own.body link → Contains own.items.links link
+  peer_from link (others, are, there) =
+      let same : others ≡ read_is.read = laws.one_items own.body others read_is.read are are_items in
+      let from = from_filter_map peer_of others link there in
+      let among : Contains items from.0 = All-contains (Contains items) read_is.read from.0 read_is.of_items (subst (λ (list : List PlainItem). Contains list from.0) same from.1) in
+      subst (λ (list : List PeerLink). Contains list link) (peers_among own.born own.items) (in_filter_map peer_of items from.0 link among from.2)
+
   item_read : (item : PlainItem) → Contains items item → Contains read_is.read item
   item_read item there =
       let piece : Contains is.encoded.ascending (encoding item) = (is.encoded.same (encoding item)).1 (Contains-map encoding items item there) in
@@ -79,6 +109,10 @@ module _ (laws : ReadLaws) (own : PlainData) (is : IsOwnData own) where
     assigned_from a,
     λ there. (read_is.read, are_items, in_filter_map assigned_of read_is.read (assigned_item a) a (item_read (assigned_item a) (assigned_there own.born own.items a there)) refl),
   )
+
+-- own node data consist of bytes
+pub own_bytes : (laws : ReadLaws) (own : PlainData) → IsOwnData own → All IsByte own.body
+own_bytes laws own is = let items = are_items laws own is in laws.of_bytes items.tlvs own.body items.list
 
 pub items_published : ReadLaws → ItemsArePublished
 items_published laws s router =

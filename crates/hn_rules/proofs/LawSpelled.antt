@@ -20,7 +20,8 @@ use Rattle.hn_data.specs.declared.said.AssignedPrefix.{AssignedPrefix}
 use Rattle.hn_data.specs.declared.said.PeerLink.{PeerLink}
 use Rattle.hn_own.specs.declared.own.OwnItems.{OwnItems}
 use Rattle.hn_own.specs.declared.own_prefixes.OwnPrefix.{OwnPrefix}
-use Rattle.hn_own.specs.Own.{peer_item, external_items, assigned_item, items_of}
+use Rattle.hn_own.specs.Addresses.{OwnAddress}
+use Rattle.hn_own.specs.Own.{peer_item, external_items, assigned_item, address_item, items_of}
 use Rattle.hn_base.specs.Byte.{IsByte}
 
 -- ---- own items
@@ -74,6 +75,18 @@ assigned_fit a is =
           (All-append IsByte (endpoint ++ after) [] (All-append IsByte endpoint after (number_bytes 4 a.endpoint.0) (All-cons IsByte (16 * 0 + a.priority) (prefix_field a.prefix) priority field)) none) none;
     }
 
+address_fit : (a : OwnAddress) → IsFit (address_item a)
+address_fit a is =
+    let endpoint = word a.0.0 in
+    let address = to_be_bytes w128 a.1 in
+    let none = All-nil IsByte in
+    record {
+      kind_fits = omega arith;
+      length_fits = let short = is.short in omega arith;
+      bytes = All-append IsByte ((endpoint ++ address) ++ []) []
+          (All-append IsByte (endpoint ++ address) [] (All-append IsByte endpoint address (number_bytes 4 a.0.0) (number_bytes 16 a.1)) none) none;
+    }
+
 -- the law that a list of TLVs is one of bytes
 module _ (of_bytes : ListIsOfBytes) where
   external_fit : (subs : List ℕ) → IsFit (External subs)
@@ -93,10 +106,13 @@ module _ (of_bytes : ListIsOfBytes) where
       let links = map peer_item own.links in
       let external = external_items now own.delegated in
       let assigned = map assigned_item own.assigned in
-      All-cons IsFit (Version (plain_caps own.caps) (codes "hncp")) ((links ++ external) ++ assigned) (version_fit (plain_caps own.caps))
+      let addresses = map address_item own.addresses in
+      All-cons IsFit (Version (plain_caps own.caps) (codes "hncp")) (((links ++ external) ++ assigned) ++ addresses) (version_fit (plain_caps own.caps))
+      (All-append IsFit ((links ++ external) ++ assigned) addresses
       (All-append IsFit (links ++ external) assigned
       (All-append IsFit links external (All-map IsFit peer_item own.links (λ k d within. peer_fit (get_or own.links k d))) (externals_fit now own.delegated))
       (All-map IsFit assigned_item own.assigned (λ k d within. assigned_fit (get_or own.assigned k d))))
+      (All-map IsFit address_item own.addresses (λ k d within. address_fit (get_or own.addresses k d))))
 
 -- ---- pieces that are the encodings of some of the items
 

@@ -63,7 +63,9 @@ use Rattle.hn_rules.specs.Requests.{state_item, is_reached, with_state, IsNetwor
 use Rattle.hn_rules.specs.Claim.{IsFirstFree, IsFirstClaim, IsSecondClaim, IsClaim, is_taken}
 use Rattle.hn_rules.specs.NodeState.{took_noted, IsTaken, IsNodeState}
 use Rattle.hn_rules.specs.Arrival.{IsItemRule, IsTlvRule, IsTlvs, IsAnswering, IsArrival}
-use Rattle.hn_rules.specs.Tick.{IsExpired, Without, IsPortExpiry, IsExpiry, IsStateSending, IsPortMoving, IsPortSending, IsPortTick, IsPortsTick}
+use Rattle.hn_rules.specs.Tick.{IsExpired, Without, IsPortExpiry, IsExpiry, IsStateSending, IsPortMoving, IsPortSending, IsPortTick, IsPortsTick, forgetting}
+use Rattle.hn_rules.specs.Ticks.{IsLosing, IsSettling, IsTick}
+use Rattle.hn_rules.specs.Delegating.{ending}
 use Rattle.hn_rules.specs.Events.{IsAttaching, IsPortRestart, emptied, IsRestarting}
 use Rattle.hn_base.proofs.FirstWords.{begins_front, begins_back, begins_along}
 use Rattle.hn_rules.proofs.Arriving.{some_answer_words, node_endpoint_words}
@@ -289,9 +291,9 @@ sole_ports_tick laws =
 
 -- ---- prefixes are assigned
 
-one_wishes : HasLaws → (view : PlainView) (usable : List Delegated) (ports : List Port) (a b : List Wish) → AreAsked view usable ports a → AreAsked view usable ports b → a ≡ b
-one_wishes laws view usable ports a b h k =
-    ascending_unique (on wish_pair pair_cmp) (on_total wish_pair laws.pairs_total) a b h.are_wishes.ascending k.are_wishes.ascending
+one_wishes : HasLaws → (s : State) (usable : List Delegated) (a b : List Wish) → AreAsked s usable a → AreAsked s usable b → a ≡ b
+one_wishes laws s usable a b h k =
+    ascending_unique (on wish_pair pair_cmp) (on_total wish_pair laws.pairs_total) a b h.ascending k.ascending
     (λ wish. let p = h.exact wish in let q = k.exact wish in (λ x. q.1 (p.0 x), λ y. p.1 (q.0 y)))
 
 assigned_words : (r a : Running) (h : IsAssigning r a) → a.done.words ≡ r.done.words ++ h.ran.words
@@ -302,8 +304,8 @@ module _ (laws : HasLaws) (s : State) where
   one_assigned a b stream h k at_a at_b =
       let view = seen_by s in
       let usable : h.usable ≡ k.usable = laws.one_usable view h.usable k.usable h.are_usable k.are_usable in
-      let asked : AreAsked view k.usable s.ports h.wishes = subst (λ (list : List Delegated). AreAsked view list s.ports h.wishes) usable h.are_asked in
-      let wishes : h.wishes ≡ k.wishes = one_wishes laws view k.usable s.ports h.wishes k.wishes asked k.are_asked in
+      let asked : AreAsked s k.usable h.wishes = subst (λ (list : List Delegated). AreAsked s list h.wishes) usable h.are_asked in
+      let wishes : h.wishes ≡ k.wishes = one_wishes laws s k.usable h.wishes k.wishes asked k.are_asked in
       laws.one_subroutine view k.wishes s.held a b stream (subst (λ (list : List Wish). IsSubroutine view list s.held a) wishes h.is_subroutine) k.is_subroutine at_a at_b
 
 pub sole_assigning : HasLaws → IsSole IsAssigning
@@ -336,3 +338,14 @@ sole_restarting laws =
     (λ s. sole_after words_of emptied (Then (Each (λ at. AtPort at IsPortRestart) (endpoints_of s.state.ports)) (Publishes 1)) (λ r. refl)
     (sole_both words_of (Each (λ at. AtPort at IsPortRestart) (endpoints_of s.state.ports)) (Publishes 1)
     (sole_each words_of (λ at. AtPort at IsPortRestart) (λ at. sole_at at IsPortRestart sole_port_restart) (endpoints_of s.state.ports)) (sole_publishes laws 1)))
+
+-- ---- a tick
+
+pub sole_tick : HasLaws → IsSole IsTick
+sole_tick laws =
+    let ended = sole_both words_of (λ b a. a ≡ ending b) IsRefresh (sole_plain words_of ending (λ r. refl)) (sole_refresh laws) in
+    let losing = sole_both words_of IsExpiry (Then (λ b a. a ≡ ending b) IsRefresh) sole_expiry ended in
+    let settling = sole_both words_of IsAssigning IsRefresh (sole_assigning laws) (sole_refresh laws) in
+    let settled = sole_both words_of IsSettling IsPortsTick settling (sole_ports_tick laws) in
+    let forgot = sole_both words_of (λ b a. a ≡ forgetting b) (Then IsSettling IsPortsTick) (sole_plain words_of forgetting (λ r. refl)) settled in
+    sole_both words_of IsLosing (Then (λ b a. a ≡ forgetting b) (Then IsSettling IsPortsTick)) losing forgot

@@ -31,9 +31,11 @@ use Rattle.hn_rules.specs.Router.{IfThere, IsNodePast, IsWell}
 use Rattle.hn_rules.proofs.Known.{KnownLaws, held_all}
 use Rattle.hn_rules.proofs.Finding.{find-none_filter}
 use Rattle.hn_rules.proofs.PortFacts.{IsPortWell}
+use Rattle.hn_rules.proofs.PostParts.{ArePostsWell}
 
 -- the facts of a held node
 pub record IsNodeWell (now : ℕ) (node : HeldNode) : Type 0 where
+  pub id : node.id.0 < 2 ^ 32
   pub number : node.stored.number < 2 ^ 32
   pub past : IsNodePast now node
 
@@ -45,6 +47,7 @@ pub record ArePortsWell (now : ℕ) (ports : List Port) : Type 0 where
 -- the facts of a table, for a router with that identifier
 pub record IsTableWell (id now : ℕ) (nodes : Nodes) : Type 0 where
   pub table : IsTable nodes
+  pub own_id : id < 2 ^ 32
   pub other : held nodes.entries id ≡ None
   pub each : All (IsNodeWell now) nodes.entries
 
@@ -66,14 +69,21 @@ pub record IsMade (s : State) : Type 0 where
   pub own : IsOwnWell s.number s.moment s.own
   pub delegated : AreOwnPrefixes s.delegated
   pub held : AreHeldWell s.moment s.held
+  pub posts : ArePostsWell s.private s.ports s.addresses s.held.assigned s.own.items.links
 
 pub made_from : (s : State) → IsWell s → IsMade s
 made_from s well = record {
   ports = record { are = well.ports; each = λ k d within. record { peers = well.peers k d within; past = well.past.ports k d within } };
-  table = record { table = well.table; other = well.other; each = λ k d within. record { number = well.numbered.held k d within; past = well.past.nodes k d within } };
+  table = record {
+    table = well.table;
+    own_id = well.numbered.own_id;
+    other = well.other;
+    each = λ k d within. record { id = well.numbered.held_ids k d within; number = well.numbered.held k d within; past = well.past.nodes k d within };
+  };
   own = record { data_is = well.own; fits = well.numbered.own; past = well.past.born };
   delegated = well.delegated;
   held = record { are = well.pairs; past = well.past.assigned };
+  posts = record { are = well.addresses; addressed = well.posted.addressed; of_length = well.posted.of_length; linked = well.posted.linked };
 }
 
 pub well_from : (s : State) → IsMade s → IsWell s
@@ -85,7 +95,14 @@ well_from s made = record {
   delegated = made.delegated;
   other = made.table.other;
   pairs = made.held.are;
-  numbered = record { own = made.own.fits; held = All-weaker (IsNodeWell s.moment) _ (λ node well. well.number) s.table.entries made.table.each };
+  addresses = made.posts.are;
+  posted = record { addressed = made.posts.addressed; of_length = made.posts.of_length; linked = made.posts.linked };
+  numbered = record {
+    own = made.own.fits;
+    held = All-weaker (IsNodeWell s.moment) _ (λ node well. well.number) s.table.entries made.table.each;
+    own_id = made.table.own_id;
+    held_ids = All-weaker (IsNodeWell s.moment) _ (λ node well. well.id) s.table.entries made.table.each;
+  };
   past = record {
     born = made.own.past;
     ports = All-weaker (IsPortWell s.moment) _ (λ port well. well.past) s.ports made.ports.each;
@@ -103,14 +120,18 @@ put_numbers port (p ∷ ports) =
     let more = put_numbers port ports in
     cc
 
+-- an endpoint has a number of 4 bytes other than 0
+abbrev pub IsNumber : Port → Type 0
+IsNumber p = (0 < p.id.0) × (p.id.0 < 2 ^ 32)
+
 -- one in place of another
 pub are-put : (port : Port) (ports : List Port) → ArePorts ports → ArePorts (put_port port ports)
 are-put port ports are = record {
   ascending = rw put_numbers are.ascending;
   few = rw length-map are.few;
-  numbered = All-map (λ (p : Port). 0 < p.id.0) (λ (p : Port). cond (is_port port.id p) port p) ports
-      (λ k d within. cond_both (is_port port.id (get_or ports k d)) port (get_or ports k d) (λ (p : Port). 0 < p.id.0)
-      (λ is. let same = eqb-true _ _ is in let some = are.numbered k d within in omega arith) (λ _. are.numbered k d within));
+  numbered = All-map IsNumber (λ (p : Port). cond (is_port port.id p) port p) ports
+      (λ k d within. cond_both (is_port port.id (get_or ports k d)) port (get_or ports k d) IsNumber
+      (λ is. let same = eqb-true _ _ is in let number = are.numbered k d within in let some = number.0 in let fits = number.1 in (omega arith, omega arith)) (λ _. are.numbered k d within));
 }
 
 module _ (now : ℕ) where
@@ -122,7 +143,7 @@ module _ (now : ℕ) where
   }
 
   -- one more
-  pub ports-attached : (port : Port) (ports : List Port) → IsPortWell now port → 0 < port.id.0 → length ports < 16 → ArePortsWell now ports → ArePortsWell now (attached port ports)
+  pub ports-attached : (port : Port) (ports : List Port) → IsPortWell now port → IsNumber port → length ports < 16 → ArePortsWell now ports → ArePortsWell now (attached port ports)
   ports-attached port ports one some room well =
       let lower = λ (p : Port). nat_lt p.id.0 port.id.0 in
       let greater = λ (p : Port). nat_lt port.id.0 p.id.0 in
@@ -131,7 +152,7 @@ module _ (now : ℕ) where
         are = record {
           ascending = ascending-around number port ports well.are.ascending;
           few = let few : length (attached port ports) ≤ suc (length ports) = around-few number port ports in omega arith;
-          numbered = around (λ (p : Port). 0 < p.id.0) some well.are.numbered;
+          numbered = around IsNumber some well.are.numbered;
         };
         each = around (IsPortWell now) one well.each;
       }
@@ -144,12 +165,16 @@ module _ (now : ℕ) where
         are = record {
           ascending = ascending-filter number stays ports well.are.ascending;
           few = let few = well.are.few in omega (arith, length-filter stays ports, count_by-le-length stays ports);
-          numbered = All-filter stays (λ (p : Port). 0 < p.id.0) ports well.are.numbered;
+          numbered = All-filter stays IsNumber ports well.are.numbered;
         };
         each = All-filter stays (IsPortWell now) ports well.each;
       }
 
 -- ---- the table
+
+-- the identifier and the sequence number of a node state have 32 bits
+abbrev pub IsInRange : PlainState → Type 0
+IsInRange s = (s.node < 2 ^ 32) × (s.number < 2 ^ 32)
 
 module _ (known : KnownLaws) (now : ℕ) where
   abbrev By : ℕ → Type 0
@@ -167,14 +192,14 @@ module _ (known : KnownLaws) (now : ℕ) where
       All-append (IsNodeWell now) (filter lower xs) (entry id stored ∷ filter greater xs) (All-filter lower (IsNodeWell now) xs all)
       (All-cons (IsNodeWell now) (entry id stored) (filter greater xs) one (All-filter greater (IsNodeWell now) xs all))
 
-  nodes-changed : (s : PlainState) (h : Option Stored) (xs : List HeldNode) → s.number < 2 ^ 32 → held xs s.node ≡ h → All (IsNodeWell now) xs → All (IsNodeWell now) (changed s.node (renumbered s now) h xs)
+  nodes-changed : (s : PlainState) (h : Option Stored) (xs : List HeldNode) → IsInRange s → held xs s.node ≡ h → All (IsNodeWell now) xs → All (IsNodeWell now) (changed s.node (renumbered s now) h xs)
   nodes-changed s None xs fits is all = all
   nodes-changed s (Some stored) xs fits is all =
-      nodes-put s.node (renumbered s now stored) xs (record { number = fits; past = record { arrived = omega arith; lost = lost_held (Some stored) xs s.node is all } }) all
+      nodes-put s.node (renumbered s now stored) xs (record { id = fits.0; number = fits.1; past = record { arrived = omega arith; lost = lost_held (Some stored) xs s.node is all } }) all
 
-  nodes-after : (s : PlainState) (took : Took) (xs : List HeldNode) → s.number < 2 ^ 32 → All (IsNodeWell now) xs → All (IsNodeWell now) (entries_after xs s now took)
+  nodes-after : (s : PlainState) (took : Took) (xs : List HeldNode) → IsInRange s → All (IsNodeWell now) xs → All (IsNodeWell now) (entries_after xs s now took)
   nodes-after s Kept xs fits all =
-      nodes-put s.node (kept s now (held xs s.node)) xs (record { number = fits; past = record { arrived = omega arith; lost = lost_held (held xs s.node) xs s.node refl all } }) all
+      nodes-put s.node (kept s now (held xs s.node)) xs (record { id = fits.0; number = fits.1; past = record { arrived = omega arith; lost = lost_held (held xs s.node) xs s.node refl all } }) all
   nodes-after s Renumbered xs fits all = nodes-changed s (held xs s.node) xs fits refl all
   nodes-after s _ xs fits all = all
 
@@ -202,9 +227,10 @@ held_nothing xs id none = ap (option_map (λ (node : HeldNode). node.stored)) no
 
 module _ (known : KnownLaws) (id : NodeId) (now : ℕ) where
   -- a node state arrived
-  pub table-accepts : (own : OwnLeaf) (s : PlainState) (nodes next : Nodes) (took : Took) → own.id ≡ id → s.number < 2 ^ 32 → IsTableWell id.0 now nodes → Accepts nodes own s now next took → IsTableWell id.0 now next
+  pub table-accepts : (own : OwnLeaf) (s : PlainState) (nodes next : Nodes) (took : Took) → own.id ≡ id → IsInRange s → IsTableWell id.0 now nodes → Accepts nodes own s now next took → IsTableWell id.0 now next
   table-accepts own s nodes next took same fits well accepts = record {
     table = known.accepts nodes own s now next took well.table accepts;
+    own_id = well.own_id;
     other = subst (λ (i : NodeId). held next.entries i.0 ≡ held nodes.entries i.0) same (known.own nodes own s now next took accepts) ∙ well.other;
     each = subst (λ (n : Nodes). All (IsNodeWell now) n.entries) (sym accepts.after) (nodes-after known now s took nodes.entries fits well.each);
   }
@@ -213,10 +239,11 @@ module _ (known : KnownLaws) (id : NodeId) (now : ℕ) where
   pub table-marked : (reach : List NodeId) (nodes : Nodes) → IsTableWell id.0 now nodes → IsTableWell id.0 now (marked reach now nodes)
   table-marked reach nodes well = record {
     table = known.marks reach now nodes well.table;
+    own_id = well.own_id;
     other = held_nothing (map (marked_node reach now) nodes.entries) id.0 (find-none_marked reach now id.0 nodes.entries (none_found _ well.other));
     each = All-map (IsNodeWell now) (marked_node reach now) nodes.entries
         (All-weaker (IsNodeWell now) (λ node. IsNodeWell now (marked_node reach now node))
-        (λ node one. record { number = one.number; past = record { arrived = one.past.arrived; lost = lost_by known now (is_among reach node.id.0) node.stored.lost one.past.lost } }) nodes.entries well.each);
+        (λ node one. record { id = one.id; number = one.number; past = record { arrived = one.past.arrived; lost = lost_by known now (is_among reach node.id.0) node.stored.lost one.past.lost } }) nodes.entries well.each);
   }
 
   -- nodes were forgotten
@@ -225,13 +252,15 @@ module _ (known : KnownLaws) (id : NodeId) (now : ℕ) where
       let stays = λ (node : HeldNode). not (is_forgotten now node) in
       record {
         table = known.forgetting now nodes well.table;
+        own_id = well.own_id;
         other = held_nothing (filter stays nodes.entries) id.0 (find-none_filter (λ (node : HeldNode). node.id.0 == id.0) stays nodes.entries (none_found _ well.other));
         each = All-filter stays (IsNodeWell now) nodes.entries well.each;
       }
 
 -- all nodes were forgotten
 pub table-emptied : NoNodesAreTable → (id now : ℕ) (nodes : Nodes) → IsTableWell id now nodes → IsTableWell id now (record nodes { entries = [] })
-table-emptied none id now nodes well = record { table = none nodes.limit well.table.limit_is; other = refl; each = All-nil (IsNodeWell now) }
+table-emptied none id now nodes well =
+    record { table = none nodes.limit well.table.limit_is; own_id = well.own_id; other = refl; each = All-nil (IsNodeWell now) }
 
 -- ---- assignments and backoffs
 
@@ -261,6 +290,7 @@ later_port moment now rises port well = record {
 
 later_node : (moment now : ℕ) → moment ≤ now → (node : HeldNode) → IsNodeWell moment node → IsNodeWell now node
 later_node moment now rises node well = record {
+  id = well.id;
   number = well.number;
   past = record { arrived = let past = well.past.arrived in omega arith; lost = later_there moment now node.stored.lost rises well.past.lost };
 }
@@ -268,8 +298,14 @@ later_node moment now rises node well = record {
 pub made-later : (now : ℕ) (s : State) → s.moment ≤ now → IsMade s → IsMade (record s { moment = now })
 made-later now s rises made = record {
   ports = record { are = made.ports.are; each = All-weaker (IsPortWell s.moment) (IsPortWell now) (later_port s.moment now rises) s.ports made.ports.each };
-  table = record { table = made.table.table; other = made.table.other; each = All-weaker (IsNodeWell s.moment) (IsNodeWell now) (later_node s.moment now rises) s.table.entries made.table.each };
+  table = record {
+    table = made.table.table;
+    own_id = made.table.own_id;
+    other = made.table.other;
+    each = All-weaker (IsNodeWell s.moment) (IsNodeWell now) (later_node s.moment now rises) s.table.entries made.table.each;
+  };
   own = record { data_is = made.own.data_is; fits = made.own.fits; past = let past = made.own.past in omega arith };
   delegated = made.delegated;
   held = record { are = made.held.are; past = All-weaker (IsAssignedPast s.moment) (IsAssignedPast now) (λ c past. omega arith) s.held.assigned made.held.past };
+  posts = made.posts;
 }

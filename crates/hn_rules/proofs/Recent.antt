@@ -14,7 +14,7 @@ use Rattle.hn_rules.specs.declared.state.State.{State}
 use Rattle.hn_rules.specs.declared.running.Running.{Running}
 use Rattle.hn_rules.specs.Nodes.{age_at, held_entry, own_entry, IsReach}
 use Rattle.hn_rules.specs.Refresh.{IsReaching, IsRefresh}
-use Rattle.hn_rules.specs.Router.{IsRefreshed}
+use Rattle.hn_rules.specs.Router.{IsRefreshed, IsFresh}
 use Rattle.hn_rules.proofs.Forgetting.{between, among_reach, IsMarked}
 use Rattle.hn_base.proofs.Decisions.{from_is_none}
 
@@ -27,7 +27,7 @@ lost_same false now None is = absurd cc
 lost_same false now (Some moment) is = refl
 
 -- where each node is marked, a mark changes nothing
-marks_same : (reach : List NodeId) (now : ℕ) (nodes : List HeldNode) → All (IsMarked reach) nodes → map (marked_node reach now) nodes ≡ nodes
+pub marks_same : (reach : List NodeId) (now : ℕ) (nodes : List HeldNode) → All (IsMarked reach) nodes → map (marked_node reach now) nodes ≡ nodes
 marks_same reach now [] marked = refl
 marks_same reach now (node ∷ nodes) marked =
     let one : marked_node reach now node ≡ node =
@@ -127,16 +127,24 @@ module _ (s : State) where
           (λ old. same.0 (there.0 old), λ reachable. there.1 (same.1 reachable));
     }
 
+-- where no age is due, what a refresh made is so now
+pub recent_fresh : ReachabilityStays → (s : State) → IsRefreshed s → s.moment - s.own.born < 2 ^ 32 - 2 ^ 16 → All (LeadsOn s.moment) s.table.entries → IsFresh s
+recent_fresh reach_stays s is young leads =
+    record { refreshed = is; reached = same_reach s is.reached.moment is.reached.past is.reached.was is.lost young leads reach_stays; young = young }
+
 -- a refresh that changes nothing
-pub same_refresh : ReachabilityStays → (r : Running) → IsRefreshed r.state → r.state.moment - r.state.own.born < 2 ^ 32 - 2 ^ 16 → All (LeadsOn r.state.moment) r.state.table.entries → IsRefresh r r
-same_refresh reach_stays r is young leads = (r, inl (record { same = is.published; young = young }, refl), (r, reaching, inl (sym is.hashed, refl)))
+pub same_refresh : (r : Running) → IsFresh r.state → IsRefresh r r
+same_refresh r fresh = (r, inl (record { same = is.published; young = fresh.young }, refl), (r, reaching, inl (sym is.hashed, refl)))
   where
+    is : IsRefreshed r.state
+    is = fresh.refreshed
+
     with_nodes : List HeldNode → Running
     with_nodes nodes = record r { state = record r.state { table = record r.state.table { entries = nodes } } }
 
     reaching : IsReaching r r
     reaching = record {
       reach = r.state.reach;
-      is_reach = same_reach r.state is.reached.moment is.reached.past is.reached.was is.lost young leads reach_stays;
+      is_reach = fresh.reached;
       gives = ap with_nodes (sym (marks_same r.state.reach r.state.moment r.state.table.entries is.lost));
     }

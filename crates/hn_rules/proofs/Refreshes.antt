@@ -1,5 +1,5 @@
 -- What a refresh makes, and what keeps it.
-use Rattle.std.proofs.Common.{◌≡◌, ◌<◌, ◌≤◌, ◌∙◌, ℕ, Bool, true, false, cond, List, [], ◌∷◌, ◌++◌, map, filter, get_or, nat_lt, Option, Some, inl, inr, refl, sym, ap, subst, arith}
+use Rattle.std.proofs.Common.{◌≡◌, ◌<◌, ◌≤◌, ◌-◌, ◌^◌, ◌∙◌, ℕ, Bool, true, false, cond, List, [], ◌∷◌, ◌++◌, map, filter, get_or, nat_lt, Option, Some, inl, inr, refl, sym, ap, subst, arith}
 use Rattle.std.specs.Prelude.{All, find, is_none, ◌↔◌, Contains}
 use Rattle.std.specs.Ordering.{nat_cmp}
 use Rattle.std.specs.declared.cmp.Ordering.TheVariants.{Less}
@@ -21,12 +21,12 @@ use Rattle.hn_rules.specs.declared.state.State.{State}
 use Rattle.hn_rules.specs.declared.running.Running.{Running}
 use Rattle.hn_own.specs.Own.{links_at, links_of}
 use Rattle.hn_own.specs.Ports.{number, ArePorts, is_port, port_at, put_port, endpoints_of}
-use Rattle.hn_rules.specs.Nodes.{held_entry, own_entry}
+use Rattle.hn_rules.specs.Nodes.{held_entry, own_entry, IsReach}
 use Rattle.hn_rules.specs.Rules.{Rule, AtPort, with_port}
 use Rattle.hn_rules.specs.Refresh.{own_items, IsPublishing, IsReaching, network_state_hash, IsPortReset, IsHashing, IsRefresh}
 use Rattle.hn_rules.specs.Tick.{IsPortSending, IsPortTick, IsPortsTick}
 use Rattle.hn_rules.specs.Changes.{EachKeeps}
-use Rattle.hn_rules.specs.Router.{IsWell, WasReach, IsRefreshed, IsRouter}
+use Rattle.hn_rules.specs.Router.{IsWell, IsRefreshed, IsFresh, IsUntouched, IsRouter}
 use Rattle.hn_rules.proofs.Parts.{are-put}
 use Rattle.hn_rules.proofs.Leads.{Keeps, keeps_option, keeps_each}
 use Rattle.hn_rules.proofs.Walk.{refresh_walk, ports_walk}
@@ -34,7 +34,7 @@ use Rattle.hn_rules.proofs.Walk.{refresh_walk, ports_walk}
 -- ---- endpoints that keep their number and what the router says of their peers
 
 -- what is found has the number that was sought
-found_number : (at : EpId) (ports : List Port) (port : Port) → port_at at ports ≡ Some port → port.id.0 ≡ at.0
+pub found_number : (at : EpId) (ports : List Port) (port : Port) → port_at at ports ≡ Some port → port.id.0 ≡ at.0
 found_number at [] port found = absurd cc
 found_number at (p ∷ ports) port found = by_test (is_port at p) refl found (found_number at ports port)
   where
@@ -90,44 +90,78 @@ refreshed_ports s ports same is = record {
   hashed = is.hashed;
 }
 
--- ---- endpoints, and what a refresh makes
-
-pub record IsFresh (s : State) : Type 0 where
-  pub ports : ArePorts s.ports
-  pub refreshed : IsRefreshed s
-
-abbrev pub Fresh : Running → Type 0
-Fresh r = IsFresh r.state
-
-pub fresh_port : (at : EpId) (port next : Port) (r : Running) → port_at at r.state.ports ≡ Some port → next.id ≡ port.id → links_at next ≡ links_at port → Fresh r → Fresh (with_port next r)
-fresh_port at port next r found same_id same_links fresh = record {
-  ports = are-put next r.state.ports fresh.ports;
-  refreshed = refreshed_ports r.state (put_port next r.state.ports) (kept_links at r.state.ports port next fresh.ports.ascending found same_id same_links) fresh.refreshed;
+fresh_ports : (s : State) (ports : List Port) → links_of ports ≡ links_of s.ports → IsFresh s → IsFresh (record s { ports = ports })
+fresh_ports s ports same is = record {
+  refreshed = refreshed_ports s ports same is.refreshed;
+  reached = record { ascending = is.reached.ascending; exactly = is.reached.exactly };
+  young = is.young;
 }
+
+-- ---- endpoints change, and nothing that a router says of their peers
+
+pub untouched_self : (s : State) → IsUntouched s s
+untouched_self s = record { links = refl; gives = refl }
+
+pub untouched_same : (s a : State) → a ≡ s → IsUntouched s a
+untouched_same s a is = subst (IsUntouched s) (sym is) (untouched_self s)
+
+pub refreshed_untouched : (s a : State) → IsUntouched s a → IsRefreshed s → IsRefreshed a
+refreshed_untouched s a untouched is = subst IsRefreshed (sym untouched.gives) (refreshed_ports s a.ports untouched.links is)
+
+pub fresh_untouched : (s a : State) → IsUntouched s a → IsFresh s → IsFresh a
+fresh_untouched s a untouched is = subst IsFresh (sym untouched.gives) (fresh_ports s a.ports untouched.links is)
+
+-- so it is since a state
+pub record IsKept (start s : State) : Type 0 where
+  pub ports : ArePorts s.ports
+  pub untouched : IsUntouched start s
+
+abbrev pub Kept : State → Running → Type 0
+Kept start r = IsKept start r.state
+
+pub kept_self : (s : State) → ArePorts s.ports → IsKept s s
+kept_self s are = record { ports = are; untouched = untouched_self s }
+
+pub kept_port : (start : State) (at : EpId) (port next : Port) (r : Running) → port_at at r.state.ports ≡ Some port → next.id ≡ port.id → links_at next ≡ links_at port → Kept start r → Kept start (with_port next r)
+kept_port start at port next r found same_id same_links kept =
+    let ports : List Port = put_port next r.state.ports in
+    record {
+      ports = are-put next r.state.ports kept.ports;
+      untouched = record {
+        links = kept_links at r.state.ports port next kept.ports.ascending found same_id same_links ∙ kept.untouched.links;
+        gives = ap (λ (s : State). let a : State = record s { ports = ports } in a) kept.untouched.gives;
+      };
+    }
 
 -- a rule of an endpoint that keeps its number and what the router says of its peers
 abbrev KeepsLinks : (Port → Rule) → Type 0
 KeepsLinks rule =
-    (port : Port) (r a : Running) → rule port r a → ((next : Port) → next.id ≡ port.id → links_at next ≡ links_at port → Fresh (with_port next r)) → Fresh r → Fresh a
+    (start : State) (port : Port) (r a : Running) → rule port r a → ((next : Port) → next.id ≡ port.id → links_at next ≡ links_at port → Kept start (with_port next r)) → Kept start r → Kept start a
 
-pub keeps_fresh_at : (at : EpId) (rule : Port → Rule) → KeepsLinks rule → Keeps Fresh (AtPort at rule)
-keeps_fresh_at at rule keeps =
-    keeps_option Fresh at rule (λ port r a found holds fresh. keeps port r a holds (λ next same_id same_links. fresh_port at port next r found same_id same_links fresh) fresh)
+pub keeps_kept_at : (start : State) (at : EpId) (rule : Port → Rule) → KeepsLinks rule → Keeps (Kept start) (AtPort at rule)
+keeps_kept_at start at rule keeps =
+    keeps_option (Kept start) at rule (λ port r a found holds kept. keeps start port r a holds (λ next same_id same_links. kept_port start at port next r found same_id same_links kept) kept)
 
 -- ---- a refresh
 
 -- the facts but for the hash
 record IsReached (s : State) : Type 0 where
   published : own_items s ≡ s.own.items
-  reached : WasReach s
+  young : s.moment - s.own.born < 2 ^ 32 - 2 ^ 16
+  reached : IsReach s s.reach
   lost : All (λ node. is_among s.reach node.id.0 ≡ is_none node.stored.lost) s.table.entries
 
 published_after : (r a : Running) → IsPublishing r a → own_items a.state ≡ a.state.own.items
 published_after r a (inl (published, is)) = subst (λ (x : Running). own_items x.state ≡ x.state.own.items) (sym is) published.same
 published_after r a (inr (other, is)) = subst (λ (x : Running). own_items x.state ≡ x.state.own.items) (sym is.gives) (sym is.items_are)
 
+young_after : (r a : Running) → IsPublishing r a → a.state.moment - a.state.own.born < 2 ^ 32 - 2 ^ 16
+young_after r a (inl (published, is)) = subst (λ (x : Running). x.state.moment - x.state.own.born < 2 ^ 32 - 2 ^ 16) (sym is) published.young
+young_after r a (inr (other, is)) =
+    let born = is.born_is in subst (λ (x : Running). x.state.moment - x.state.own.born < 2 ^ 32 - 2 ^ 16) (sym is.gives) (omega (arith, born))
+
 -- a mark changes nothing of what is seen of a node
-seen_marked : (reach : List NodeId) (now moment : ℕ) (nodes : List HeldNode) → map (held_entry moment) (map (marked_node reach now) nodes) ≡ map (held_entry moment) nodes
+pub seen_marked : (reach : List NodeId) (now moment : ℕ) (nodes : List HeldNode) → map (held_entry moment) (map (marked_node reach now) nodes) ≡ map (held_entry moment) nodes
 seen_marked reach now moment [] = refl
 seen_marked reach now moment (node ∷ nodes) = ap (λ rest. held_entry moment node ∷ rest) (seen_marked reach now moment nodes)
 
@@ -135,10 +169,11 @@ lost_is : (reachable : Bool) (now : ℕ) (lost : Option ℕ) → reachable ≡ i
 lost_is true now lost = refl
 lost_is false now lost = refl
 
-reached_after : (r a : Running) → IsReaching r a → own_items r.state ≡ r.state.own.items → IsReached a.state
-reached_after r a is published = subst (λ (x : Running). IsReached x.state) (sym is.gives) (record {
+reached_after : (r a : Running) → IsReaching r a → own_items r.state ≡ r.state.own.items → r.state.moment - r.state.own.born < 2 ^ 32 - 2 ^ 16 → IsReached a.state
+reached_after r a is published young = subst (λ (x : Running). IsReached x.state) (sym is.gives) (record {
   published = published;
-  reached = record { moment = s.moment; past = omega arith; was = record { ascending = is.is_reach.ascending; exactly = exactly } };
+  young = young;
+  reached = record { ascending = is.is_reach.ascending; exactly = exactly };
   lost = All-map (λ (node : HeldNode). is_among is.reach node.id.0 ≡ is_none node.stored.lost) (marked_node is.reach s.moment) s.table.entries
       (λ k d within. let node = get_or s.table.entries k d in lost_is (is_among is.reach node.id.0) s.moment node.stored.lost);
 })
@@ -152,42 +187,47 @@ reached_after r a is published = subst (λ (x : Running). IsReached x.state) (sy
     exactly : (id : NodeId) → Contains is.reach id ↔ IsReachable r.state.id.0 (among (map (held_entry r.state.moment) (map (marked_node is.reach r.state.moment) r.state.table.entries))) id.0
     exactly id = rw (seen_marked is.reach r.state.moment r.state.moment r.state.table.entries) (is.is_reach.exactly id)
 
-with_hash : (s : State) (net : List ℕ) → IsReached s → net ≡ network_state_hash s → IsRefreshed (record s { net = net })
+with_hash : (s : State) (net : List ℕ) → IsReached s → net ≡ network_state_hash s → IsFresh (record s { net = net })
 with_hash s net is same = record {
-  published = is.published;
-  reached = record { moment = is.reached.moment; past = is.reached.past; was = record { ascending = is.reached.was.ascending; exactly = is.reached.was.exactly } };
-  lost = is.lost;
-  hashed = same;
+  refreshed = record {
+    published = is.published;
+    reached = record { moment = s.moment; past = omega arith; was = record { ascending = is.reached.ascending; exactly = is.reached.exactly } };
+    lost = is.lost;
+    hashed = same;
+  };
+  reached = record { ascending = is.reached.ascending; exactly = is.reached.exactly };
+  young = is.young;
 }
 
 reset_keeps : KeepsLinks IsPortReset
-reset_keeps port r a (inl (shortest, is)) changed fresh = subst Fresh (sym is) fresh
-reset_keeps port r a (inr (longer, (word, is))) changed fresh = subst Fresh (sym is) (changed (record port { trickle = started r.state.moment 200 word }) refl refl)
+reset_keeps start port r a (inl (shortest, is)) changed kept = subst (Kept start) (sym is) kept
+reset_keeps start port r a (inr (longer, (word, is))) changed kept = subst (Kept start) (sym is) (changed (record port { trickle = started r.state.moment 200 word }) refl refl)
 
-fresh_hashing : (r a : Running) → IsHashing r a → ArePorts r.state.ports → IsReached r.state → Fresh a
-fresh_hashing r a (inl (same, is)) are reached = subst Fresh (sym is) (record { ports = are; refreshed = with_hash r.state r.state.net reached (sym same) })
+fresh_hashing : (r a : Running) → IsHashing r a → ArePorts r.state.ports → IsReached r.state → IsFresh a.state
+fresh_hashing r a (inl (same, is)) are reached = subst (λ (x : Running). IsFresh x.state) (sym is) (with_hash r.state r.state.net reached (sym same))
 fresh_hashing r a (inr (other, resets)) are reached =
     let hashed : Running = record r { state = record r.state { net = network_state_hash r.state } } in
-    let start : Fresh hashed = record { ports = are; refreshed = with_hash r.state (network_state_hash r.state) reached refl } in
-    keeps_each Fresh (λ at. AtPort at IsPortReset) (λ at. keeps_fresh_at at IsPortReset reset_keeps) (endpoints_of r.state.ports) hashed a resets start
+    let start : IsFresh hashed.state = with_hash r.state (network_state_hash r.state) reached refl in
+    let kept : Kept hashed.state a = keeps_each (Kept hashed.state) (λ at. AtPort at IsPortReset) (λ at. keeps_kept_at hashed.state at IsPortReset reset_keeps) (endpoints_of r.state.ports) hashed a resets (kept_self hashed.state are) in
+    fresh_untouched hashed.state a.state kept.untouched start
 
 ports_after : (r a : Running) → IsPublishing r a → a.state.ports ≡ r.state.ports
 ports_after r a (inl (published, is)) = ap (λ (x : Running). x.state.ports) is
 ports_after r a (inr (other, is)) = ap (λ (x : Running). x.state.ports) is.gives
 
 -- after a refresh
-pub fresh_refresh : (r a : Running) → IsRefresh r a → ArePorts r.state.ports → Fresh a
+pub fresh_refresh : (r a : Running) → IsRefresh r a → ArePorts r.state.ports → IsFresh a.state
 fresh_refresh r a (published, publishes, (reached, reaches, hashes)) are =
     let same : reached.state.ports ≡ r.state.ports = ap (λ (x : Running). x.state.ports) reaches.gives ∙ ports_after r published publishes in
-    fresh_hashing reached a hashes (subst ArePorts (sym same) are) (reached_after published reached reaches (published_after r published publishes))
+    fresh_hashing reached a hashes (subst ArePorts (sym same) are) (reached_after published reached reaches (published_after r published publishes) (young_after r published publishes))
 
 tick_keeps : KeepsLinks IsPortTick
-tick_keeps port r a (between, moves, sends) changed fresh =
-    sent sends (subst Fresh (sym moves.gives) (changed (ticked r.state.moment moves.words port) refl refl))
+tick_keeps start port r a (between, moves, sends) changed kept =
+    sent sends (subst (Kept start) (sym moves.gives) (changed (ticked r.state.moment moves.words port) refl refl))
   where
-    sent : IsPortSending port between a → Fresh between → Fresh a
-    sent (inl (due, is)) fresh = subst Fresh (sym is.gives) fresh
-    sent (inr (none, is)) fresh = subst Fresh (sym is) fresh
+    sent : IsPortSending port between a → Kept start between → Kept start a
+    sent (inl (due, is)) now = subst (Kept start) (sym is.gives) now
+    sent (inr (none, is)) now = subst (Kept start) (sym is) now
 
 -- ---- a router
 
@@ -205,10 +245,10 @@ router_refresh each r a refreshes well =
 
 pub router_ticks : EachKeeps [] Well → Keeps Router IsPortsTick
 router_ticks each r a ticks router =
-    let start : Fresh r = record { ports = router.well.ports; refreshed = router.refreshed } in
+    let kept : Kept r.state a = keeps_each (Kept r.state) (λ at. AtPort at IsPortTick) (λ at. keeps_kept_at r.state at IsPortTick tick_keeps) (endpoints_of r.state.ports) r a ticks (kept_self r.state router.well.ports) in
     record {
       well = ports_walk [] Well each r a ticks router.well;
-      refreshed = (keeps_each Fresh (λ at. AtPort at IsPortTick) (λ at. keeps_fresh_at at IsPortTick tick_keeps) (endpoints_of r.state.ports) r a ticks start).refreshed;
+      refreshed = refreshed_untouched r.state a.state kept.untouched router.refreshed;
     }
 
 pub refreshed-later : (now : ℕ) (s : State) → s.moment ≤ now → IsRefreshed s → IsRefreshed (record s { moment = now })

@@ -1,19 +1,20 @@
 -- A refresh makes a router, and what keeps one.
-use Rattle.std.proofs.Common.{◌≡◌, List, [], ◌∷◌, refl, sym, subst, arith}
+use Rattle.std.proofs.Common.{◌≡◌, ℕ, List, [], ◌∷◌, Option, refl, sym, subst, arith}
 use Rattle.hn_base.specs.declared.caps.Caps.{Caps}
 use Rattle.hn_base.specs.declared.ids.EpId.{EpId}
 use Rattle.hn_base.specs.Prefix.{PlainPrefix}
 use Rattle.hn_base.specs.Rules.{Then}
 use Rattle.hn_graph.specs.Laws.{ReachabilityStays}
 use Rattle.hn_tlv.specs.Grammar.{PlainTlv}
+use Rattle.hn_own.specs.Laws.{AddressesStay}
 use Rattle.hn_rules.specs.declared.running.Running.{Running}
 use Rattle.hn_rules.specs.declared.running.Origin.{Origin}
 use Rattle.hn_rules.specs.declared.state.State.{State}
 use Rattle.hn_rules.specs.Arrival.{IsTlvRule, IsTlvs, IsArrival}
 use Rattle.hn_rules.specs.Changes.{EachKeeps}
 use Rattle.hn_rules.specs.Delegating.{withdrawing, ending}
-use Rattle.hn_rules.specs.Events.{detaching, setting_caps, IsRestarting}
-use Rattle.hn_rules.specs.Laws.{ChangesKeepWell, KeepsRouter, KeepsWell, RefreshMakesRouter, RouterStaysLater, AssigningKeeps, DelegatingKeeps, AttachingKeeps}
+use Rattle.hn_rules.specs.Events.{detaching, setting_caps, setting_private, IsRestarting}
+use Rattle.hn_rules.specs.Laws.{ChangesKeepWell, KeepsRouter, KeepsWell, RefreshMakesRouter, RouterStaysLater, AssigningKeeps, DelegatingKeeps, AttachingKeeps, AddressingKeeps}
 use Rattle.hn_rules.specs.Refresh.{IsRefresh}
 use Rattle.hn_rules.specs.Router.{IsRefreshed}
 use Rattle.hn_rules.specs.Rules.{Rule}
@@ -22,7 +23,7 @@ use Rattle.hn_rules.proofs.Forgetting.{refreshed_forgetting}
 use Rattle.hn_rules.proofs.Leads.{Keeps, keeps_plain, keeps_each}
 use Rattle.hn_rules.proofs.Parts.{made_from, well_from, made-later}
 use Rattle.hn_rules.proofs.Refreshes.{Router, Well, router_refresh, router_ticks, refreshed-later}
-use Rattle.hn_rules.proofs.Walk.{tlv_walk, expiry_walk, ending_walk, forgetting_walk, assigning_walk, delegating_walk, withdrawing_walk, caps_walk, restarting_walk}
+use Rattle.hn_rules.proofs.Walk.{tlv_walk, expiry_walk, ending_walk, forgetting_walk, assigning_walk, delegating_walk, withdrawing_walk, caps_walk, private_walk, addressing_walk, restarting_walk}
 use Rattle.hn_rules.proofs.Wells.{Made, keeps_attaching, made_detaching}
 
 -- ---- time passes
@@ -84,6 +85,12 @@ module _ (keeps : ChangesKeepWell) where
   pub caps_keep : (caps : Caps) → KeepsWell (λ b a. a ≡ setting_caps caps b)
   caps_keep = caps_walk [] Well each
 
+  pub private_keeps : (private : Option ℕ) → KeepsWell (λ b a. a ≡ setting_private private b)
+  private_keeps = private_walk [] Well each
+
+  pub addressing_keeps : AddressingKeeps
+  addressing_keeps = addressing_walk [] Well each
+
   pub restarting_keeps : KeepsWell IsRestarting
   restarting_keeps = restarting_walk [] Well each
 
@@ -93,7 +100,7 @@ keeps_well : (rule : Rule) → Keeps Made rule → KeepsWell rule
 keeps_well rule keeps before after holds well = well_from after.state (keeps before after holds (made_from before.state well))
 
 pub attaching_keeps : AttachingKeeps
-attaching_keeps at before after some room is well = well_from after.state (keeps_attaching at before after some room is (made_from before.state well))
+attaching_keeps at before after some fits room is well = well_from after.state (keeps_attaching at before after some fits room is (made_from before.state well))
 
-pub detaching_keeps : (at : EpId) → KeepsWell (λ b a. a ≡ detaching at b)
-detaching_keeps at = keeps_well (λ b a. a ≡ detaching at b) (keeps_plain Made (detaching at) (made_detaching at))
+pub detaching_keeps : AddressesStay → (at : EpId) → KeepsWell (λ b a. a ≡ detaching at b)
+detaching_keeps stay at = keeps_well (λ b a. a ≡ detaching at b) (keeps_plain Made (detaching at) (made_detaching stay at))

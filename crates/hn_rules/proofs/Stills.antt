@@ -206,7 +206,7 @@ module _ (laws : StillLaws) (s : State) (now later : ℕ) (goes : now ≤ later)
       no_end m end = none m (inr (inr (inl end)))
 
       -- a wish has no lifetime
-      wish_stays : (place : ℕ) (wish : Wish) → IsWishAt before assigned.usable place wish → IsWishAt after aged place wish
+      wish_stays : (place : ℕ) (wish : Wish) → IsWishAt s.private before assigned.usable place wish → IsWishAt s.private after aged place wish
       wish_stays place wish asked =
           let unwanted = laws.unwanted before after passed no_end assigned.usable assigned.are_usable place in
           record {
@@ -218,7 +218,7 @@ module _ (laws : StillLaws) (s : State) (now later : ℕ) (goes : now ≤ later)
             length = asked.length;
           }
 
-      wish_was : (place : ℕ) (wish : Wish) → IsWishAt after aged place wish → IsWishAt before assigned.usable place wish
+      wish_was : (place : ℕ) (wish : Wish) → IsWishAt s.private after aged place wish → IsWishAt s.private before assigned.usable place wish
       wish_was place wish asked =
           let unwanted = laws.unwanted before after passed no_end assigned.usable assigned.are_usable place in
           let young = part_at (aged_delegated passed.time) assigned.usable place asked.delegated asked.at in
@@ -231,12 +231,12 @@ module _ (laws : StillLaws) (s : State) (now later : ℕ) (goes : now ≤ later)
             length = asked.length;
           }
 
-      asked_stays : AreAsked after aged s.ports assigned.wishes
+      asked_stays : AreAsked (at_moment later s) aged assigned.wishes
       asked_stays = record {
-        are_wishes = assigned.are_asked.are_wishes;
+        ascending = assigned.are_asked.ascending;
         exact = λ wish. (
-          λ there. let is = (assigned.are_asked.exact wish).0 there in record { place = is.place; asked = wish_stays is.place wish is.asked; attached = is.attached },
-          λ is. (assigned.are_asked.exact wish).1 (record { place = is.place; asked = wish_was is.place wish is.asked; attached = is.attached }),
+          λ there. let is = (assigned.are_asked.exact wish).0 there in record { place = is.place; asked = wish_stays is.place wish is.asked; post = is.post },
+          λ is. (assigned.are_asked.exact wish).1 (record { place = is.place; asked = wish_was is.place wish is.asked; post = is.post }),
         );
       }
 
@@ -246,7 +246,7 @@ module _ (laws : StillLaws) (s : State) (now later : ℕ) (goes : now ≤ later)
         are_usable = laws.usable before after passed no_end assigned.usable assigned.are_usable;
         wishes = assigned.wishes;
         are_asked = asked_stays;
-        is_subroutine = laws.run before after assigned.wishes s.held passed assigned.are_asked.are_wishes.ascending assigned.is_subroutine (λ m due. none m (inr (inl (inr (inr (inr due))))));
+        is_subroutine = laws.run before after assigned.wishes s.held passed assigned.are_asked.ascending assigned.is_subroutine (λ m due. none m (inr (inl (inr (inr (inr due))))));
       }
 
 pub still_stays : StillLaws → StillStays

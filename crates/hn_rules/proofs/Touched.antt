@@ -37,8 +37,8 @@ use Rattle.hn_store.specs.declared.state.Took.{Took}
 use Rattle.hn_store.specs.declared.state.Took.TheVariants as took
 use Rattle.hn_rules.specs.Requests.{request_node, IsNetworkRequest}
 use Rattle.hn_rules.specs.Tick.{IsExpired, Without, IsPortExpiry}
-use Rattle.hn_rules.specs.Router.{IsRefreshed}
-use Rattle.hn_rules.proofs.Refreshes.{Fresh, only_one, fresh_port, keeps_fresh_at}
+use Rattle.hn_rules.specs.Router.{IsUntouched}
+use Rattle.hn_rules.proofs.Refreshes.{Kept, only_one, kept_self, kept_port, keeps_kept_at, untouched_self, untouched_same}
 use Rattle.hn_rules.proofs.Walk.{network_request, node_request}
 
 -- ---- in a loop
@@ -107,42 +107,42 @@ put_twice first second same (p ∷ ports) =
         let there : is_port second.id p ≡ true = eq-eqb p.id.0 second.id.0 (eqb-true p.id.0 first.id.0 is ∙ ap (λ (id : EpId). id.0) (sym same)) in
         cc
 
-fresh_met : (greet : Greet) (at : EpId) (port next : Port) (r : Running) → port_at at r.state.ports ≡ Some port → next.id ≡ port.id → links_at next ≡ links_at port → Fresh r → Fresh (rule.met greet next (with_port next r))
-fresh_met Full at port next r found same_id same_links fresh = fresh_port at port next r found same_id same_links fresh
-fresh_met Known at port next r found same_id same_links fresh = fresh_port at port next r found same_id same_links fresh
-fresh_met Added at port next r found same_id same_links fresh = fresh_port at port next r found same_id same_links fresh
-fresh_met Unknown at port next r found same_id same_links fresh =
+kept_met : (start : State) (greet : Greet) (at : EpId) (port next : Port) (r : Running) → port_at at r.state.ports ≡ Some port → next.id ≡ port.id → links_at next ≡ links_at port → Kept start r → Kept start (rule.met greet next (with_port next r))
+kept_met start Full at port next r found same_id same_links kept = kept_port start at port next r found same_id same_links kept
+kept_met start Known at port next r found same_id same_links kept = kept_port start at port next r found same_id same_links kept
+kept_met start Added at port next r found same_id same_links kept = kept_port start at port next r found same_id same_links kept
+kept_met start Unknown at port next r found same_id same_links kept =
     let asks = asked r.state.moment next in
     let put : Running = with_port next r in
-    let once : Fresh (with_port asks r) = fresh_port at port asks r found same_id same_links fresh in
-    let twice : Fresh (with_port asks put) = subst (λ (ports : List Port). Fresh (record r { state = record r.state { ports = ports } })) (sym (put_twice next asks refl r.state.ports)) once in
-    cond_both (may_ask r.state.moment next.asked) (with_answer subject.NetworkRequest (item.RequestNetwork []) (with_port asks put)) put Fresh
-    (λ _. twice) (λ _. fresh_port at port next r found same_id same_links fresh)
+    let once : Kept start (with_port asks r) = kept_port start at port asks r found same_id same_links kept in
+    let twice : Kept start (with_port asks put) = subst (λ (ports : List Port). Kept start (record r { state = record r.state { ports = ports } })) (sym (put_twice next asks refl r.state.ports)) once in
+    cond_both (may_ask r.state.moment next.asked) (with_answer subject.NetworkRequest (item.RequestNetwork []) (with_port asks put)) put (Kept start)
+    (λ _. twice) (λ _. kept_port start at port next r found same_id same_links kept)
 
 -- the sender is named, and no peer is added
 pub named_untouched : (from : Origin) (node : NodeId) (endpoint : EpId) (port copy : Port) (ports : List Port) (r a : Running) → ArePorts ports → Some port ≡ port_at from.endpoint ports → ports ≡ r.state.ports → copy ≡ port
-    → greeting node endpoint from.multicast copy.peers ≢ Added → a ≡ named from node endpoint copy r → IsRefreshed r.state → IsRefreshed a.state
-named_untouched from node endpoint port copy ports r a are here same_ports same_port other is refreshed =
+    → greeting node endpoint from.multicast copy.peers ≢ Added → a ≡ named from node endpoint copy r → IsUntouched r.state a.state
+named_untouched from node endpoint port copy ports r a are here same_ports same_port other is =
     let start : Running = record r { sender = Some (node, endpoint) } in
     let after = greeting_port from node endpoint r.state.moment copy in
     let found : port_at from.endpoint r.state.ports ≡ Some copy = sym (ap Some same_port ∙ here ∙ ap (port_at from.endpoint) same_ports) in
     let same_links = greeted_links from node endpoint r.state.moment copy other in
-    let fresh = fresh_met (greeting node endpoint from.multicast copy.peers) from.endpoint copy after start found refl same_links (record { ports = subst ArePorts same_ports are; refreshed = refreshed }) in
-    subst (λ (x : Running). IsRefreshed x.state) (sym is) fresh.refreshed
+    let kept = kept_met r.state (greeting node endpoint from.multicast copy.peers) from.endpoint copy after start found refl same_links (kept_self r.state (subst ArePorts same_ports are)) in
+    subst (λ (x : Running). IsUntouched r.state x.state) (sym is) kept.untouched
 
 -- ---- a Network State
 
-pub network_state_untouched : (from : Origin) (hash : List ℕ) (r a : Running) → ArePorts r.state.ports → AtPort from.endpoint (λ port b a. a ≡ network_state hash port b) r a → IsRefreshed r.state → IsRefreshed a.state
-network_state_untouched from hash r a are holds refreshed =
-    (keeps_fresh_at from.endpoint (λ port b a. a ≡ network_state hash port b) one r a holds (record { ports = are; refreshed = refreshed })).refreshed
+pub network_state_untouched : (from : Origin) (hash : List ℕ) (r a : Running) → ArePorts r.state.ports → AtPort from.endpoint (λ port b a. a ≡ network_state hash port b) r a → IsUntouched r.state a.state
+network_state_untouched from hash r a are holds =
+    (keeps_kept_at r.state from.endpoint (λ port b a. a ≡ network_state hash port b) one r a holds (kept_self r.state are)).untouched
   where
-    one : (port : Port) (r a : Running) → a ≡ network_state hash port r → ((next : Port) → next.id ≡ port.id → links_at next ≡ links_at port → Fresh (with_port next r)) → Fresh r → Fresh a
-    one port r a is changed fresh =
+    one : (start : State) (port : Port) (r a : Running) → a ≡ network_state hash port r → ((next : Port) → next.id ≡ port.id → links_at next ≡ links_at port → Kept start (with_port next r)) → Kept start r → Kept start a
+    one start port r a is changed kept =
         let same = bytes_eq hash r.state.net in
         let next = hashed same r.sender r.state.moment port in
-        let after : Fresh (with_port next r) = changed next refl (hashed_links same r.sender r.state.moment port) in
-        subst Fresh (sym is)
-        (cond_both (asks_for_state same r.state.moment port) (with_answer subject.NetworkRequest (item.RequestNetwork []) (with_port next r)) (with_port next r) Fresh (λ _. after) (λ _. after))
+        let after : Kept start (with_port next r) = changed next refl (hashed_links same r.sender r.state.moment port) in
+        subst (Kept start) (sym is)
+        (cond_both (asks_for_state same r.state.moment port) (with_answer subject.NetworkRequest (item.RequestNetwork []) (with_port next r)) (with_port next r) (Kept start) (λ _. after) (λ _. after))
 
 -- ---- a Node State
 
@@ -169,22 +169,22 @@ same_table carried took.TooLong now nodes next none after = after
 same_table carried took.Full now nodes next none after = after
 
 -- an answer that changes nothing of what is held
-pub node_state_untouched : (carried : PlainState) (how : Took) (r between a : Running) → touches how ≡ false → Takes carried how r between → IsTaken carried how between a → IsRefreshed r.state → IsRefreshed a.state
-node_state_untouched carried how r between a none takes taken refreshed =
+pub node_state_untouched : (carried : PlainState) (how : Took) (r between a : Running) → touches how ≡ false → Takes carried how r between → IsTaken carried how between a → IsUntouched r.state a.state
+node_state_untouched carried how r between a none takes taken =
     let state : a.state ≡ between.state = taken_state carried how between a none taken in
     let table : takes.table ≡ r.state.table = same_table carried how r.state.moment r.state.table takes.table none takes.accepts.after in
-    subst IsRefreshed (sym (state ∙ ap (λ (x : Running). x.state) takes.gives ∙ ap (λ (nodes : Nodes). let s : State = record r.state { table = nodes } in s) table)) refreshed
+    untouched_same r.state a.state (state ∙ ap (λ (x : Running). x.state) takes.gives ∙ ap (λ (nodes : Nodes). let s : State = record r.state { table = nodes } in s) table)
 
 -- ---- requests
 
-abbrev Refreshed : Running → Type 0
-Refreshed r = IsRefreshed r.state
+abbrev Untouched : State → Running → Type 0
+Untouched start r = IsUntouched start r.state
 
-pub network_request_untouched : (r a : Running) → IsNetworkRequest r a → IsRefreshed r.state → IsRefreshed a.state
-network_request_untouched = network_request Refreshed (λ about i r is refreshed. refreshed)
+pub network_request_untouched : (r a : Running) → IsNetworkRequest r a → IsUntouched r.state a.state
+network_request_untouched r a holds = network_request (Untouched r.state) (λ about i r is untouched. untouched) r a holds (untouched_self r.state)
 
-pub request_node_untouched : (id : NodeId) (r a : Running) → a ≡ request_node id r → IsRefreshed r.state → IsRefreshed a.state
-request_node_untouched = node_request Refreshed (λ about i r is refreshed. refreshed)
+pub request_node_untouched : (id : NodeId) (r a : Running) → a ≡ request_node id r → IsUntouched r.state a.state
+request_node_untouched id r a is = node_request (Untouched r.state) (λ about i r is untouched. untouched) id r a is (untouched_self r.state)
 
 -- ---- expiry
 
@@ -196,13 +196,18 @@ pub without_none : {A : Type 0} (P : A → Type 0) (xs : List A) → All (λ x. 
 without_none P [] none = refl
 without_none P (x ∷ xs) none = inr (xs, All-head (λ y. ¬ (P y)) x xs none, without_none P xs (All-tail (λ y. ¬ (P y)) x xs none), refl)
 
-put_same : (port : Port) (ports : List Port) → All (λ p. p.id.0 ≡ port.id.0 → p ≡ port) ports → put_port port ports ≡ ports
+pub put_same : (port : Port) (ports : List Port) → All (λ p. p.id.0 ≡ port.id.0 → p ≡ port) ports → put_port port ports ≡ ports
 put_same port [] one = refl
 put_same port (p ∷ ports) one =
     let P = λ (q : Port). q.id.0 ≡ port.id.0 → q ≡ port in
     let here = cond_both (is_port port.id p) port p (λ (q : Port). q ≡ p) (λ is. sym (All-head P p ports one (eqb-true p.id.0 port.id.0 is))) (λ _. refl) in
     let more = put_same port ports (All-tail P p ports one) in
     cc
+
+-- an endpoint is put as it is
+pub put_found : (at : EpId) (port : Port) (r : Running) → ArePorts r.state.ports → port_at at r.state.ports ≡ Some port → with_port port r ≡ r
+put_found at port r are found =
+    ap (λ (ports : List Port). record r { state = record r.state { ports = ports } }) (put_same port r.state.ports (only_one at r.state.ports port are.ascending found))
 
 -- where no peer of an endpoint is expired, nothing happens
 pub none_expire : (at : EpId) (r : Running) → ArePorts r.state.ports → ((port : Port) → port_at at r.state.ports ≡ Some port → All (λ peer. ¬ (IsExpired r.state peer)) port.peers) → AtPort at IsPortExpiry r r
@@ -213,5 +218,5 @@ none_expire at r are none = by_port (port_at at r.state.ports) refl
     by_port (Some port) found = record {
       peers = port.peers;
       without = without_none (IsExpired r.state) port.peers (none port found);
-      gives = ap (λ (ports : List Port). record r { state = record r.state { ports = ports } }) (sym (put_same port r.state.ports (only_one at r.state.ports port are.ascending found)));
+      gives = sym (put_found at port r are found);
     }

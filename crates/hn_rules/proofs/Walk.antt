@@ -1,6 +1,7 @@
 -- The one walk over the rules: what each elementary change keeps, each rule keeps.
 use Rattle.std.proofs.Common.{◌≡◌, ◌<◌, ◌+◌, ◌%◌, ◌^◌, ℕ, Bool, true, false, cond, List, [], ◌∷◌, map, Option, Some, None, inl, inr, refl, sym, subst, arith}
-use Rattle.std.specs.Prelude.{Contains, is_some, find, ◌==◌}
+use Rattle.std.specs.Prelude.{Contains, is_some, find, nat_eq, ◌==◌}
+use Rattle.std.specs.Option.{option_eq}
 use Rattle.std.specs.Str.{bytes_eq}
 use Rattle.std.proofs.lemmas.Bool.{cond_both, eqb-false, eq-eqb}
 use Rattle.hn_base.specs.declared.caps.Caps.{Caps}
@@ -21,6 +22,7 @@ use Rattle.hn_store.specs.declared.state.Took.{Took}
 use Rattle.hn_store.specs.declared.state.Took.TheVariants as took
 use Rattle.hn_store.specs.Acceptance.{PlainState}
 use Rattle.hn_own.specs.Ports.{is_port, port_at, put_port, endpoints_of}
+use Rattle.hn_own.specs.Addresses.{OwnAddress, may_address}
 use Rattle.hn_own.specs.OwnPrefixes.{may_delegate}
 use Rattle.hn_rules.specs.declared.running.Running.{Running}
 use Rattle.hn_rules.specs.declared.running.Origin.{Origin}
@@ -40,8 +42,8 @@ use Rattle.hn_rules.specs.Arrival.{IsItemRule, IsTlvRule, IsTlvs, IsAnswering, I
 use Rattle.hn_rules.specs.Delegating.{delegating, withdrawing, ending}
 use Rattle.hn_rules.specs.Assigning.{IsAssigning}
 use Rattle.hn_rules.specs.Tick.{IsPortExpiry, IsExpiry, forgetting, IsPortMoving, IsPortSending, IsPortTick, IsPortsTick}
-use Rattle.hn_rules.specs.Events.{setting_caps, IsPortRestart, emptied, IsRestarting}
-use Rattle.hn_rules.specs.Changes.{IsSaid, Reset, Meet, Ask, Hear, Expire, Move, Begin, IsSender, Accept, Mark, Forget, Empty, Delegate, Withdraw, End, IsAnswerAbout, Change, ChangePort, ChangeTable, ChangePrefixes, PutReach, PutHash, PutPairs, ForgetPairs, PutId, PutClaimed, PutCaps, Publish, NameSender, AddAnswer, AddSends, TakeNote, TakeWords, change, Leads, EachKeeps}
+use Rattle.hn_rules.specs.Events.{setting_caps, setting_private, setting_addresses, IsPortRestart, emptied, IsRestarting}
+use Rattle.hn_rules.specs.Changes.{IsSaid, Reset, Meet, Ask, Hear, Expire, Move, Begin, IsSender, Accept, Mark, Forget, Empty, Delegate, Withdraw, End, IsPublishable, IsAnswerAbout, Change, ChangePort, ChangeTable, ChangePrefixes, PutReach, PutHash, PutPairs, ForgetPairs, PutPrivate, PutAddresses, PutId, PutClaimed, PutCaps, Publish, NameSender, AddAnswer, AddSends, TakeNote, TakeWords, change, Leads, EachKeeps}
 use Rattle.hn_rules.proofs.AtPorts.{found_id}
 use Rattle.hn_rules.proofs.Leads.{Keeps, keeps_plain, keeps_both, keeps_each, keeps_each_of, keeps_option, leads_keep}
 
@@ -52,7 +54,7 @@ found_own : (at : EpId) (port : Port) (ports : List Port) → port_at at ports �
 found_own at port ports found = subst (λ (id : EpId). port_at id ports ≡ Some port) (sym (found_id at port ports (sym found))) found
 
 -- and so is one that was put in its place
-found_put : (old next : Port) (ports : List Port) → port_at next.id ports ≡ Some old → port_at next.id (put_port next ports) ≡ Some next
+pub found_put : (old next : Port) (ports : List Port) → port_at next.id ports ≡ Some old → port_at next.id (put_port next ports) ≡ Some next
 found_put old next [] found = absurd cc
 found_put old next (p ∷ ports) found = by_test (is_port next.id p) refl found (found_put old next ports)
   where
@@ -127,12 +129,13 @@ module _ (tlvs : List PlainTlv) (P : Running → Type 0) (each : EachKeeps tlvs 
   first_claim number r a is p = publishes ((number + 1000) % 2 ^ 32) (omega arith) (change (PutClaimed true) r) a is.publishes (each (PutClaimed true) r tt p)
 
   second_claim : Keeps P IsSecondClaim
-  second_claim r a is p =
+  second_claim r a is =
       let id : NodeId = record { 0 = is.id } in
+      let own = is.publishes in
       let fits : is.id < 2 ^ 32 = let first = is.first.is_it in omega arith in
-      let claimed : Running = change (TakeWords (is.word ∷ [])) (change (PutClaimed false) (change (PutId id) r)) in
-      publishes 1 (omega arith) claimed a is.publishes
-      (by (PutId id ∷ PutClaimed false ∷ TakeWords (is.word ∷ []) ∷ []) r claimed ((fits, is.first.free), (tt, (tt, refl))) p)
+      let claimed : Running = change (PutClaimed false) (change (TakeWords (is.word ∷ [])) r) in
+      let may : IsPublishable claimed.state 1 own.own = record { fits = omega arith; data_is = own.data_is; items_are = own.items_are; born_is = own.born_is } in
+      by (TakeWords (is.word ∷ []) ∷ PutClaimed false ∷ PutId id 1 own.own ∷ []) r a (tt, (tt, ((fits, is.first.free, may), own.gives)))
 
   claim : (number : ℕ) → Keeps P (IsClaim number)
   claim number r a (inl first) = first_claim number r a first
@@ -272,6 +275,16 @@ module _ (tlvs : List PlainTlv) (P : Running → Type 0) (each : EachKeeps tlvs 
   pub caps_walk : (caps : Caps) → Keeps P (λ r a. a ≡ setting_caps caps r)
   caps_walk caps r a is = by (PutCaps caps ∷ []) r a (tt, is)
 
+  pub private_walk : (private : Option ℕ) → Keeps P (λ r a. a ≡ setting_private private r)
+  private_walk private r a is p = subst P (sym is) (by_test (option_eq nat_eq private r.state.private))
+    where
+      by_test : (same : Bool) → P (cond same r (change (PutPrivate private) r))
+      by_test true = p
+      by_test false = each (PutPrivate private) r tt p
+
+  pub addressing_walk : (list : List OwnAddress) (r : Running) → may_address list r.state.ports ≡ true → P r → P (setting_addresses list r)
+  addressing_walk list = each (PutAddresses list)
+
   beginning : AtEach IsPortRestart
   beginning port r a here is = by (ChangePort port (Begin is.word) ∷ TakeWords (is.word ∷ []) ∷ []) r a ((here, tt), (tt, is.gives))
 
@@ -279,4 +292,4 @@ module _ (tlvs : List PlainTlv) (P : Running → Type 0) (each : EachKeeps tlvs 
   restarting_walk r a h p =
       keeps_both P (Each (λ at. AtPort at IsPortRestart) (endpoints_of r.state.ports)) (Publishes 1)
       (at_ports IsPortRestart beginning (endpoints_of r.state.ports)) (publishes 1 (omega arith)) (emptied r) a h
-      (by (ChangeTable Empty ∷ ForgetPairs ∷ PutClaimed false ∷ []) r (emptied r) (tt, (tt, (tt, refl))) p)
+      (by (ChangeTable Empty ∷ ForgetPairs ∷ PutClaimed false ∷ PutAddresses [] ∷ []) r (emptied r) (tt, (tt, (tt, (refl, refl)))) p)

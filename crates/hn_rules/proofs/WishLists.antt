@@ -1,5 +1,5 @@
 -- The wishes of a router, as they are added one after another.
-use Rattle.std.proofs.Common.{◌≡◌, ◌∙◌, ◌<◌, ◌≤◌, ◌+◌, ◌↔◌, ◌⊎◌, ℕ, Bool, true, false, List, [], ◌∷◌, ◌++◌, length, take, get_or, Contains, Some, Decides, sym, ap, subst, inl, inr, refl, ⊎_elim, arith}
+use Rattle.std.proofs.Common.{◌≡◌, ◌∙◌, ◌<◌, ◌≤◌, ◌+◌, ◌↔◌, ◌⊎◌, ℕ, Bool, true, false, List, [], ◌∷◌, ◌++◌, length, take, get_or, Contains, Option, Some, Decides, sym, ap, subst, inl, inr, refl, ⊎_elim, arith}
 use Rattle.std.specs.List.{slice_get}
 use Rattle.std.specs.List.Sorted.{IsStrictlySortedBy}
 use Rattle.std.specs.Option.{option_map}
@@ -22,6 +22,7 @@ use Rattle.hn_link.specs.Laws.{CommonLinkIsUnique}
 use Rattle.hn_assign.specs.declared.assigned.Wish.{Wish}
 use Rattle.hn_assign.specs.declared.pair.Pair.{Pair}
 use Rattle.hn_assign.specs.Pair.{IsWished, wish_pair}
+use Rattle.hn_own.specs.Posts.{length_at}
 use Rattle.hn_rules.specs.declared.assigning.Post.{Post}
 use Rattle.hn_rules.specs.Assigning.{IsWishAt}
 use Rattle.hn_rules.specs.Posts.{HasCommonLink, endpoints_at}
@@ -46,18 +47,18 @@ posts_more view posts after post endpoints i d within is here link so_far links 
 abbrev pub HasAdded : Wish → List Wish → List Wish → Type 0
 HasAdded wish before after = (w : Wish) → Contains after w ↔ (Contains before w ⊎ (wish ≡ w))
 
-module _ (view : PlainView) (usable : List Delegated) where
+module _ (private : Option ℕ) (view : PlainView) (usable : List Delegated) where
   -- beside the first ones it has the wishes for one usable prefix and these endpoints
   abbrev pub HasAt : ℕ → List EpId → List Wish → List Wish → Type 0
-  HasAt place endpoints first wishes = (w : Wish) → Contains wishes w ↔ (Contains first w ⊎ (IsWishAt view usable place w × Contains endpoints w.endpoint))
+  HasAt place endpoints first wishes = (w : Wish) → Contains wishes w ↔ (Contains first w ⊎ (IsWishAt private view usable place w × Contains endpoints w.endpoint))
 
   -- it has those for so many usable prefixes and all endpoints
   abbrev pub HasBelow : List EpId → ℕ → List Wish → Type 0
-  HasBelow endpoints n wishes = (w : Wish) → Contains wishes w ↔ ((place : ℕ) × (place < n) × IsWishAt view usable place w × Contains endpoints w.endpoint)
+  HasBelow endpoints n wishes = (w : Wish) → Contains wishes w ↔ ((place : ℕ) × (place < n) × IsWishAt private view usable place w × Contains endpoints w.endpoint)
 
   -- each is for a usable prefix
   abbrev pub AreWishesAt : List Wish → Type 0
-  AreWishesAt wishes = (w : Wish) → Contains wishes w → (place : ℕ) × IsWishAt view usable place w
+  AreWishesAt wishes = (w : Wish) → Contains wishes w → (place : ℕ) × IsWishAt private view usable place w
 
   prefix_at : (p : ℕ) (u : Delegated) → slice_get usable p ≡ Some u → get_or (prefixes_of usable) p u.prefix ≡ u.prefix
   prefix_at p u at =
@@ -81,18 +82,18 @@ module _ (view : PlainView) (usable : List Delegated) where
 
     module _ (one_link : CommonLinkIsUnique) where
       -- a pair has one wish
-      pub one_wish : (p q : ℕ) (v w : Wish) → IsWishAt view usable p v → IsWishAt view usable q w → wish_pair v ≡ wish_pair w → v ≡ w
+      pub one_wish : (p q : ℕ) (v w : Wish) → IsWishAt private view usable p v → IsWishAt private view usable q w → wish_pair v ≡ wish_pair w → v ≡ w
       one_wish p q v w is other same =
           let prefix : v.delegated ≡ w.delegated = ap (λ (x : Pair). x.delegated) same in
           let endpoint : v.endpoint ≡ w.endpoint = ap (λ (x : Pair). x.endpoint) same in
           let place : p ≡ q = same_place p q is.delegated other.delegated is.at other.at (sym is.prefix ∙ prefix ∙ other.prefix) in
           let wanted : v.wanted ≡ w.wanted = same_from_decides v.wanted w.wanted (subst (λ (n : ℕ). Decides v.wanted (¬ (IsUnwanted usable n))) place is.wanted) other.wanted in
           let common : v.common ≡ w.common = one_link view w.endpoint.0 v.common w.common (subst (λ (e : EpId). IsCommonLink view e.0 v.common) endpoint is.common) other.common in
-          let long : v.length ≡ w.length = is.length ∙ sym other.length in
+          let long : v.length ≡ w.length = is.length ∙ ap (length_at private) endpoint ∙ sym other.length in
           λ i. record { delegated = prefix i; wanted = wanted i; endpoint = endpoint i; common = common i; length = long i }
 
       -- a wish is added, or its pair has it already
-      pub added_wish : (place : ℕ) (wish : Wish) (added : Bool) (before after : List Wish) → IsWishAt view usable place wish → AreWishesAt before
+      pub added_wish : (place : ℕ) (wish : Wish) (added : Bool) (before after : List Wish) → IsWishAt private view usable place wish → AreWishesAt before
           → (added ≡ true → HasAdded wish before after) → (added ≡ false → IsWished before (wish_pair wish)) → (added ≡ false → after ≡ before) → HasAdded wish before after
       added_wish place wish true before after is are new known same w = new refl w
       added_wish place wish false before after is are new known same w =
@@ -106,21 +107,21 @@ module _ (view : PlainView) (usable : List Delegated) where
 
       -- one endpoint more
       pub at_next : (place i : ℕ) (endpoints : List EpId) (e d : EpId) (wish : Wish) (first between after : List Wish) → i < length endpoints → e ≡ get_or endpoints i d
-          → IsWishAt view usable place wish → wish.endpoint ≡ e → HasAdded wish between after
+          → IsWishAt private view usable place wish → wish.endpoint ≡ e → HasAdded wish between after
           → HasAt place (take i endpoints) first between → HasAt place (take (i + 1) endpoints) first after
       at_next place i endpoints e d wish first between after within here is at_e adds so_far w =
           let more : take (i + 1) endpoints ≡ take i endpoints ++ e ∷ [] = take_more endpoints i d within ∙ ap (λ (x : EpId). take i endpoints ++ x ∷ []) (sym here) in
-          subst (λ (es : List EpId). Contains after w ↔ (Contains first w ⊎ (IsWishAt view usable place w × Contains es w.endpoint))) (sym more) (from, to)
+          subst (λ (es : List EpId). Contains after w ↔ (Contains first w ⊎ (IsWishAt private view usable place w × Contains es w.endpoint))) (sym more) (from, to)
         where
           All : Type 0
-          All = Contains first w ⊎ (IsWishAt view usable place w × Contains (take i endpoints ++ e ∷ []) w.endpoint)
+          All = Contains first w ⊎ (IsWishAt private view usable place w × Contains (take i endpoints ++ e ∷ []) w.endpoint)
 
           from : Contains after w → All
           from h = ⊎_elim
               (λ (old : Contains between w). ⊎_elim (λ (f : Contains first w). let a : All = inl f in a)
-              (λ (m : IsWishAt view usable place w × Contains (take i endpoints) w.endpoint). inr (m.0, Contains-append_left (take i endpoints) (e ∷ []) w.endpoint m.1)) ((so_far w).0 old))
+              (λ (m : IsWishAt private view usable place w × Contains (take i endpoints) w.endpoint). inr (m.0, Contains-append_left (take i endpoints) (e ∷ []) w.endpoint m.1)) ((so_far w).0 old))
               (λ (same : wish ≡ w). inr (
-                subst (IsWishAt view usable place) same is,
+                subst (IsWishAt private view usable place) same is,
                 Contains-append_right (take i endpoints) (e ∷ []) w.endpoint (subst (Contains (e ∷ [])) (sym at_e ∙ ap (λ (x : Wish). x.endpoint) same) (Contains-head e [])),
               ))
               ((adds w).0 h)
@@ -136,7 +137,7 @@ module _ (view : PlainView) (usable : List Delegated) where
               (Contains-cases e [] w.endpoint last))
               (Contains-append_cases (take i endpoints) (e ∷ []) w.endpoint there)
             where
-              same_prefix : IsWishAt view usable place w → wish.delegated ≡ w.delegated
+              same_prefix : IsWishAt private view usable place w → wish.delegated ≡ w.delegated
               same_prefix at =
                   let both : Some is.delegated ≡ Some at.delegated = sym is.at ∙ at.at in
                   let one : is.delegated ≡ at.delegated = cc in
@@ -145,10 +146,10 @@ module _ (view : PlainView) (usable : List Delegated) where
   -- the wishes so far, and those at a place
   pub are_at : (place : ℕ) (endpoints : List EpId) (first wishes : List Wish) → HasAt place endpoints first wishes → AreWishesAt first → AreWishesAt wishes
   are_at place endpoints first wishes so_far are w there =
-      ⊎_elim (are w) (λ (m : IsWishAt view usable place w × Contains endpoints w.endpoint). (place, m.0)) ((so_far w).0 there)
+      ⊎_elim (are w) (λ (m : IsWishAt private view usable place w × Contains endpoints w.endpoint). (place, m.0)) ((so_far w).0 there)
 
   pub at_none : (place : ℕ) (wishes : List Wish) → HasAt place [] wishes wishes
-  at_none place wishes w = (λ h. inl h, λ h. ⊎_elim (λ (f : Contains wishes w). f) (λ (m : IsWishAt view usable place w × Contains [] w.endpoint). absurd (nothing_in w.endpoint m.1)) h)
+  at_none place wishes w = (λ h. inl h, λ h. ⊎_elim (λ (f : Contains wishes w). f) (λ (m : IsWishAt private view usable place w × Contains [] w.endpoint). absurd (nothing_in w.endpoint m.1)) h)
 
   -- ---- one usable prefix after another
 
@@ -162,22 +163,22 @@ module _ (view : PlainView) (usable : List Delegated) where
   below_next endpoints n between after so_far adds w = (from, to)
     where
       More : Type 0
-      More = (place : ℕ) × (place < n + 1) × IsWishAt view usable place w × Contains endpoints w.endpoint
+      More = (place : ℕ) × (place < n + 1) × IsWishAt private view usable place w × Contains endpoints w.endpoint
 
       from : Contains after w → More
       from h = ⊎_elim
           (λ (old : Contains between w). let found = (so_far w).0 old in let less : found.0 < n + 1 = (let before = found.1 in omega arith) in let m : More = (found.0, less, found.2, found.3) in m)
-          (λ (m : IsWishAt view usable n w × Contains endpoints w.endpoint). (n, omega arith, m.0, m.1))
+          (λ (m : IsWishAt private view usable n w × Contains endpoints w.endpoint). (n, omega arith, m.0, m.1))
           ((adds w).0 h)
 
       to : More → Contains after w
       to (place, less, at, there) = ⊎_elim
           (λ (before : place < n). (adds w).1 (inl ((so_far w).1 (place, before, at, there))))
-          (λ (last : n ≤ place). let same : place ≡ n = omega arith in (adds w).1 (inr (subst (λ (p : ℕ). IsWishAt view usable p w) same at, there)))
+          (λ (last : n ≤ place). let same : place ≡ n = omega arith in (adds w).1 (inr (subst (λ (p : ℕ). IsWishAt private view usable p w) same at, there)))
           (cases_lt place n)
 
   pub below_all : (endpoints : List EpId) (n : ℕ) (wishes : List Wish) → length usable ≤ n → HasBelow endpoints n wishes
-      → (w : Wish) → Contains wishes w ↔ ((place : ℕ) × IsWishAt view usable place w × Contains endpoints w.endpoint)
+      → (w : Wish) → Contains wishes w ↔ ((place : ℕ) × IsWishAt private view usable place w × Contains endpoints w.endpoint)
   below_all endpoints n wishes all so_far w = (
     λ h. let found = (so_far w).0 h in (found.0, found.2, found.3),
     λ h. let at = h.1 in let within = slice_get_within usable h.0 at.delegated at.at in (so_far w).1 (h.0, omega arith, at, h.2),

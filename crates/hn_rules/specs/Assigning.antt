@@ -1,49 +1,48 @@
--- The assignment of prefixes to the links of the attached endpoints (RFC 7788, section 6.3).
-use Rattle.std.specs.Prelude.{◌≡◌, ℕ, ◌↔◌, IsTrue, List, Some, Contains}
+-- The assignment of prefixes to the links of a router's posts (RFC 7788, section 6.3).
+use Rattle.std.specs.Prelude.{◌≡◌, ℕ, ◌↔◌, IsTrue, List, Option, Some, Contains}
 use Rattle.std.specs.List.{slice_get}
 use Rattle.hn_data.specs.View.{PlainView}
 use Rattle.hn_deleg.specs.declared.delegated.Delegated.{Delegated}
 use Rattle.hn_deleg.specs.Used.{AreUsable, IsUnwanted}
-use Rattle.hn_dncp.specs.declared.port.Port.{Port}
 use Rattle.hn_link.specs.CommonLink.{IsCommonLink}
 use Rattle.hn_assign.specs.declared.assigned.Wish.{Wish}
 use Rattle.hn_assign.specs.declared.held.Ran.{Ran as Assigned}
-use Rattle.hn_assign.specs.Facts.{AreWishes}
+use Rattle.hn_assign.specs.Pair.{IsAscending, wish_pair}
 use Rattle.hn_assign.specs.Subroutine.{IsSubroutine}
 use Rattle.hn_rules.specs.declared.running.Running.{Running}
 use Rattle.hn_rules.specs.declared.state.State.{State}
-use Rattle.hn_own.specs.Ports.{is_attached}
+use Rattle.hn_own.specs.Posts.{posts_of, length_at}
 use Rattle.hn_rules.specs.Rules.{with_words}
 use Rattle.hn_rules.specs.Seen.{seen_by}
 
 -- what is asked for the pair of a usable delegated prefix, the one at a place of their list, and an endpoint: a prefix of
--- 64 bits, if the delegated prefix is wanted
-pub record IsWishAt (view : PlainView) (usable : List Delegated) (place : ℕ) (wish : Wish) : Type 0 where
+-- the length that the endpoint gets, if the delegated prefix is wanted
+pub record IsWishAt (private : Option ℕ) (view : PlainView) (usable : List Delegated) (place : ℕ) (wish : Wish) : Type 0 where
   pub delegated : Delegated
   pub at : slice_get usable place ≡ Some delegated
   pub prefix : wish.delegated ≡ delegated.prefix
   pub wanted : IsTrue wish.wanted ↔ ¬ (IsUnwanted usable place)
   pub common : IsCommonLink view wish.endpoint.0 wish.common
-  pub length : wish.length ≡ 64
+  pub length : wish.length ≡ length_at private wish.endpoint
 
--- and the endpoint is attached
-pub record IsWishFor (view : PlainView) (usable : List Delegated) (ports : List Port) (wish : Wish) : Type 0 where
+-- and the endpoint is one of the router's posts
+pub record IsWishFor (s : State) (usable : List Delegated) (wish : Wish) : Type 0 where
   pub place : ℕ
-  pub asked : IsWishAt view usable place wish
-  pub attached : IsTrue (is_attached wish.endpoint ports)
+  pub asked : IsWishAt s.private (seen_by s) usable place wish
+  pub post : Contains (posts_of s.private s.ports) wish.endpoint
 
 -- the wishes of a router: one for each pair, in ascending order
-pub record AreAsked (view : PlainView) (usable : List Delegated) (ports : List Port) (wishes : List Wish) : Type 0 where
-  pub are_wishes : AreWishes wishes
-  pub exact : (wish : Wish) → Contains wishes wish ↔ IsWishFor view usable ports wish
+pub record AreAsked (s : State) (usable : List Delegated) (wishes : List Wish) : Type 0 where
+  pub ascending : IsAscending wish_pair wishes
+  pub exact : (wish : Wish) → Contains wishes wish ↔ IsWishFor s usable wish
 
--- The assignment subroutine over all pairs of a usable delegated prefix and an attached endpoint; assignments that were
+-- The assignment subroutine over all pairs of a usable delegated prefix and a post of the router; assignments that were
 -- kept long enough are marked applied (RFC 7695, sections 4.1 and 4.3).
 pub record IsAssigned (s : State) (ran : Assigned) : Type 0 where
   pub usable : List Delegated
   pub are_usable : AreUsable (seen_by s) usable
   pub wishes : List Wish
-  pub are_asked : AreAsked (seen_by s) usable s.ports wishes
+  pub are_asked : AreAsked s usable wishes
   pub is_subroutine : IsSubroutine (seen_by s) wishes s.held ran
 
 -- the rule

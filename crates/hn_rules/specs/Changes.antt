@@ -27,7 +27,8 @@ use Rattle.hn_store.specs.Loss.{marked, remembered}
 use Rattle.hn_store.specs.declared.state.Took.{Took}
 use Rattle.hn_assign.specs.declared.held.Ran.{Ran as Assigned}
 use Rattle.hn_own.specs.Own.{IsOwnData, PlainData}
-use Rattle.hn_own.specs.HeldPairs.{no_pairs}
+use Rattle.hn_own.specs.Addresses.{OwnAddress, may_address}
+use Rattle.hn_own.specs.HeldPairs.{no_pairs, without_private}
 use Rattle.hn_own.specs.OwnPrefixes.{own_prefix, may_delegate, delegated_with, delegated_without, delegated_after}
 use Rattle.hn_own.specs.declared.own_prefixes.OwnPrefix.{OwnPrefix}
 use Rattle.hn_own.specs.Ports.{port_at}
@@ -160,8 +161,9 @@ pub record ArePacked (r : Running) (sends : List Outgoing) : Type 0 where
 
 -- ---- a change
 
--- of an endpoint, the table, the own delegated prefixes and other parts of the router; or something is published, the
--- sender is named, an answer comes up, datagrams are sent, a note or words are taken
+-- of an endpoint, the table, the own delegated prefixes and other parts of the router; or something is published, under
+-- the identifier that the router has or a new one; the sender is named, an answer comes up, datagrams are sent, a note or
+-- words are taken
 pub data Change : Type 0 where
   ChangePort : (port : Port) (how : PortChange) → Change
   ChangeTable : (how : TableChange) → Change
@@ -170,7 +172,9 @@ pub data Change : Type 0 where
   PutHash : Change
   PutPairs : (ran : Assigned) → Change
   ForgetPairs : Change
-  PutId : (id : NodeId) → Change
+  PutPrivate : (private : Option ℕ) → Change
+  PutAddresses : (list : List OwnAddress) → Change
+  PutId : (id : NodeId) (number : ℕ) (own : PlainData) → Change
   PutClaimed : (claimed : Bool) → Change
   PutCaps : (caps : Caps) → Change
   Publish : (number : ℕ) (own : PlainData) → Change
@@ -189,7 +193,12 @@ change (PutReach reach) r = record r { state = record r.state { reach = reach } 
 change PutHash r = record r { state = record r.state { net = network_state_hash r.state } }
 change (PutPairs ran) r = record r { state = record r.state { held = ran.held } }
 change ForgetPairs r = record r { state = record r.state { held = no_pairs } }
-change (PutId id) r = record r { state = record r.state { id = id } }
+change (PutPrivate private) r = record r { state = record r.state { private = private; held = without_private r.state.held } }
+change (PutAddresses list) r = record r { state = record r.state { addresses = list } }
+change (PutId id number own) r = record r {
+  state = record r.state { id = id; number = number; own = own };
+  done = record r.done { published = r.done.published ++ record { id = id; number = number; body = own.body } ∷ [] };
+}
 change (PutClaimed claimed) r = record r { state = record r.state { claimed = claimed } }
 change (PutCaps caps) r = record r { state = record r.state { caps = caps } }
 change (Publish number own) r = record r {
@@ -202,14 +211,16 @@ change (AddSends sends) r = record r { done = record r.done { sends = r.done.sen
 change (TakeNote note) r = noted note r
 change (TakeWords words) r = with_words words r
 
--- when a rule makes it: an endpoint is one that is attached, what is reachable is so, and an identifier is free
+-- when a rule makes it: an endpoint is one that is attached, what is reachable is so, own addresses may be such, and an
+-- identifier is free
 abbrev pub IsAllowed : List PlainTlv → Change → Running → Type 0
 IsAllowed tlvs (ChangePort port how) r = (port_at port.id r.state.ports ≡ Some port) × MayChangePort tlvs how r port
 IsAllowed tlvs (ChangeTable how) r = MayChangeTable tlvs how r.state
 IsAllowed tlvs (ChangePrefixes how) r = MayChangePrefixes how r.state
 IsAllowed tlvs (PutReach reach) r = IsReach r.state reach
 IsAllowed tlvs (PutPairs ran) r = IsAssigned r.state ran
-IsAllowed tlvs (PutId id) r = (id.0 < 2 ^ 32) × (is_taken id.0 r.state ≡ false)
+IsAllowed tlvs (PutAddresses list) r = may_address list r.state.ports ≡ true
+IsAllowed tlvs (PutId id number own) r = (id.0 < 2 ^ 32) × (is_taken id.0 r.state ≡ false) × IsPublishable r.state number own
 IsAllowed tlvs (Publish number own) r = IsPublishable r.state number own
 IsAllowed tlvs (NameSender node endpoint) r = IsSender tlvs r.state node endpoint
 IsAllowed tlvs (AddAnswer about i) r = IsAnswerAbout about r.state i

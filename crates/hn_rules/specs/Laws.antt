@@ -1,5 +1,5 @@
 -- Laws of the rules, and of what holds of a router.
-use Rattle.std.specs.Prelude.{◌≡◌, ◌↔◌, ℕ, ◌<◌, ◌≤◌, true, List, [], length, Contains, Some}
+use Rattle.std.specs.Prelude.{◌≡◌, ◌↔◌, ℕ, ◌^◌, ◌<◌, ◌≤◌, true, List, [], length, Contains, Some}
 use Rattle.hn_base.specs.declared.ids.EpId.{EpId}
 use Rattle.hn_base.specs.declared.ids.NodeId.{NodeId}
 use Rattle.hn_base.specs.Prefix.{PlainPrefix}
@@ -7,28 +7,42 @@ use Rattle.hn_hash.specs.Network.{network_hash, AreNumbered}
 use Rattle.hn_tlv.specs.Grammar.{PlainTlv}
 use Rattle.hn_typed.specs.Item.{PlainItem}
 use Rattle.hn_data.specs.Items.{Reads}
+use Rattle.hn_data.specs.Peers.{HasPeer}
 use Rattle.hn_data.specs.Said.{HasAssigned}
 use Rattle.hn_data.specs.View.{IsNetwork}
 use Rattle.hn_data.specs.declared.said.AssignedPrefix.{AssignedPrefix}
+use Rattle.hn_data.specs.declared.said.PeerLink.{PeerLink}
 use Rattle.hn_data.specs.declared.view.Entry.{Entry}
+use Rattle.hn_link.specs.CommonLink.{IsOnCommonLink}
+use Rattle.hn_own.specs.Addresses.{OwnAddress, may_address}
 use Rattle.hn_own.specs.HeldPairs.{published_in}
 use Rattle.hn_own.specs.Own.{items_of}
 use Rattle.hn_own.specs.OwnPrefixes.{may_delegate}
-use Rattle.hn_own.specs.Ports.{endpoints_of}
+use Rattle.hn_own.specs.Ports.{ArePorts, endpoints_of}
+use Rattle.hn_own.specs.Posts.{private_post}
 use Rattle.hn_store.specs.Nodes.{held}
 use Rattle.hn_store.specs.declared.stored.Stored.{Stored}
+use Rattle.hn_rules.specs.declared.done.Done.{Done}
+use Rattle.hn_rules.specs.declared.done.Publication.{Publication}
 use Rattle.hn_rules.specs.declared.running.Running.{Running}
 use Rattle.hn_rules.specs.declared.state.State.{State}
 use Rattle.hn_rules.specs.Assigning.{IsAssigning}
 use Rattle.hn_rules.specs.Changes.{IsOfChanges, EachKeeps}
 use Rattle.hn_rules.specs.Delegating.{delegating}
+use Rattle.hn_rules.specs.Done.{nothing}
 use Rattle.hn_rules.specs.Due.{IsDueAt, IsNextDue}
-use Rattle.hn_rules.specs.Events.{IsAttaching}
+use Rattle.hn_rules.specs.Events.{IsAttaching, setting_addresses}
+use Rattle.hn_rules.specs.Genuine.{TlvsSayPublished, IsGenuineOrCollides}
+use Rattle.hn_rules.specs.Grows.{GrowsFrom}
+use Rattle.hn_rules.specs.Idle.{IsIdleTick, IsLeft}
+use Rattle.hn_rules.specs.Lengths.{AreShort}
 use Rattle.hn_rules.specs.Nodes.{held_entry, own_entry, entry_of, leaves_of, view_of, IsReach}
 use Rattle.hn_rules.specs.Refresh.{IsRefresh}
-use Rattle.hn_rules.specs.Router.{IsWell, IsRouter}
-use Rattle.hn_rules.specs.Rules.{Rule}
+use Rattle.hn_rules.specs.Router.{IsWell, IsHashed, IsRouter}
+use Rattle.hn_rules.specs.Rules.{Rule, begun_at}
+use Rattle.hn_rules.specs.Seen.{seen_by}
 use Rattle.hn_rules.specs.Still.{at_moment, IsUneventful, IsStill}
+use Rattle.hn_rules.specs.Ticks.{IsTick}
 
 -- ---- what a router is
 
@@ -76,6 +90,15 @@ pub record EntriesAreAsKnown : Type 0 where
 abbrev pub RouterStaysLater : Type 0
 RouterStaysLater = (now : ℕ) (s : State) → IsRouter s → s.moment ≤ now → IsRouter (record s { moment = now })
 
+-- Each own Peer that a router has published is of an attached endpoint.
+abbrev pub OwnPeersAreOfEndpoints : Type 0
+OwnPeersAreOfEndpoints = (s : State) (link : PeerLink) → IsRouter s → HasPeer s.own.body link → Contains (endpoints_of s.ports) link.endpoint
+
+-- The private post is alone on its Common Link.
+abbrev pub PrivatePostIsAlone : Type 0
+PrivatePostIsAlone =
+    (s : State) (at : NodeId × EpId) → IsRouter s → IsOnCommonLink (seen_by s) 0 at → (at.0 ≡ s.id) × (at.1 ≡ private_post)
+
 -- ---- when something is due
 
 -- The moment at which something is next due is one.
@@ -99,6 +122,26 @@ StillStays =
     → ((m : ℕ) → IsDueAt (at_moment now s) m → now < m → later < m)
     → IsStill later s
 
+-- Where each part of a tick leaves a router as it is, the tick does nothing.
+abbrev pub StillIsIdle : Type 0
+StillIsIdle = (s : State) (now : ℕ) → IsRouter s → s.moment ≤ now → IsStill now s → IsIdleTick now s
+
+-- Where a tick does nothing, each part of it left the router as it is.
+abbrev pub IdleIsStill : Type 0
+IdleIsStill = (s : State) (now : ℕ) → IsRouter s → s.moment ≤ now → IsIdleTick now s → IsStill now s
+
+-- Where nothing came of a tick that ran, and it left these parts as they were, each part of it left the router as it is.
+abbrev pub SilentTickIsStill : Type 0
+SilentTickIsStill =
+    (s : State) (now : ℕ) (after : Running) → IsRouter s → s.moment ≤ now → IsTick (begun_at now s) after → after.done ≡ nothing
+    → IsLeft now s after.state → IsStill now s
+
+-- Where a tick does nothing, so it is until something is due, and what is next due stays.
+abbrev pub IdleUntilDue : Type 0
+IdleUntilDue =
+    (s : State) (later due : ℕ) → IsRouter s → s.moment ≤ later → later < due → IsIdleTick s.moment s → IsNextDue s due
+    → IsIdleTick later s × IsNextDue (at_moment later s) due
+
 -- ---- what a rule keeps
 
 -- what holds of a router
@@ -115,13 +158,13 @@ KeepsEndpoints rule =
     (before after : Running) → rule before after
     → (after.state.moment ≡ before.state.moment) × (endpoints_of after.state.ports ≡ endpoints_of before.state.ports)
 
--- how many nodes the table may hold
-abbrev pub KeepsLimit : Rule → Type 0
-KeepsLimit rule = (before after : Running) → rule before after → after.state.table.limit ≡ before.state.table.limit
-
 -- A refresh makes a router of a state of which the rest holds.
 abbrev pub RefreshMakesRouter : Type 0
 RefreshMakesRouter = (before after : Running) → IsRefresh before after → IsWell before.state → IsRouter after.state
+
+-- Right after a refresh another changes nothing.
+abbrev pub RefreshRests : Type 0
+RefreshRests = (before after : Running) → ArePorts before.state.ports → IsRefresh before after → IsRefresh after after
 
 -- A router stays one, but for what a refresh makes, while prefixes are assigned.
 abbrev pub AssigningKeeps : Type 0
@@ -133,11 +176,17 @@ DelegatingKeeps =
     (prefix : PlainPrefix) (valid preferred : ℕ) (before : Running) → may_delegate prefix before.state.delegated ≡ true
     → IsWell before.state → IsWell (delegating prefix valid preferred before).state
 
--- An endpoint other than 0 may be attached where there are fewer than 16.
+-- An endpoint of a number of 4 bytes other than 0 may be attached where there are fewer than 16.
 abbrev pub AttachingKeeps : Type 0
 AttachingKeeps =
-    (at : EpId) (before after : Running) → 0 < at.0 → length before.state.ports < 16 → IsAttaching at before after
+    (at : EpId) (before after : Running) → 0 < at.0 → at.0 < 2 ^ 32 → length before.state.ports < 16 → IsAttaching at before after
     → IsWell before.state → IsWell after.state
+
+-- A list may be set as the own addresses where it may be such.
+abbrev pub AddressingKeeps : Type 0
+AddressingKeeps =
+    (list : List OwnAddress) (before : Running) → may_address list before.state.ports ≡ true
+    → IsWell before.state → IsWell (setting_addresses list before).state
 
 -- ---- elementary changes
 
@@ -151,6 +200,37 @@ DelegatingMakesChanges =
     (prefix : PlainPrefix) (valid preferred : ℕ) (before : Running) → may_delegate prefix before.state.delegated ≡ true
     → IsOfChanges [] before (delegating prefix valid preferred before)
 
+-- A list is set as the own addresses so, where it may be such.
+abbrev pub AddressingMakesChanges : Type 0
+AddressingMakesChanges =
+    (list : List OwnAddress) (before : Running) → may_address list before.state.ports ≡ true
+    → IsOfChanges [] before (setting_addresses list before)
+
 -- Each elementary change keeps what holds of a router beside what a refresh makes.
 abbrev pub ChangesKeepWell : Type 0
 ChangesKeepWell = (tlvs : List PlainTlv) → EachKeeps tlvs (λ r. IsWell r.state)
+
+-- It keeps how many nodes the table may hold.
+abbrev pub ChangesKeepLimit : Type 0
+ChangesKeepLimit = (tlvs : List PlainTlv) (limit : ℕ) → EachKeeps tlvs (λ r. r.state.table.limit ≡ limit)
+
+-- It takes back nothing that came of the event before it.
+abbrev pub ChangesOnlyAdd : Type 0
+ChangesOnlyAdd = (tlvs : List PlainTlv) (done : Done) → EachKeeps tlvs (GrowsFrom done)
+
+-- A router's network state hash is one, and each elementary change keeps that.
+abbrev pub RouterIsHashed : Type 0
+RouterIsHashed = (s : State) → IsRouter s → IsHashed s
+
+abbrev pub ChangesKeepHashed : Type 0
+ChangesKeepHashed = (tlvs : List PlainTlv) → EachKeeps tlvs (λ r. IsHashed r.state)
+
+-- What is answered and sent stays short.
+abbrev pub ChangesKeepShort : Type 0
+ChangesKeepShort = (tlvs : List PlainTlv) → EachKeeps tlvs (λ r. IsHashed r.state × AreShort r)
+
+-- Where the TLVs that arrive say what was published, so does a router with what it holds, answers and sends; or two texts
+-- that were published collide.
+abbrev pub ChangesKeepGenuine : Type 0
+ChangesKeepGenuine =
+    (past : List Publication) (tlvs : List PlainTlv) → TlvsSayPublished past tlvs → EachKeeps tlvs (IsGenuineOrCollides past)

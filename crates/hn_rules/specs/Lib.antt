@@ -14,9 +14,14 @@ pub mod Arrival
 pub mod Delegating
 pub mod Assigning
 pub mod Tick
+pub mod Ticks
 pub mod Due
 pub mod Still
+pub mod Idle
 pub mod Events
 pub mod Changes
 pub mod Router
+pub mod Grows
+pub mod Lengths
+pub mod Genuine
 pub mod Laws

@@ -17,10 +17,16 @@ use Rattle.hn_rules.specs.Nodes.{IsReach, parts_of}
 use Rattle.hn_base.specs.Rules.{Then, Each}
 use Rattle.hn_rules.specs.Rules.{Rule, AtPort, with_words, with_port}
 
--- the own items as they are now: the capabilities, a Peer for each peer of each endpoint, the own delegated prefixes, and
--- the assignments that are published
+-- the own items as they are now: the capabilities, a Peer for each peer of each endpoint, the own delegated prefixes, the
+-- assignments that are published, and the own addresses
 abbrev pub own_items : State → OwnItems
-own_items s = record { caps = s.caps; links = links_of s.ports; delegated = s.delegated; assigned = published_in s.held.assigned }
+own_items s = record {
+  caps = s.caps;
+  links = links_of s.ports;
+  delegated = s.delegated;
+  assigned = published_in s.held.assigned;
+  addresses = s.addresses;
+}
 
 -- the router publishes its present items with this sequence number; the age of its node data is 0 then
 pub record Publishes (number : ℕ) (before after : Running) : Type 0 where

@@ -1,5 +1,6 @@
 -- What holds of a router after each event.
-use Rattle.std.specs.Prelude.{◌≡◌, ℕ, ◌^◌, ◌<◌, ◌≤◌, is_none, Option, None, Some, All}
+use Rattle.std.specs.Prelude.{◌≡◌, ℕ, ◌-◌, ◌^◌, ◌<◌, ◌≤◌, is_none, IsTrue, Option, None, Some, All}
+use Rattle.hn_typed.specs.Fields.{IsHash}
 use Rattle.hn_dncp.specs.Peers.{ArePeers}
 use Rattle.hn_dncp.specs.declared.port.Port.{Port}
 use Rattle.hn_store.specs.Nodes.{held, IsTable}
@@ -7,10 +8,11 @@ use Rattle.hn_store.specs.Loss.{is_among}
 use Rattle.hn_store.specs.declared.stored.HeldNode.{HeldNode}
 use Rattle.hn_rules.specs.declared.state.State.{State}
 use Rattle.hn_assign.specs.Facts.{IsAssignedPast}
-use Rattle.hn_own.specs.Own.{IsOwnData}
+use Rattle.hn_own.specs.Addresses.{AreAddresses}
+use Rattle.hn_own.specs.Own.{IsOwnData, links_of}
 use Rattle.hn_own.specs.OwnPrefixes.{AreOwnPrefixes}
 use Rattle.hn_own.specs.HeldPairs.{AreHeldPairs}
-use Rattle.hn_own.specs.Ports.{ArePorts}
+use Rattle.hn_own.specs.Ports.{ArePorts, is_attached}
 use Rattle.hn_rules.specs.Nodes.{IsReach}
 use Rattle.hn_rules.specs.Refresh.{own_items, network_state_hash}
 
@@ -38,10 +40,21 @@ pub record IsPast (s : State) : Type 0 where
   pub nodes : All (IsNodePast s.moment) s.table.entries
   pub assigned : All (IsAssignedPast s.moment) s.held.assigned
 
--- the sequence numbers have 32 bits
+-- the sequence numbers and the identifiers have 32 bits
 pub record IsNumbered (s : State) : Type 0 where
   pub own : s.number < 2 ^ 32
   pub held : All (λ node. node.stored.number < 2 ^ 32) s.table.entries
+  pub own_id : s.id.0 < 2 ^ 32
+  pub held_ids : All (λ node. node.id.0 < 2 ^ 32) s.table.entries
+
+-- The own addresses and the private post fit the router. No Peer of the node data published last is of endpoint 0, so the
+-- private post is alone on its link.
+pub record IsPosted (s : State) : Type 0 where
+  -- each own address is of an attached endpoint
+  pub addressed : All (λ a. IsTrue (is_attached a.0 s.ports)) s.addresses
+  -- each assignment of the private post has the private length
+  pub of_length : All (λ c. c.endpoint.0 ≡ 0 → Some c.prefix.len ≡ s.private) s.held.assigned
+  pub linked : All (λ link. 0 < link.endpoint.0) s.own.items.links
 
 -- What each rule keeps: the containers' facts, the own identifier is not held, and moments and numbers are in range.
 pub record IsWell (s : State) : Type 0 where
@@ -52,8 +65,15 @@ pub record IsWell (s : State) : Type 0 where
   pub delegated : AreOwnPrefixes s.delegated
   pub other : held s.table.entries s.id.0 ≡ None
   pub pairs : AreHeldPairs s.held
+  pub addresses : AreAddresses s.addresses
+  pub posted : IsPosted s
   pub numbered : IsNumbered s
   pub past : IsPast s
+
+-- What each rule keeps, and the network state hash is one of 8 bytes.
+pub record IsHashed (s : State) : Type 0 where
+  pub well : IsWell s
+  pub hash : IsHash s.net
 
 -- the reachable nodes are those of some moment that is not after the router's
 pub record WasReach (s : State) : Type 0 where
@@ -68,6 +88,18 @@ pub record IsRefreshed (s : State) : Type 0 where
   pub reached : WasReach s
   pub lost : All (λ node. is_among s.reach node.id.0 ≡ is_none node.stored.lost) s.table.entries
   pub hashed : s.net ≡ network_state_hash s
+
+-- What a refresh makes, at the moment of the refresh: the same nodes are reachable, and the own node data are young. So
+-- another refresh changes nothing.
+pub record IsFresh (s : State) : Type 0 where
+  pub refreshed : IsRefreshed s
+  pub reached : IsReach s s.reach
+  pub young : s.moment - s.own.born < 2 ^ 32 - 2 ^ 16
+
+-- only endpoints have changed, and nothing that the router says of their peers
+pub record IsUntouched (before after : State) : Type 0 where
+  pub links : links_of after.ports ≡ links_of before.ports
+  pub gives : after ≡ record before { ports = after.ports }
 
 -- what holds of a router after each event
 pub record IsRouter (s : State) : Type 0 where

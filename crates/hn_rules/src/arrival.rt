@@ -1,13 +1,13 @@
 //! The TLVs of a datagram: a rule for each kind, and a refresh after each TLV.
 
-ghost use Rattle.std.specs.Prelude.{◌≡◌, ℕ, List, IfOk, OnOk, map, false};
+ghost use Rattle.std.specs.Prelude.{◌≡◌, ℕ, List, IfOk, OnOk, map, true, false};
 ghost use Rattle.hn_tlv.specs.Grammar.{PlainTlv, IsTlvList, HasTlvs};
 ghost use Rattle.hn_tlv.specs.View.{plain};
 ghost use Rattle.hn_typed.specs.View.{plain_item};
 ghost use Rattle.hn_base.specs.Rules.{Then};
 ghost use Rattle.hn_rules.specs.Rules.{Ran};
 ghost use Rattle.hn_rules.specs.Refresh.{IsRefresh};
-ghost use Rattle.hn_rules.specs.Router.{IsRefreshed};
+ghost use Rattle.hn_rules.specs.Router.{IsRefreshed, IsFresh, IsUntouched};
 ghost use Rattle.hn_rules.specs.Arrival.{IsItemRule, IsTlvRule, IsTlvs, IsAnswering, IsArrival};
 
 use crate::done::Note;
@@ -27,7 +27,7 @@ mod node_state;
 mod requests;
 
 impl Running {
-    /// The rule of an item: whether it touched what a refresh makes.
+    /// The rule of an item: whether it touched what a refresh reads.
     fn item<D: Draw>(
         &mut self,
         alloc: Global,
@@ -36,7 +36,7 @@ impl Running {
         draw: &mut D,
     ) -> Result<bool, NoMemory>
         ensures ran { OnOk result (Ran (IsItemRule from.now (plain_item item.now)) (D.words draw.old) (D.words draw.new) self.old self.new) }
-        ensures untouched { IfOk result (λ touched. touched ≡ false → IsRefreshed self.old.state → IsRefreshed self.new.state) }
+        ensures untouched { IfOk result (λ touched. touched ≡ false → IsUntouched self.old.state self.new.state) }
     {
         let _kept = self.state.ports.get().as_slice();
         match *item {
@@ -75,7 +75,7 @@ impl Running {
         }
     }
 
-    /// A TLV: the rule of its item; one that the item table refuses is noted. Whether it touched what a refresh makes.
+    /// A TLV: the rule of its item; one that the item table refuses is noted. Whether it touched what a refresh reads.
     fn tlv<D: Draw>(
         &mut self,
         alloc: Global,
@@ -84,7 +84,7 @@ impl Running {
         draw: &mut D,
     ) -> Result<bool, NoMemory>
         ensures ran { OnOk result (Ran (IsTlvRule from.now (plain tlv.now)) (D.words draw.old) (D.words draw.new) self.old self.new) }
-        ensures untouched { IfOk result (λ touched. touched ≡ false → IsRefreshed self.old.state → IsRefreshed self.new.state) }
+        ensures untouched { IfOk result (λ touched. touched ≡ false → IsUntouched self.old.state self.new.state) }
     {
         match read(tlv) {
             Ok(item) => self.item(alloc, from, &item, draw),
@@ -98,19 +98,25 @@ impl Running {
         }
     }
 
-    /// A TLV, and a refresh after it.
+    /// A TLV, and a refresh after it. Where the last refresh was at this moment and the TLV touches nothing that a refresh
+    /// reads, another changes nothing and is left out.
     fn tlv_and_refresh<D: Draw>(
         &mut self,
         alloc: Global,
         from: &Origin,
         tlv: &Tlv<'_>,
+        fresh: bool,
         draw: &mut D,
     ) -> Result<(), NoMemory>
-        requires { IsRefreshed self.old.state }
+        requires refreshed { IsRefreshed self.old.state }
+        requires fresh { fresh ≡ true → IsFresh self.old.state }
         ensures ran { OnOk result (Ran (Then (IsTlvRule from.now (plain tlv.now)) IsRefresh) (D.words draw.old) (D.words draw.new) self.old self.new) }
-        ensures refreshed { OnOk result (IsRefreshed self.new.state) }
+        ensures fresh { OnOk result (IsFresh self.new.state) }
     {
         let touched = self.tlv(alloc, from, tlv, draw)?;
+        if fresh && !touched {
+            return Ok(());
+        }
         self.refresh(alloc, touched, draw)
     }
 
@@ -131,9 +137,11 @@ impl Running {
         fault_after_list();
         first_fault_is_unique();
         let mut place = 0;
+        let mut fresh = false;
         while let Ok(Some((tlv, after))) = next(bytes, place) {
-            self.tlv_and_refresh(alloc, from, &tlv, draw)?;
+            self.tlv_and_refresh(alloc, from, &tlv, fresh, draw)?;
             place = after;
+            fresh = true;
         }
         Ok(())
     }

@@ -1,13 +1,12 @@
-//! The assignment of prefixes to the links of the attached endpoints (RFC 7788, section 6.3).
+//! The assignment of prefixes to the links of a router's posts (RFC 7788, section 6.3).
 
-ghost use Rattle.std.specs.Prelude.{◌≡◌, ◌<◌, ◌⊎◌, ◌↔◌, ℕ, false, length, All, Contains, IfOk, OnOk};
+ghost use Rattle.std.specs.Prelude.{◌≡◌, ◌<◌, ◌≤◌, ◌⊎◌, ◌↔◌, ℕ, false, length, All, Contains, IfOk, OnOk};
 ghost use Rattle.hn_data.specs.View.{IsNetwork, plain_view};
 ghost use Rattle.hn_deleg.specs.Used.{AreUsable};
 ghost use Rattle.hn_base.specs.Words.{Took};
 ghost use Rattle.hn_assign.specs.declared.assigned.Wish.{Wish};
 ghost use Rattle.hn_assign.specs.Subroutine.{IsSubroutine};
 ghost use Rattle.hn_rules.specs.Nodes.{view_of};
-ghost use Rattle.hn_own.specs.Ports.{endpoints_of};
 ghost use Rattle.hn_rules.specs.Router.{IsRouter, IsRefreshed};
 ghost use Rattle.hn_rules.specs.Rules.{Ran};
 ghost use Rattle.hn_rules.specs.Seen.{seen_by};
@@ -19,16 +18,13 @@ use crate::laws::view_is_a_network;
 use crate::running::Running;
 use crate::state::State;
 use hn_assign::{Wish, Wishes, pairs_are_ordered, subroutine, subroutine_leaves};
-use hn_base::{Endpoints, EpId, NoMemory, Shared};
+use hn_base::{Endpoints, EpId, LinkLength, NoMemory, Shared};
 use hn_data::View;
 use hn_deleg::{Delegated, used, wanted};
 use hn_io::Draw;
 use hn_link::{common, common_link_is_unique};
-use hn_own::HeldPairs;
+use hn_own::{HeldPairs, length_at, posts_ascend};
 use std::alloc::Global;
-
-/// The length of the prefixes that links get.
-pub const LINK_LENGTH: u8 = 64;
 
 /// An endpoint and its Common Link, which is found once for all pairs of the endpoint.
 #[derive(Drop)]
@@ -56,6 +52,7 @@ fn posts_of(alloc: Global, view: &View<'_>, endpoints: &[EpId]) -> Result<Vec<Po
 /// What is asked for the pair of a usable delegated prefix and an endpoint.
 fn wish_at(
     alloc: Global,
+    private: &Option<LinkLength>,
     view: &View<'_>,
     usable: &[Delegated],
     place: usize,
@@ -63,7 +60,9 @@ fn wish_at(
 ) -> Result<Wish, NoMemory>
     requires there { place < length usable.now }
     requires common { HasCommonLink (plain_view view.now) post.now }
-    ensures wish { IfOk result (IsWishAt (plain_view view.entry.now) usable.now place) }
+    ensures wish { IfOk result (IsWishAt private.now (plain_view view.entry.now) usable.now place) }
+    ensures some { IfOk result (λ wish. 1 ≤ wish.length) }
+    ensures in_range { IfOk result (λ wish. wish.length ≤ 64) }
     ensures endpoint { IfOk result (λ wish. wish.endpoint ≡ post.now.endpoint) }
 {
     Ok(Wish {
@@ -71,7 +70,7 @@ fn wish_at(
         wanted: wanted(usable, place),
         endpoint: post.endpoint,
         common: post.common.copy(alloc)?,
-        length: LINK_LENGTH,
+        length: length_at(*private, post.endpoint),
     })
 }
 
@@ -79,6 +78,7 @@ fn wish_at(
 fn add_wishes(
     alloc: Global,
     wishes: &mut Wishes,
+    private: &Option<LinkLength>,
     view: &View<'_>,
     usable: &[Delegated],
     place: usize,
@@ -87,13 +87,13 @@ fn add_wishes(
     requires there { place < length usable.now }
     requires usable { AreUsable (plain_view view.now) usable.now }
     requires common { All (HasCommonLink (plain_view view.now)) posts.now }
-    requires asked { (wish : Wish) → Contains wishes.old wish → (other : ℕ) × IsWishAt (plain_view view.now) usable.now other wish }
+    requires asked { (wish : Wish) → Contains wishes.old wish → (other : ℕ) × IsWishAt private.now (plain_view view.now) usable.now other wish }
     ensures { OnOk result ((wish : Wish) → Contains wishes.new wish
-        ↔ (Contains wishes.old wish ⊎ (IsWishAt (plain_view view.entry.now) usable.now place wish × Contains (endpoints_at posts.now) wish.endpoint))) }
+        ↔ (Contains wishes.old wish ⊎ (IsWishAt private.now (plain_view view.entry.now) usable.now place wish × Contains (endpoints_at posts.now) wish.endpoint))) }
 {
     common_link_is_unique();
     for post in posts {
-        let wish = wish_at(alloc, view, usable, place, post)?;
+        let wish = wish_at(alloc, private, view, usable, place, post)?;
         wishes.add(wish)?;
     }
     Ok(())
@@ -102,6 +102,7 @@ fn add_wishes(
 /// The wishes for each usable delegated prefix and each endpoint.
 fn all_wishes(
     alloc: Global,
+    private: &Option<LinkLength>,
     view: &View<'_>,
     usable: &[Delegated],
     endpoints: &[EpId],
@@ -109,19 +110,22 @@ fn all_wishes(
     requires usable { AreUsable (plain_view view.now) usable.now }
     requires network { IsNetwork view.now.own.0 view.now.nodes.now }
     ensures { IfOk result (λ wishes. (wish : Wish) → Contains wishes wish
-        ↔ ((place : ℕ) × IsWishAt (plain_view view.entry.now) usable.now place wish × Contains endpoints.now wish.endpoint)) }
+        ↔ ((place : ℕ) × IsWishAt private.now (plain_view view.entry.now) usable.now place wish × Contains endpoints.now wish.endpoint)) }
 {
-    let posts = posts_of(alloc, view, endpoints)?;
     let mut wishes = Wishes::new(alloc);
+    if usable.is_empty() {
+        return Ok(wishes);
+    }
+    let posts = posts_of(alloc, view, endpoints)?;
     for place in 0..usable.len() {
-        add_wishes(alloc, &mut wishes, view, usable, place, &posts)?;
+        add_wishes(alloc, &mut wishes, private, view, usable, place, &posts)?;
     }
     Ok(wishes)
 }
 
 impl State {
-    /// What the router asks, as it sees the network.
-    fn wishes(
+    /// What the router asks, in this view of the network.
+    fn wishes_in(
         &self,
         alloc: Global,
         view: &View<'_>,
@@ -130,12 +134,24 @@ impl State {
         requires view { plain_view view.now ≡ seen_by self.now }
         requires usable { AreUsable (seen_by self.now) usable.now }
         requires network { IsNetwork self.now.id.0 (view_of self.now) }
-        ensures { IfOk result (AreAsked (seen_by self.now) usable.now self.now.ports) }
+        ensures { IfOk result (AreAsked self.now usable.now) }
     {
-        let endpoints = self.ports.get().endpoints(alloc)?;
-        let wishes = all_wishes(alloc, view, usable, endpoints.as_slice())?;
+        let posts = self.ports.get().posts(alloc, self.private)?;
+        let wishes = all_wishes(alloc, &self.private, view, usable, posts.as_slice())?;
         let _kept = wishes.as_slice();
         Ok(wishes)
+    }
+
+    /// What the router asks, as it sees the network: a wish for each pair of a usable delegated prefix and a post.
+    pub fn wishes(&self, alloc: Global, usable: &[Delegated]) -> Result<Wishes, NoMemory>
+        requires router { IsRouter self.now }
+        requires usable { AreUsable (seen_by self.now) usable.now }
+        ensures { IfOk result (AreAsked self.now usable.now) }
+    {
+        view_is_a_network();
+        let nodes = self.seen(alloc)?;
+        let view = self.view(nodes.as_slice());
+        self.wishes_in(alloc, &view, usable)
     }
 
     /// What the assignment subroutine makes of the router's assignments and backoffs.
@@ -148,11 +164,12 @@ impl State {
         view_is_a_network();
         pairs_are_ordered();
         subroutine_leaves();
+        posts_ascend();
         let nodes = self.seen(alloc)?;
         let view = self.view(nodes.as_slice());
         let _now = self.moment.get();
         let usable = used(alloc, &view)?;
-        let wishes = self.wishes(alloc, &view, usable.as_slice())?;
+        let wishes = self.wishes_in(alloc, &view, usable.as_slice())?;
         subroutine(alloc, &view, &wishes, self.held.get().get(), draw)
     }
 }

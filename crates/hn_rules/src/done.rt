@@ -1,4 +1,4 @@
-ghost use Rattle.std.specs.Prelude.{◌≡◌, ◌++◌, ◌∷◌, [], OnOk};
+ghost use Rattle.std.specs.Prelude.{◌≡◌, ◌↔◌, ◌++◌, ◌∷◌, [], IsTrue, OnOk};
 ghost use Rattle.hn_rules.specs.Done.{nothing};
 
 use hn_base::{Addr, Bytes, EpId, NoMemory, NodeId, Sequence, Words};
@@ -57,7 +57,7 @@ pub struct Done {
 
 impl Done {
     /// Nothing. Never allocates.
-    pub(crate) fn new(alloc: Global) -> Done
+    pub fn new(alloc: Global) -> Done
         ensures { result ≡ nothing }
     {
         Done {
@@ -66,5 +66,15 @@ impl Done {
             published: Sequence::new(alloc),
             words: Words::new(alloc),
         }
+    }
+
+    /// Whether nothing came of the event. Never allocates.
+    pub(crate) fn is_nothing(&self) -> bool
+        ensures { IsTrue result ↔ (self.now ≡ nothing) }
+    {
+        self.sends.is_empty()
+            && self.notes.is_empty()
+            && self.published.is_empty()
+            && self.words.is_empty()
     }
 }

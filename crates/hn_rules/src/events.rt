@@ -1,18 +1,32 @@
-//! Events beside arrivals and ticks: endpoints that are attached and detached, capabilities, a restart.
+//! Events beside arrivals and ticks: endpoints that are attached and detached, capabilities, the private link, own
+//! addresses, a restart.
 
-ghost use Rattle.std.specs.Prelude.{◌≡◌, ◌<◌, false, length, OnOk};
+ghost use Rattle.std.specs.Prelude.{◌≡◌, ◌<◌, true, false, nat_eq, length, OnOk};
+ghost use Rattle.std.specs.Option.{option_eq};
+ghost use Rattle.hn_own.specs.Addresses.{may_address};
 ghost use Rattle.hn_own.specs.Ports.{is_attached, endpoints_of};
 ghost use Rattle.hn_base.specs.Rules.{Each};
 ghost use Rattle.hn_rules.specs.Rules.{AtPort, Ran};
-ghost use Rattle.hn_rules.specs.Events.{IsAttaching, detaching, setting_caps, IsPortRestart, emptied, IsRestarting};
+ghost use Rattle.hn_rules.specs.Events.{IsAttaching, detaching, setting_caps, setting_private, setting_addresses, IsPortRestart, emptied, IsRestarting};
 
 use crate::running::Running;
-use hn_base::{Caps, EpId, NoMemory, Shared};
+use hn_base::{Caps, EpId, LinkLength, NoMemory, Shared};
 use hn_dncp::Port;
 use hn_io::Draw;
-use hn_own::HeldPairs;
+use hn_own::{Addresses, HeldPairs, addresses_stay};
 use hn_store::Table;
 use std::alloc::Global;
+
+/// Whether two private links are of one length, or there are none.
+fn are_same(a: &Option<LinkLength>, b: &Option<LinkLength>) -> bool
+    ensures { result ≡ option_eq nat_eq a.now b.now }
+{
+    match (a, b) {
+        (None, None) => true,
+        (Some(a), Some(b)) => a.get() == b.get(),
+        _ => false,
+    }
+}
 
 impl Running {
     /// An endpoint is attached.
@@ -32,11 +46,12 @@ impl Running {
         self.state.ports.edit()?.insert(port)
     }
 
-    /// An endpoint is detached, with its peers.
+    /// An endpoint is detached, with its peers and its addresses.
     pub fn remove_port(&mut self, at: EpId) -> Result<(), NoMemory>
         ensures { OnOk result (self.new ≡ detaching at self.old) }
     {
         self.state.ports.edit()?.remove(at);
+        self.state.addresses.edit()?.remove(at);
         Ok(())
     }
 
@@ -45,6 +60,33 @@ impl Running {
         ensures { self.new ≡ setting_caps caps self.old }
     {
         self.state.caps = caps;
+    }
+
+    /// The private link is set or ended. Where its length changes, what is held for it is destroyed.
+    pub fn put_private(
+        &mut self,
+        alloc: Global,
+        private: Option<LinkLength>,
+    ) -> Result<(), NoMemory>
+        ensures { OnOk result (self.new ≡ setting_private private self.old) }
+    {
+        if are_same(&private, &self.state.private) {
+            return Ok(());
+        }
+        let held = self.state.held.get().without_private(alloc)?;
+        self.state.held = Shared::new(alloc, held)?;
+        self.state.private = private;
+        Ok(())
+    }
+
+    /// The router gets these addresses.
+    pub fn put_addresses(&mut self, alloc: Global, list: &[(EpId, u128)]) -> Result<(), NoMemory>
+        requires { may_address list.now self.old.state.ports ≡ true }
+        ensures { OnOk result (self.new ≡ setting_addresses list.now self.old) }
+    {
+        addresses_stay();
+        self.state.addresses = Shared::new(alloc, Addresses::of(alloc, list)?)?;
+        Ok(())
     }
 
     /// An endpoint begins anew.
@@ -64,7 +106,7 @@ impl Running {
         self.put_port(port)
     }
 
-    /// The nodes that were held, the assignments, the backoffs and the claims are forgotten.
+    /// The nodes that were held, the assignments, the backoffs, the claims and the addresses are forgotten.
     fn empty(&mut self, alloc: Global) -> Result<(), NoMemory>
         ensures { OnOk result (self.new ≡ emptied self.old) }
     {
@@ -74,6 +116,7 @@ impl Running {
         self.state.table = Shared::new(alloc, empty)?;
         self.state.held = Shared::new(alloc, HeldPairs::new(alloc))?;
         self.state.claimed = false;
+        self.state.addresses = Shared::new(alloc, Addresses::new(alloc))?;
         Ok(())
     }
 

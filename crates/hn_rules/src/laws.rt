@@ -1,7 +1,8 @@
 //! Laws of the rules, and of what holds of a router. Each is the contract of a function that does nothing: call it to
 //! know its law.
 
-ghost use Rattle.std.specs.Prelude.{◌≡◌, ℕ, List, []};
+ghost use Rattle.std.specs.Prelude.{◌≡◌, ℕ, List, [], Option};
+ghost use Rattle.hn_own.specs.Addresses.{OwnAddress};
 ghost use Rattle.hn_base.specs.declared.caps.Caps.{Caps};
 ghost use Rattle.hn_base.specs.declared.ids.EpId.{EpId};
 ghost use Rattle.hn_base.specs.Prefix.{PlainPrefix};
@@ -10,11 +11,12 @@ ghost use Rattle.hn_rules.specs.declared.running.Origin.{Origin};
 ghost use Rattle.hn_rules.specs.Arrival.{IsArrival};
 ghost use Rattle.hn_rules.specs.Assigning.{IsAssigning};
 ghost use Rattle.hn_rules.specs.Delegating.{delegating, withdrawing, ending};
-ghost use Rattle.hn_rules.specs.Events.{IsAttaching, detaching, setting_caps, IsRestarting};
-ghost use Rattle.hn_rules.specs.Laws.{HashIsOfLeaves, AssignedIsPublished, ItemsArePublished, ViewIsNetwork, EntriesAreAsKnown, RouterStaysLater, NextDueIsOne, NextDueStays, UneventfulReaches, StillStays, KeepsRouter, KeepsWell, KeepsEndpoints, RefreshMakesRouter, AssigningKeeps, DelegatingKeeps, AttachingKeeps, MakesChanges, DelegatingMakesChanges, ChangesKeepWell, KeepsLimit};
+ghost use Rattle.hn_rules.specs.Events.{IsAttaching, detaching, setting_caps, setting_private, setting_addresses, IsRestarting};
+ghost use Rattle.hn_rules.specs.Laws.{HashIsOfLeaves, AssignedIsPublished, ItemsArePublished, ViewIsNetwork, OwnPeersAreOfEndpoints, PrivatePostIsAlone, EntriesAreAsKnown, RouterStaysLater, NextDueIsOne, NextDueStays, UneventfulReaches, StillStays, KeepsRouter, KeepsWell, KeepsEndpoints, RefreshMakesRouter, AssigningKeeps, DelegatingKeeps, AttachingKeeps, AddressingKeeps, MakesChanges, DelegatingMakesChanges, AddressingMakesChanges, ChangesKeepWell, ChangesKeepLimit, ChangesOnlyAdd, StillIsIdle, IdleIsStill, IdleUntilDue, RefreshRests, RouterIsHashed, ChangesKeepHashed, ChangesKeepShort, ChangesKeepGenuine, SilentTickIsStill};
 ghost use Rattle.hn_rules.specs.Refresh.{IsRefresh};
 ghost use Rattle.hn_rules.specs.Rules.{IsSole};
 ghost use Rattle.hn_rules.specs.Tick.{IsExpiry, forgetting, IsPortsTick};
+ghost use Rattle.hn_rules.specs.Ticks.{IsTick};
 
 use hn_assign::{
     pairs_are_ordered, still_run_stays, subroutine_has_one_result, subroutine_keeps,
@@ -23,13 +25,20 @@ use hn_assign::{
 use hn_base::{NodeId, ascending_is_unique};
 use hn_data::items_are_unique;
 use hn_deleg::{ends_of_later, usable_is_unique, usable_of_later};
-use hn_dncp::{packing_is_unique, peers_stay, still_port_stays};
+use hn_dncp::{
+    packing_is_not_empty, packing_is_read, packing_is_short, packing_is_unique, peers_stay,
+    still_port, still_port_stays,
+};
 use hn_graph::{own_is_reachable, reachability_stays};
+use hn_hash::hash_has_eight_bytes;
 use hn_link::common_link_of_later;
-use hn_own::{ending_is_a_moment, own_data_is_unique, own_prefixes_stay};
+use hn_own::{
+    addresses_stay, ending_is_a_moment, ending_leaves, held_without_private, own_data_is_unique,
+    own_prefixes_stay, posts_ascend,
+};
 use hn_store::{
-    acceptance_is_unique, acceptance_keeps_table, forgetting_is_a_moment, held_is_of_an_entry,
-    loss_keeps_table, own_stays,
+    acceptance_is_unique, acceptance_keeps_table, forgetting_is_a_moment, forgetting_leaves,
+    held_is_of_an_entry, held_was_brought, loss_keeps_table, own_stays,
 };
 use hn_timers::expiry_is_a_moment;
 use hn_tlv::{first_fault_is_unique, list_is_of_bytes, list_is_unique, spelling_is_prefix_free};
@@ -57,6 +66,28 @@ pub fn assigned_is_published()
 /// The items of a router's node data are its own items.
 pub fn items_are_published()
     ensures { ItemsArePublished }
+{
+    list_is_of_bytes();
+    spelling_is_prefix_free();
+    item_is_unique();
+    written_is_read();
+    items_are_unique();
+}
+
+/// Each own Peer that a router has published is of an attached endpoint.
+pub fn own_peers_are_of_endpoints()
+    ensures { OwnPeersAreOfEndpoints }
+{
+    list_is_of_bytes();
+    spelling_is_prefix_free();
+    item_is_unique();
+    written_is_read();
+    items_are_unique();
+}
+
+/// The private post of a router is alone on its Common Link.
+pub fn private_post_is_alone()
+    ensures { PrivatePostIsAlone }
 {
     list_is_of_bytes();
     spelling_is_prefix_free();
@@ -118,6 +149,52 @@ pub fn still_stays()
     still_run_stays();
 }
 
+/// Where each part of a tick leaves a router as it is, the tick does nothing.
+pub fn still_is_idle()
+    ensures { StillIsIdle }
+{
+    ending_leaves();
+    forgetting_leaves();
+    still_port();
+}
+
+/// Where a tick does nothing, each part of it left the router as it is.
+pub fn idle_is_still()
+    ensures { IdleIsStill }
+{
+    ending_leaves();
+    forgetting_leaves();
+    still_port();
+    packing_is_not_empty();
+    ascending_is_unique::<NodeId>();
+}
+
+/// Where nothing came of a tick and these parts of the router are as they were, each part of the tick left it as it is.
+pub fn silent_tick_is_still()
+    ensures { SilentTickIsStill }
+{
+    ending_leaves();
+    forgetting_leaves();
+    still_port();
+    packing_is_not_empty();
+    ascending_is_unique::<NodeId>();
+}
+
+/// Where a tick does nothing, so it is until something is due, and what is next due stays.
+pub fn idle_until_due()
+    ensures { IdleUntilDue }
+{
+    still_is_idle();
+    idle_is_still();
+    still_stays();
+    next_due_stays();
+}
+
+/// Right after a refresh another changes nothing.
+pub fn refresh_after_a_refresh_rests()
+    ensures { RefreshRests }
+{}
+
 /// Each run of these rules is a list of elementary changes, which take from a datagram what its TLVs say.
 pub fn rules_make_changes()
     ensures refresh { MakesChanges [] IsRefresh }
@@ -130,6 +207,8 @@ pub fn rules_make_changes()
     ensures delegating { DelegatingMakesChanges }
     ensures withdrawing { (prefix : PlainPrefix) → MakesChanges [] (λ b a. a ≡ withdrawing prefix b) }
     ensures caps { (caps : Caps) → MakesChanges [] (λ b a. a ≡ setting_caps caps b) }
+    ensures private { (private : Option ℕ) → MakesChanges [] (λ b a. a ≡ setting_private private b) }
+    ensures addressing { AddressingMakesChanges }
     ensures restarting { MakesChanges [] IsRestarting }
 {}
 
@@ -146,6 +225,14 @@ pub fn changes_keep_the_rest()
     pairs_are_ordered();
     subroutine_keeps();
     subroutine_leaves();
+    posts_ascend();
+    held_without_private();
+    addresses_stay();
+    list_is_of_bytes();
+    spelling_is_prefix_free();
+    item_is_unique();
+    written_is_read();
+    items_are_unique();
 }
 
 /// A refresh makes a router of a state of which the rest holds.
@@ -175,9 +262,12 @@ pub fn rules_keep_the_rest()
     ensures attaching { AttachingKeeps }
     ensures detaching { (at : EpId) → KeepsWell (λ b a. a ≡ detaching at b) }
     ensures caps { (caps : Caps) → KeepsWell (λ b a. a ≡ setting_caps caps b) }
+    ensures private { (private : Option ℕ) → KeepsWell (λ b a. a ≡ setting_private private b) }
+    ensures addressing { AddressingKeeps }
     ensures restarting { KeepsWell IsRestarting }
 {
     changes_keep_the_rest();
+    addresses_stay();
 }
 
 /// Over one stream of words each rule has at most one result.
@@ -187,6 +277,7 @@ pub fn rules_have_one_result()
     ensures expiry { IsSole IsExpiry }
     ensures assigning { IsSole IsAssigning }
     ensures ports { IsSole IsPortsTick }
+    ensures tick { IsSole IsTick }
     ensures attaching { (at : EpId) → IsSole (IsAttaching at) }
     ensures restarting { IsSole IsRestarting }
 {
@@ -213,19 +304,49 @@ pub fn rules_keep_the_endpoints()
     ensures restarting { KeepsEndpoints IsRestarting }
 {}
 
-/// No rule changes how many nodes the table may hold.
-pub fn limit_stays_by_rules()
-    ensures refresh { KeepsLimit IsRefresh }
-    ensures arrival { (from : Origin) (tlvs : List PlainTlv) → KeepsLimit (IsArrival from tlvs) }
-    ensures expiry { KeepsLimit IsExpiry }
-    ensures ending { KeepsLimit (λ b a. a ≡ ending b) }
-    ensures forgetting { KeepsLimit (λ b a. a ≡ forgetting b) }
-    ensures assigning { KeepsLimit IsAssigning }
-    ensures ports { KeepsLimit IsPortsTick }
-    ensures delegating { (prefix : PlainPrefix) (valid preferred : ℕ) → KeepsLimit (λ b a. a ≡ delegating prefix valid preferred b) }
-    ensures withdrawing { (prefix : PlainPrefix) → KeepsLimit (λ b a. a ≡ withdrawing prefix b) }
-    ensures attaching { (at : EpId) → KeepsLimit (IsAttaching at) }
-    ensures detaching { (at : EpId) → KeepsLimit (λ b a. a ≡ detaching at b) }
-    ensures caps { (caps : Caps) → KeepsLimit (λ b a. a ≡ setting_caps caps b) }
-    ensures restarting { KeepsLimit IsRestarting }
+/// No elementary change changes how many nodes the table may hold.
+pub fn changes_keep_the_limit()
+    ensures { ChangesKeepLimit }
 {}
+
+/// No elementary change takes back what came of the event before it.
+pub fn changes_only_add()
+    ensures { ChangesOnlyAdd }
+{}
+
+/// The network state hash of a router has 8 bytes, and each elementary change keeps that.
+pub fn changes_keep_hashed()
+    ensures router { RouterIsHashed }
+    ensures each { ChangesKeepHashed }
+{
+    changes_keep_the_rest();
+    hash_has_eight_bytes();
+}
+
+/// What a router answers and sends is short, and each elementary change keeps that.
+pub fn changes_keep_short()
+    ensures { ChangesKeepShort }
+{
+    changes_keep_hashed();
+    hash_has_eight_bytes();
+    held_is_of_an_entry();
+    packing_is_short();
+}
+
+/// What a router holds, answers and sends was published, where what arrives was; or two texts that were published collide.
+pub fn changes_keep_genuine()
+    ensures { ChangesKeepGenuine }
+{
+    changes_only_add();
+    changes_keep_hashed();
+    held_was_brought();
+    held_is_of_an_entry();
+    hash_has_eight_bytes();
+    packing_is_read();
+    list_is_of_bytes();
+    list_is_unique();
+    spelling_is_prefix_free();
+    item_is_unique();
+    written_is_read();
+    items_are_unique();
+}

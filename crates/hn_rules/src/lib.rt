@@ -9,6 +9,7 @@ mod delegating;
 mod done;
 mod due;
 mod events;
+mod idle;
 mod laws;
 mod nodes;
 mod present;
@@ -18,16 +19,18 @@ mod seen;
 mod state;
 mod take;
 mod tick;
+mod ticks;
 
 pub use answers::{Answer, Subject};
-pub use assigning::LINK_LENGTH;
 pub use done::{Done, Note, Outgoing, Publication};
 pub use laws::{
-    assigned_is_published, changes_keep_the_rest, entries_are_as_known, hash_is_of_leaves,
-    items_are_published, limit_stays_by_rules, next_due_is_one, next_due_stays,
-    refresh_makes_a_router, router_stays_later, rules_have_one_result, rules_keep_a_router,
-    rules_keep_the_endpoints, rules_keep_the_rest, rules_make_changes, still_stays,
-    uneventful_reaches, view_is_a_network,
+    assigned_is_published, changes_keep_genuine, changes_keep_hashed, changes_keep_short,
+    changes_keep_the_limit, changes_keep_the_rest, changes_only_add, entries_are_as_known,
+    hash_is_of_leaves, idle_is_still, idle_until_due, items_are_published, next_due_is_one,
+    next_due_stays, own_peers_are_of_endpoints, private_post_is_alone,
+    refresh_after_a_refresh_rests, refresh_makes_a_router, router_stays_later,
+    rules_have_one_result, rules_keep_a_router, rules_keep_the_endpoints, rules_keep_the_rest,
+    rules_make_changes, still_is_idle, still_stays, uneventful_reaches, view_is_a_network,
 };
 pub use present::Present;
 pub use running::{Origin, Running};

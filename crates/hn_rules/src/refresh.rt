@@ -5,7 +5,7 @@ ghost use Rattle.hn_own.specs.Own.{AreFew};
 ghost use Rattle.hn_base.specs.Rules.{Each};
 ghost use Rattle.hn_rules.specs.Rules.{Ran, AtPort};
 ghost use Rattle.hn_rules.specs.Nodes.{age_at};
-ghost use Rattle.hn_rules.specs.Router.{IsRefreshed};
+ghost use Rattle.hn_rules.specs.Router.{IsRefreshed, IsFresh};
 ghost use Rattle.hn_rules.specs.Refresh.{own_items, Publishes, IsPublished, IsPublishing, IsReaching, network_state_hash, IsPortReset, IsReset, IsHashing, IsRefresh};
 
 use crate::done::Publication;
@@ -36,6 +36,7 @@ impl State {
             self.ports.get(),
             self.delegated.get(),
             self.held.get(),
+            self.addresses.get(),
         )
     }
 
@@ -178,6 +179,7 @@ impl Running {
         requires { touched ≡ false → IsRefreshed self.old.state }
         ensures ran { OnOk result (Ran IsRefresh (D.words draw.old) (D.words draw.new) self.old self.new) }
         ensures refreshed { OnOk result (IsRefreshed self.new.state) }
+        ensures fresh { OnOk result (IsFresh self.new.state) }
     {
         reachability_stays();
         let _kept = self.state.ports.get().as_slice();

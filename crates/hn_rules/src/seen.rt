@@ -12,14 +12,15 @@ use hn_data::{Entry, View};
 use std::alloc::Global;
 
 impl State {
-    /// A node, if it is the own one or is held.
-    fn entry(&self, id: NodeId) -> Result<Option<Entry>, NoMemory>
+    /// A node, if it is the own one or is held. A held one is looked for from this place of the table on, which moves past
+    /// it then.
+    fn entry(&self, id: NodeId, place: &mut usize) -> Result<Option<Entry>, NoMemory>
         ensures { IfOk result (λ entry. entry ≡ entry_of self.now id) }
     {
         if id == self.id {
             return Ok(Some(self.own_entry()?));
         }
-        match self.table.get().get(id) {
+        match self.table.get().next_to(place, id) {
             Some(stored) => Ok(Some(self.entry_with(id, stored)?)),
             None => Ok(None),
         }
@@ -34,8 +35,9 @@ impl State {
         ensures { IfOk result (λ nodes. nodes.items ≡ view_of self.now) }
     {
         let mut nodes = Vec::with_capacity(alloc, self.reach.get().as_slice().len())?;
+        let mut place = 0;
         for id in self.reach.get().as_slice() {
-            let entry = self.entry(*id)?;
+            let entry = self.entry(*id, &mut place)?;
             if let Some(entry) = entry {
                 nodes.push(entry)?;
             }

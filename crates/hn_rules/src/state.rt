@@ -1,8 +1,8 @@
 ghost use Rattle.std.specs.Prelude.{◌≡◌, IfOk};
 
 use crate::present::Present;
-use hn_base::{Caps, NoMemory, NodeId, NodeIds, Shared};
-use hn_own::{HeldPairs, OwnData, OwnPrefixes, Ports};
+use hn_base::{Caps, LinkLength, Moment, NoMemory, NodeId, NodeIds, Shared};
+use hn_own::{Addresses, HeldPairs, OwnData, OwnPrefixes, Ports};
 use hn_store::Table;
 
 /// The fields of a router.
@@ -24,14 +24,20 @@ pub struct State {
     pub held: Shared<HeldPairs>,
     /// Whether its identifier was claimed since it began or took it.
     pub claimed: bool,
+    /// The length of the prefixes of its private link, if it has one.
+    pub private: Option<LinkLength>,
     /// Its endpoints.
     pub ports: Shared<Ports>,
+    /// Its addresses.
+    pub addresses: Shared<Addresses>,
     /// The other nodes.
     pub table: Shared<Table>,
     /// The nodes that were reachable at the last refresh.
     pub reach: Shared<NodeIds>,
     /// The network state hash of the last refresh.
     pub net: [u8; 8],
+    /// Where this is after the router's moment, each tick before it does nothing. No rule reads or changes it.
+    pub due: Moment,
 }
 
 impl State {
@@ -48,10 +54,13 @@ impl State {
             delegated: self.delegated.clone()?,
             held: self.held.clone()?,
             claimed: self.claimed,
+            private: self.private,
             ports: self.ports.clone()?,
+            addresses: self.addresses.clone()?,
             table: self.table.clone()?,
             reach: self.reach.clone()?,
             net: self.net,
+            due: self.due,
         })
     }
 }

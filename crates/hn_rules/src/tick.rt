@@ -1,19 +1,21 @@
 //! The parts of a tick: silent peers and lost nodes go, and each endpoint sends what is due.
 
-ghost use Rattle.std.specs.Prelude.{◌≡◌, IsTrue, ◌↔◌, All, IfOk, OnOk, false, Some};
+ghost use Rattle.std.specs.Prelude.{◌≡◌, IsTrue, ◌↔◌, All, IfOk, OnOk, true, false, Some};
+ghost use Rattle.hn_dncp.specs.Due.{IsPortStill};
 ghost use Rattle.hn_dncp.specs.Tick.{tick_sends};
 ghost use Rattle.hn_store.specs.Nodes.{held};
 ghost use Rattle.hn_dncp.specs.declared.port.Port.{Port};
 ghost use Rattle.hn_own.specs.Ports.{port_at};
 ghost use Rattle.hn_rules.specs.Rules.{AtPort, Ran};
 ghost use Rattle.hn_rules.specs.Router.{IsRefreshed};
+ghost use Rattle.hn_rules.specs.Still.{AreHeard};
 ghost use Rattle.hn_rules.specs.Tick.{HasInterval, IsExpired, Without, IsPortExpiry, IsExpiry, forgetting, IsStateSending, IsPortMoving, IsPortTick, IsPortsTick};
 
 use crate::running::Running;
 use crate::state::State;
 use hn_base::{EpId, KEEP_ALIVE_INTERVAL, NoMemory};
 use hn_data::{encode, items_are_unique, keep_alive};
-use hn_dncp::{Neighbour, Peers, Port, pack};
+use hn_dncp::{Neighbour, Peers, Port, pack, still_port};
 use hn_io::Draw;
 use hn_timers::expired;
 use hn_typed::Item;
@@ -76,6 +78,33 @@ impl State {
     }
 }
 
+impl State {
+    /// Whether the keep-alives of some peer have stopped. Never allocates.
+    fn has_silent_peer(&self) -> bool
+        ensures { result ≡ false → AreHeard self.now.moment self.now }
+    {
+        for port in self.ports.get().as_slice() {
+            if self.is_some_expired(port.peers.as_slice()) {
+                return true;
+            }
+        }
+        false
+    }
+
+    /// Whether nothing is due at any endpoint. Never allocates.
+    fn are_ports_still(&self) -> bool
+        ensures { result ≡ true → All (IsPortStill self.now.moment) self.now.ports }
+    {
+        let now = self.moment.get();
+        for port in self.ports.get().as_slice() {
+            if !port.is_still(now) {
+                return false;
+            }
+        }
+        true
+    }
+}
+
 impl Running {
     /// The expired peers of an endpoint go: whether there are some.
     fn expire_port(&mut self, at: EpId) -> Result<bool, NoMemory>
@@ -100,6 +129,10 @@ impl Running {
         ensures rule { OnOk result (IsExpiry self.old self.new) }
         ensures untouched { IfOk result (λ touched. touched ≡ false → self.new ≡ self.old) }
     {
+        let _kept = self.state.ports.get().as_slice();
+        if !self.state.has_silent_peer() {
+            return Ok(false);
+        }
         let endpoints = self.state.ports.get().endpoints(alloc)?;
         let mut touched = false;
         for at in &endpoints {
@@ -150,9 +183,15 @@ impl Running {
     fn tick_port<D: Draw>(&mut self, alloc: Global, at: EpId, draw: &mut D) -> Result<(), NoMemory>
         ensures { OnOk result (Ran (AtPort at IsPortTick) (D.words draw.old) (D.words draw.new) self.old self.new) }
     {
-        let Some(port) = self.state.ports.get().find(at) else {
+        still_port();
+        let ports = self.state.ports.get();
+        let _kept = ports.as_slice();
+        let Some(port) = ports.find(at) else {
             return Ok(());
         };
+        if port.is_still(self.state.moment.get()) {
+            return Ok(());
+        }
         let port = port.clone()?;
         if self.move_port(port, draw)? {
             self.send_state(alloc, at)?;
@@ -164,6 +203,11 @@ impl Running {
     pub fn tick_ports<D: Draw>(&mut self, alloc: Global, draw: &mut D) -> Result<(), NoMemory>
         ensures { OnOk result (Ran IsPortsTick (D.words draw.old) (D.words draw.new) self.old self.new) }
     {
+        still_port();
+        let _kept = self.state.ports.get().as_slice();
+        if self.state.are_ports_still() {
+            return Ok(());
+        }
         let endpoints = self.state.ports.get().endpoints(alloc)?;
         for at in &endpoints {
             self.tick_port(alloc, *at, draw)?;

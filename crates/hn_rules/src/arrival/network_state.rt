@@ -29,10 +29,15 @@ impl Running {
     ) -> Result<(), NoMemory>
         ensures { OnOk result (AtPort from.now.endpoint (λ port b a. a ≡ network_state hash port b) self.old self.new) }
     {
-        let Some(port) = self.state.ports.get().find(from.endpoint) else {
+        let ports = self.state.ports.get();
+        let _kept = ports.as_slice();
+        let Some(port) = ports.find(from.endpoint) else {
             return Ok(());
         };
         let same = hash == self.state.net;
+        if !same && !port.may_ask(self.state.moment.get()) {
+            return Ok(());
+        }
         let port = port.clone()?;
         self.compare(alloc, same, port)
     }

@@ -1,18 +1,20 @@
-ghost use Rattle.std.specs.Prelude.{◌≡◌, ◌≢◌, [], IfOk, OnOk, false};
+ghost use Rattle.std.specs.Prelude.{◌≡◌, ◌≢◌, ◌||◌, not, [], IfOk, OnOk, false};
 ghost use Rattle.hn_typed.specs.Item.{RequestNetwork};
 ghost use Rattle.hn_dncp.specs.declared.greet.Greet.TheVariants.{Added};
+ghost use Rattle.hn_dncp.specs.Ask.{may_ask};
 ghost use Rattle.hn_dncp.specs.Greet.{greeting};
+ghost use Rattle.hn_dncp.specs.Peers.{has_peer};
 ghost use Rattle.hn_rules.specs.declared.done.Note.TheVariants.{Ignored};
 ghost use Rattle.hn_rules.specs.declared.answers.Subject.TheVariants.{NetworkRequest};
-ghost use Rattle.hn_rules.specs.Rules.{AtPort, noted};
+ghost use Rattle.hn_rules.specs.Rules.{AtPort, noted, with_port};
 ghost use Rattle.hn_rules.specs.Answers.{with_answer};
-ghost use Rattle.hn_rules.specs.Router.{IsRefreshed};
+ghost use Rattle.hn_rules.specs.Router.{IsUntouched};
 ghost use Rattle.hn_rules.specs.NodeEndpoint.{asking, met, named, node_endpoint};
 
 use crate::answers::Subject;
 use crate::done::Note;
 use crate::running::{Origin, Running};
-use hn_base::{EpId, NoMemory, NodeId};
+use hn_base::{EpId, Moment, NoMemory, NodeId};
 use hn_data::encode;
 use hn_dncp::{Greet, Port};
 use hn_typed::{Item, NODE_ENDPOINT};
@@ -27,11 +29,19 @@ const OWN_IDENTIFIER: u8 = 6;
 /// A Node Endpoint after one that was accepted.
 const SENDER_NAMED: u8 = 5;
 
+/// Whether a Node Endpoint by multicast changes nothing at an endpoint: the sender is a peer, or the endpoint may not
+/// ask for the network state.
+fn stays_at(port: &Port, node: NodeId, endpoint: EpId, now: Moment) -> bool
+    ensures { result ≡ (has_peer node endpoint port.now.peers || not (may_ask now port.now.asked)) }
+{
+    port.peers.has(node, endpoint) || !port.may_ask(now)
+}
+
 impl Running {
     /// Takes note of a Node Endpoint that is refused. It touches nothing.
     fn refuse_endpoint(&mut self, why: u8) -> Result<bool, NoMemory>
         ensures rule { OnOk result (self.new ≡ noted (Ignored 3 why) self.old) }
-        ensures untouched { IfOk result (λ touched. touched ≡ false → IsRefreshed self.old.state → IsRefreshed self.new.state) }
+        ensures untouched { IfOk result (λ touched. touched ≡ false → IsUntouched self.old.state self.new.state) }
     {
         self.note(Note::Ignored {
             kind: NODE_ENDPOINT,
@@ -59,14 +69,20 @@ impl Running {
         Ok(())
     }
 
-    /// What comes of the greeting beside the endpoint's peers.
+    /// The endpoint after it greeted the sender, and what comes of the greeting beside its peers.
     fn meet(&mut self, alloc: Global, greet: Greet, port: Port) -> Result<(), NoMemory>
-        ensures { OnOk result (self.new ≡ met greet port self.old) }
+        ensures { OnOk result (self.new ≡ met greet port (with_port port self.old)) }
     {
         match greet {
-            Greet::Full => self.note(Note::PeersFull),
-            Greet::Unknown => self.ask(alloc, port),
-            Greet::Known | Greet::Added => Ok(()),
+            Greet::Full => {
+                self.put_port(port)?;
+                self.note(Note::PeersFull)
+            }
+            Greet::Unknown => {
+                self.put_port(port.clone()?)?;
+                self.ask(alloc, port)
+            }
+            Greet::Known | Greet::Added => self.put_port(port),
         }
     }
 
@@ -85,12 +101,11 @@ impl Running {
         let now = self.state.moment.get();
         let greet = port.greet(node, endpoint, from.from, from.multicast, now)?;
         self.sender = Some((node, endpoint));
-        self.put_port(port.clone()?)?;
         self.meet(alloc, greet, port)?;
         Ok(greet == Greet::Added)
     }
 
-    /// A Node Endpoint (RFC 7787, section 7.2.1): whether it touched what a refresh makes.
+    /// A Node Endpoint (RFC 7787, section 7.2.1): whether it touched what a refresh reads.
     pub(crate) fn node_endpoint(
         &mut self,
         alloc: Global,
@@ -99,7 +114,7 @@ impl Running {
         endpoint: EpId,
     ) -> Result<bool, NoMemory>
         ensures rule { OnOk result (AtPort from.now.endpoint (λ port b a. a ≡ node_endpoint from.now node endpoint port b) self.old self.new) }
-        ensures untouched { IfOk result (λ touched. touched ≡ false → IsRefreshed self.old.state → IsRefreshed self.new.state) }
+        ensures untouched { IfOk result (λ touched. touched ≡ false → IsUntouched self.old.state self.new.state) }
     {
         let ports = self.state.ports.get();
         let _kept = ports.as_slice();
@@ -114,6 +129,10 @@ impl Running {
         }
         if self.sender.is_some() {
             return self.refuse_endpoint(SENDER_NAMED);
+        }
+        if from.multicast && stays_at(port, node, endpoint, self.state.moment.get()) {
+            self.sender = Some((node, endpoint));
+            return Ok(false);
         }
         let port = port.clone()?;
         let touched = self.name_sender(alloc, from, node, endpoint, port)?;

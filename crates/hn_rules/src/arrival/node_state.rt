@@ -4,7 +4,7 @@ ghost use Rattle.hn_store.specs.Acceptance.{plain_state};
 ghost use Rattle.hn_rules.specs.declared.answers.Subject.TheVariants.{NodeRequest};
 ghost use Rattle.hn_rules.specs.Answers.{with_answer};
 ghost use Rattle.hn_rules.specs.Rules.{Ran};
-ghost use Rattle.hn_rules.specs.Router.{IsRefreshed};
+ghost use Rattle.hn_rules.specs.Router.{IsUntouched};
 ghost use Rattle.hn_rules.specs.NodeState.{touches, Takes, IsTaken, IsNodeState};
 
 use crate::answers::Subject;
@@ -59,16 +59,19 @@ impl Running {
         Ok(())
     }
 
-    /// A node state is taken by the table: its answer.
+    /// A node state is taken by the table: its answer. A state that the table does not look into leaves it uncopied.
     fn take_state(&mut self, alloc: Global, carried: &CarriedState<'_>) -> Result<Took, NoMemory>
         ensures { IfOk result (λ how. Takes (plain_state carried.now) how self.old self.new) }
     {
         let own = self.state.own_leaf();
+        if let Some(how) = self.state.table.get().refusal(&own, carried) {
+            return Ok(how);
+        }
         let now = self.state.moment.get();
         self.state.table.edit()?.take(alloc, &own, carried, now)
     }
 
-    /// A Node State (RFC 7787, section 7.2.3): whether it touched what a refresh makes.
+    /// A Node State (RFC 7787, section 7.2.3): whether it touched what a refresh reads.
     pub(crate) fn node_state<D: Draw>(
         &mut self,
         alloc: Global,
@@ -76,7 +79,7 @@ impl Running {
         draw: &mut D,
     ) -> Result<bool, NoMemory>
         ensures ran { OnOk result (Ran (IsNodeState (plain_state carried.now)) (D.words draw.old) (D.words draw.new) self.old self.new) }
-        ensures untouched { IfOk result (λ touched. touched ≡ false → IsRefreshed self.old.state → IsRefreshed self.new.state) }
+        ensures untouched { IfOk result (λ touched. touched ≡ false → IsUntouched self.old.state self.new.state) }
     {
         let how = self.take_state(alloc, carried)?;
         self.took(alloc, carried, how, draw)?;

@@ -22,7 +22,18 @@ returns c = each_well (record {
     wished = c.subroutine_leaves.ensures.wished;
     pairs_total = c.pairs_are_ordered.ensures.total;
     pairs_exact = c.pairs_are_ordered.ensures.exact;
+    posts = c.posts_ascend.ensures.few;
   };
   added = c.own_prefixes_stay.ensures.added;
   some = c.own_prefixes_stay.ensures.some;
+  reads = record {
+    of_bytes = c.list_is_of_bytes.ensures;
+    same_begin = c.spelling_is_prefix_free.ensures;
+    same_item = c.item_is_unique.ensures;
+    written_is_item = c.written_is_read.ensures;
+    one_items = c.items_are_unique.ensures;
+  };
+  lengths = c.subroutine_keeps.ensures.alone;
+  stays = c.held_without_private.ensures;
+  may_be = c.addresses_stay.ensures.may_be;
 })

@@ -1,4 +1,4 @@
-use Rattle.hn_rules.proofs.OneResults.{HasLaws, sole_refresh, sole_arrival, sole_expiry, sole_assigning, sole_ports_tick, sole_attaching, sole_restarting}
+use Rattle.hn_rules.proofs.OneResults.{HasLaws, sole_refresh, sole_arrival, sole_expiry, sole_assigning, sole_ports_tick, sole_tick, sole_attaching, sole_restarting}
 use Rattle.hn_rules.proofs.laws.rules_have_one_result.Goals as goal
 
 pub returns : goal.returns
@@ -24,6 +24,7 @@ returns c =
       expiry = sole_expiry;
       assigning = sole_assigning laws;
       ports = sole_ports_tick laws;
+      tick = sole_tick laws;
       attaching = sole_attaching;
       restarting = sole_restarting laws;
     }

@@ -3,11 +3,11 @@ use Rattle.hn_rules.specs.Arrival.{IsArrival}
 use Rattle.hn_rules.specs.Assigning.{IsAssigning}
 use Rattle.hn_rules.specs.Changes.{IsOfChanges}
 use Rattle.hn_rules.specs.Delegating.{withdrawing, ending}
-use Rattle.hn_rules.specs.Events.{setting_caps, IsRestarting}
+use Rattle.hn_rules.specs.Events.{setting_caps, setting_private, IsRestarting}
 use Rattle.hn_rules.specs.Refresh.{IsRefresh}
 use Rattle.hn_rules.specs.Tick.{IsExpiry, forgetting, IsPortsTick}
 use Rattle.hn_rules.proofs.Leads.{each_leads, of_walk}
-use Rattle.hn_rules.proofs.Walk.{refresh_walk, arrival_walk, expiry_walk, ending_walk, forgetting_walk, assigning_walk, ports_walk, delegating_walk, withdrawing_walk, caps_walk, restarting_walk}
+use Rattle.hn_rules.proofs.Walk.{refresh_walk, arrival_walk, expiry_walk, ending_walk, forgetting_walk, assigning_walk, ports_walk, delegating_walk, withdrawing_walk, caps_walk, private_walk, addressing_walk, restarting_walk}
 use Rattle.hn_rules.proofs.laws.rules_make_changes.Goals as goal
 
 pub returns : goal.returns
@@ -22,5 +22,7 @@ returns c = record {
   delegating = λ prefix valid preferred before may. delegating_walk [] (IsOfChanges [] before) (each_leads [] before) prefix valid preferred before may ([], refl);
   withdrawing = λ prefix. of_walk [] (λ b a. a ≡ withdrawing prefix b) (λ P each. withdrawing_walk [] P each prefix);
   caps = λ caps. of_walk [] (λ b a. a ≡ setting_caps caps b) (λ P each. caps_walk [] P each caps);
+  private = λ private. of_walk [] (λ b a. a ≡ setting_private private b) (λ P each. private_walk [] P each private);
+  addressing = λ list before may. addressing_walk [] (IsOfChanges [] before) (each_leads [] before) list before may ([], refl);
   restarting = of_walk [] IsRestarting (restarting_walk []);
 }

@@ -15,11 +15,11 @@ pub returns-in_ok-request_network-in-RequestNetwork-clause-ran : goal.returns-in
 returns-in_ok-request_network-in-RequestNetwork-clause-ran g c = rw c.in-RequestNetwork.is (ran_network_request _ c.args.self.now _ c.in_ok-request_network-in-RequestNetwork.ensures)
 
 pub returns-in_ok-request_network-in-RequestNetwork-clause-untouched : goal.returns-in_ok-request_network-in-RequestNetwork-clause-untouched
-returns-in_ok-request_network-in-RequestNetwork-clause-untouched g c none refreshed = network_request_untouched c.args.self.now c.request_network.new.self c.in_ok-request_network-in-RequestNetwork.ensures refreshed
+returns-in_ok-request_network-in-RequestNetwork-clause-untouched g c none = network_request_untouched c.args.self.now c.request_network.new.self c.in_ok-request_network-in-RequestNetwork.ensures
 
 pub returns-in_ok-request_node-in-RequestNode-clause-untouched : goal.returns-in_ok-request_node-in-RequestNode-clause-untouched
-returns-in_ok-request_node-in-RequestNode-clause-untouched g c none refreshed = request_node_untouched c.in-RequestNode.node c.args.self.now c.request_node.new.self c.in_ok-request_node-in-RequestNode.ensures refreshed
+returns-in_ok-request_node-in-RequestNode-clause-untouched g c none = request_node_untouched c.in-RequestNode.node c.args.self.now c.request_node.new.self c.in_ok-request_node-in-RequestNode.ensures
 
 pub returns-in_ok-network_state-in-NetworkState-clause-untouched : goal.returns-in_ok-network_state-in-NetworkState-clause-untouched
-returns-in_ok-network_state-in-NetworkState-clause-untouched g c none refreshed =
-    network_state_untouched c.args.from.now c.in-NetworkState.hash c.args.self.now c.network_state.new.self (subst ArePorts c.get.ensures c.as_slice-kept.ensures.kept) c.in_ok-network_state-in-NetworkState.ensures refreshed
+returns-in_ok-network_state-in-NetworkState-clause-untouched g c none =
+    network_state_untouched c.args.from.now c.in-NetworkState.hash c.args.self.now c.network_state.new.self (subst ArePorts c.get.ensures c.as_slice-kept.ensures.kept) c.in_ok-network_state-in-NetworkState.ensures

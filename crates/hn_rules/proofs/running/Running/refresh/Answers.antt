@@ -4,7 +4,7 @@ use Rattle.hn_rules.specs.Rules.{words_of}
 use Rattle.hn_own.specs.Ports.{ArePorts}
 use Rattle.hn_rules.specs.Refresh.{IsRefresh}
 use Rattle.hn_base.proofs.Rans.{ran_plain}
-use Rattle.hn_rules.proofs.Recent.{same_refresh}
+use Rattle.hn_rules.proofs.Recent.{recent_fresh, same_refresh}
 use Rattle.hn_rules.proofs.Refreshes.{fresh_refresh}
 use Rattle.hn_rules.proofs.Refreshing.{ran_refresh}
 use Rattle.hn_rules.proofs.running.Running.refresh.Goals as goal
@@ -13,8 +13,13 @@ pub returns-then-is_recent-clause-ran : goal.returns-then-is_recent-clause-ran
 returns-then-is_recent-clause-ran g c =
     let r = c.args.self.now in
     let recent = c.is_recent.ensures in
-    let same = same_refresh c.reachability_stays.ensures r (c.requires c.if-not-touched.true) (recent.young c.if-is_recent.true) (recent.leads c.if-is_recent.true) in
-    ran_plain words_of IsRefresh _ r r same refl
+    let fresh = recent_fresh c.reachability_stays.ensures r.state (c.requires c.if-not-touched.true) (recent.young c.if-is_recent.true) (recent.leads c.if-is_recent.true) in
+    ran_plain words_of IsRefresh _ r r (same_refresh r fresh) refl
+
+pub returns-then-is_recent-clause-fresh : goal.returns-then-is_recent-clause-fresh
+returns-then-is_recent-clause-fresh g c =
+    let recent = c.is_recent.ensures in
+    recent_fresh c.reachability_stays.ensures c.args.self.now.state (c.requires c.if-not-touched.true) (recent.young c.if-is_recent.true) (recent.leads c.if-is_recent.true)
 
 pub returns-clause-ran : goal.returns-clause-ran
 returns-clause-ran g c =
@@ -22,9 +27,17 @@ returns-clause-ran g c =
     (λ ran. ran_refresh _ _ c.args.self.now c.publish_where_due.new.self c.find_reach.new.self _ c.in_ok-publish_where_due.ensures c.in_ok-find_reach.ensures ran)
     c.find_hash.ensures
 
-pub returns-clause-refreshed : goal.returns-clause-refreshed
-returns-clause-refreshed g c =
+pub returns-clause-fresh : goal.returns-clause-fresh
+returns-clause-fresh g c =
     let are = subst ArePorts c.get.ensures c.as_slice-kept.ensures.kept in
     on_ok_weaker c.find_hash.result
-    (λ ran. (fresh_refresh c.args.self.now c.find_hash.new.self (c.publish_where_due.new.self, c.in_ok-publish_where_due.ensures, (c.find_reach.new.self, c.in_ok-find_reach.ensures, ran.holds)) are).refreshed)
+    (λ ran. fresh_refresh c.args.self.now c.find_hash.new.self (c.publish_where_due.new.self, c.in_ok-publish_where_due.ensures, (c.find_reach.new.self, c.in_ok-find_reach.ensures, ran.holds)) are)
+    c.find_hash.ensures
+
+pub returns-clause-refreshed : goal.returns-clause-refreshed
+returns-clause-refreshed g c =
+    on_ok_weaker c.find_hash.result
+    (λ ran.
+    let are = subst ArePorts c.get.ensures c.as_slice-kept.ensures.kept in
+    (fresh_refresh c.args.self.now c.find_hash.new.self (c.publish_where_due.new.self, c.in_ok-publish_where_due.ensures, (c.find_reach.new.self, c.in_ok-find_reach.ensures, ran.holds)) are).refreshed)
     c.find_hash.ensures

@@ -1,18 +1,34 @@
-use Rattle.std.proofs.Common.{◌∙◌, ℕ, ap, refl, sym, inl, inr}
+use Rattle.std.proofs.Common.{◌∙◌, ℕ, ap, refl, sym, subst, inl, inr}
 use Rattle.hn_dncp.specs.Tick.{tick_sends}
+use Rattle.hn_base.proofs.Rans.{ran_plain}
+use Rattle.hn_own.specs.Ports.{ArePorts, port_at}
+use Rattle.hn_dncp.specs.Due.{IsPortStill}
+use Rattle.hn_rules.specs.Rules.{AtPort, words_of}
+use Rattle.hn_rules.specs.Tick.{IsPortTick}
+use Rattle.hn_rules.proofs.AtPorts.{at_port}
+use Rattle.hn_rules.proofs.Resting.{port_rests}
 use Rattle.hn_rules.proofs.Ticking.{port_ticks}
 use Rattle.hn_rules.proofs.running.Running.tick_port.Goals as goal
+
+pub returns-then-is_still : goal.returns-then-is_still
+returns-then-is_still g c =
+    let r = c.args.self.now in
+    let port = c.in-Some.port.now in
+    let ports = c.get-ports.ensures in
+    let still = subst (λ (now : ℕ). IsPortStill now port) c.get.ensures.moment (c.is_still.ensures.0 c.if-is_still.true) in
+    let rests = port_rests c.still_port.ensures c.args.at port r (subst ArePorts ports c.as_slice-kept.ensures.kept) (sym (c.in-Some.ensures ∙ ap (port_at c.args.at) ports)) still in
+    ran_plain words_of (AtPort c.args.at IsPortTick) _ r r (at_port c.args.at port c.get-ports.result.now IsPortTick r r c.in-Some.ensures ports rests) refl
 
 pub returns-in_ok-send_state : goal.returns-in_ok-send_state
 returns-in_ok-send_state g c =
     let moved = c.in_ok-move_port in
-    port_ticks c.args.at c.in-Some.port.now c.in_ok-port.port c.get.result.now _ _ c.args.self.now c.move_port.new.self c.send_state.new.self
-    c.in-Some.ensures c.get.ensures c.in_ok-port.ensures.cases moved.ensures.ran
+    port_ticks c.args.at c.in-Some.port.now c.in_ok-port.port c.get-ports.result.now _ _ c.args.self.now c.move_port.new.self c.send_state.new.self
+    c.in-Some.ensures c.get-ports.ensures c.in_ok-port.ensures.cases moved.ensures.ran
     (inl (c.in_ok-send_state.ensures, ap (λ (n : ℕ). tick_sends n c.in_ok-port.port) moved.ensures.moment ∙ sym moved.ensures.sends ∙ c.if-branch.true))
 
 pub returns-else-branch : goal.returns-else-branch
 returns-else-branch g c =
     let moved = c.in_ok-move_port in
-    port_ticks c.args.at c.in-Some.port.now c.in_ok-port.port c.get.result.now _ _ c.args.self.now c.move_port.new.self c.move_port.new.self
-    c.in-Some.ensures c.get.ensures c.in_ok-port.ensures.cases moved.ensures.ran
+    port_ticks c.args.at c.in-Some.port.now c.in_ok-port.port c.get-ports.result.now _ _ c.args.self.now c.move_port.new.self c.move_port.new.self
+    c.in-Some.ensures c.get-ports.ensures c.in_ok-port.ensures.cases moved.ensures.ran
     (inr (refl, ap (λ (n : ℕ). tick_sends n c.in_ok-port.port) moved.ensures.moment ∙ sym moved.ensures.sends ∙ c.if-branch.false))

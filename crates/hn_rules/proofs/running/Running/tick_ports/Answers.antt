@@ -1,8 +1,15 @@
-use Rattle.std.proofs.Common.{refl}
+use Rattle.std.proofs.Common.{refl, subst}
+use Rattle.hn_own.specs.Ports.{ArePorts}
+use Rattle.hn_rules.proofs.Resting.{ports_rest}
 use Rattle.hn_rules.specs.Rules.{AtPort, words_of}
-use Rattle.hn_rules.specs.Tick.{IsPortTick}
-use Rattle.hn_base.proofs.Rans.{ran_next}
+use Rattle.hn_rules.specs.Tick.{IsPortTick, IsPortsTick}
+use Rattle.hn_base.proofs.Rans.{ran_plain, ran_next}
 use Rattle.hn_rules.proofs.running.Running.tick_ports.Goals as goal
+
+pub returns-then-are_ports_still : goal.returns-then-are_ports_still
+returns-then-are_ports_still g c =
+    let r = c.args.self.now in
+    ran_plain words_of IsPortsTick _ r r (ports_rest c.still_port.ensures r (subst ArePorts c.get.ensures c.as_slice-kept.ensures.kept) (c.are_ports_still.ensures c.if-are_ports_still.true)) refl
 
 pub loop-at-preserved : goal.loop-at-preserved
 loop-at-preserved g c =

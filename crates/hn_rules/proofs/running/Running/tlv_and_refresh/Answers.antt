@@ -1,13 +1,26 @@
+use Rattle.std.proofs.Common.{refl}
 use Rattle.std.proofs.lemmas.Result.{on_ok_weaker}
 use Rattle.hn_rules.specs.Rules.{words_of}
 use Rattle.hn_tlv.specs.View.{plain}
 use Rattle.hn_rules.specs.Arrival.{IsTlvRule}
 use Rattle.hn_rules.specs.Refresh.{IsRefresh}
-use Rattle.hn_base.proofs.Rans.{ran_both}
+use Rattle.hn_base.proofs.Rans.{ran_plain, ran_both}
+use Rattle.hn_rules.proofs.Recent.{same_refresh}
+use Rattle.hn_rules.proofs.Refreshes.{refreshed_untouched, fresh_untouched}
 use Rattle.hn_rules.proofs.running.Running.tlv_and_refresh.Goals as goal
 
 pub refresh-requires : goal.refresh-requires
-refresh-requires g c none = c.in_ok-touched.ensures.untouched none c.requires
+refresh-requires g c none = refreshed_untouched c.args.self.now.state c.tlv.new.self.state (c.in_ok-touched.ensures.untouched none) c.requires.refreshed
+
+pub returns-then-not-touched-clause-fresh : goal.returns-then-not-touched-clause-fresh
+returns-then-not-touched-clause-fresh g c =
+    fresh_untouched c.args.self.now.state c.tlv.new.self.state (c.in_ok-touched.ensures.untouched c.if-not-touched.true) (c.requires.fresh c.if-fresh.true)
+
+pub returns-then-not-touched-clause-ran : goal.returns-then-not-touched-clause-ran
+returns-then-not-touched-clause-ran g c =
+    let r = c.tlv.new.self in
+    let fresh = fresh_untouched c.args.self.now.state r.state (c.in_ok-touched.ensures.untouched c.if-not-touched.true) (c.requires.fresh c.if-fresh.true) in
+    ran_both words_of (IsTlvRule c.args.from.now (plain c.args.tlv.now)) IsRefresh _ _ _ c.args.self.now r r c.in_ok-touched.ensures.ran (ran_plain words_of IsRefresh _ r r (same_refresh r fresh) refl)
 
 pub returns-clause-ran : goal.returns-clause-ran
 returns-clause-ran g c =

@@ -10,7 +10,8 @@ pub loop-tlv-preserved : goal.loop-tlv-preserved
 loop-tlv-preserved g c =
     let here : IsTlvAt c.args.bytes.now c.loop-tlv.place (plain c.in-Ok-Some.tlv) c.in-Ok-Some.after = rw c.in-Ok-Some.field-0-is at c.in-Ok-Some.ensures.found in
     record {
-      refreshed = c.in_ok-tlv_and_refresh.ensures.refreshed;
+      refreshed = c.in_ok-tlv_and_refresh.ensures.fresh.refreshed;
+      fresh = λ _. c.in_ok-tlv_and_refresh.ensures.fresh;
       read = read_more c.args.from.now c.args.bytes.now c.loop-tlv.place c.in-Ok-Some.after (plain c.in-Ok-Some.tlv) _ _ _
           c.args.self.now c.loop-tlv.self c.tlv_and_refresh.new.self
           here (λ ts list. c.list_grows.ensures c.args.bytes.now c.loop-tlv.place c.in-Ok-Some.after (plain c.in-Ok-Some.tlv) ts list here) c.loop-tlv.invariant.read c.in_ok-tlv_and_refresh.ensures.ran;

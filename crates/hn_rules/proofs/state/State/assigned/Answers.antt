@@ -8,8 +8,8 @@ use Rattle.hn_rules.specs.Seen.{seen_by}
 use Rattle.hn_rules.proofs.AssignPairs.{assigned_of, kept_of}
 use Rattle.hn_rules.proofs.state.State.assigned.Goals as goal
 
-pub wishes-requires : goal.wishes-requires
-wishes-requires g c =
+pub wishes_in-requires : goal.wishes_in-requires
+wishes_in-requires g c =
     let s = c.args.self.now in
     record {
       view = c.view-view.ensures;
@@ -46,6 +46,6 @@ pub returns-clause-kept : goal.returns-clause-kept
 returns-clause-kept g c =
     let held = c.get-2.ensures in
     let priority = subst (λ (h : Held). All HasOwnPriority h.assigned) (sym held.held) held.kept.priority in
-    kept_of c.pairs_are_ordered.ensures.total c.pairs_are_ordered.ensures.exact c.subroutine_leaves.ensures.wished
+    kept_of c.posts_ascend.ensures.few c.pairs_are_ordered.ensures.total c.pairs_are_ordered.ensures.exact c.subroutine_leaves.ensures.wished
     c.args.self.now c.subroutine.result c.requires.well.ports (returns-clause-assigned g c)
     c.subroutine.ensures.ascending c.subroutine.ensures.inside (c.subroutine.ensures.priority priority)

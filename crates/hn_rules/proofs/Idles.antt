@@ -1,0 +1,392 @@
+-- A tick does nothing if and only if each part of it leaves the router as it is.
+use Rattle.std.proofs.Common.{◌≡◌, ◌∙◌, ◌↔◌, ℕ, ◌-◌, ◌^◌, ◌<◌, ◌≤◌, ◌+◌, Bool, true, false, nat_le, List, [], ◌∷◌, ◌++◌, map, filter, nat_lt, Option, Some, None, inl, inr, refl, sym, ap, subst, arith}
+use Rattle.std.specs.Prelude.{All, Contains}
+use Rattle.std.specs.List.{list_any}
+use Rattle.std.specs.Option.{option_map_or}
+use Rattle.std.proofs.lemmas.Bool.{or_parts, lt-leb}
+use Rattle.std.specs.List.Sorted.{IsStrictlySortedBy}
+use Rattle.std.proofs.lemmas.List.Elements.{All-contains, All-filter}
+use Rattle.hn_base.proofs.AscendingLists.{Contains-map}
+use Rattle.hn_base.proofs.Elements.{all_of, found_passes}
+use Rattle.hn_base.specs.NodeIds.{node_cmp}
+use Rattle.hn_base.specs.Rules.{Each, OnSome}
+use Rattle.hn_base.specs.declared.ids.EpId.{EpId}
+use Rattle.hn_base.specs.declared.ids.NodeId.{NodeId}
+use Rattle.hn_assign.specs.declared.held.Held.{Held}
+use Rattle.hn_assign.specs.declared.held.Ran.{Ran as Assigned}
+use Rattle.hn_data.specs.declared.view.Entry.{Entry}
+use Rattle.hn_dncp.specs.Due.{IsPortStill, IsIdleAt}
+use Rattle.hn_dncp.specs.Laws.{PackingIsNotEmpty, StillPortIsIdle}
+use Rattle.hn_dncp.specs.declared.peers.Neighbour.{Neighbour}
+use Rattle.hn_dncp.specs.declared.port.Port.{Port}
+use Rattle.hn_graph.specs.Path.{IsReachable}
+use Rattle.hn_own.specs.Laws.{NoneEnds}
+use Rattle.hn_own.specs.Own.{links_of}
+use Rattle.hn_own.specs.OwnPrefixes.{delegated_after, has_ended_one}
+use Rattle.hn_own.specs.Ports.{ArePorts, is_port, port_at, put_port, endpoints_of}
+use Rattle.hn_own.specs.declared.own.OwnItems.{OwnItems}
+use Rattle.hn_own.specs.declared.own_prefixes.OwnPrefix.{OwnPrefix}
+use Rattle.hn_store.specs.Laws.{NoneIsForgotten}
+use Rattle.hn_store.specs.Loss.{is_among, is_forgotten, lost_after, marked, marked_node, remembered}
+use Rattle.hn_store.specs.Nodes.{Nodes}
+use Rattle.hn_store.specs.declared.stored.HeldNode.{HeldNode}
+use Rattle.hn_rules.specs.declared.done.Done.{Done}
+use Rattle.hn_rules.specs.declared.running.Running.{Running}
+use Rattle.hn_rules.specs.declared.state.State.{State}
+use Rattle.hn_rules.specs.Assigning.{IsAssigned, IsAssigning}
+use Rattle.hn_rules.specs.Delegating.{ending}
+use Rattle.hn_rules.specs.Done.{nothing}
+use Rattle.hn_rules.specs.Idle.{IsIdleTick, IsLeft}
+use Rattle.hn_rules.specs.Laws.{StillIsIdle, IdleIsStill, SilentTickIsStill, IdleUntilDue, StillStays, NextDueStays}
+use Rattle.hn_rules.specs.Nodes.{held_entry, own_entry, held_entries, nodes_of, IsReach}
+use Rattle.hn_rules.specs.Refresh.{own_items, IsPublished, IsReaching, IsRefresh}
+use Rattle.hn_rules.specs.Router.{IsRouter}
+use Rattle.hn_base.specs.Words.{Begins}
+use Rattle.hn_rules.specs.Rules.{AtPort, IsSole, begun_at}
+use Rattle.hn_rules.specs.Still.{at_moment, AreHeard, IsStill}
+use Rattle.hn_rules.specs.Tick.{IsExpired, IsPortExpiry, IsExpiry, forgetting, IsPortTick, IsPortsTick}
+use Rattle.hn_rules.specs.Ticks.{IsTick}
+use Rattle.hn_rules.proofs.Forgetting.{IsMarked, stays}
+use Rattle.hn_rules.proofs.Recent.{marks_same}
+use Rattle.hn_rules.proofs.Refreshes.{only_one, refreshed-later, seen_marked}
+use Rattle.hn_rules.proofs.Shrinking.{with_ports, none_expired, expiry_ports}
+use Rattle.hn_rules.proofs.SilentPorts.{found_itself, all_idle, ticks_ports}
+use Rattle.hn_rules.proofs.Silences.{Silent, none_after, seen_again, silent_refresh, silent_walk}
+use Rattle.hn_rules.proofs.Touched.{none_expire, put_same}
+use Rattle.hn_rules.proofs.Walk.{assigning_walk, ports_walk}
+
+-- the laws of the crates below that they stand on
+pub record StillLaws : Type 0 where
+  pub ending : NoneEnds
+  pub forgetting : NoneIsForgotten
+  pub port : StillPortIsIdle
+
+pub record IdleLaws : Type 0 where
+  pub one_order : (xs ys : List NodeId) → IsStrictlySortedBy node_cmp xs → IsStrictlySortedBy node_cmp ys → ((x : NodeId) → Contains xs x ↔ Contains ys x) → xs ≡ ys
+  pub ending : NoneEnds
+  pub forgetting : NoneIsForgotten
+  pub port : StillPortIsIdle
+  pub packing : PackingIsNotEmpty
+
+-- a rule of each element that leaves all as it was
+each_same : {S A : Type 0} (rule : A → S → S → Type 0) (r : S) → ((x : A) → rule x r r) → (xs : List A) → Each rule xs r r
+each_same rule r one [] = refl
+each_same rule r one (x ∷ xs) = (r, one x, each_same rule r one xs)
+
+-- ---- each part leaves the router as it is: the tick does nothing
+
+module _ (laws : StillLaws) (s : State) (now : ℕ) (router : IsRouter s) (begun : s.moment ≤ now) (still : IsStill now s) where
+  abbrev r : Running
+  r = begun_at now s
+
+  expires : IsExpiry r r
+  expires =
+      each_same (λ at. AtPort at IsPortExpiry) r
+      (λ at. none_expire at r router.well.ports (λ port found.
+      All-contains (λ (p : Port). All (λ (peer : Neighbour). ¬ (IsExpired (at_moment now s) peer)) p.peers) s.ports port still.heard (found_passes (is_port at) s.ports port found).0)) (endpoints_of s.ports)
+
+  ends : r ≡ ending r
+  ends = ap (λ (list : List OwnPrefix). let x : Running = record r { state = record r.state { delegated = list } } in x) (sym ((laws.ending now s.delegated).1 still.lasting))
+
+  forgets : r ≡ forgetting r
+  forgets = ap (λ (table : Nodes). let x : Running = record r { state = record r.state { table = table } } in x) (sym ((laws.forgetting now s.table).1 still.kept))
+
+  refreshes : IsRefresh r r
+  refreshes = (r, inl (record { same = router.refreshed.published; young = still.young }, refl), (r, reaches, inl (sym (refreshed-later now s begun router.refreshed).hashed, refl)))
+    where
+      reaches : IsReaching r r
+      reaches = record {
+        reach = s.reach;
+        is_reach = still.reached;
+        gives = ap (λ (entries : List HeldNode). let x : Running = record r { state = record r.state { table = record s.table { entries = entries } } } in x) (sym (marks_same s.reach now s.table.entries router.refreshed.lost));
+      }
+
+  assigns : IsAssigning r r
+  assigns = record { ran = record { held = s.held; words = [] }; is_assigned = still.rests; gives = refl }
+
+  ticks : IsPortsTick r r
+  ticks = each_same (λ at. AtPort at IsPortTick) r (λ at. by_port at (port_at at s.ports) refl) (endpoints_of s.ports)
+    where
+      by_port : (at : EpId) (o : Option Port) → port_at at s.ports ≡ o → OnSome IsPortTick o r r
+      by_port at None found = refl
+      by_port at (Some port) found =
+          let idle = (laws.port now port).0 (All-contains (IsPortStill now) s.ports port still.silent (found_passes (is_port at) s.ports port found).0) in
+          let put : put_port port s.ports ≡ s.ports = put_same port s.ports (only_one at s.ports port router.well.ports.ascending found) in
+          let whole = ap (λ (p : Port). put_port p s.ports) idle.same ∙ put in
+          (r, record { words = []; as_many = sym idle.untaken; gives = ap (λ (ports : List Port). with_ports r ports) (sym whole) }, inr (idle.unsent, refl))
+
+  still_tick : IsIdleTick now s
+  still_tick = (r, (r, (r, expires, (r, ends, refreshes)), (r, forgets, (r, (r, assigns, refreshes), ticks))), refl, refl)
+
+pub still_idle : StillLaws → StillIsIdle
+still_idle laws s now router begun still = still_tick laws s now router begun still
+
+-- ---- a tick that does nothing: each part left the router as it is
+
+-- the nodes are those of the table
+nodes_by : (s t : State) → s.id ≡ t.id → own_entry s ≡ own_entry t → held_entries s ≡ held_entries t → nodes_of s ≡ nodes_of t
+nodes_by s t id own entries =
+    λ i. filter (λ n. nat_lt n.id.0 (id i).0) (entries i) ++ own i ∷ filter (λ n. nat_lt (id i).0 n.id.0) (entries i)
+
+module _ (laws : IdleLaws) (s : State) (now : ℕ) (router : IsRouter s) (begun : s.moment ≤ now) where
+  abbrev start : Running
+  start = begun_at now s
+
+  -- ---- silent peers and ended delegated prefixes
+
+  -- nothing was lost where the own items stayed
+  record IsKept (expired ended : Running) : Type 0 where
+    heard : AreHeard now s
+    lasting : has_ended_one now s.delegated ≡ false
+    young : now - s.own.born < 2 ^ 32 - 2 ^ 16
+    same : ended ≡ start
+
+  kept_by : (expired ended : Running) → IsExpiry start expired → ended ≡ ending expired → IsPublished ended.state → IsKept expired ended
+  kept_by expired ended expiry ends published =
+      let ports = expired.state.ports in
+      let left : expired ≡ with_ports start ports = expiry_ports start expired expiry in
+      let whole : ended ≡ ending (with_ports start ports) = ends ∙ ap ending left in
+      let fresh : IsPublished (ending (with_ports start ports)).state = subst (λ (x : Running). IsPublished x.state) whole published in
+      let items : own_items (ending (with_ports start ports)).state ≡ own_items s = fresh.same ∙ sym router.refreshed.published in
+      let links : links_of ports ≡ links_of s.ports = ap (λ (o : OwnItems). o.links) items in
+      let delegated : delegated_after now s.delegated ≡ s.delegated = ap (λ (o : OwnItems). o.delegated) items in
+      let none = none_expired start expired router.well.ports expiry links in
+      record {
+        heard = all_of (λ (port : Port). All (λ (peer : Neighbour). ¬ (IsExpired (at_moment now s) peer)) port.peers) s.ports
+            (λ port there. none.1 port.id (Contains-map (λ (p : Port). p.id) s.ports port there) port (found_itself s.ports port router.well.ports there));
+        lasting = (laws.ending now s.delegated).0 delegated;
+        young = fresh.young;
+        same = ends ∙ ap ending none.0 ∙ ap (λ (list : List OwnPrefix). let x : Running = record start { state = record start.state { delegated = list } } in x) delegated;
+      }
+
+  -- ---- what comes after
+
+  -- the states in between, by what they find
+  abbrev lost : List NodeId → List ℕ → State
+  lost reach net = seen_again reach net (at_moment now s)
+
+  abbrev forgot : List NodeId → List ℕ → State
+  forgot reach net = record (lost reach net) { table = remembered now (marked reach now s.table) }
+
+  abbrev assigned : List NodeId → List ℕ → Held → State
+  assigned reach net held = record (forgot reach net) { held = held }
+
+  -- the nodes that are left after marks
+  abbrev left : List NodeId → List HeldNode
+  left reach = filter (stays now) (map (marked_node reach now) s.table.entries)
+
+  -- the last refresh found the nodes that were reachable, and nothing else of the nodes changed
+  module _ (reach : List NodeId) (net : List ℕ) (held : Held) (again : List NodeId)
+      (first : IsReach (at_moment now s) reach) (second : IsReach (assigned reach net held) again)
+      (again_is : again ≡ s.reach) (seen : map (held_entry now) (left reach) ≡ map (held_entry now) s.table.entries) where
+    same_nodes : nodes_of (assigned reach net held) ≡ nodes_of (at_moment now s)
+    same_nodes = nodes_by (assigned reach net held) (at_moment now s) refl refl seen
+
+    reached : IsReach (at_moment now s) s.reach
+    reached =
+        let exactly : (id : NodeId) → Contains again id ↔ IsReachable s.id.0 (nodes_of (at_moment now s)) id.0 = λ id.
+        subst (λ (nodes : List Entry). Contains again id ↔ IsReachable s.id.0 nodes id.0) same_nodes (second.exactly id) in
+        let whole : IsReach (at_moment now s) again = record { ascending = second.ascending; exactly = exactly } in
+        subst (IsReach (at_moment now s)) again_is whole
+
+    reach_is : reach ≡ s.reach
+    reach_is =
+        laws.one_order reach s.reach first.ascending reached.ascending
+        (λ id. let p = first.exactly id in let q = reached.exactly id in (λ x. q.1 (p.0 x), λ y. p.1 (q.0 y)))
+
+    unmarked : map (marked_node reach now) s.table.entries ≡ s.table.entries
+    unmarked = ap (λ (ids : List NodeId). map (marked_node ids now) s.table.entries) reach_is ∙ marks_same s.reach now s.table.entries router.refreshed.lost
+
+    -- but for the network state hash the router was as it is where prefixes were assigned
+    forgot_is : filter (stays now) s.table.entries ≡ s.table.entries → forgot reach net ≡ record (at_moment now s) { net = net }
+    forgot_is remains =
+        ap (λ (nodes : List HeldNode). let x : State = record (at_moment now s) { reach = reach; net = net; table = record s.table { entries = filter (stays now) nodes } } in x) unmarked
+        ∙ ap (λ (nodes : List HeldNode). let x : State = record (at_moment now s) { reach = reach; net = net; table = record s.table { entries = nodes } } in x) remains
+        ∙ ap (λ (ids : List NodeId). let x : State = record (at_moment now s) { reach = ids; net = net } in x) reach_is
+
+    rests : filter (stays now) s.table.entries ≡ s.table.entries → (ran : Assigned) → IsAssigned (forgot reach net) ran → ran.held ≡ s.held → ran.words ≡ []
+        → IsAssigned (at_moment now s) (record { held = s.held; words = [] })
+    rests remains ran was held_is words_are =
+        let there : IsAssigned (record (at_moment now s) { net = net }) ran = subst (λ (x : State). IsAssigned x ran) (forgot_is remains) was in
+        let here : IsAssigned (at_moment now s) ran = record {
+          usable = there.usable;
+          are_usable = there.are_usable;
+          wishes = there.wishes;
+          are_asked = record {
+            ascending = there.are_asked.ascending;
+            exact = λ wish. (
+              λ asked. let one = (there.are_asked.exact wish).0 asked in record { place = one.place; asked = one.asked; post = one.post },
+              λ one. (there.are_asked.exact wish).1 (record { place = one.place; asked = one.asked; post = one.post }),
+            );
+          };
+          is_subroutine = there.is_subroutine;
+        } in
+        let same : ran ≡ record { held = s.held; words = [] } = λ i. record { held = held_is i; words = words_are i } in
+        subst (IsAssigned (at_moment now s)) same here
+
+  -- ---- a tick of which nothing came
+
+  -- what its parts did
+  record IsSilentTick (after : Running) : Type 0 where
+    heard : AreHeard now s
+    lasting : has_ended_one now s.delegated ≡ false
+    young : now - s.own.born < 2 ^ 32 - 2 ^ 16
+    reach : List NodeId
+    net : List ℕ
+    first : IsReach (at_moment now s) reach
+    ran : Assigned
+    is_assigned : IsAssigned (forgot reach net) ran
+    untaken : ran.words ≡ []
+    again : List NodeId
+    net_again : List ℕ
+    second : IsReach (assigned reach net ran.held) again
+    settled : Running
+    settled_is : settled.state ≡ seen_again again net_again (assigned reach net ran.held)
+    ticks : IsPortsTick settled after
+
+  silent_tick : (after : Running) → IsTick start after → Silent after → IsSilentTick after
+  silent_tick after (losing, (expired, expiry, (ended, ends, refreshes)), (forgetful, forgets, (settled, (settling, assigns, again), ticks))) silent =
+      let ran = assigns.ran in
+      let settled_silent : Silent settled = silent_walk IsPortsTick (λ P each. ports_walk [] P each) settled after ticks silent in
+      let last = silent_refresh settling settled again settled_silent in
+      let settling_silent : Silent settling = sym last.done ∙ settled_silent in
+      let forgetful_silent : Silent forgetful = silent_walk IsAssigning (λ P each. assigning_walk [] P each) forgetful settling assigns settling_silent in
+      let losing_silent : Silent losing = sym (ap (λ (x : Running). x.done) forgets) ∙ forgetful_silent in
+      let first = silent_refresh ended losing refreshes losing_silent in
+      let kept = kept_by expired ended expiry ends first.published in
+      let lost_is : losing.state ≡ lost first.reach first.net = first.gives ∙ ap (λ (x : Running). seen_again first.reach first.net x.state) kept.same in
+      let state_forgot : forgetful.state ≡ forgot first.reach first.net =
+      ap (λ (x : Running). x.state) forgets ∙ ap (λ (x : State). let y : State = record x { table = remembered x.moment x.table } in y) lost_is in
+      let state_assigned : settling.state ≡ assigned first.reach first.net ran.held =
+      ap (λ (x : Running). x.state) assigns.gives ∙ ap (λ (x : State). let y : State = record x { held = ran.held } in y) state_forgot in
+      record {
+        heard = kept.heard;
+        lasting = kept.lasting;
+        young = kept.young;
+        reach = first.reach;
+        net = first.net;
+        first = subst (λ (x : Running). IsReach x.state first.reach) kept.same first.is_reach;
+        ran = ran;
+        is_assigned = subst (λ (x : State). IsAssigned x ran) state_forgot assigns.is_assigned;
+        untaken = none_after forgetful.done.words ran.words (sym (ap (λ (x : Running). x.done.words) assigns.gives) ∙ ap (λ (d : Done). d.words) settling_silent);
+        again = last.reach;
+        net_again = last.net;
+        second = subst (λ (x : State). IsReach x last.reach) state_assigned last.is_reach;
+        settled = settled;
+        settled_is = last.gives ∙ ap (seen_again last.reach last.net) state_assigned;
+        ticks = ticks;
+      }
+
+  -- what it leaves, but for the endpoints
+  leaves : (after : Running) (parts : IsSilentTick after) → after.state ≡ record (seen_again parts.again parts.net_again (assigned parts.reach parts.net parts.ran.held)) { ports = after.state.ports }
+  leaves after parts = ticks_ports parts.settled after parts.ticks ∙ ap (λ (x : State). let y : State = record x { ports = after.state.ports } in y) parts.settled_is
+
+  -- ---- where all is as it was in the end
+
+  still_by : (after : Running) → IsSilentTick after → Silent after → after.state ≡ at_moment now s → IsStill now s
+  still_by after parts silent same =
+      let whole = sym (leaves after parts) ∙ same in
+      let again_is : parts.again ≡ s.reach = ap (λ (x : State). x.reach) whole in
+      let marked_is : map (marked_node parts.again now) (left parts.reach) ≡ s.table.entries = ap (λ (x : State). x.table.entries) whole in
+      let seen : map (held_entry now) (left parts.reach) ≡ map (held_entry now) s.table.entries =
+      sym (seen_marked parts.again now now (left parts.reach)) ∙ ap (λ (nodes : List HeldNode). map (held_entry now) nodes) marked_is in
+      let there : map (marked_node parts.reach now) s.table.entries ≡ s.table.entries = unmarked parts.reach parts.net parts.ran.held parts.again parts.first parts.second again_is seen in
+      let remains : filter (stays now) s.table.entries ≡ s.table.entries =
+      sym (marks_same s.reach now (filter (stays now) s.table.entries) (All-filter (stays now) (IsMarked s.reach) s.table.entries router.refreshed.lost))
+      ∙ ap (λ (ids : List NodeId). map (marked_node ids now) (filter (stays now) s.table.entries)) (sym again_is)
+      ∙ ap (λ (nodes : List HeldNode). map (marked_node parts.again now) (filter (stays now) nodes)) (sym there)
+      ∙ marked_is in
+      let ports_are : parts.settled.state.ports ≡ s.ports = ap (λ (x : State). x.ports) parts.settled_is in
+      let moment_is : parts.settled.state.moment ≡ now = ap (λ (x : State). x.moment) parts.settled_is in
+      let idle = all_idle laws.packing parts.settled after (subst ArePorts (sym ports_are) router.well.ports) parts.ticks silent (ap (λ (x : State). x.ports) same ∙ sym ports_are) in
+      let idle_here : All (IsIdleAt now) s.ports = subst (All (IsIdleAt now)) ports_are (subst (λ (n : ℕ). All (IsIdleAt n) parts.settled.state.ports) moment_is idle) in
+      record {
+        heard = parts.heard;
+        lasting = parts.lasting;
+        young = parts.young;
+        reached = reached parts.reach parts.net parts.ran.held parts.again parts.first parts.second again_is seen;
+        kept = (laws.forgetting now s.table).0 (ap (λ (nodes : List HeldNode). let t : Nodes = record s.table { entries = nodes } in t) remains);
+        rests = rests parts.reach parts.net parts.ran.held parts.again parts.first parts.second again_is seen remains parts.ran parts.is_assigned (ap (λ (x : State). x.held) whole) parts.untaken;
+        silent = all_of (IsPortStill now) s.ports (λ port there. (laws.port now port).1 (All-contains (IsIdleAt now) s.ports port idle_here there));
+      }
+
+  -- ---- where some parts are as they were
+
+  -- who is not forgotten is not so either with a moment of loss that is found now
+  unforgotten : (reachable : Bool) (lost : Option ℕ) → option_map_or (λ moment. nat_le (moment + 42000) now) lost false ≡ false
+      → option_map_or (λ moment. nat_le (moment + 42000) now) (lost_after reachable now lost) false ≡ false
+  unforgotten true lost none = refl
+  unforgotten false None none = lt-leb (now + 42000) now (omega arith)
+  unforgotten false (Some moment) none = none
+
+  none_marked : (reach : List NodeId) (nodes : List HeldNode) → list_any (is_forgotten now) nodes ≡ false → list_any (is_forgotten now) (map (marked_node reach now) nodes) ≡ false
+  none_marked reach [] none = refl
+  none_marked reach (node ∷ nodes) none =
+      let both = or_parts (is_forgotten now node) (list_any (is_forgotten now) nodes) none in
+      let here = unforgotten (is_among reach node.id.0) node.stored.lost both.0 in
+      let more = none_marked reach nodes both.1 in
+      rw (here, more) refl
+
+  pub still_from : (after : Running) → IsTick start after → Silent after → after.state.reach ≡ s.reach → after.state.held ≡ s.held → list_any (is_forgotten now) s.table.entries ≡ false
+      → All (IsPortStill now) s.ports → IsStill now s
+  still_from after tick silent same_reach same_held none still_ports =
+      let parts = silent_tick after tick silent in
+      let whole = leaves after parts in
+      let found : after.state.reach ≡ parts.again = ap (λ (x : State). x.reach) whole in
+      let holds : after.state.held ≡ parts.ran.held = ap (λ (x : State). x.held) whole in
+      let again_is : parts.again ≡ s.reach = sym found ∙ same_reach in
+      let held_is : parts.ran.held ≡ s.held = sym holds ∙ same_held in
+      let table : Nodes = marked parts.reach now s.table in
+      let remain : remembered now table ≡ table = (laws.forgetting now table).1 (none_marked parts.reach s.table.entries none) in
+      let seen : map (held_entry now) (left parts.reach) ≡ map (held_entry now) s.table.entries =
+      ap (λ (nodes : Nodes). map (held_entry now) nodes.entries) remain ∙ seen_marked parts.reach now now s.table.entries in
+      let remains : filter (stays now) s.table.entries ≡ s.table.entries = ap (λ (nodes : Nodes). nodes.entries) ((laws.forgetting now s.table).1 none) in
+      record {
+        heard = parts.heard;
+        lasting = parts.lasting;
+        young = parts.young;
+        reached = reached parts.reach parts.net parts.ran.held parts.again parts.first parts.second again_is seen;
+        kept = none;
+        rests = rests parts.reach parts.net parts.ran.held parts.again parts.first parts.second again_is seen remains parts.ran parts.is_assigned held_is parts.untaken;
+        silent = still_ports;
+      }
+
+pub idle_still : IdleLaws → IdleIsStill
+idle_still laws s now router begun (after, tick, same, silent) =
+    still_by laws s now router begun after (silent_tick laws s now router begun after tick silent) silent same
+
+pub silent_still : IdleLaws → SilentTickIsStill
+silent_still laws s now after router begun tick silent left = still_from laws s now router begun after tick silent left.reach left.held left.kept left.silent
+
+-- ---- a tick that ran
+
+-- over no words a tick has one result
+pub one_tick : IsSole IsTick → (r a b : Running) → IsTick r a → IsTick r b → Silent a → Silent b → a ≡ b
+one_tick sole r a b h k silent_a silent_b =
+    let words_a : a.done.words ≡ [] = ap (λ (d : Done). d.words) silent_a in
+    let words_b : b.done.words ≡ [] = ap (λ (d : Done). d.words) silent_b in
+    let stream : ℕ → ℕ = λ i. 0 in
+    let none : Begins [] stream = λ i less. absurd (omega arith) in
+    sole.one stream r a b h k (subst (λ (words : List ℕ). Begins words stream) (sym words_a) none) (subst (λ (words : List ℕ). Begins words stream) (sym words_b) none)
+
+-- so one that ran where each part leaves the router as it is did nothing
+pub ran_idle : StillIsIdle → IsSole IsTick → (s : State) (now : ℕ) (after : Running) → IsRouter s → s.moment ≤ now → IsTick (begun_at now s) after → after.done ≡ nothing → IsStill now s → after.state ≡ at_moment now s
+ran_idle is_idle sole s now after router begun tick silent still =
+    let (other, other_tick, same, other_silent) = is_idle s now router begun still in
+    ap (λ (r : Running). r.state) (one_tick sole (begun_at now s) after other tick other_tick silent other_silent) ∙ same
+
+pub is_idle_where_left : StillIsIdle → IdleIsStill → SilentTickIsStill → IsSole IsTick → (s : State) (now : ℕ) (after : Running) → IsRouter s → s.moment ≤ now → IsTick (begun_at now s) after → after.done ≡ nothing
+    → IsLeft now s after.state ↔ ((after.state ≡ at_moment now s) × (after.done ≡ nothing))
+is_idle_where_left is_idle is_still silent_is_still sole s now after router begun tick silent = (
+  λ left. (ran_idle is_idle sole s now after router begun tick silent (silent_is_still s now after router begun tick silent left), silent),
+  λ (same, _). let still = is_still s now router begun (after, tick, same, silent) in
+      record { reach = ap (λ (x : State). x.reach) same; held = ap (λ (x : State). x.held) same; kept = still.kept; silent = still.silent },
+)
+
+-- ---- until something is due
+
+pub idle_until : StillIsIdle → IdleIsStill → StillStays → NextDueStays → IdleUntilDue
+idle_until is_idle is_still stays_still stays_due s later due router begun before idle next =
+    let still = is_still s s.moment router (omega arith) idle in
+    let still_later = stays_still s s.moment later router (omega arith) begun still (λ m is after. let first = next.least m is after in omega (arith, first, before)) in
+    (is_idle s later router begun still_later, stays_due s s.moment later due router (omega arith) begun before next)

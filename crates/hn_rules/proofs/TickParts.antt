@@ -1,0 +1,29 @@
+-- The parts of a tick, and the words that they take.
+use Rattle.std.proofs.Common.{◌≡◌, ℕ, Option, ap, refl}
+use Rattle.hn_base.specs.declared.ids.EpId.{EpId}
+use Rattle.hn_own.specs.Ports.{endpoints_of, port_at}
+use Rattle.hn_rules.specs.declared.running.Running.{Running}
+use Rattle.hn_rules.specs.Delegating.{ending}
+use Rattle.hn_rules.specs.Refresh.{IsRefresh}
+use Rattle.hn_base.specs.Rules.{Then}
+use Rattle.hn_rules.specs.Rules.{AtPort, Ran, words_of}
+use Rattle.hn_rules.specs.Tick.{IsPortExpiry, IsExpiry, forgetting, IsPortsTick}
+use Rattle.hn_rules.specs.Ticks.{IsLosing, IsSettling, IsTick}
+use Rattle.hn_base.proofs.Rans.{ran_plain, ran_both, ran_after, each_words, on_some_words}
+
+pub ran_losing : (told told_after : Option (ℕ → ℕ)) (before expired ended after : Running)
+    → IsExpiry before expired → ended ≡ ending expired → Ran IsRefresh told told_after ended after → Ran IsLosing told told_after before after
+ran_losing told told_after before expired ended after expiry ends refresh =
+    let first = ran_plain words_of IsExpiry told before expired expiry (each_words words_of (λ at. AtPort at IsPortExpiry) (endpoints_of before.state.ports) before expired none expiry) in
+    ran_both words_of IsExpiry (Then (λ b a. a ≡ ending b) IsRefresh) told told told_after before expired after first (ran_after words_of ending IsRefresh told told_after expired ended after ends refl refresh)
+  where
+    none : (at : EpId) (b a : Running) → AtPort at IsPortExpiry b a → a.done.words ≡ b.done.words
+    none at b a = on_some_words words_of IsPortExpiry (port_at at b.state.ports) b a (λ port b a expiry. ap (λ (r : Running). r.done.words) expiry.gives)
+
+pub ran_tick : (told told_lost told_settled told_after : Option (ℕ → ℕ)) (before lost forgot settled after : Running)
+    → Ran IsLosing told told_lost before lost → forgot ≡ forgetting lost → Ran IsSettling told_lost told_settled forgot settled
+    → Ran IsPortsTick told_settled told_after settled after → Ran IsTick told told_after before after
+ran_tick told told_lost told_settled told_after before lost forgot settled after losing forgets settling ticks =
+    let last = ran_both words_of IsSettling IsPortsTick told_lost told_settled told_after forgot settled after settling ticks in
+    let rest = ran_after words_of forgetting (Then IsSettling IsPortsTick) told_lost told_after lost forgot after forgets refl last in
+    ran_both words_of IsLosing (Then (λ b a. a ≡ forgetting b) (Then IsSettling IsPortsTick)) told told_lost told_after before lost after losing rest

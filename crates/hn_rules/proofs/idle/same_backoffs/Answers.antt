@@ -1,0 +1,6 @@
+use Rattle.std.proofs.lemmas.Slice.Eq.{slice_eq-Decides}
+use Rattle.hn_rules.proofs.AssignRuns.{backoff_decided}
+use Rattle.hn_rules.proofs.idle.same_backoffs.Goals as goal
+
+pub returns : goal.returns
+returns c = slice_eq-Decides backoff_decided c.args.a.now c.args.b.now c.eq.result c.eq.ensures

@@ -1,0 +1,14 @@
+use Rattle.std.proofs.Common.{◌↔◌, IsTrue, ℕ, subst}
+use Rattle.hn_rules.specs.Idle.{IsLeft}
+use Rattle.hn_rules.proofs.Idles.{is_idle_where_left}
+use Rattle.hn_rules.proofs.running.Running.was_idle.Goals as goal
+
+pub returns : goal.returns
+returns c =
+    let after = c.args.self.now in
+    let s = c.args.before.now in
+    let now = after.state.moment in
+    let silent = c.is_nothing.ensures.0 c.if-not-is_nothing.false in
+    let left : IsTrue c.is_left.result ↔ IsLeft now s after.state = subst (λ (n : ℕ). IsTrue c.is_left.result ↔ IsLeft n s after.state) c.get.ensures.moment c.is_left.ensures in
+    let idle = is_idle_where_left c.still_is_idle.ensures c.idle_is_still.ensures c.silent_tick_is_still.ensures c.rules_have_one_result.ensures.tick s now after c.requires.router c.requires.not_before c.requires.ran silent in
+    (λ is. idle.0 (left.0 is), λ is. left.1 (idle.1 is))

@@ -1,0 +1,97 @@
+//! Whether a tick did nothing.
+
+ghost use Rattle.std.specs.Prelude.{◌≡◌, ◌↔◌, ◌≤◌, All, IsTrue};
+ghost use Rattle.hn_dncp.specs.Due.{IsPortStill};
+ghost use Rattle.hn_rules.specs.Done.{nothing};
+ghost use Rattle.hn_rules.specs.Idle.{IsLeft};
+ghost use Rattle.hn_rules.specs.Router.{IsRouter};
+ghost use Rattle.hn_rules.specs.Rules.{begun_at};
+ghost use Rattle.hn_rules.specs.Still.{at_moment};
+ghost use Rattle.hn_rules.specs.Ticks.{IsTick};
+
+use crate::laws::{idle_is_still, rules_have_one_result, silent_tick_is_still, still_is_idle};
+use crate::running::Running;
+use crate::state::State;
+use hn_assign::{Assigned, Backoff};
+use hn_base::{Moment, NodeId};
+
+/// Whether two lists have the same identifiers.
+fn same_nodes(a: &[NodeId], b: &[NodeId]) -> bool
+    ensures { IsTrue result ↔ (a.now ≡ b.now) }
+{
+    a == b
+}
+
+/// Whether two lists have the same assignments.
+fn same_assigned(a: &[Assigned], b: &[Assigned]) -> bool
+    ensures { IsTrue result ↔ (a.now ≡ b.now) }
+{
+    a == b
+}
+
+/// Whether two lists have the same backoffs.
+fn same_backoffs(a: &[Backoff], b: &[Backoff]) -> bool
+    ensures { IsTrue result ↔ (a.now ≡ b.now) }
+{
+    a == b
+}
+
+impl State {
+    /// Whether nothing is due at any endpoint.
+    fn has_still_ports(&self, now: Moment) -> bool
+        ensures { IsTrue result ↔ All (IsPortStill now) self.now.ports }
+    {
+        self.ports
+            .get()
+            .as_slice()
+            .iter()
+            .all(|port| port.is_still(now))
+    }
+
+    /// Whether another state has the same reachable nodes.
+    fn reaches_as(&self, other: &State) -> bool
+        ensures { IsTrue result ↔ (self.now.reach ≡ other.now.reach) }
+    {
+        same_nodes(self.reach.get().as_slice(), other.reach.get().as_slice())
+    }
+
+    /// Whether another state has the same assignments and backoffs.
+    fn holds_as(&self, other: &State) -> bool
+        ensures { IsTrue result ↔ (self.now.held ≡ other.now.held) }
+    {
+        let held = self.held.get().get();
+        let others = other.held.get().get();
+        let assigned = same_assigned(held.assigned.as_slice(), others.assigned.as_slice());
+        let backoffs = same_backoffs(held.backoffs.as_slice(), others.backoffs.as_slice());
+        assigned && backoffs
+    }
+
+    /// Whether a tick at a moment left these parts of a router as they were.
+    fn is_left(&self, before: &State, now: Moment) -> bool
+        ensures { IsTrue result ↔ IsLeft now before.now self.now }
+    {
+        self.reaches_as(before)
+            && self.holds_as(before)
+            && !before.table.get().needs_forget(now)
+            && before.has_still_ports(now)
+    }
+}
+
+impl Running {
+    /// Whether the tick that ran from a router did nothing. Never allocates.
+    pub fn was_idle(&self, before: &State) -> bool
+        requires router { IsRouter before.now }
+        requires not_before { before.now.moment ≤ self.now.state.moment }
+        requires ran { IsTick (begun_at self.now.state.moment before.now) self.now }
+        ensures { IsTrue result ↔ ((self.now.state ≡ at_moment self.now.state.moment before.now) × (self.now.done ≡ nothing)) }
+    {
+        still_is_idle();
+        idle_is_still();
+        silent_tick_is_still();
+        rules_have_one_result();
+        if !self.done.is_nothing() {
+            return false;
+        }
+        self.state.is_left(before, self.state.moment.get())
+    }
+}

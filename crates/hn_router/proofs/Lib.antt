@@ -3,9 +3,12 @@ mod Moments
 mod NewRouter
 mod OneEvents
 mod OneNew
+mod Keeping
 mod Planning
 mod Shift
 mod Stays
-mod Ticking
 mod InfoLists
 mod OneAdverts
+mod Changing
+mod Facts
+mod Refused

@@ -1,6 +1,8 @@
 -- After an event a router's moment is the event's, and its endpoints change only where one is attached or detached.
-use Rattle.std.proofs.Common.{◌≡◌, ◌∙◌, ℕ, Bool, true, false, not, cond, List, [], ◌∷◌, ◌++◌, map, filter, nat_lt, inl, inr, refl, sym, ap}
-use Rattle.std.specs.Prelude.{◌==◌}
+use Rattle.std.proofs.Common.{◌≡◌, ◌∙◌, ℕ, Bool, true, false, not, cond, List, [], ◌∷◌, ◌++◌, map, filter, nat_lt, Option, inl, inr, refl, sym, ap}
+use Rattle.std.specs.Prelude.{◌==◌, nat_eq}
+use Rattle.std.specs.Option.{option_eq}
+use Rattle.std.proofs.lemmas.Bool.{cond_both}
 use Rattle.std.proofs.lemmas.List.{map-append}
 use Rattle.hn_base.specs.declared.ids.EpId.{EpId}
 use Rattle.hn_tlv.specs.Grammar.{PlainTlv}
@@ -13,15 +15,15 @@ use Rattle.hn_rules.specs.declared.running.Origin.{Origin}
 use Rattle.hn_rules.specs.Arrival.{IsArrival}
 use Rattle.hn_rules.specs.Assigning.{IsAssigning}
 use Rattle.hn_rules.specs.Delegating.{ending}
-use Rattle.hn_rules.specs.Events.{IsRestarting}
+use Rattle.hn_rules.specs.Events.{setting_private, IsRestarting}
 use Rattle.hn_rules.specs.Laws.{KeepsEndpoints}
 use Rattle.hn_rules.specs.Refresh.{IsRefresh}
 use Rattle.hn_base.specs.Rules.{Then}
 use Rattle.hn_rules.specs.Rules.{Rule, begun_at}
 use Rattle.hn_rules.specs.Tick.{IsExpiry, forgetting, IsPortsTick}
-use Rattle.hn_router.specs.Act.{PlainEvent, Arrive, Tick, Attach, Detach, External, Withdraw, SetCaps, Restart, is_refused, IsEventRule, IsEvent, Happened}
+use Rattle.hn_router.specs.Act.{PlainEvent, Arrive, Tick, Attach, Detach, External, Withdraw, SetCaps, Private, Addresses, Restart, is_refused, IsEventRule, IsEvent, Happened}
 use Rattle.hn_router.specs.Laws.{MomentIsNow, endpoints_by, EndpointsFollow}
-use Rattle.hn_router.specs.Ticks.{IsLosing, IsSettling, IsTick}
+use Rattle.hn_rules.specs.Ticks.{IsLosing, IsSettling, IsTick}
 
 -- what the laws say of the rules
 pub record HasLaws : Type 0 where
@@ -72,6 +74,15 @@ attached_endpoints port ports =
     ∙ ap (λ (es : List EpId). es ++ port.id ∷ map number above) (filter_parts (λ (e : EpId). nat_lt e.0 port.id.0) number ports)
     ∙ ap (λ (es : List EpId). filter (λ (e : EpId). nat_lt e.0 port.id.0) (map number ports) ++ port.id ∷ es) (filter_parts (λ (e : EpId). nat_lt port.id.0 e.0) number ports)
 
+-- ---- the private link
+
+private_moment : (private : Option ℕ) (r : Running) → (setting_private private r).state.moment ≡ r.state.moment
+private_moment private r = cond_both (option_eq nat_eq private r.state.private) _ _ (λ (a : Running). a.state.moment ≡ r.state.moment) (λ _. refl) (λ _. refl)
+
+private_endpoints : (private : Option ℕ) (r : Running) → endpoints_of (setting_private private r).state.ports ≡ endpoints_of r.state.ports
+private_endpoints private r =
+    cond_both (option_eq nat_eq private r.state.private) _ _ (λ (a : Running). endpoints_of a.state.ports ≡ endpoints_of r.state.ports) (λ _. refl) (λ _. refl)
+
 -- ---- an event
 
 -- the moment and the endpoints after an event
@@ -103,15 +114,19 @@ module _ (laws : HasLaws) where
       refreshed (Withdraw prefix) r between a (ap (λ (x : Running). x.state.moment) is, ap (λ (x : Running). endpoints_of x.state.ports) is) refreshes
   follows_rule (SetCaps caps) r a (between, is, refreshes) =
       refreshed (SetCaps caps) r between a (ap (λ (x : Running). x.state.moment) is, ap (λ (x : Running). endpoints_of x.state.ports) is) refreshes
+  follows_rule (Private private) r a (between, is, refreshes) =
+      refreshed (Private private) r between a (keeps_plain (setting_private private) (private_moment private) (private_endpoints private) r between is) refreshes
+  follows_rule (Addresses list) r a (between, is, refreshes) =
+      refreshed (Addresses list) r between a (ap (λ (x : Running). x.state.moment) is, ap (λ (x : Running). endpoints_of x.state.ports) is) refreshes
   follows_rule Restart r a (between, restarts, refreshes) = refreshed Restart r between a (laws.restarting r between restarts) refreshes
 
-  moment_of_event : (event : PlainEvent) (r a : Running) → IsEvent event r a → a.state.moment ≡ r.state.moment
+  pub moment_of_event : (event : PlainEvent) (r a : Running) → IsEvent event r a → a.state.moment ≡ r.state.moment
   moment_of_event event r a (inl (refused, is)) = ap (λ (x : Running). x.state.moment) is
   moment_of_event event r a (inr (accepted, holds)) = (follows_rule event r a holds).0
 
   pub moment_of : MomentIsNow
   unfolding Happened
-  moment_of now event s next done (after, holds, is_next, is_done) = ap (λ (x : State). x.moment) is_next ∙ moment_of_event event (begun_at now s) after holds
+  moment_of now event s next done (after, holds, (due, is_due, is_next), is_done) = ap (λ (x : State). x.moment) is_next ∙ moment_of_event event (begun_at now s) after holds
 
   endpoints_of_event : (event : PlainEvent) (r a : Running) → IsEvent event r a
       → endpoints_of a.state.ports ≡ cond (is_refused event r.state) (endpoints_of r.state.ports) (endpoints_by event (endpoints_of r.state.ports))
@@ -129,10 +144,12 @@ refused_same (Detach at) now s = refl
 refused_same (External prefix valid preferred) now s = refl
 refused_same (Withdraw prefix) now s = refl
 refused_same (SetCaps caps) now s = refl
+refused_same (Private private) now s = refl
+refused_same (Addresses list) now s = refl
 refused_same Restart now s = refl
 
 pub ends_follow : HasLaws → EndpointsFollow
 unfolding Happened
-ends_follow laws now event s next done (after, holds, is_next, is_done) =
+ends_follow laws now event s next done (after, holds, (due, is_due, is_next), is_done) =
     ap (λ (x : State). endpoints_of x.ports) is_next ∙ endpoints_of_event laws event (begun_at now s) after holds
     ∙ ap (λ (b : Bool). cond b (endpoints_of s.ports) (endpoints_by event (endpoints_of s.ports))) (refused_same event now s)

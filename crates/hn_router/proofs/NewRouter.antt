@@ -1,10 +1,12 @@
 -- A new router is one.
-use Rattle.std.proofs.Common.{◌≡◌, ◌<◌, ◌^◌, ◌∙◌, ℕ, List, [], ◌∷◌, ◌++◌, None, map, filter, refl, sym, ap, subst, arith}
-use Rattle.std.specs.Prelude.{All, Contains, ◌↔◌, nat_lt, is_none}
+use Rattle.std.proofs.Common.{◌≡◌, ◌<◌, ◌^◌, ◌∙◌, ℕ, List, [], ◌∷◌, ◌++◌, None, Some, map, filter, refl, sym, ap, subst, arith}
+use Rattle.std.specs.Prelude.{All, Contains, ◌↔◌, nat_lt, is_none, IsTrue}
 use Rattle.std.specs.List.Sorted.{IsStrictlySortedBy}
 use Rattle.std.proofs.lemmas.List.Elements.{All-nil}
 use Rattle.hn_base.specs.NodeIds.{node_cmp}
 use Rattle.hn_base.specs.declared.ids.NodeId.{NodeId}
+use Rattle.hn_assign.specs.declared.assigned.Assigned.{Assigned}
+use Rattle.hn_data.specs.declared.said.PeerLink.{PeerLink}
 use Rattle.hn_assign.specs.declared.held.Held.{Held}
 use Rattle.hn_assign.specs.Facts.{IsInDelegated, HasOwnPriority, IsAssignedPast}
 use Rattle.hn_data.specs.View.{IsNetwork}
@@ -19,7 +21,10 @@ use Rattle.hn_store.specs.declared.stored.HeldNode.{HeldNode}
 use Rattle.hn_store.specs.Laws.{NoNodesAreTable}
 use Rattle.hn_own.specs.HeldPairs.{AreHeldPairs, no_pairs}
 use Rattle.hn_own.specs.OwnPrefixes.{AreOwnPrefixes}
-use Rattle.hn_own.specs.Ports.{ArePorts}
+use Rattle.hn_own.specs.Own.{links_of}
+use Rattle.hn_own.specs.declared.own.OwnItems.{OwnItems}
+use Rattle.hn_own.specs.Addresses.{OwnAddress, AreAddresses}
+use Rattle.hn_own.specs.Ports.{ArePorts, is_attached}
 use Rattle.hn_rules.specs.Nodes.{held_entry, own_entry, nodes_of}
 use Rattle.hn_rules.specs.Router.{IsPortPast, IsNodePast, IsWell, WasReach}
 use Rattle.hn_router.specs.Laws.{NewIsRouter}
@@ -47,10 +52,13 @@ nothing_held : AreHeldPairs no_pairs
 unfolding IsStrictlySortedBy
 nothing_held = record { assigned = tt; backoffs = tt; few = omega arith; inside = All-nil IsInDelegated; priority = All-nil HasOwnPriority }
 
-pub new_is_one : NoNodesAreTable → ArePorts [] → AreOwnPrefixes [] → OwnIsReachable → ReachableIsANode → NewIsRouter
-new_is_one none no_endpoints no_delegated own_is_reachable reachable_is_a_node id limit now s sized new =
+pub new_is_one : NoNodesAreTable → ArePorts [] → AreOwnPrefixes [] → AreAddresses [] → OwnIsReachable → ReachableIsANode → NewIsRouter
+new_is_one none no_endpoints no_delegated no_address own_is_reachable reachable_is_a_node id limit now s fits sized new =
     record { well = well; refreshed = record { published = sym new.items_are; reached = reached; lost = lost; hashed = new.net_is } }
   where
+    links : s.own.items.links ≡ []
+    links = ap (λ (items : OwnItems). items.links) new.items_are ∙ ap links_of new.ports_are
+
     well : IsWell s
     well = record {
       ports = subst ArePorts (sym new.ports_are) no_endpoints;
@@ -60,9 +68,17 @@ new_is_one none no_endpoints no_delegated own_is_reachable reachable_is_a_node i
       delegated = subst AreOwnPrefixes (sym new.no_prefixes) no_delegated;
       pairs = subst AreHeldPairs (sym new.nothing_held) nothing_held;
       other = subst (λ (nodes : Nodes). held nodes.entries s.id.0 ≡ None) (sym new.table_is) refl;
+      addresses = subst AreAddresses (sym new.no_addresses) no_address;
+      posted = record {
+        addressed = subst (All (λ a. IsTrue (is_attached a.0 s.ports))) (sym new.no_addresses) (All-nil (λ (a : OwnAddress). IsTrue (is_attached a.0 s.ports)));
+        of_length = subst (λ (pairs : Held). All (λ c. c.endpoint.0 ≡ 0 → Some c.prefix.len ≡ s.private) pairs.assigned) (sym new.nothing_held) (All-nil (λ (c : Assigned). c.endpoint.0 ≡ 0 → Some c.prefix.len ≡ s.private));
+        linked = subst (All (λ link. 0 < link.endpoint.0)) (sym links) (All-nil (λ (link : PeerLink). 0 < link.endpoint.0));
+      };
       numbered = record {
         own = rw new.number_is (omega arith);
         held = subst (λ (nodes : Nodes). All (λ node. node.stored.number < 2 ^ 32) nodes.entries) (sym new.table_is) (All-nil (λ (node : HeldNode). node.stored.number < 2 ^ 32));
+        own_id = rw new.id_is fits;
+        held_ids = subst (λ (nodes : Nodes). All (λ node. node.id.0 < 2 ^ 32) nodes.entries) (sym new.table_is) (All-nil (λ (node : HeldNode). node.id.0 < 2 ^ 32));
       };
       past = record {
         born = rw (new.born_is, new.moment_is) (omega arith);

@@ -1,22 +1,21 @@
 -- Each event has at most one result over one stream of words.
-use Rattle.std.proofs.Common.{◌≡◌, ◌∙◌, ◌⊎◌, ℕ, false, List, ap, refl, sym, inl, inr}
-use Rattle.std.specs.Prelude.{IsTrue}
+use Rattle.std.proofs.Common.{◌≡◌, ◌∙◌, ◌⊎◌, ℕ, false, List, Option, ap, refl, sym, inl, inr}
+use Rattle.std.specs.Prelude.{IsTrue, nat_eq}
+use Rattle.std.specs.Option.{option_eq}
+use Rattle.std.proofs.lemmas.Bool.{cond_both}
 use Rattle.hn_base.specs.declared.ids.EpId.{EpId}
 use Rattle.hn_tlv.specs.Grammar.{PlainTlv, IsTlvList}
 use Rattle.hn_tlv.specs.Laws.{ListIsUnique, ListHasNoFirstFault, FirstFaultIsUnique}
 use Rattle.hn_rules.specs.declared.running.Running.{Running}
 use Rattle.hn_rules.specs.declared.running.Origin.{Origin}
 use Rattle.hn_rules.specs.declared.done.Note.TheVariants as note
-use Rattle.hn_base.specs.Rules.{Then}
 use Rattle.hn_rules.specs.Rules.{IsSole, noted, words_of}
 use Rattle.hn_rules.specs.Arrival.{IsArrival}
-use Rattle.hn_rules.specs.Assigning.{IsAssigning}
-use Rattle.hn_rules.specs.Delegating.{delegating, withdrawing, ending}
-use Rattle.hn_rules.specs.Events.{IsAttaching, detaching, setting_caps, IsRestarting}
+use Rattle.hn_rules.specs.Delegating.{delegating, withdrawing}
+use Rattle.hn_rules.specs.Events.{IsAttaching, detaching, setting_caps, setting_private, setting_addresses, IsRestarting}
 use Rattle.hn_rules.specs.Refresh.{IsRefresh}
-use Rattle.hn_rules.specs.Tick.{IsExpiry, forgetting, IsPortsTick}
-use Rattle.hn_router.specs.Act.{PlainEvent, Arrive, Tick, Attach, Detach, External, Withdraw, SetCaps, Restart, IsFar, IsMalformed, IsRead, is_refused, IsEventRule, IsEvent}
-use Rattle.hn_router.specs.Ticks.{IsLosing, IsSettling, IsTick}
+use Rattle.hn_router.specs.Act.{PlainEvent, Arrive, Tick, Attach, Detach, External, Withdraw, SetCaps, Private, Addresses, Restart, IsFar, IsMalformed, IsRead, is_refused, IsEventRule, IsEvent}
+use Rattle.hn_rules.specs.Ticks.{IsTick}
 use Rattle.hn_base.proofs.Soles.{sole_given, sole_plain, sole_both, sole_from, sole_or, sole_where, sole_some}
 use Rattle.hn_base.proofs.Decisions.{not_both}
 
@@ -27,19 +26,9 @@ pub record HasLaws : Type 0 where
   pub one_place : FirstFaultIsUnique
   pub refresh : IsSole IsRefresh
   pub arrival : (from : Origin) (tlvs : List PlainTlv) → IsSole (IsArrival from tlvs)
-  pub expiry : IsSole IsExpiry
-  pub assigning : IsSole IsAssigning
-  pub ports : IsSole IsPortsTick
+  pub tick : IsSole IsTick
   pub attaching : (at : EpId) → IsSole (IsAttaching at)
   pub restarting : IsSole IsRestarting
-
-sole_tick : HasLaws → IsSole IsTick
-sole_tick laws =
-    let losing = sole_both words_of IsExpiry (Then (λ b a. a ≡ ending b) IsRefresh) laws.expiry (sole_both words_of (λ b a. a ≡ ending b) IsRefresh (sole_plain words_of ending (λ r. refl)) laws.refresh) in
-    let settling = sole_both words_of IsAssigning IsRefresh laws.assigning laws.refresh in
-    sole_both words_of IsLosing (Then (λ b a. a ≡ forgetting b) (Then IsSettling IsPortsTick)) losing
-    (sole_both words_of (λ b a. a ≡ forgetting b) (Then IsSettling IsPortsTick) (sole_plain words_of forgetting (λ r. refl))
-    (sole_both words_of IsSettling IsPortsTick settling laws.ports))
 
 sole_read : HasLaws → (from : Origin) (bytes : List ℕ) → IsSole (IsRead from bytes)
 sole_read laws from bytes =
@@ -51,19 +40,27 @@ sole_malformed laws from bytes =
     sole_given words_of (IsMalformed from bytes) (λ r a h. ap (λ (x : Running). x.done.words) h.gives)
     (λ r a b h k. let same = laws.one_place bytes h.place k.place h.why k.why h.fault k.fault in h.gives ∙ (λ i. noted (note.Malformed (same.0 i) (same.1 i)) r) ∙ sym k.gives)
 
+-- setting the private link takes no word
+pub private_words : (private : Option ℕ) (r : Running) → words_of (setting_private private r) ≡ words_of r
+private_words private r = cond_both (option_eq nat_eq private r.state.private) _ _ (λ (a : Running). words_of a ≡ words_of r) (λ _. refl) (λ _. refl)
+
 sole_rule : HasLaws → (event : PlainEvent) → IsSole (IsEventRule event)
 sole_rule laws (Arrive from bytes) =
     sole_or words_of (IsFar from) (λ r a. IsMalformed from bytes r a ⊎ IsRead from bytes r a)
     (sole_given words_of (IsFar from) (λ r a h. ap (λ (x : Running). x.done.words) h.gives) (λ r a b h k. h.gives ∙ sym k.gives))
     (sole_or words_of (IsMalformed from bytes) (IsRead from bytes) (sole_malformed laws from bytes) (sole_read laws from bytes) (λ r a b h k. laws.no_list bytes h.place h.why h.fault (k.tlvs, k.list)))
     (λ r a b h k. elim k [ inl m ↦ h.far m.near | inr m ↦ h.far m.near ])
-sole_rule laws Tick = sole_tick laws
+sole_rule laws Tick = laws.tick
 sole_rule laws (Attach at) = sole_both words_of (IsAttaching at) IsRefresh (laws.attaching at) laws.refresh
 sole_rule laws (Detach at) = sole_both words_of (λ b a. a ≡ detaching at b) IsRefresh (sole_plain words_of (detaching at) (λ r. refl)) laws.refresh
 sole_rule laws (External prefix valid preferred) =
     sole_both words_of (λ b a. a ≡ delegating prefix valid preferred b) IsRefresh (sole_plain words_of (delegating prefix valid preferred) (λ r. refl)) laws.refresh
 sole_rule laws (Withdraw prefix) = sole_both words_of (λ b a. a ≡ withdrawing prefix b) IsRefresh (sole_plain words_of (withdrawing prefix) (λ r. refl)) laws.refresh
 sole_rule laws (SetCaps caps) = sole_both words_of (λ b a. a ≡ setting_caps caps b) IsRefresh (sole_plain words_of (setting_caps caps) (λ r. refl)) laws.refresh
+sole_rule laws (Private private) =
+    sole_both words_of (λ b a. a ≡ setting_private private b) IsRefresh (sole_plain words_of (setting_private private) (private_words private)) laws.refresh
+sole_rule laws (Addresses list) =
+    sole_both words_of (λ b a. a ≡ setting_addresses list b) IsRefresh (sole_plain words_of (setting_addresses list) (λ r. refl)) laws.refresh
 sole_rule laws Restart = sole_both words_of IsRestarting IsRefresh laws.restarting laws.refresh
 
 pub sole_event : HasLaws → (event : PlainEvent) → IsSole (IsEvent event)

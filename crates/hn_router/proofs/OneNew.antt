@@ -19,7 +19,14 @@ one_new one_own id limit now a b h k =
     let ports : a.ports ≡ b.ports = h.ports_are ∙ sym k.ports_are in
     let delegated : a.delegated ≡ b.delegated = h.no_prefixes ∙ sym k.no_prefixes in
     let pairs : a.held ≡ b.held = h.nothing_held ∙ sym k.nothing_held in
-    let items : own_items a ≡ own_items b = λ i. record { caps = caps i; links = links_of (ports i); delegated = delegated i; assigned = published_in (pairs i).assigned } in
+    let addresses : a.addresses ≡ b.addresses = h.no_addresses ∙ sym k.no_addresses in
+    let items : own_items a ≡ own_items b = λ i. record {
+      caps = caps i;
+      links = links_of (ports i);
+      delegated = delegated i;
+      assigned = published_in (pairs i).assigned;
+      addresses = addresses i;
+    } in
     let own : a.own ≡ b.own = one_own a.own b.own h.own_is k.own_is (h.items_are ∙ items ∙ sym k.items_are) (h.born_is ∙ sym k.born_is) in
     let but_net : a ≡ record b { net = a.net } = λ i. record {
       id = (h.id_is ∙ sym k.id_is) i;
@@ -30,10 +37,13 @@ one_new one_own id limit now a b h k =
       delegated = delegated i;
       held = pairs i;
       claimed = (h.unclaimed ∙ sym k.unclaimed) i;
+      private = (h.no_private ∙ sym k.no_private) i;
+      addresses = addresses i;
       ports = ports i;
       table = (h.table_is ∙ sym k.table_is) i;
       reach = (h.reach_is ∙ sym k.reach_is) i;
       net = a.net;
+      due = (h.due_is ∙ sym k.due_is) i;
     } in
     let net : a.net ≡ b.net = h.net_is ∙ ap network_state_hash but_net ∙ sym k.net_is in
     but_net ∙ ap (λ (hash : List ℕ). record b { net = hash }) net

@@ -1,5 +1,5 @@
 -- Which rules an event runs, and in which order.
-use Rattle.std.specs.Prelude.{◌≡◌, ℕ, ◌==◌, ◌||◌, IsTrue, false, Bool, not, ◌⊎◌, nat_lt, length, List, Option}
+use Rattle.std.specs.Prelude.{◌≡◌, ℕ, ◌^◌, ◌<◌, ◌==◌, ◌||◌, IsTrue, false, Bool, not, ◌⊎◌, nat_lt, length, List, Option}
 use Rattle.hn_base.specs.declared.ids.EpId.{EpId}
 use Rattle.hn_base.specs.declared.caps.Caps.{Caps}
 use Rattle.hn_base.specs.Addr.{IsLinkLocal}
@@ -12,17 +12,20 @@ use Rattle.hn_rules.specs.declared.running.Running.{Running}
 use Rattle.hn_rules.specs.declared.running.Origin.{Origin}
 use Rattle.hn_rules.specs.declared.done.Done.{Done}
 use Rattle.hn_rules.specs.declared.done.Note.TheVariants as note
+use Rattle.hn_own.specs.Addresses.{OwnAddress, may_address}
 use Rattle.hn_own.specs.Ports.{is_attached}
 use Rattle.hn_own.specs.OwnPrefixes.{may_delegate}
 use Rattle.hn_base.specs.Rules.{Then}
 use Rattle.hn_rules.specs.Rules.{Rule, Ran, begun_at, noted}
 use Rattle.hn_rules.specs.Refresh.{IsRefresh}
 use Rattle.hn_rules.specs.Arrival.{IsArrival}
-use Rattle.hn_router.specs.Ticks.{IsTick}
+use Rattle.hn_rules.specs.Ticks.{IsTick}
 use Rattle.hn_rules.specs.Delegating.{delegating, withdrawing}
-use Rattle.hn_rules.specs.Events.{IsAttaching, detaching, setting_caps, IsRestarting}
+use Rattle.hn_rules.specs.Done.{nothing}
+use Rattle.hn_rules.specs.Due.{IsNextDue}
+use Rattle.hn_rules.specs.Events.{IsAttaching, detaching, setting_caps, setting_private, setting_addresses, IsRestarting}
 
--- What may happen to a router, without where a datagram lies in memory.
+-- What may happen to a router, without where a datagram or a list lies in memory.
 pub data PlainEvent : Type 0 where
   Arrive : (from : Origin) (bytes : List ℕ) → PlainEvent
   Tick : PlainEvent
@@ -31,6 +34,8 @@ pub data PlainEvent : Type 0 where
   External : (prefix : PlainPrefix) (valid preferred : ℕ) → PlainEvent
   Withdraw : (prefix : PlainPrefix) → PlainEvent
   SetCaps : (caps : Caps) → PlainEvent
+  Private : (length : Option ℕ) → PlainEvent
+  Addresses : (list : List OwnAddress) → PlainEvent
   Restart : PlainEvent
 
 abbrev pub plain_event : Event → PlainEvent
@@ -41,7 +46,14 @@ plain_event (event.Detach endpoint) = Detach endpoint
 plain_event (event.External prefix valid preferred) = External prefix valid preferred
 plain_event (event.Withdraw prefix) = Withdraw prefix
 plain_event (event.Caps caps) = SetCaps caps
+plain_event (event.Private length) = Private length
+plain_event (event.Addresses list) = Addresses list.now
 plain_event event.Restart = Restart
+
+-- the number of an endpoint that is attached has 32 bits
+abbrev pub IsEventInRange : PlainEvent → Type 0
+IsEventInRange (Attach at) = at.0 < 2 ^ 32
+IsEventInRange _ = Unit {0}
 
 -- a datagram from a source that is not link-local, one of bytes that are no list of TLVs, and a list of TLVs
 pub record IsFar (from : Origin) (before after : Running) : Type 0 where
@@ -62,7 +74,7 @@ pub record IsRead (from : Origin) (bytes : List ℕ) (before after : Running) : 
   pub arrives : IsArrival from tlvs before after
 
 -- whether the event is refused: an arrival or a detachment at an endpoint that is not attached; an attachment of
--- endpoint 0, of an attached one, or of a seventeenth; a ninth delegated prefix
+-- endpoint 0, of an attached one, or of a seventeenth; a ninth delegated prefix; a list that may not be the own addresses
 abbrev pub is_refused : PlainEvent → State → Bool
 is_refused (Arrive from bytes) s = not (is_attached from.endpoint s.ports)
 is_refused Tick s = false
@@ -71,6 +83,8 @@ is_refused (Detach at) s = not (is_attached at s.ports)
 is_refused (External prefix valid preferred) s = not (may_delegate prefix s.delegated)
 is_refused (Withdraw prefix) s = false
 is_refused (SetCaps caps) s = false
+is_refused (Private length) s = false
+is_refused (Addresses list) s = not (may_address list s.ports)
 is_refused Restart s = false
 
 -- which rules an event runs that is not refused
@@ -82,6 +96,8 @@ IsEventRule (Detach at) before after = Then (λ b a. a ≡ detaching at b) IsRef
 IsEventRule (External prefix valid preferred) before after = Then (λ b a. a ≡ delegating prefix valid preferred b) IsRefresh before after
 IsEventRule (Withdraw prefix) before after = Then (λ b a. a ≡ withdrawing prefix b) IsRefresh before after
 IsEventRule (SetCaps caps) before after = Then (λ b a. a ≡ setting_caps caps b) IsRefresh before after
+IsEventRule (Private length) before after = Then (λ b a. a ≡ setting_private length b) IsRefresh before after
+IsEventRule (Addresses list) before after = Then (λ b a. a ≡ setting_addresses list b) IsRefresh before after
 IsEventRule Restart before after = Then IsRestarting IsRefresh before after
 
 -- an event: a refused one is noted, and nothing but the moment changes
@@ -90,10 +106,21 @@ IsEvent event before after =
     (IsTrue (is_refused event before.state) × (after ≡ noted note.Refused before))
     ⊎ ((is_refused event before.state ≡ false) × IsEventRule event before after)
 
--- an event happens to a router at a moment: its next state, and what came of the event
+-- a tick that did nothing: nothing came of it, and but for the moment the router is as it was
+abbrev pub DidNothing : PlainEvent → Running → Running → Type 0
+DidNothing event begun after = (event ≡ Tick) × (after.state ≡ begun.state) × (after.done ≡ nothing)
+
+-- The moment that a router keeps after an event: after a tick that did nothing the one at which something is next due, and
+-- else 0.
+abbrev pub IsDueAfter : PlainEvent → Running → Running → ℕ → Type 0
+IsDueAfter event begun after due =
+    (DidNothing event begun after × IsNextDue after.state due) ⊎ (¬ (DidNothing event begun after) × (due ≡ 0))
+
+-- an event happens to a router at a moment: its next state, with the moment that it keeps, and what came of the event
 unfoldable pub Happened : ℕ → PlainEvent → State → State → Done → Type 0
 Happened now event s next done =
-    (after : Running) × IsEvent event (begun_at now s) after × (next ≡ after.state) × (done ≡ after.done)
+    (after : Running) × IsEvent event (begun_at now s) after × ((due : ℕ) × IsDueAfter event (begun_at now s) after due
+    × (next ≡ record after.state { due = due })) × (done ≡ after.done)
 
 -- an event ran, and a draw moved by exactly the words that it took
 unfoldable pub HasRun : PlainEvent → Option (ℕ → ℕ) → Option (ℕ → ℕ) → Running → Running → Type 0

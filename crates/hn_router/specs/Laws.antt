@@ -1,14 +1,21 @@
 -- Laws of the router.
-use Rattle.std.specs.Prelude.{◌≡◌, ℕ, ◌≤◌, ◌⊎◌, ◌==◌, nat_lt, not, if◌then◌else◌, List, ◌∷◌, ◌++◌, filter}
+use Rattle.std.specs.Prelude.{◌≡◌, ℕ, ◌^◌, ◌<◌, ◌≤◌, ◌⊎◌, ◌==◌, nat_lt, not, if◌then◌else◌, IsTrue, List, ◌∷◌, ◌++◌, filter, length, All}
 use Rattle.hn_base.specs.declared.ids.EpId.{EpId}
 use Rattle.hn_base.specs.declared.ids.NodeId.{NodeId}
+use Rattle.hn_base.specs.Addr.{IsLinkLocal}
 use Rattle.hn_base.specs.Words.{Begins}
+use Rattle.hn_tlv.specs.Grammar.{FirstFault}
 use Rattle.hn_rules.specs.declared.state.State.{State}
 use Rattle.hn_rules.specs.declared.done.Done.{Done}
+use Rattle.hn_rules.specs.declared.done.Publication.{Publication}
+use Rattle.hn_rules.specs.declared.running.Origin.{Origin}
+use Rattle.hn_rules.specs.declared.running.Running.{Running}
 use Rattle.hn_router.specs.Advertising.{IsAdvertBytes}
 use Rattle.hn_router.specs.New.{IsNew}
 use Rattle.hn_own.specs.Ports.{endpoints_of}
-use Rattle.hn_router.specs.Act.{PlainEvent, Attach, Detach, is_refused, Happened}
+use Rattle.hn_router.specs.Act.{PlainEvent, Arrive, Attach, Detach, is_refused, IsEventInRange, IsEvent, Happened}
+use Rattle.hn_rules.specs.Genuine.{IsGenuine, TextsCollide, BytesSayPublished}
+use Rattle.hn_rules.specs.Lengths.{most_datagram}
 use Rattle.hn_rules.specs.Router.{IsRouter}
 
 -- From one state, with one event, moment and stream of words, there is at most one result.
@@ -22,14 +29,20 @@ OneResult =
 abbrev pub NewIsUnique : Type 0
 NewIsUnique = (id : NodeId) (limit now : ℕ) (a b : State) → IsNew id limit now a → IsNew id limit now b → a ≡ b
 
--- A new router that may hold 256 or 1,024 nodes is one, and what an event leaves of a router is one.
+-- A new router whose identifier has 32 bits, and that may hold 256 or 1,024 nodes, is one; and what an event leaves of a
+-- router is one.
 abbrev pub NewIsRouter : Type 0
-NewIsRouter = (id : NodeId) (limit now : ℕ) (s : State) → (limit ≡ 256) ⊎ (limit ≡ 1024) → IsNew id limit now s → IsRouter s
+NewIsRouter =
+    (id : NodeId) (limit now : ℕ) (s : State) → id.0 < 2 ^ 32 → (limit ≡ 256) ⊎ (limit ≡ 1024) → IsNew id limit now s → IsRouter s
 
 abbrev pub RouterStays : Type 0
 RouterStays =
     (now : ℕ) (event : PlainEvent) (s next : State) (done : Done)
-    → IsRouter s → s.moment ≤ now → Happened now event s next done → IsRouter next
+    → IsRouter s → s.moment ≤ now → IsEventInRange event → Happened now event s next done → IsRouter next
+
+-- No event changes the moment at which it happens.
+abbrev pub MomentStays : Type 0
+MomentStays = (event : PlainEvent) (before after : Running) → IsEvent event before after → after.state.moment ≡ before.state.moment
 
 -- After an event a router's moment is that of the event.
 abbrev pub MomentIsNow : Type 0
@@ -51,3 +64,41 @@ EndpointsFollow =
 -- A router has at most one advertisement on an endpoint at its moment.
 abbrev pub RouterHasOneAdvert : Type 0
 RouterHasOneAdvert = (s : State) (e : EpId) (a b : List ℕ) → IsAdvertBytes s e a → IsAdvertBytes s e b → a ≡ b
+
+-- ---- limits
+
+-- What a router sends fits a datagram.
+abbrev pub SendsAreShort : Type 0
+SendsAreShort =
+    (now : ℕ) (event : PlainEvent) (s next : State) (done : Done)
+    → IsRouter s → s.moment ≤ now → IsEventInRange event → Happened now event s next done → All (λ o. length o.bytes ≤ most_datagram) done.sends
+
+-- No event changes how many nodes a table may hold.
+abbrev pub LimitStays : Type 0
+LimitStays =
+    (now : ℕ) (event : PlainEvent) (s next : State) (done : Done) → Happened now event s next done → next.table.limit ≡ s.table.limit
+
+-- After refused input a router is as it was but for the moment, and it keeps no moment at which something is next due: after
+-- an event that is refused, a datagram from an address that is not link-local, and one that is no list of TLVs.
+pub record RefusedInputStays : Type 0 where
+  pub refused : (now : ℕ) (event : PlainEvent) (s next : State) (done : Done) → Happened now event s next done
+      → IsTrue (is_refused event s) → next ≡ record s { moment = now; due = 0 }
+  pub far : (now : ℕ) (from : Origin) (bytes : List ℕ) (s next : State) (done : Done) → Happened now (Arrive from bytes) s next done
+      → ¬ (IsLinkLocal from.from.ip) → next ≡ record s { moment = now; due = 0 }
+  pub malformed : (now : ℕ) (from : Origin) (bytes : List ℕ) (place why : ℕ) (s next : State) (done : Done) → Happened now (Arrive from bytes) s next done
+      → FirstFault bytes place why → next ≡ record s { moment = now; due = 0 }
+
+-- ---- what was published
+
+-- a datagram that arrives says what was published; other events carry none
+abbrev pub IsTrusted : List Publication → PlainEvent → Type 0
+IsTrusted past (Arrive from bytes) = BytesSayPublished past bytes
+IsTrusted past _ = Unit {0}
+
+-- A router's own and held node data stay published, and so does what it sends, or texts that were published collide.
+abbrev pub GenuineStays : Type 0
+GenuineStays =
+    (past : List Publication) (now : ℕ) (event : PlainEvent) (s next : State) (done : Done)
+    → IsRouter s → s.moment ≤ now → IsEventInRange event → IsGenuine past s → IsTrusted past event → Happened now event s next done
+    → (IsGenuine (past ++ done.published) next × All (λ o. BytesSayPublished (past ++ done.published) o.bytes) done.sends)
+    ⊎ TextsCollide (past ++ done.published)

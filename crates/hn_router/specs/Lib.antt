@@ -1,6 +1,6 @@
-pub mod Ticks
 pub mod Act
 pub mod New
+pub mod Kept
 pub mod Laws
 pub mod Plan
 pub mod Advertising

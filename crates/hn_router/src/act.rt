@@ -1,18 +1,33 @@
 //! Which rules an event runs, and in which order.
 
-ghost use Rattle.std.specs.Prelude.{◌≡◌, false, OnOk};
-ghost use Rattle.hn_router.specs.Act.{plain_event, is_refused, IsEventRule, Arrive, Attach, HasRun};
+ghost use Rattle.std.specs.Prelude.{◌≡◌, ◌<◌, ◌^◌, false, OnOk};
+ghost use Rattle.hn_router.specs.Act.{plain_event, is_refused, IsEventInRange, IsEventRule, Arrive, Attach, HasRun};
 ghost use Rattle.hn_rules.specs.Router.{IsRefreshed, IsRouter};
 ghost use Rattle.hn_rules.specs.Rules.{Ran};
 
 use crate::event::Event;
-use crate::events::{attach, delegate, detach, restart, set_caps, withdraw};
-use crate::tick::tick;
+use crate::events::{
+    attach, delegate, detach, restart, set_addresses, set_caps, set_private, withdraw,
+};
 use hn_base::{EpId, NoMemory, link_local};
 use hn_io::Draw;
 use hn_rules::{Note, Origin, Running, State};
 use hn_tlv::check;
 use std::alloc::Global;
+
+/// The number of an endpoint has 32 bits. Does nothing: call it to know its law.
+fn endpoint_in_range(at: EpId)
+    ensures { at.0 < 2 ^ 32 }
+{}
+
+/// The number of an endpoint that is attached has 32 bits. Does nothing: call it to know its law.
+pub(crate) fn event_in_range(event: &Event<'_>)
+    ensures { IsEventInRange (plain_event event.now) }
+{
+    if let Event::Attach { endpoint } = *event {
+        endpoint_in_range(endpoint);
+    }
+}
 
 /// Whether an endpoint cannot be attached.
 fn refuses_attach(state: &State, at: EpId) -> bool
@@ -32,7 +47,12 @@ fn refuses(state: &State, event: &Event<'_>) -> bool
         }
         Event::Attach { endpoint } => refuses_attach(state, endpoint),
         Event::External { prefix, .. } => !state.delegated.get().may_have(&prefix),
-        Event::Tick | Event::Withdraw { .. } | Event::Caps { .. } | Event::Restart => false,
+        Event::Addresses { list } => !state.ports.get().may_address(list),
+        Event::Tick
+        | Event::Withdraw { .. }
+        | Event::Caps { .. }
+        | Event::Private { .. }
+        | Event::Restart => false,
     }
 }
 
@@ -84,7 +104,7 @@ fn run_rules<D: Draw>(
             };
             arrive(alloc, running, &origin, bytes, draw)
         }
-        Event::Tick => tick(alloc, running, draw),
+        Event::Tick => running.tick(alloc, draw),
         Event::Attach { endpoint } => attach(alloc, running, endpoint, draw),
         Event::Detach { endpoint } => detach(alloc, running, endpoint, draw),
         Event::External {
@@ -94,6 +114,8 @@ fn run_rules<D: Draw>(
         } => delegate(alloc, running, prefix, valid, preferred, draw),
         Event::Withdraw { prefix } => withdraw(alloc, running, &prefix, draw),
         Event::Caps { caps } => set_caps(alloc, running, caps, draw),
+        Event::Private { length } => set_private(alloc, running, length, draw),
+        Event::Addresses { list } => set_addresses(alloc, running, list, draw),
         Event::Restart => restart(alloc, running, draw),
     }
 }

@@ -1,4 +1,4 @@
-use hn_base::{Addr, Caps, EpId};
+use hn_base::{Addr, Caps, EpId, LinkLength};
 use hn_prefix::Prefix;
 
 /// What may happen to a router.
@@ -19,7 +19,7 @@ pub enum Event<'a> {
     Attach {
         endpoint: EpId,
     },
-    /// An endpoint is detached from its link, with its peers.
+    /// An endpoint is detached from its link, with its peers and its addresses.
     Detach {
         endpoint: EpId,
     },
@@ -37,6 +37,15 @@ pub enum Event<'a> {
     /// The router gets these capabilities (RFC 7788, section 10.1).
     Caps {
         caps: Caps,
+    },
+    /// The router gets a private link, of which the prefixes are of that length, or has none.
+    Private {
+        length: Option<LinkLength>,
+    },
+    /// The router gets these addresses, each of an endpoint, in strictly ascending order and at most 64 (RFC 7788, section
+    /// 10.4).
+    Addresses {
+        list: &'a [(EpId, u128)],
     },
     /// The router restarts.
     Restart,

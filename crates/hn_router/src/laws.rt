@@ -1,14 +1,15 @@
 //! Laws of the router. Each is the contract of a function that does nothing: call it to know its law.
 
-ghost use Rattle.hn_router.specs.Laws.{OneResult, NewIsUnique, NewIsRouter, RouterStays, MomentIsNow, EndpointsFollow, RouterHasOneAdvert};
+ghost use Rattle.hn_router.specs.Laws.{OneResult, NewIsUnique, NewIsRouter, RouterStays, MomentStays, MomentIsNow, EndpointsFollow, RouterHasOneAdvert, SendsAreShort, LimitStays, RefusedInputStays, GenuineStays};
 
 use hn_deleg::usable_is_unique;
 use hn_graph::{own_is_reachable, reachable_is_a_node};
 use hn_link::{common_link_is_unique, elected_is_unique};
 use hn_own::{none_are_well, own_data_is_unique};
 use hn_rules::{
-    refresh_makes_a_router, router_stays_later, rules_have_one_result, rules_keep_a_router,
-    rules_keep_the_endpoints, rules_keep_the_rest,
+    changes_keep_genuine, changes_keep_hashed, changes_keep_short, changes_keep_the_limit,
+    next_due_is_one, refresh_makes_a_router, router_stays_later, rules_have_one_result,
+    rules_keep_a_router, rules_keep_the_endpoints, rules_keep_the_rest, rules_make_changes,
 };
 use hn_store::loss_keeps_table;
 use hn_tlv::{first_fault_is_unique, list_is_unique};
@@ -20,6 +21,7 @@ pub fn one_result()
     list_is_unique();
     first_fault_is_unique();
     rules_have_one_result();
+    next_due_is_one();
 }
 
 /// There is at most one new router of an identifier and a limit at a moment.
@@ -49,6 +51,13 @@ pub fn router_stays()
     rules_keep_the_rest();
 }
 
+/// No event changes the moment at which it happens.
+pub fn events_keep_the_moment()
+    ensures { MomentStays }
+{
+    rules_keep_the_endpoints();
+}
+
 /// After an event a router's moment is that of the event.
 pub fn moment_is_now()
     ensures { MomentIsNow }
@@ -70,4 +79,41 @@ pub fn router_has_one_advert()
     usable_is_unique();
     common_link_is_unique();
     elected_is_unique();
+}
+
+/// What a router sends fits a datagram.
+pub fn sends_are_short()
+    ensures { SendsAreShort }
+{
+    router_stays_later();
+    rules_make_changes();
+    rules_keep_the_rest();
+    changes_keep_hashed();
+    changes_keep_short();
+}
+
+/// No event changes how many nodes a table may hold.
+pub fn limit_stays()
+    ensures { LimitStays }
+{
+    rules_make_changes();
+    changes_keep_the_limit();
+}
+
+/// Refused input changes only the moment.
+pub fn refused_input_stays()
+    ensures { RefusedInputStays }
+{
+    first_fault_is_unique();
+}
+
+/// A router's own and held node data stay published, and so does what it sends, or texts that were published collide.
+pub fn genuine_stays()
+    ensures { GenuineStays }
+{
+    router_stays_later();
+    rules_make_changes();
+    rules_keep_the_rest();
+    changes_keep_hashed();
+    changes_keep_genuine();
 }

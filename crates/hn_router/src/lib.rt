@@ -4,15 +4,16 @@
 
 mod act;
 mod advertising;
+mod due;
 mod event;
 mod events;
 mod laws;
 mod router;
-mod tick;
 
 pub use event::Event;
 pub use laws::{
-    endpoints_follow, moment_is_now, new_is_router, new_is_unique, one_result,
-    router_has_one_advert, router_stays,
+    endpoints_follow, events_keep_the_moment, genuine_stays, limit_stays, moment_is_now,
+    new_is_router, new_is_unique, one_result, refused_input_stays, router_has_one_advert,
+    router_stays, sends_are_short,
 };
 pub use router::{Plan, Router};

@@ -1,30 +1,44 @@
-ghost use Rattle.std.specs.Prelude.{◌≡◌, ◌≤◌, ◌^◌, ◌⊎◌, [], ◌∷◌, nat_lt, length, IfOk, OnErr, IsTrue, ◌↔◌};
+ghost use Rattle.std.specs.Prelude.{◌≡◌, ◌≤◌, ◌^◌, ◌⊎◌, [], ◌∷◌, nat_lt, length, IfOk, OnErr, IsTrue, ◌↔◌, ◌<◌, Ok};
 ghost use Rattle.hn_base.specs.Caps.{plain_caps};
 ghost use Rattle.hn_assign.specs.Gathered.{AreAdvertised};
 ghost use Rattle.hn_base.specs.Words.{Took};
 ghost use Rattle.hn_own.specs.Ports.{is_attached, endpoints_of};
 ghost use Rattle.hn_rules.specs.Nodes.{leaves_of};
 ghost use Rattle.hn_own.specs.OwnPrefixes.{may_delegate};
+ghost use Rattle.hn_own.specs.Addresses.{may_address};
+ghost use Rattle.hn_own.specs.Posts.{posts_of, length_at};
+ghost use Rattle.hn_rules.specs.Assigning.{AreAsked};
 ghost use Rattle.hn_rules.specs.Seen.{seen_by, IsElectedAt};
 ghost use Rattle.hn_deleg.specs.Used.{AreUsable, IsOutside};
 ghost use Rattle.hn_own.specs.HeldPairs.{AreHeldPairs};
 ghost use Rattle.hn_link.specs.CommonLink.{IsCommonLink};
-ghost use Rattle.hn_router.specs.Act.{plain_event, Happened};
+ghost use Rattle.hn_rules.specs.Done.{nothing};
+ghost use Rattle.hn_rules.specs.Due.{IsNextDue};
+ghost use Rattle.hn_rules.specs.Idle.{IsIdleTick};
+ghost use Rattle.hn_rules.specs.Still.{at_moment};
+ghost use Rattle.hn_router.specs.Act.{plain_event, Tick, Happened};
 ghost use Rattle.hn_router.specs.New.{no_caps, IsNew};
 
-use crate::act::run;
+use crate::act::{event_in_range, run};
+use crate::due::{due_after, is_tick};
 use crate::event::Event;
 use crate::laws::{new_is_router, router_stays};
-use hn_assign::{AdvertisedPrefixes, Assigned, Held, gather};
-use hn_base::{Caps, Endpoints, EpId, Letter, Moment, NoMemory, NodeId, NodeIds, Sequence, Shared};
+use hn_assign::{AdvertisedPrefixes, Assigned, Held, Wishes, gather};
+use hn_base::{
+    Caps, Endpoints, EpId, Letter, LinkLength, Moment, NoMemory, NodeId, NodeIds, Sequence, Shared,
+};
 use hn_data::NodeData;
 use hn_deleg::{Delegated, outside, used};
+use hn_dncp::Port;
 use hn_hash::{Leaf, Part, network_of};
 use hn_io::Draw;
 use hn_link::{common, elected};
-use hn_own::{HeldPairs, OwnData, OwnItems, OwnPrefixes, Ports};
+use hn_own::{Addresses, HeldPairs, OwnData, OwnItems, OwnPrefixes, Ports, length_at};
 use hn_prefix::Prefix;
-use hn_rules::{Done, Present, Running, State, router_stays_later, view_is_a_network};
+use hn_rules::{
+    Done, Present, Running, State, idle_is_still, idle_until_due, router_stays_later,
+    rules_have_one_result, still_is_idle, view_is_a_network,
+};
 use hn_store::{LIMIT, Table};
 use std::alloc::Global;
 use std::marker::Model;
@@ -37,13 +51,13 @@ pub struct Router {
 
 impl Model for Router {
     ghost use Rattle.hn_rules.specs.declared.state.State.{State};
-    ghost use Rattle.hn_rules.specs.Router.{IsRouter};
+    ghost use Rattle.hn_router.specs.Kept.{IsKeptRouter};
 
     ghost Value = { State };
 
     ghost view = { λ r. r.state };
 
-    ghost invariant = { λ r. IsRouter r.state };
+    ghost invariant = { λ r. IsKeptRouter r.state };
 }
 
 /// The next state of a router, which is one, and what came of the event.
@@ -55,13 +69,13 @@ pub struct Plan {
 
 impl Model for Plan {
     ghost use Rattle.hn_router.specs.Plan.{PlainPlan};
-    ghost use Rattle.hn_rules.specs.Router.{IsRouter};
+    ghost use Rattle.hn_router.specs.Kept.{IsKeptRouter};
 
     ghost Value = { PlainPlan };
 
     ghost view = { λ p. record { state = p.state; done = p.done } };
 
-    ghost invariant = { λ p. IsRouter p.state };
+    ghost invariant = { λ p. IsKeptRouter p.state };
 }
 
 impl Plan {
@@ -97,6 +111,7 @@ fn new_state(
     requires no_links { own.items.links ≡ [] }
     requires no_prefixes { own.items.delegated ≡ [] }
     requires nothing_assigned { own.items.assigned ≡ [] }
+    requires no_addresses { own.items.addresses ≡ [] }
     requires born { own.born ≡ now }
     requires no_caps { plain_caps own.items.caps ≡ no_caps }
     ensures { IfOk result (IsNew id limit now) }
@@ -115,16 +130,19 @@ fn new_state(
         delegated: Shared::new(alloc, OwnPrefixes::new(alloc))?,
         held: Shared::new(alloc, HeldPairs::new(alloc))?,
         claimed: false,
+        private: None,
         ports: Shared::new(alloc, ports)?,
+        addresses: Shared::new(alloc, Addresses::new(alloc))?,
         table: Shared::new(alloc, Table::sized(alloc, limit))?,
         reach: Shared::new(alloc, only(alloc, id)?)?,
         net: network_of(&[part]),
+        due: 0,
     })
 }
 
 impl Router {
-    /// A router that begins at a moment, without capabilities, endpoints, delegated and assigned prefixes, and with
-    /// sequence number 1. It may hold 256 other nodes.
+    /// A router that begins at a moment, without capabilities, endpoints, delegated and assigned prefixes, a private link
+    /// and addresses, and with sequence number 1. It may hold 256 other nodes.
     ///
     /// # Errors
     ///
@@ -160,6 +178,7 @@ impl Router {
             &ports,
             &OwnPrefixes::new(alloc),
             &HeldPairs::new(alloc),
+            &Addresses::new(alloc),
         )?;
         let own = OwnData::new(alloc, items, now)?;
         let state = new_state(alloc, id, now, limit, own, ports)?;
@@ -181,9 +200,18 @@ impl Router {
     {
         router_stays();
         router_stays_later();
+        idle_is_still();
+        still_is_idle();
+        event_in_range(event);
         let mut next = Running::begin(alloc, &self.state, now)?;
         run(alloc, &mut next, event, draw)?;
-        let Running { state, done, .. } = next;
+        let due = due_after(alloc, event, now, &self.state, &next)?;
+        let Running {
+            mut state,
+            done,
+            ..
+        } = next;
+        state.due = due;
         Ok(Plan { state, done })
     }
 
@@ -197,11 +225,28 @@ impl Router {
         done
     }
 
-    /// An event happens to the router at a moment.
+    /// A tick before something is due: the moment changes, and nothing else. Never allocates.
+    fn pass(&mut self, now: Moment)
+        requires not_before { self.old.moment ≤ now }
+        requires in_range { now ≤ 2 ^ 48 }
+        requires undue { now < self.old.due }
+        ensures router { self.new ≡ at_moment now self.old }
+        ensures idle { IsIdleTick now self.old }
+        ensures next { IsNextDue (at_moment now self.old) self.old.due }
+    {
+        router_stays_later();
+        idle_until_due();
+        idle_is_still();
+        still_is_idle();
+        self.state.moment = Present::new(now);
+    }
+
+    /// An event happens to the router at a moment. A tick before `due_at` takes no memory, and only the moment changes. After
+    /// a tick that does nothing `due_at` is the moment at which something is next due.
     ///
     /// # Errors
     ///
-    /// Out of memory; the router is as before then.
+    /// Out of memory; the router is as before then. A tick before `due_at` has none.
     pub fn act<D: Draw>(
         &mut self,
         alloc: Global,
@@ -214,9 +259,28 @@ impl Router {
         ensures happened { IfOk result (λ done. Happened now (plain_event event.now) self.old self.new done) }
         ensures drew { IfOk result (λ done. Took (D.words draw.old) done.words (D.words draw.new)) }
         ensures err { OnErr result (self.new ≡ self.old) }
+        ensures undue { plain_event event.now ≡ Tick → now < self.old.due
+            → (result ≡ Ok nothing) × (self.new ≡ at_moment now self.old) × (draw.new ≡ draw.old) }
+        ensures next { IfOk result (λ done. plain_event event.now ≡ Tick → IsIdleTick now self.old → IsNextDue self.new self.new.due) }
     {
+        rules_have_one_result();
+        if is_tick(event) && now < self.state.due {
+            self.pass(now);
+            return Ok(Done::new(alloc));
+        }
         let plan = self.plan(alloc, event, now, draw)?;
         Ok(self.commit(plan))
+    }
+
+    /// Each tick before this moment does nothing. Where it is after the router's moment, it is the first after that at which
+    /// something is due: a peer falls silent, a lifetime ends, data grow old, a lost node is forgotten, a backoff or a mark of
+    /// application is due, an interval fires or ends, or a keep-alive is to be sent. It is 2^49 where none of this comes
+    /// before. Never allocates.
+    pub fn due_at(&self) -> Moment
+        ensures due { result ≡ self.now.due }
+        ensures kept { self.now.moment < result → IsIdleTick self.now.moment self.now × IsNextDue self.now result }
+    {
+        self.state.due
     }
 
     /// The identifier. Never allocates.
@@ -282,6 +346,13 @@ impl Router {
         self.state.ports.get().has(endpoint)
     }
 
+    /// The endpoints, in ascending order. Never allocates.
+    pub fn ports(&self) -> &[Port]
+        ensures { result.now ≡ self.now.ports }
+    {
+        self.state.ports.get().as_slice()
+    }
+
     /// Whether there is room for one more endpoint. Never allocates.
     pub fn has_room(&self) -> bool
         ensures { result ≡ nat_lt (length self.now.ports) 16 }
@@ -294,6 +365,38 @@ impl Router {
         ensures { result ≡ may_delegate prefix.now self.now.delegated }
     {
         self.state.delegated.get().may_have(prefix)
+    }
+
+    /// Whether a list may be the own addresses: strictly ascending, at most 64, each of an attached endpoint. Never
+    /// allocates.
+    pub fn may_address(&self, list: &[(EpId, u128)]) -> bool
+        ensures { result ≡ may_address list.now self.now.ports }
+    {
+        self.state.ports.get().may_address(list)
+    }
+
+    /// The length of the prefixes of its private link, if it has one. Never allocates.
+    pub fn private(&self) -> Option<LinkLength>
+        ensures { result ≡ self.now.private }
+    {
+        self.state.private
+    }
+
+    /// Its addresses, each with its endpoint, in strictly ascending order. Never allocates.
+    pub fn addresses(&self) -> &[(EpId, u128)]
+        ensures { result.now ≡ self.now.addresses }
+    {
+        self.state.addresses.get().as_slice()
+    }
+
+    /// The length of the prefixes that a post gets, 1 to 64: the private length at endpoint 0 where there is a private
+    /// link, and 64 elsewhere. Never allocates.
+    pub fn length_of(&self, endpoint: EpId) -> u8
+        ensures length { result ≡ length_at self.now.private endpoint }
+        ensures some { 1 ≤ result }
+        ensures in_range { result ≤ 64 }
+    {
+        length_at(self.state.private, endpoint)
     }
 
     /// Its assignments and backoffs. Never allocates.
@@ -389,6 +492,29 @@ impl Router {
         ensures { IfOk result (λ endpoints. endpoints.items ≡ endpoints_of self.now.ports) }
     {
         self.state.ports.get().endpoints(alloc)
+    }
+
+    /// Its posts, in ascending order: the attached endpoints and, where it has a private link, endpoint 0.
+    ///
+    /// # Errors
+    ///
+    /// Out of memory.
+    pub fn posts(&self, alloc: Global) -> Result<Vec<EpId>, NoMemory>
+        ensures { IfOk result (λ posts. posts.items ≡ posts_of self.now.private self.now.ports) }
+    {
+        self.state.ports.get().posts(alloc, self.state.private)
+    }
+
+    /// What the router asks: a wish for each pair of a usable delegated prefix and a post, in ascending order.
+    ///
+    /// # Errors
+    ///
+    /// Out of memory.
+    pub fn wishes(&self, alloc: Global, usable: &[Delegated]) -> Result<Wishes, NoMemory>
+        requires { AreUsable (seen_by self.now) usable.now }
+        ensures { IfOk result (AreAsked self.now usable.now) }
+    {
+        self.state.wishes(alloc, usable)
     }
 
     /// The leaves of the nodes that were reachable at the last refresh, in ascending order of their identifiers (RFC 7787,

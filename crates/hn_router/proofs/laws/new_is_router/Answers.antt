@@ -2,4 +2,4 @@ use Rattle.hn_router.proofs.NewRouter.{new_is_one}
 use Rattle.hn_router.proofs.laws.new_is_router.Goals as goal
 
 pub returns : goal.returns
-returns c = new_is_one c.loss_keeps_table.ensures.none c.none_are_well.ensures.endpoints c.none_are_well.ensures.prefixes c.own_is_reachable.ensures c.reachable_is_a_node.ensures
+returns c = new_is_one c.loss_keeps_table.ensures.none c.none_are_well.ensures.endpoints c.none_are_well.ensures.prefixes c.none_are_well.ensures.addresses c.own_is_reachable.ensures c.reachable_is_a_node.ensures

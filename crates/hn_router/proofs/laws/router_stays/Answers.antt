@@ -19,6 +19,8 @@ returns c =
       attaches = rest.attaching;
       detaches = rest.detaching;
       sets_caps = rest.caps;
+      sets_private = rest.private;
+      addresses = rest.addressing;
       restarts = rest.restarting;
     } in
     stays laws

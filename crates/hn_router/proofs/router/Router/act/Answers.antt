@@ -1,8 +1,30 @@
-use Rattle.std.proofs.Common.{sym, subst}
+use Rattle.std.proofs.Common.{◌≡◌, sym, subst}
 use Rattle.hn_base.specs.Words.{Took}
 use Rattle.hn_rules.specs.declared.done.Done.{Done}
+use Rattle.hn_rules.specs.declared.state.State.{State}
+use Rattle.hn_rules.specs.Done.{nothing}
+use Rattle.hn_rules.specs.Due.{IsNextDue}
+use Rattle.hn_rules.specs.Still.{at_moment}
+use Rattle.hn_router.specs.Act.{plain_event, PlainEvent, Tick, Happened}
+use Rattle.hn_router.proofs.Keeping.{passed, next_known}
 use Rattle.hn_router.proofs.router.Router.act.Goals as goal
+
+pub returns-then-now-self-clause-happened : goal.returns-then-now-self-clause-happened
+returns-then-now-self-clause-happened g c =
+    let now = c.args.now in
+    let s = c.args.self.now in
+    let tick : plain_event c.args.event.now ≡ Tick = c.is_tick.ensures.0 c.if-is_tick.true in
+    let idle : Happened now Tick s (at_moment now s) nothing = passed now s c.pass.ensures.idle c.pass.ensures.next in
+    let there : Happened now Tick s c.pass.new.self nothing = subst (λ (x : State). Happened now Tick s x nothing) (sym c.pass.ensures.router) idle in
+    let done : Happened now Tick s c.pass.new.self c.new.result = subst (λ (d : Done). Happened now Tick s c.pass.new.self d) (sym c.new.ensures) there in
+    subst (λ (e : PlainEvent). Happened now e s c.pass.new.self c.new.result) (sym tick) done
 
 pub returns-clause-drew : goal.returns-clause-drew
 returns-clause-drew g c =
     subst (λ (d : Done). Took (g.D.Draw.words c.args.draw.now) d.words (g.D.Draw.words c.plan.new.draw)) (sym c.commit.ensures.done) c.in_ok-plan.ensures.drew
+
+pub returns-clause-next : goal.returns-clause-next
+returns-clause-next g c = λ tick idle.
+    let p = c.in_ok-plan.plan in
+    let happened : Happened c.args.now Tick c.args.self.now p.state p.done = subst (λ (e : PlainEvent). Happened c.args.now e c.args.self.now p.state p.done) tick c.in_ok-plan.ensures.happened in
+    subst (λ (x : State). IsNextDue x x.due) (sym c.commit.ensures.router) (next_known c.rules_have_one_result.ensures.tick c.args.now c.args.self.now p.state p.done happened idle)

@@ -1,0 +1,134 @@
+-- What each event keeps: what is sent is short, the limit of the table stays, and what is held and sent was published.
+use Rattle.std.proofs.Common.{◌≡◌, ◌<◌, ◌^◌, ◌⊎◌, ℕ, List, [], ◌++◌, inl, inr, refl, sym, subst, arith}
+use Rattle.std.specs.Prelude.{All, length, ◌≤◌}
+use Rattle.std.proofs.lemmas.List.{append-nil}
+use Rattle.std.proofs.lemmas.List.Elements.{All-nil}
+use Rattle.hn_base.specs.declared.ids.EpId.{EpId}
+use Rattle.hn_tlv.specs.Grammar.{PlainTlv}
+use Rattle.hn_rules.specs.declared.answers.Answer.{Answer}
+use Rattle.hn_rules.specs.declared.done.Done.{Done}
+use Rattle.hn_rules.specs.declared.done.Outgoing.{Outgoing}
+use Rattle.hn_rules.specs.declared.done.Publication.{Publication}
+use Rattle.hn_rules.specs.declared.running.Running.{Running}
+use Rattle.hn_rules.specs.declared.state.State.{State}
+use Rattle.hn_rules.specs.Events.{IsAttaching, detaching}
+use Rattle.hn_rules.specs.Genuine.{IsGenuine, TextsCollide, TlvsSayPublished, BytesSayPublished, IsGenuineAnswer, IsGenuineSoFar, IsGenuineOrCollides}
+use Rattle.hn_rules.specs.Laws.{RouterStaysLater, AttachingKeeps, KeepsWell, ChangesKeepLimit, RouterIsHashed, ChangesKeepShort, ChangesKeepGenuine}
+use Rattle.hn_rules.specs.Lengths.{most_answer, most_datagram, AreShort}
+use Rattle.hn_rules.specs.Router.{IsWell, IsHashed}
+use Rattle.hn_rules.specs.Rules.{begun_at}
+use Rattle.hn_router.specs.Act.{PlainEvent, Arrive, Tick, Attach, Detach, External, Withdraw, SetCaps, Private, Addresses, Restart, IsEventInRange, Happened}
+use Rattle.hn_router.specs.Laws.{IsTrusted, SendsAreShort, LimitStays, GenuineStays}
+use Rattle.hn_router.proofs.Changing.{ChangeLaws, IsFrom, EndpointsKeep, event_keeps}
+
+-- ---- the limit
+
+limit_ends : (limit : ℕ) → EndpointsKeep (λ event. Unit {0}) (λ r. r.state.table.limit ≡ limit)
+limit_ends limit = record {
+  attaching = λ at r a ranged some room is same. subst (λ (x : Running). x.state.table.limit ≡ limit) (sym is.gives) same;
+  detaching = λ at r same. same;
+}
+
+pub limit_stays : ChangeLaws → ChangesKeepLimit → LimitStays
+unfolding Happened
+limit_stays laws keeps now event s next done (after, holds, (due, is_due, is_next), is_done) =
+    subst (λ (x : State). x.table.limit ≡ s.table.limit) (sym is_next)
+    (event_keeps laws (λ event. Unit {0}) (λ r. r.state.table.limit ≡ s.table.limit) (limit_ends s.table.limit) event tt (λ tlvs from. keeps tlvs s.table.limit) (begun_at now s) after holds refl)
+
+-- ---- the network state hash, and lengths
+
+-- the laws of a router, and of endpoints that come and go
+pub record EndLaws : Type 0 where
+  pub changes : ChangeLaws
+  pub later : RouterStaysLater
+  pub hashed : RouterIsHashed
+  pub attaches : AttachingKeeps
+  pub detaches : (at : EpId) → KeepsWell (λ b a. a ≡ detaching at b)
+
+module _ (laws : EndLaws) where
+  hashed_attached : (at : EpId) (r a : Running) → at.0 < 2 ^ 32 → 0 < at.0 → length r.state.ports < 16 → IsAttaching at r a → IsHashed r.state → IsHashed a.state
+  hashed_attached at r a fits some room is hashed =
+      let well = laws.attaches at r a some fits room is hashed.well in
+      subst (λ (x : Running). IsHashed x.state) (sym is.gives) (record { well = subst (λ (x : Running). IsWell x.state) is.gives well; hash = hashed.hash })
+
+  hashed_detached : (at : EpId) (r : Running) → IsHashed r.state → IsHashed (detaching at r).state
+  hashed_detached at r hashed = record { well = laws.detaches at r (detaching at r) refl hashed.well; hash = hashed.hash }
+
+  short_ends : EndpointsKeep IsEventInRange (λ r. IsHashed r.state × AreShort r)
+  short_ends = record {
+    attaching = λ at r a fits some room is (hashed, short). (
+      hashed_attached at r a fits some room is hashed,
+      subst AreShort (sym is.gives) (record { answers = short.answers; sends = short.sends }),
+    );
+    detaching = λ at r (hashed, short). (hashed_detached at r hashed, record { answers = short.answers; sends = short.sends });
+  }
+
+  pub sends_short : ChangesKeepShort → SendsAreShort
+  unfolding Happened
+  sends_short keeps now event s next done router rises ranged (after, holds, (due, is_due, is_next), is_done) =
+      let begun : IsHashed (begun_at now s).state = laws.hashed (begun_at now s).state (laws.later now s router rises) in
+      let none : AreShort (begun_at now s) =
+      record { answers = All-nil (λ (a : Answer). length a.tlv ≤ most_answer); sends = All-nil (λ (o : Outgoing). length o.bytes ≤ most_datagram) } in
+      let kept = event_keeps laws.changes IsEventInRange (λ r. IsHashed r.state × AreShort r) short_ends event ranged (λ tlvs from. keeps tlvs) (begun_at now s) after holds (begun, none) in
+      subst (λ (d : Done). All (λ o. length o.bytes ≤ most_datagram) d.sends) (sym is_done) kept.1.sends
+
+  -- ---- what was published
+
+  genuine_ends : (past : List Publication) → EndpointsKeep IsEventInRange (IsGenuineOrCollides past)
+  genuine_ends past = record { attaching = attached; detaching = left }
+    where
+      attached : (at : EpId) (r a : Running) → at.0 < 2 ^ 32 → 0 < at.0 → length r.state.ports < 16 → IsAttaching at r a → IsGenuineOrCollides past r → IsGenuineOrCollides past a
+      attached at r a fits some room is (inl (hashed, so)) =
+          inl (
+            hashed_attached at r a fits some room is hashed,
+            subst (IsGenuineSoFar past) (sym is.gives) (record { state = record { own = so.state.own; others = so.state.others }; answers = so.answers; sends = so.sends }),
+          )
+      attached at r a fits some room is (inr collide) = inr (subst (λ (x : Running). TextsCollide (past ++ x.done.published)) (sym is.gives) collide)
+
+      left : (at : EpId) (r : Running) → IsGenuineOrCollides past r → IsGenuineOrCollides past (detaching at r)
+      left at r (inl (hashed, so)) =
+          inl (hashed_detached at r hashed, record { state = record { own = so.state.own; others = so.state.others }; answers = so.answers; sends = so.sends })
+      left at r (inr collide) = inr collide
+
+  -- TLVs from which an event takes say what was published
+  no_tlvs : (past : List Publication) → TlvsSayPublished past []
+  no_tlvs past tlv (k, within, is) = absurd (omega arith)
+
+  say_from : (past : List Publication) (event : PlainEvent) → IsTrusted past event → (tlvs : List PlainTlv) → IsFrom event tlvs → TlvsSayPublished past tlvs
+  say_from past (Arrive from bytes) trusted tlvs (inl none) = subst (TlvsSayPublished past) (sym none) (no_tlvs past)
+  say_from past (Arrive from bytes) trusted tlvs (inr list) = trusted tlvs list
+  say_from past Tick trusted tlvs none = subst (TlvsSayPublished past) (sym none) (no_tlvs past)
+  say_from past (Attach at) trusted tlvs none = subst (TlvsSayPublished past) (sym none) (no_tlvs past)
+  say_from past (Detach at) trusted tlvs none = subst (TlvsSayPublished past) (sym none) (no_tlvs past)
+  say_from past (External prefix valid preferred) trusted tlvs none = subst (TlvsSayPublished past) (sym none) (no_tlvs past)
+  say_from past (Withdraw prefix) trusted tlvs none = subst (TlvsSayPublished past) (sym none) (no_tlvs past)
+  say_from past (SetCaps caps) trusted tlvs none = subst (TlvsSayPublished past) (sym none) (no_tlvs past)
+  say_from past (Private private) trusted tlvs none = subst (TlvsSayPublished past) (sym none) (no_tlvs past)
+  say_from past (Addresses list) trusted tlvs none = subst (TlvsSayPublished past) (sym none) (no_tlvs past)
+  say_from past Restart trusted tlvs none = subst (TlvsSayPublished past) (sym none) (no_tlvs past)
+
+  begun_genuine : (past : List Publication) (now : ℕ) (s : State) → IsGenuine past s → IsGenuineSoFar past (begun_at now s)
+  begun_genuine past now s genuine =
+      let same : IsGenuine (past ++ []) s = subst (λ (list : List Publication). IsGenuine list s) (sym (append-nil past)) genuine in
+      record {
+        state = record { own = same.own; others = same.others };
+        answers = All-nil (IsGenuineAnswer (past ++ []));
+        sends = All-nil (λ (o : Outgoing). BytesSayPublished (past ++ []) o.bytes);
+      }
+
+  -- what an event leaves, by the router in the middle of it at its end
+  abbrev IsLeft : List Publication → State → Done → Type 0
+  IsLeft past next done =
+      (IsGenuine (past ++ done.published) next × All (λ o. BytesSayPublished (past ++ done.published) o.bytes) done.sends) ⊎ TextsCollide (past ++ done.published)
+
+  left_at_end : (past : List Publication) (due : ℕ) (r : Running) → IsGenuineOrCollides past r → IsLeft past (record r.state { due = due }) r.done
+  left_at_end past due r (inl (hashed, so)) = inl (record { own = so.state.own; others = so.state.others }, so.sends)
+  left_at_end past due r (inr collide) = inr collide
+
+  pub genuine_stays : ChangesKeepGenuine → GenuineStays
+  unfolding Happened
+  genuine_stays keeps past now event s next done router rises ranged genuine trusted (after, holds, (due, is_due, is_next), is_done) =
+      let begun : IsHashed (begun_at now s).state = laws.hashed (begun_at now s).state (laws.later now s router rises) in
+      let kept = event_keeps laws.changes IsEventInRange (IsGenuineOrCollides past) (genuine_ends past) event ranged (λ tlvs from. keeps past tlvs (say_from past event trusted tlvs from))
+      (begun_at now s) after holds (inl (begun, begun_genuine past now s genuine)) in
+      subst (λ (x : State). IsLeft past x done) (sym is_next) (subst (IsLeft past (record after.state { due = due })) (sym is_done) (left_at_end past due after kept))

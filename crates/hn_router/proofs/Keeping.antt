@@ -1,0 +1,158 @@
+-- The moment that a router keeps: no fact of a router looks at it, and where it is after the router's, each tick before it does
+-- nothing.
+use Rattle.std.proofs.Common.{◌≡◌, ◌∙◌, ◌<◌, ◌≤◌, ℕ, List, inl, inr, refl, sym, ap, subst, slice_index, arith}
+use Rattle.hn_assign.specs.declared.assigned.Wish.{Wish}
+use Rattle.hn_base.specs.Words.{Begins}
+use Rattle.hn_deleg.specs.declared.delegated.Delegated.{Delegated}
+use Rattle.hn_rules.specs.declared.done.Done.{Done}
+use Rattle.hn_rules.specs.declared.running.Running.{Running}
+use Rattle.hn_rules.specs.declared.state.State.{State}
+use Rattle.hn_rules.specs.Assigning.{AreAsked}
+use Rattle.hn_rules.specs.Done.{nothing}
+use Rattle.hn_rules.specs.Due.{IsNextDue}
+use Rattle.hn_rules.specs.Idle.{IsIdleTick}
+use Rattle.hn_rules.specs.Laws.{RouterStaysLater, StillIsIdle, IdleIsStill, IdleUntilDue, NextDueIsOne}
+use Rattle.hn_rules.specs.Router.{IsRouter}
+use Rattle.hn_rules.specs.Rules.{IsSole, begun_at}
+use Rattle.hn_rules.specs.Still.{at_moment, IsStill}
+use Rattle.hn_rules.specs.Ticks.{IsTick}
+use Rattle.hn_router.specs.Act.{PlainEvent, Tick, IsEvent, DidNothing, IsDueAfter, Happened}
+use Rattle.hn_router.specs.Kept.{IsKeptRouter}
+
+-- ---- no fact of a router looks at it
+
+pub router_due : (due : ℕ) (s : State) → IsRouter s → IsRouter (record s { due = due })
+router_due due s is =
+    let well = is.well in
+    let fresh = is.refreshed in
+    record {
+      well = record {
+        ports = well.ports;
+        peers = well.peers;
+        table = well.table;
+        own = well.own;
+        delegated = well.delegated;
+        other = well.other;
+        pairs = well.pairs;
+        addresses = well.addresses;
+        posted = record { addressed = well.posted.addressed; of_length = well.posted.of_length; linked = well.posted.linked };
+        numbered = record { own = well.numbered.own; held = well.numbered.held; own_id = well.numbered.own_id; held_ids = well.numbered.held_ids };
+        past = record { born = well.past.born; ports = well.past.ports; nodes = well.past.nodes; assigned = well.past.assigned };
+      };
+      refreshed = record {
+        published = fresh.published;
+        reached = record {
+          moment = fresh.reached.moment;
+          past = fresh.reached.past;
+          was = record { ascending = fresh.reached.was.ascending; exactly = fresh.reached.was.exactly };
+        };
+        lost = fresh.lost;
+        hashed = fresh.hashed;
+      };
+    }
+
+-- what it asks is the same
+asked_due : (moment due : ℕ) (s : State) (usable : List Delegated) (wishes : List Wish) → AreAsked (at_moment moment s) usable wishes → AreAsked (record s { moment = moment; due = due }) usable wishes
+asked_due moment due s usable wishes are = record {
+  ascending = are.ascending;
+  exact = λ wish. (
+    λ there. let for = (are.exact wish).0 there in record { place = for.place; asked = for.asked; post = for.post },
+    λ for. (are.exact wish).1 (record { place = for.place; asked = for.asked; post = for.post }),
+  );
+}
+
+still_due : (now moment due : ℕ) (s : State) → IsStill now s → IsStill now (record s { moment = moment; due = due })
+still_due now moment due s is = record {
+  heard = is.heard;
+  lasting = is.lasting;
+  young = is.young;
+  reached = record { ascending = is.reached.ascending; exactly = is.reached.exactly };
+  kept = is.kept;
+  rests = record {
+    usable = is.rests.usable;
+    are_usable = is.rests.are_usable;
+    wishes = is.rests.wishes;
+    are_asked = asked_due now due s is.rests.usable is.rests.wishes is.rests.are_asked;
+    is_subroutine = is.rests.is_subroutine;
+  };
+  silent = is.silent;
+}
+
+-- ---- a tick that does nothing
+
+pub tick_ran : (r a : Running) → IsEvent Tick r a → IsTick r a
+tick_ran r a (inl (refused, is)) = absurd cc
+tick_ran r a (inr (accepted, holds)) = holds
+
+-- the laws of the rules on which it rests
+pub record KeptLaws : Type 0 where
+  pub later : RouterStaysLater
+  pub idle_is_still : IdleIsStill
+  pub still_is_idle : StillIsIdle
+
+-- at the moment of the tick the router is one for which a tick does nothing, whatever moment it keeps
+idle_there : KeptLaws → (now due : ℕ) (s : State) → IsRouter s → s.moment ≤ now → IsIdleTick now s → IsIdleTick now (record s { moment = now; due = due })
+idle_there laws now due s router rises idle =
+    let still = still_due now now due s (laws.idle_is_still s now router rises idle) in
+    let there : IsRouter (record s { moment = now; due = due }) = router_due due (at_moment now s) (laws.later now s router rises) in
+    laws.still_is_idle (record s { moment = now; due = due }) now there (omega arith) still
+
+pub kept_after : KeptLaws → (now : ℕ) (event : PlainEvent) (s : State) (after : Running) (due : ℕ) → IsRouter s → s.moment ≤ now → IsEvent event (begun_at now s) after
+    → IsDueAfter event (begun_at now s) after due → IsRouter (record after.state { due = due }) → IsKeptRouter (record after.state { due = due })
+kept_after laws now event s after due router rises ran (inl ((is_tick, same, none), next)) stays = record {
+  router = stays;
+  due = λ later.
+      let ticked : IsTick (begun_at now s) after = tick_ran (begun_at now s) after (subst (λ (e : PlainEvent). IsEvent e (begun_at now s) after) is_tick ran) in
+      let idle : IsIdleTick now s = (after, ticked, same, none) in
+      (subst (λ (x : State). IsIdleTick x.moment (record x { due = due })) (sym same) (idle_there laws now due s router rises idle), next);
+}
+kept_after laws now event s after due router rises ran (inr (busy, is_none)) stays = record { router = stays; due = λ later. absurd (omega arith) }
+
+-- ---- a tick before something is due
+
+pub kept_later : KeptLaws → IdleUntilDue → (now : ℕ) (s : State) → IsKeptRouter s → s.moment ≤ now → now < s.due → IsKeptRouter (at_moment now s)
+kept_later laws until now s kept rises undue =
+    let was = kept.due (omega arith) in
+    let is = until s now s.due kept.router rises undue was.0 was.1 in
+    record { router = laws.later now s kept.router rises; due = λ later. (idle_there laws now s.due s kept.router rises is.0, is.1) }
+
+pub idle_later : IdleUntilDue → (now : ℕ) (s : State) → IsKeptRouter s → s.moment ≤ now → now < s.due → IsIdleTick now s × IsNextDue (at_moment now s) s.due
+idle_later until now s kept rises undue =
+    let was = kept.due (omega arith) in
+    until s now s.due kept.router rises undue was.0 was.1
+
+pub passed : (now : ℕ) (s : State) → IsIdleTick now s → IsNextDue (at_moment now s) s.due → Happened now Tick s (at_moment now s) nothing
+unfolding Happened
+passed now s (after, ran, same, none) next = (
+  after,
+  inr (refl, ran),
+  (s.due, inl ((refl, same, none), subst (λ (x : State). IsNextDue x s.due) (sym same) next), ap (λ (x : State). record x { due = s.due }) (sym same)),
+  sym none,
+)
+
+-- ---- after a tick that does nothing
+
+pub next_known : IsSole IsTick → (now : ℕ) (s next : State) (done : Done) → Happened now Tick s next done → IsIdleTick now s → IsNextDue next next.due
+unfolding Happened
+next_known sole now s next done (after, ran, (due, is_due, is_next), is_done) (idle, ticked, same, none) =
+    let own : ℕ → ℕ = slice_index after.done.words in
+    let begins : Begins after.done.words own = λ i within. refl in
+    let empty : Begins idle.done.words own = subst (λ (d : Done). Begins d.words own) (sym none) (λ i within. absurd (omega arith)) in
+    let one : after ≡ idle = sole.one own (begun_at now s) after idle (tick_ran (begun_at now s) after ran) ticked begins empty in
+    let did : DidNothing Tick (begun_at now s) after = (refl, ap (λ (r : Running). r.state) one ∙ same, ap (λ (r : Running). r.done) one ∙ none) in
+    subst (λ (x : State). IsNextDue x x.due) (sym is_next) (known is_due did)
+  where
+    known : IsDueAfter Tick (begun_at now s) after due → DidNothing Tick (begun_at now s) after → IsNextDue after.state due
+    known (inl (did, is)) so = is
+    known (inr (busy, is)) so = absurd (busy so)
+
+-- ---- it is one
+
+pub one_due : NextDueIsOne → (event : PlainEvent) (begun a b : Running) (m n : ℕ) → a ≡ b → IsDueAfter event begun a m → IsDueAfter event begun b n → m ≡ n
+one_due once event begun a b m n same h k = by_cases h (subst (λ (r : Running). IsDueAfter event begun r n) (sym same) k)
+  where
+    by_cases : IsDueAfter event begun a m → IsDueAfter event begun a n → m ≡ n
+    by_cases (inl (did, x)) (inl (too, y)) = once a.state m n x y
+    by_cases (inl (did, x)) (inr (busy, y)) = absurd (busy did)
+    by_cases (inr (busy, x)) (inl (too, y)) = absurd (busy too)
+    by_cases (inr (busy, x)) (inr (also, y)) = x ∙ sym y

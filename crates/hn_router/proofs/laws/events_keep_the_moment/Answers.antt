@@ -1,0 +1,15 @@
+use Rattle.hn_router.proofs.Moments.{HasLaws, moment_of_event}
+use Rattle.hn_router.proofs.laws.events_keep_the_moment.Goals as goal
+
+pub returns : goal.returns
+returns c =
+    let rules = c.rules_keep_the_endpoints.ensures in
+    let laws : HasLaws = record {
+      refresh = rules.refresh;
+      arrival = rules.arrival;
+      expiry = rules.expiry;
+      assigning = rules.assigning;
+      ports = rules.ports;
+      restarting = rules.restarting;
+    } in
+    moment_of_event laws

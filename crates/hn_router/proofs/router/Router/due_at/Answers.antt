@@ -1,0 +1,8 @@
+use Rattle.std.proofs.Common.{◌<◌, subst}
+use Rattle.hn_rules.specs.declared.state.State.{State}
+use Rattle.hn_rules.specs.Due.{IsNextDue}
+use Rattle.hn_rules.specs.Idle.{IsIdleTick}
+use Rattle.hn_router.proofs.router.Router.due_at.Goals as goal
+
+pub returns-clause-kept : goal.returns-clause-kept
+returns-clause-kept c = subst (λ (s : State). s.moment < c.self.inside.state.due → IsIdleTick s.moment s × IsNextDue s c.self.inside.state.due) c.self.view_is c.self.invariant.due

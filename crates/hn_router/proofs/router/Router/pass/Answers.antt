@@ -1,0 +1,20 @@
+use Rattle.std.proofs.Common.{◌≤◌, ◌<◌, ℕ, sym, subst}
+use Rattle.hn_rules.specs.declared.state.State.{State}
+use Rattle.hn_rules.specs.Still.{at_moment}
+use Rattle.hn_router.specs.Kept.{IsKeptRouter}
+use Rattle.hn_router.proofs.Keeping.{KeptLaws, kept_later, idle_later}
+use Rattle.hn_router.proofs.router.Router.pass.Goals as goal
+
+pub invariant_of-self : goal.invariant_of-self
+invariant_of-self c =
+    let laws : KeptLaws = record { later = c.router_stays_later.ensures; idle_is_still = c.idle_is_still.ensures; still_is_idle = c.still_is_idle.ensures } in
+    let s = c.self.inside.state in
+    let rises : s.moment ≤ c.args.now = subst (λ (x : State). x.moment ≤ c.args.now) (sym c.self.view_is) c.requires.not_before in
+    let undue : c.args.now < s.due = subst (λ (x : State). c.args.now < x.due) (sym c.self.view_is) c.requires.undue in
+    subst (λ (m : ℕ). IsKeptRouter (at_moment m s)) (sym c.new-self-inside.ensures) (kept_later laws c.idle_until_due.ensures c.args.now s c.self.invariant rises undue)
+
+pub returns-clause-idle : goal.returns-clause-idle
+returns-clause-idle c = (idle_later c.idle_until_due.ensures c.args.now c.args.self.now (subst IsKeptRouter c.self.view_is c.self.invariant) c.requires.not_before c.requires.undue).0
+
+pub returns-clause-next : goal.returns-clause-next
+returns-clause-next c = (idle_later c.idle_until_due.ensures c.args.now c.args.self.now (subst IsKeptRouter c.self.view_is c.self.invariant) c.requires.not_before c.requires.undue).1

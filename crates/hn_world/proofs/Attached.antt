@@ -1,10 +1,10 @@
 -- The endpoints of the routers of a replayed world are those of their attachments, and no two attachments are to one link.
-use Rattle.std.proofs.Common.{◌≡◌, ◌≢◌, ◌∙◌, ◌<◌, ◌⊎◌, ◌↔◌, ℕ, zero, suc, Bool, true, false, not, cond, List, [], ◌∷◌, ◌++◌, Option, Some, None, All, Contains, length, map, filter, find, get_or, position, slice_get, slice_set, nat_lt, ◌==◌, ◌||◌, inl, inr, refl, sym, ap, subst, arith}
-use Rattle.std.specs.List.{list_any, position_or_len}
+use Rattle.std.proofs.Common.{◌≡◌, ◌≢◌, ◌∙◌, ◌<◌, ◌⊎◌, ◌↔◌, ℕ, Bool, true, false, not, cond, List, [], ◌∷◌, ◌++◌, Option, Some, None, Contains, length, map, filter, get_or, slice_get, nat_lt, ◌==◌, ◌||◌, inl, inr, refl, sym, ap, subst, arith}
+use Rattle.std.specs.List.{list_any}
+use Rattle.std.specs.Option.{option_map_or}
 use Rattle.std.proofs.lemmas.Bool.{eqb-true, eqb-false, ltb-false}
 use Rattle.std.proofs.lemmas.List.{map-append}
 use Rattle.std.proofs.lemmas.List.Elements.{All-nil, All-push, All-set, Contains-append_left, Contains-append_right, Contains-append_cases, Contains-push, Contains-push_cases}
-use Rattle.std.proofs.lemmas.List.Folds.{find_at}
 use Rattle.std.proofs.lemmas.List.Kept.{AllPairs-filter}
 use Rattle.std.proofs.lemmas.List.Quantifiers.{all_pairs_push}
 use Rattle.std.proofs.lemmas.Option.{same_Some}
@@ -15,7 +15,8 @@ use Rattle.hn_base.specs.declared.ids.EpId.{EpId}
 use Rattle.hn_base.specs.declared.name.Name.{Name}
 use Rattle.hn_base.proofs.Elements.{in_filter, from_filter}
 use Rattle.hn_rules.specs.declared.done.Note.{Note}
-use Rattle.hn_router.specs.Act.{PlainEvent, Attach, Detach, is_refused}
+use Rattle.hn_rules.specs.declared.state.State.{State}
+use Rattle.hn_router.specs.Act.{PlainEvent, Arrive, Tick, Attach, Detach, External, Withdraw, SetCaps, Private, Addresses, Restart, is_refused}
 use Rattle.hn_router.specs.Laws.{endpoints_by, EndpointsFollow}
 use Rattle.hn_own.specs.Ports.{endpoints_of, is_attached}
 use Rattle.hn_world.specs.declared.event.WEvent.{WEvent}
@@ -27,48 +28,16 @@ use Rattle.hn_world.specs.declared.member.Member.{Member}
 use Rattle.hn_world.specs.declared.parts.Parts.{Parts}
 use Rattle.hn_world.specs.Names.{is_named, router_place, link_place, member_named, is_of}
 use Rattle.hn_world.specs.Refusal.{of_router, of_link, unless_running, unless_free, unless_attached, unless_apart, unless_full_of_endpoints, unless_joined, unless_detached, refusal}
-use Rattle.hn_world.specs.Step.{ActsAt, Acts, Changes, Attaches, Detaches, Does, attached_to, detached_from}
+use Rattle.hn_world.specs.Routed.{routed}
+use Rattle.hn_world.specs.Step.{ActsAt, DoesElse, DoesAt, attached_to, beside, detached_from, stopped}
 use Rattle.hn_world.specs.Replay.{Replays, IsAttachedMember, AreAttached}
-use Rattle.hn_base.proofs.Decisions.{neither_given}
+use Rattle.hn_base.proofs.Decisions.{neither_given, some_there}
 use Rattle.hn_world.proofs.Accepted.{not_so}
+use Rattle.hn_world.proofs.Acting.{arrival_of}
 use Rattle.hn_world.proofs.Onces.{Any}
-use Rattle.hn_world.proofs.Places.{got_set, place_kept}
+use Rattle.hn_world.proofs.Places.{found_at}
 use Rattle.hn_world.proofs.Sounds.{all_at, replay_keeps}
 use Rattle.hn_base.proofs.Passing.{each_fails}
-
--- ---- lists
-
-set_twice : {A : Type 0} (xs : List A) (i : ℕ) (y z : A) → slice_set (slice_set xs i y) i z ≡ slice_set xs i z
-set_twice [] i y z = refl
-set_twice (x ∷ xs) zero y z = refl
-set_twice (x ∷ xs) (suc i) y z = ap (λ ys. x ∷ ys) (set_twice xs i y z)
-
-position_is : {A : Type 0} (p : A → Bool) (xs : List A) (i : ℕ) → position p xs ≡ Some i → position_or_len p xs ≡ i
-position_is p xs i found = by_test (nat_lt (position_or_len p xs) (length xs)) found
-  where
-    by_test : (b : Bool) → ◌≡◌ {A = Option ℕ} (cond b (Some (position_or_len p xs)) None) (Some i) → position_or_len p xs ≡ i
-    by_test true e = cc
-    by_test false e = absurd cc
-
-found_at : {A : Type 0} (p : A → Bool) (xs : List A) (i : ℕ) (x : A) → position p xs ≡ Some i → slice_get xs i ≡ Some x → find p xs ≡ Some x
-found_at p xs i x found at = find_at p xs ∙ ap (slice_get xs) (position_is p xs i found) ∙ at
-
--- ---- an event at a router, and then a change of it
-
-after_change : (name : Name) (event : PlainEvent) (change : Member → Member) (words : List ℕ) (notes : List Note) (before between after : Parts)
-    (h : Acts name event words notes before between) → Changes name change between after
-    → after.members ≡ slice_set before.members h.place (change (record h.acts.member { router = h.acts.next }))
-after_change name event change words notes before between after h k =
-    let acted : Member = record h.acts.member { router = h.acts.next } in
-    let members : between.members ≡ slice_set before.members h.place acted = ap (λ (w : Parts). w.members) h.acts.gives in
-    let stays : router_place (name_text name) between ≡ router_place (name_text name) before =
-    ap (position (is_named (name_text name))) members ∙ place_kept (is_named (name_text name)) before.members h.place h.acts.member acted h.acts.is_member refl in
-    let place : k.place ≡ h.place = same_Some k.place h.place (sym k.is_place ∙ stays ∙ h.is_place) in
-    let there : slice_get between.members h.place ≡ Some acted = ap (λ (ms : List Member). slice_get ms h.place) members ∙ got_set before.members h.place h.acts.member acted h.acts.is_member in
-    let member : k.member ≡ acted = same_Some k.member acted (sym k.is_member ∙ ap (slice_get between.members) place ∙ there) in
-    let changed : slice_set between.members k.place (change k.member) ≡ slice_set (slice_set before.members h.place acted) h.place (change acted) =
-    λ i. slice_set (members i) (place i) (change (member i)) in
-    ap (λ (w : Parts). w.members) k.gives ∙ changed ∙ set_twice before.members h.place acted (change acted)
 
 -- ---- what an accepted event says
 
@@ -81,6 +50,16 @@ record MayJoin (endpoint : EpId) (link : ℕ) (m : Member) : Type 0 where
   free : is_attached endpoint m.router.ports ≡ false
   apart : list_any (λ (a : Attachment). a.link == link) m.attachments ≡ false
   room : nat_lt (length m.router.ports) 16 ≡ true
+
+-- the link is there
+join_link : (w : Parts) (name link : Name) (endpoint : EpId) (place : ℕ) (m : Member) → router_place (name_text name) w ≡ Some place → slice_get w.members place ≡ Some m
+    → refusal w (event.Attach name endpoint link) ≡ None → (at : ℕ) × (link_place (name_text link) w ≡ Some at)
+join_link w name link endpoint place m is_place is_member accepted =
+    let found : member_named (name_text name) w ≡ Some m = found_at (is_named (name_text name)) w.members place m is_place is_member in
+    let joined : of_link (unless_joined w endpoint m) (link_place (name_text link) w) ≡ None =
+    sym (ap (of_router (λ (n : Member). of_link (unless_joined w endpoint n) (link_place (name_text link) w))) found) ∙ accepted in
+    let at = some_there 7 (unless_joined w endpoint m) (link_place (name_text link) w) joined in
+    (at.0, at.1)
 
 may_join : (w : Parts) (name link : Name) (endpoint : EpId) (place at : ℕ) (m : Member) → router_place (name_text name) w ≡ Some place → slice_get w.members place ≡ Some m
     → link_place (name_text link) w ≡ Some at → refusal w (event.Attach name endpoint link) ≡ None → MayJoin endpoint at m
@@ -211,104 +190,140 @@ same_detached at ends attachments same e some = (
 
 -- ---- the routers
 
+-- the endpoints after an event follow it
+abbrev HasFollowed : PlainEvent → Member → State → Type 0
+HasFollowed event m next =
+    endpoints_of next.ports ≡ cond (is_refused event m.router) (endpoints_of m.router.ports) (endpoints_by event (endpoints_of m.router.ports))
+
+-- an event that neither attaches nor detaches
+attached_same : (event : PlainEvent) (m : Member) (next : State) → ((ends : List EpId) → endpoints_by event ends ≡ ends) → IsAttachedMember m → HasFollowed event m next
+    → IsAttachedMember (record m { router = next })
+attached_same event m next keeps is follows =
+    let ends : List EpId = endpoints_of m.router.ports in
+    let same : endpoints_of next.ports ≡ ends = follows ∙ either (is_refused event m.router) ends (endpoints_by event ends) (keeps ends) in
+    record { endpoints = subst (λ (es : List EpId). Same es (numbers_of m.attachments)) (sym same) is.endpoints; apart = is.apart }
+  where
+    either : (b : Bool) (xs ys : List EpId) → ys ≡ xs → cond b xs ys ≡ xs
+    either true xs ys same = refl
+    either false xs ys same = same
+
+-- an endpoint is attached
+attached_joins : (endpoint : EpId) (at : ℕ) (m : Member) (next : State) → MayJoin endpoint at m → IsAttachedMember m → HasFollowed (Attach endpoint) m next
+    → IsAttachedMember (attached_to at endpoint (record m { router = next }))
+attached_joins endpoint at m next may is follows =
+    let ends : List EpId = endpoints_of m.router.ports in
+    let new : Attachment = record { endpoint = endpoint; link = at } in
+    record {
+      endpoints = subst (λ (es : List EpId). Same es (numbers_of (m.attachments ++ new ∷ []))) (sym follows) (by_number ends is.endpoints (endpoint.0 == 0) refl);
+      apart =
+          all_pairs_push (λ (a b : Attachment). a.link ≢ b.link) m.attachments new is.apart
+          (λ k d within. eqb-false (get_or m.attachments k d).link at (each_fails (λ (a : Attachment). a.link == at) m.attachments may.apart k d within));
+    }
+  where
+    by_number : (ends : List EpId) → Same ends (numbers_of m.attachments) → (b : Bool) → (endpoint.0 == 0) ≡ b
+        → Same (cond (b || (is_attached endpoint m.router.ports || not (nat_lt (length m.router.ports) 16))) ends (endpoints_by (Attach endpoint) ends))
+        (numbers_of (m.attachments ++ record { endpoint = endpoint; link = at } ∷ []))
+    by_number ends same true none = same_refused endpoint at ends m.attachments (eqb-true endpoint.0 0 none) same
+    by_number ends same false some = rw (may.free, may.room) (same_attached endpoint at ends m.attachments same)
+
+-- an endpoint is detached
+attached_leaves : (endpoint : EpId) (m : Member) (next : State) → is_attached endpoint m.router.ports ≡ true → IsAttachedMember m → HasFollowed (Detach endpoint) m next
+    → IsAttachedMember (detached_from endpoint (record m { router = next }))
+attached_leaves endpoint m next held is follows =
+    let ends : List EpId = endpoints_of m.router.ports in
+    let left : List Attachment = filter (λ (a : Attachment). not (is_of endpoint a)) m.attachments in
+    let after : endpoints_of next.ports ≡ endpoints_by (Detach endpoint) ends = follows ∙ ap (λ (b : Bool). cond (not b) ends (endpoints_by (Detach endpoint) ends)) held in
+    record {
+      endpoints = subst (λ (es : List EpId). Same es (numbers_of left)) (sym after) (same_detached endpoint ends m.attachments is.endpoints);
+      apart = AllPairs-filter (λ (a b : Attachment). a.link ≢ b.link) (λ (a : Attachment). not (is_of endpoint a)) m.attachments is.apart;
+    }
+
+-- what an event at a router leaves of its member
+abbrev Leaves : Parts → WEvent → Name → PlainEvent → Type 0
+Leaves w t name event =
+    (place : ℕ) (m : Member) (next : State) → router_place (name_text name) w ≡ Some place → slice_get w.members place ≡ Some m → refusal w t ≡ None → IsAttachedMember m
+    → HasFollowed event m next → IsAttachedMember (beside t w (record m { router = next }))
+
+leaves_attach : (w : Parts) (name link : Name) (endpoint : EpId) → Leaves w (event.Attach name endpoint link) name (Attach endpoint)
+leaves_attach w name link endpoint place m next is_place is_member accepted is follows =
+    let n : Member = record m { router = next } in
+    let at = join_link w name link endpoint place m is_place is_member accepted in
+    let may = may_join w name link endpoint place at.0 m is_place is_member at.1 accepted in
+    subst (λ (o : Option ℕ). IsAttachedMember (option_map_or (λ l. attached_to l endpoint n) o n)) (sym at.1) (attached_joins endpoint at.0 m next may is follows)
+
+-- of the event that it is
+leaves : (w : Parts) (t : WEvent) (own : Name × PlainEvent) → routed t ≡ Some own → Leaves w t own.0 own.1
+leaves w t own is = by_event t own is
+  where
+    fits : (t : WEvent) (a b : Name × PlainEvent) → Some a ≡ Some b → Leaves w t a.0 a.1 → Leaves w t b.0 b.1
+    fits t a b same is = subst (λ (own : Name × PlainEvent). Leaves w t own.0 own.1) (same_Some a b same) is
+
+    by_event : (t : WEvent) (own : Name × PlainEvent) → routed t ≡ Some own → Leaves w t own.0 own.1
+    by_event (event.Attach name endpoint link) own is = fits (event.Attach name endpoint link) (name, Attach endpoint) own is (leaves_attach w name link endpoint)
+    by_event (event.Detach name endpoint) own is =
+        fits (event.Detach name endpoint) (name, Detach endpoint) own is
+        (λ place m next is_place is_member accepted here follows. attached_leaves endpoint m next (may_leave w name endpoint place m is_place is_member accepted) here follows)
+    by_event (event.Start name) own is =
+        fits (event.Start name) (name, Restart) own is
+        (λ place m next is_place is_member accepted here follows. let same = attached_same Restart m next (λ ends. refl) here follows in record { endpoints = same.endpoints; apart = same.apart })
+    by_event (event.External name prefix valid preferred) own is = fits (event.External name prefix valid preferred) (name, External prefix valid preferred) own is (λ place m next is_place is_member accepted here follows. attached_same (External prefix valid preferred) m next (λ ends. refl) here follows)
+    by_event (event.Withdraw name prefix) own is = fits (event.Withdraw name prefix) (name, Withdraw prefix) own is (λ place m next is_place is_member accepted here follows. attached_same (Withdraw prefix) m next (λ ends. refl) here follows)
+    by_event (event.Caps name caps) own is = fits (event.Caps name caps) (name, SetCaps caps) own is (λ place m next is_place is_member accepted here follows. attached_same (SetCaps caps) m next (λ ends. refl) here follows)
+    by_event (event.Tick name) own is = fits (event.Tick name) (name, Tick) own is (λ place m next is_place is_member accepted here follows. attached_same (Tick) m next (λ ends. refl) here follows)
+    by_event (event.Inject name endpoint from multicast bytes) own is = fits (event.Inject name endpoint from multicast bytes) (name, Arrive (record { endpoint = endpoint; from = from; multicast = multicast }) bytes) own is (λ place m next is_place is_member accepted here follows. attached_same (Arrive (record { endpoint = endpoint; from = from; multicast = multicast }) bytes) m next (λ ends. refl) here follows)
+    by_event (event.Private name length) own is = fits (event.Private name length) (name, Private length) own is (λ place m next is_place is_member accepted here follows. attached_same (Private length) m next (λ ends. refl) here follows)
+    by_event (event.Addresses name list) own is = fits (event.Addresses name list) (name, Addresses list) own is (λ place m next is_place is_member accepted here follows. attached_same (Addresses list) m next (λ ends. refl) here follows)
+    by_event (event.Router name id) own is = absurd cc
+    by_event (event.Link name) own is = absurd cc
+    by_event (event.Stop name) own is = absurd cc
+    by_event (event.Time moment) own is = absurd cc
+    by_event (event.Deliver copy) own is = absurd cc
+    by_event (event.Drop copy) own is = absurd cc
+
 module _ (follow : EndpointsFollow) where
-  -- an event that neither attaches nor detaches
-  attached_acts_at : (place : ℕ) (event : PlainEvent) (words : List ℕ) (notes : List Note) (before after : Parts) → ((ends : List EpId) → endpoints_by event ends ≡ ends)
-      → ActsAt place event words notes before after → AreAttached before → AreAttached after
-  attached_acts_at place event words notes before after keeps h all =
+  attached_acts_at : (change : Member → Member) (place : ℕ) (event : PlainEvent) (words : List ℕ) (notes : List Note) (before after : Parts)
+      → ActsAt change place event words notes before after
+      → ((m : Member) (next : State) → slice_get before.members place ≡ Some m → IsAttachedMember m → HasFollowed event m next → IsAttachedMember (change (record m { router = next })))
+      → AreAttached before → AreAttached after
+  attached_acts_at change place event words notes before after h keeps all =
       let here : IsAttachedMember h.member = all_at IsAttachedMember before.members place h.member h.is_member all in
-      let ends : List EpId = endpoints_of h.member.router.ports in
-      let same : endpoints_of h.next.ports ≡ ends =
-      follow before.moment event h.member.router h.next h.done h.happened ∙ either (is_refused event h.member.router) ends (endpoints_by event ends) (keeps ends) in
-      subst AreAttached (sym h.gives) (All-set IsAttachedMember before.members place (record h.member { router = h.next })
-      (record { endpoints = subst (λ (es : List EpId). Same es (numbers_of h.member.attachments)) (sym same) here.endpoints; apart = here.apart }) all)
-    where
-      either : (b : Bool) (xs ys : List EpId) → ys ≡ xs → cond b xs ys ≡ xs
-      either true xs ys is = refl
-      either false xs ys is = is
+      let follows = follow before.moment event h.member.router h.next h.done h.happened in
+      subst AreAttached (sym h.gives) (All-set IsAttachedMember before.members place (change (record h.member { router = h.next })) (keeps h.member h.next h.is_member here follows) all)
 
-  attached_acts : (name : Name) (event : PlainEvent) (words : List ℕ) (notes : List Note) (before after : Parts) → ((ends : List EpId) → endpoints_by event ends ≡ ends)
-      → Acts name event words notes before after → AreAttached before → AreAttached after
-  attached_acts name event words notes before after keeps h all = attached_acts_at h.place event words notes before after keeps h.acts all
-
-  attached_change : (name : Name) (change : Member → Member) (before after : Parts) → ((m : Member) → IsAttachedMember m → IsAttachedMember (change m))
-      → Changes name change before after → AreAttached before → AreAttached after
-  attached_change name change before after keeps h all =
-      let here : IsAttachedMember h.member = all_at IsAttachedMember before.members h.place h.member h.is_member all in
-      subst AreAttached (sym h.gives) (All-set IsAttachedMember before.members h.place (change h.member) (keeps h.member here) all)
-
-  -- an endpoint is attached
-  attached_attaches : (name : Name) (endpoint : EpId) (link : Name) (words : List ℕ) (notes : List Note) (before after : Parts)
-      → refusal before (event.Attach name endpoint link) ≡ None → Attaches name endpoint link words notes before after → AreAttached before → AreAttached after
-  attached_attaches name endpoint link words notes before after accepted h all =
-      let m : Member = h.acts.acts.member in
-      let next = h.acts.acts.next in
-      let ends : List EpId = endpoints_of m.router.ports in
-      let here : IsAttachedMember m = all_at IsAttachedMember before.members h.acts.place m h.acts.acts.is_member all in
-      let may : MayJoin endpoint h.link_at m = may_join before name link endpoint h.acts.place h.link_at m h.acts.is_place h.acts.acts.is_member h.is_link accepted in
-      let follows : endpoints_of next.ports ≡ cond (is_refused (Attach endpoint) m.router) ends (endpoints_by (Attach endpoint) ends) =
-      follow before.moment (Attach endpoint) m.router next h.acts.acts.done h.acts.acts.happened in
-      let changed = after_change name (Attach endpoint) (attached_to h.link_at endpoint) words notes before h.between after h.acts h.changes in
-      let joined : Same (endpoints_of next.ports) (numbers_of (m.attachments ++ record { endpoint = endpoint; link = h.link_at } ∷ [])) =
-      subst (λ (es : List EpId). Same es (numbers_of (m.attachments ++ record { endpoint = endpoint; link = h.link_at } ∷ []))) (sym follows)
-      (by_number h.link_at m ends may here.endpoints (endpoint.0 == 0) refl) in
-      let apart = all_pairs_push (λ (a b : Attachment). a.link ≢ b.link) m.attachments (record { endpoint = endpoint; link = h.link_at }) here.apart
-      (λ k d within. eqb-false (get_or m.attachments k d).link h.link_at (each_fails (λ (a : Attachment). a.link == h.link_at) m.attachments may.apart k d within)) in
-      subst (λ (ms : List Member). All IsAttachedMember ms) (sym changed)
-      (All-set IsAttachedMember before.members h.acts.place (attached_to h.link_at endpoint (record m { router = next })) (record { endpoints = joined; apart = apart }) all)
-    where
-      by_number : (at : ℕ) (m : Member) (ends : List EpId) → MayJoin endpoint at m → Same ends (numbers_of m.attachments) → (b : Bool) → (endpoint.0 == 0) ≡ b
-          → Same (cond (b || (is_attached endpoint m.router.ports || not (nat_lt (length m.router.ports) 16))) ends (endpoints_by (Attach endpoint) ends))
-          (numbers_of (m.attachments ++ record { endpoint = endpoint; link = at } ∷ []))
-      by_number at m ends may same true is = same_refused endpoint at ends m.attachments (eqb-true endpoint.0 0 is) same
-      by_number at m ends may same false is =
-          rw (may.free, may.room) (same_attached endpoint at ends m.attachments same)
-
-  -- an endpoint is detached
-  attached_detaches : (name : Name) (endpoint : EpId) (words : List ℕ) (notes : List Note) (before after : Parts)
-      → refusal before (event.Detach name endpoint) ≡ None → Detaches name endpoint words notes before after → AreAttached before → AreAttached after
-  attached_detaches name endpoint words notes before after accepted h all =
-      let m : Member = h.acts.acts.member in
-      let next = h.acts.acts.next in
-      let ends : List EpId = endpoints_of m.router.ports in
-      let here : IsAttachedMember m = all_at IsAttachedMember before.members h.acts.place m h.acts.acts.is_member all in
-      let held : is_attached endpoint m.router.ports ≡ true = may_leave before name endpoint h.acts.place m h.acts.is_place h.acts.acts.is_member accepted in
-      let follows : endpoints_of next.ports ≡ endpoints_by (Detach endpoint) ends =
-      follow before.moment (Detach endpoint) m.router next h.acts.acts.done h.acts.acts.happened
-      ∙ ap (λ (b : Bool). cond (not b) ends (endpoints_by (Detach endpoint) ends)) held in
-      let changed = after_change name (Detach endpoint) (detached_from endpoint) words notes before h.between after h.acts h.changes in
-      let left : Same (endpoints_of next.ports) (numbers_of (filter (λ (a : Attachment). not (is_of endpoint a)) m.attachments)) =
-      subst (λ (es : List EpId). Same es (numbers_of (filter (λ (a : Attachment). not (is_of endpoint a)) m.attachments))) (sym follows) (same_detached endpoint ends m.attachments here.endpoints) in
-      let apart = AllPairs-filter (λ (a b : Attachment). a.link ≢ b.link) (λ (a : Attachment). not (is_of endpoint a)) m.attachments here.apart in
-      subst (λ (ms : List Member). All IsAttachedMember ms) (sym changed)
-      (All-set IsAttachedMember before.members h.acts.place (detached_from endpoint (record m { router = next })) (record { endpoints = left; apart = apart }) all)
-
-  attached_event : (event : WEvent) (words : List ℕ) (notes : List Note) (before after : Parts) → refusal before event ≡ None → Does event words notes before after → AreAttached before → AreAttached after
-  attached_event (event.Router name id) words notes before after accepted h all =
+  attached_else : (event : WEvent) (words : List ℕ) (notes : List Note) (before after : Parts) → DoesElse event words notes before after → AreAttached before → AreAttached after
+  attached_else (event.Router name id) words notes before after h all =
       let none : endpoints_of h.router.ports ≡ [] = ap endpoints_of h.is_new.ports_are in
       let same : Same (endpoints_of h.router.ports) [] = subst (λ (es : List EpId). Same es []) (sym none) (λ e some. (λ there. there, λ there. there)) in
       subst AreAttached (sym h.quietly.gives) (All-push IsAttachedMember before.members (record { name = name; running = true; router = h.router; attachments = [] }) all
       (record { endpoints = same; apart = λ i j d less within. absurd (omega arith) }))
-  attached_event (event.Link name) words notes before after accepted h all = subst AreAttached (sym h.gives) all
-  attached_event (event.Attach name endpoint link) words notes before after accepted h all = attached_attaches name endpoint link words notes before after accepted h all
-  attached_event (event.Detach name endpoint) words notes before after accepted h all = attached_detaches name endpoint words notes before after accepted h all
-  attached_event (event.External name prefix valid preferred) words notes before after accepted h all = attached_acts name _ words notes before after (λ ends. refl) h all
-  attached_event (event.Withdraw name prefix) words notes before after accepted h all = attached_acts name _ words notes before after (λ ends. refl) h all
-  attached_event (event.Caps name caps) words notes before after accepted h all = attached_acts name _ words notes before after (λ ends. refl) h all
-  attached_event (event.Stop name) words notes before after accepted h all =
-      subst AreAttached (sym h.quietly.gives) (attached_change name _ before h.changed (λ m is. record { endpoints = is.endpoints; apart = is.apart }) h.changes all)
-  attached_event (event.Start name) words notes before after accepted h all =
-      attached_change name _ h.between after (λ m is. record { endpoints = is.endpoints; apart = is.apart }) h.changes
-      (attached_acts name _ words notes before h.between (λ ends. refl) h.acts all)
-  attached_event (event.Time moment) words notes before after accepted h all = subst AreAttached (sym h.gives) all
-  attached_event (event.Tick name) words notes before after accepted h all = attached_acts name _ words notes before after (λ ends. refl) h all
-  attached_event (event.Deliver copy) words notes before after accepted h all =
-      subst AreAttached (sym h.gives) (attached_acts_at h.mail.to.place _ words notes before h.between (λ ends. refl) h.acts all)
-  attached_event (event.Drop copy) words notes before after accepted h all = subst AreAttached (sym h.quietly.gives) all
-  attached_event (event.Inject name endpoint from multicast bytes) words notes before after accepted h all = attached_acts name _ words notes before after (λ ends. refl) h all
+  attached_else (event.Link name) words notes before after h all = subst AreAttached (sym h.gives) all
+  attached_else (event.Stop name) words notes before after h all =
+      let here = all_at IsAttachedMember before.members h.place h.member h.is_member all in
+      subst AreAttached (sym h.quietly.gives) (All-set IsAttachedMember before.members h.place (stopped h.member) (record { endpoints = here.endpoints; apart = here.apart }) all)
+  attached_else (event.Time moment) words notes before after h all = subst AreAttached (sym h.gives) all
+  attached_else (event.Deliver copy) words notes before after h all =
+      subst AreAttached (sym h.gives)
+      (attached_acts_at (λ m. m) h.mail.to.place (arrival_of h.mail) words notes before h.between h.acts (λ m next at here follows. attached_same (arrival_of h.mail) m next (λ ends. refl) here follows) all)
+  attached_else (event.Drop copy) words notes before after h all = subst AreAttached (sym h.quietly.gives) all
+  attached_else (event.Attach name endpoint link) words notes before after h all = absurd h
+  attached_else (event.Detach name endpoint) words notes before after h all = absurd h
+  attached_else (event.External name prefix valid preferred) words notes before after h all = absurd h
+  attached_else (event.Withdraw name prefix) words notes before after h all = absurd h
+  attached_else (event.Caps name caps) words notes before after h all = absurd h
+  attached_else (event.Private name length) words notes before after h all = absurd h
+  attached_else (event.Addresses name list) words notes before after h all = absurd h
+  attached_else (event.Start name) words notes before after h all = absurd h
+  attached_else (event.Tick name) words notes before after h all = absurd h
+  attached_else (event.Inject name endpoint from multicast bytes) words notes before after h all = absurd h
+
+  attached_at : (event : WEvent) (own : Option (Name × PlainEvent)) → routed event ≡ own → (words : List ℕ) (notes : List Note) (before after : Parts) → refusal before event ≡ None
+      → DoesAt event own words notes before after → AreAttached before → AreAttached after
+  attached_at event (Some own) is words notes before after accepted h all =
+      attached_acts_at (beside event before) h.place own.1 words notes before after h.acts (λ m next at here follows. leaves before event own is h.place m next h.is_place at accepted here follows) all
+  attached_at event None is words notes before after accepted h all = attached_else event words notes before after h all
 
   attached_step : (t : Traced) (before after : Parts) → Any t before after → AreAttached before → AreAttached after
-  attached_step t before after h all = subst AreAttached (sym h.1.gives) (attached_event t.event t.words h.0 before h.1.between h.1.accepted h.1.does all)
+  attached_step t before after h all = subst AreAttached (sym h.1.gives) (attached_at t.event (routed t.event) refl t.words h.0 before h.1.between h.1.accepted h.1.does all)
 
   pub attached_replay : (version : Version) (ts : List Traced) (w : Parts) → Replays version ts w → AreAttached w
   attached_replay version ts w h = replay_keeps AreAttached attached_step version (All-nil IsAttachedMember) ts w h

@@ -5,7 +5,7 @@ use Rattle.hn_world.specs.declared.event.Traced.{Traced}
 use Rattle.hn_base.specs.declared.version.Version.{Version}
 use Rattle.hn_world.specs.declared.parts.Parts.{Parts}
 use Rattle.hn_world.specs.Step.{Step}
-use Rattle.hn_world.specs.Replay.{empty_world, Goes, Replays}
+use Rattle.hn_world.specs.Replay.{empty_world, Goes, Replays, IsReplayed, Throughout, Stepped}
 use Rattle.hn_world.proofs.Onces.{Any, past_of_step}
 
 goes_more : (before between after : Parts) (ts : List Traced) (t : Traced) → Goes before ts between → Any t between after → Goes before (ts ++ t ∷ []) after
@@ -20,3 +20,19 @@ pub replays_more : (t : Traced) (notes : List Note) (before after : Parts) → R
 unfolding Replays
 replays_more t notes before after h step =
     subst (λ (past : Version × List Traced). Goes (empty_world past.0) past.1 after) (sym (past_of_step t before after (notes, step))) (goes_more (empty_world before.version) before after before.trace t h (notes, step))
+
+-- ---- each event of a trace
+
+-- the world between a front and the rest
+goes_split : (before after : Parts) (past future : List Traced) → Goes before (past ++ future) after → (then : Parts) × Goes before past then × Goes then future after
+goes_split before after [] future h = (before, refl, h)
+goes_split before after (t ∷ past) future h =
+    let rest = goes_split h.0 after past future h.2 in
+    (rest.0, (h.0, h.1, rest.1), rest.2)
+
+pub each_step : (w : Parts) → IsReplayed w → Throughout Stepped w
+unfolding Replays
+each_step w h past future t is =
+    let split = goes_split (empty_world w.version) w past (t ∷ future) (subst (λ (ts : List Traced). Goes (empty_world w.version) ts w) is h) in
+    let step = split.2.1 in
+    (split.0, split.2.0, split.1, goes_more (empty_world w.version) split.0 split.2.0 past t split.1 step, record { words = t.words; notes = step.0; step = step.1 })

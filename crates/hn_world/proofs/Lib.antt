@@ -9,3 +9,8 @@ pub mod Onces
 pub mod Places
 pub mod Sounds
 pub mod Targets
+mod Refusing
+mod Copied
+mod Limited
+mod Authentics
+mod Grown

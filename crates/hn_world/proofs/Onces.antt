@@ -1,5 +1,5 @@
 -- An event over one stream of words has at most one result, and a trace leads to at most one world.
-use Rattle.std.proofs.Common.{◌≡◌, ◌∙◌, ◌+◌, ℕ, true, List, [], ◌∷◌, ◌++◌, length, Some, refl, sym, subst, ap, append_assoc, zero-add, slice_index, slice_get, arith}
+use Rattle.std.proofs.Common.{◌≡◌, ◌∙◌, ◌+◌, ℕ, true, List, [], ◌∷◌, ◌++◌, length, Option, Some, None, refl, sym, subst, ap, append_assoc, zero-add, slice_index, slice_get, arith}
 use Rattle.std.proofs.lemmas.List.{append-nil}
 use Rattle.std.proofs.lemmas.Option.{same_Some}
 use Rattle.hn_base.specs.declared.ids.NodeId.{NodeId}
@@ -18,7 +18,8 @@ use Rattle.hn_base.specs.declared.version.Version.{Version}
 use Rattle.hn_world.specs.declared.member.Member.{Member}
 use Rattle.hn_world.specs.declared.parts.Parts.{Parts}
 use Rattle.hn_world.specs.Limits.{table_limit}
-use Rattle.hn_world.specs.Step.{ActsAt, Acts, Begins, Changes, Quietly, Does, Step, IsStep, acted, entered, with_member, attached_to, taken}
+use Rattle.hn_world.specs.Routed.{routed}
+use Rattle.hn_world.specs.Step.{ActsAt, Acts, Begins, Quietly, Stops, DoesElse, DoesAt, Step, IsStep, acted, beside, entered, with_member, stopped, taken}
 use Rattle.hn_world.specs.Replay.{empty_world, Goes, Replays}
 
 -- an event, whatever was noted
@@ -32,14 +33,6 @@ pub record HasLaws : Type 0 where
   pub one_result : OneResult
   pub one_new : NewIsUnique
 
-one_change : (name : Name) (change : Member → Member) (before a b : Parts) → Changes name change before a → Changes name change before b → a ≡ b
-one_change name change before a b h k =
-    let place : h.place ≡ k.place = same_Some h.place k.place (sym h.is_place ∙ k.is_place) in
-    let there : slice_get before.members h.place ≡ Some k.member = subst (λ (at : ℕ). slice_get before.members at ≡ Some k.member) (sym place) k.is_member in
-    let member : h.member ≡ k.member = same_Some h.member k.member (sym h.is_member ∙ there) in
-    let made : with_member h.place (change h.member) before ≡ with_member k.place (change k.member) before = λ i. with_member (place i) (change (member i)) before in
-    h.gives ∙ made ∙ sym k.gives
-
 -- two results are one: the words that were taken, what was noted, and the world after it
 record AreOne (v w : List ℕ) (m n : List Note) (a b : Parts) : Type 0 where
   words : v ≡ w
@@ -51,33 +44,26 @@ one_quiet given other v w m n a b same h k = record { words = h.took ∙ sym k.t
 
 -- over one stream of words
 module _ (laws : HasLaws) (stream : ℕ → ℕ) where
-  one_acts_at : (place : ℕ) (event : PlainEvent) (v w : List ℕ) (m n : List Note) (before a b : Parts) → drawn.Begins v stream → drawn.Begins w stream
-      → ActsAt place event v m before a → ActsAt place event w n before b → AreOne v w m n a b
-  one_acts_at place event v w m n before a b begins begun h k =
+  one_acts_at : (change : Member → Member) (place : ℕ) (event : PlainEvent) (v w : List ℕ) (m n : List Note) (before a b : Parts) → drawn.Begins v stream → drawn.Begins w stream
+      → ActsAt change place event v m before a → ActsAt change place event w n before b → AreOne v w m n a b
+  one_acts_at change place event v w m n before a b begins begun h k =
       let member : h.member ≡ k.member = same_Some h.member k.member (sym h.is_member ∙ k.is_member) in
       let happened : Happened before.moment event h.member.router k.next k.done = subst (λ (x : Member). Happened before.moment event x.router k.next k.done) (sym member) k.happened in
       let first : drawn.Begins h.done.words stream = subst (λ (ws : List ℕ). drawn.Begins ws stream) h.took begins in
       let second : drawn.Begins k.done.words stream = subst (λ (ws : List ℕ). drawn.Begins ws stream) k.took begun in
       let same = laws.one_result before.moment event h.member.router h.next k.next h.done k.done stream h.happened happened first second in
-      let made : acted place h.member h.next h.done before ≡ acted place k.member k.next k.done before = λ i. acted place (member i) (same.0 i) (same.1 i) before in
+      let made : acted change place h.member h.next h.done before ≡ acted change place k.member k.next k.done before = λ i. acted change place (member i) (same.0 i) (same.1 i) before in
       record {
         words = h.took ∙ ap (λ (d : Done). d.words) same.1 ∙ sym k.took;
         notes = h.noted ∙ ap (λ (d : Done). d.notes) same.1 ∙ sym k.noted;
         world = h.gives ∙ made ∙ sym k.gives;
       }
 
-  one_acts : (name : Name) (event : PlainEvent) (v w : List ℕ) (m n : List Note) (before a b : Parts) → drawn.Begins v stream → drawn.Begins w stream
-      → Acts name event v m before a → Acts name event w n before b → AreOne v w m n a b
-  one_acts name event v w m n before a b begins begun h k =
+  one_acts : (change : Member → Member) (name : Name) (event : PlainEvent) (v w : List ℕ) (m n : List Note) (before a b : Parts) → drawn.Begins v stream → drawn.Begins w stream
+      → Acts change name event v m before a → Acts change name event w n before b → AreOne v w m n a b
+  one_acts change name event v w m n before a b begins begun h k =
       let place : h.place ≡ k.place = same_Some h.place k.place (sym h.is_place ∙ k.is_place) in
-      one_acts_at h.place event v w m n before a b begins begun h.acts (subst (λ (at : ℕ). ActsAt at event w n before b) (sym place) k.acts)
-
-  -- an event of a router, and then a change of it
-  one_acts_changed : (name : Name) (event : PlainEvent) (change : Member → Member) (v w : List ℕ) (m n : List Note) (before c d a b : Parts) → drawn.Begins v stream → drawn.Begins w stream
-      → Acts name event v m before c → Acts name event w n before d → Changes name change c a → Changes name change d b → AreOne v w m n a b
-  one_acts_changed name event change v w m n before c d a b begins begun h k x y =
-      let same = one_acts name event v w m n before c d begins begun h k in
-      record { words = same.words; notes = same.notes; world = one_change name change c a b x (subst (λ (u : Parts). Changes name change u b) (sym same.world) y) }
+      one_acts_at change h.place event v w m n before a b begins begun h.acts (subst (λ (at : ℕ). ActsAt change at event w n before b) (sym place) k.acts)
 
   one_begun : (name : Name) (id : NodeId) (v w : List ℕ) (m n : List Note) (before a b : Parts) → Begins name id v m before a → Begins name id w n before b → AreOne v w m n a b
   one_begun name id v w m n before a b h k =
@@ -88,38 +74,48 @@ module _ (laws : HasLaws) (stream : ℕ → ℕ) where
       }) router in
       one_quiet _ _ v w m n a b made h.quietly k.quietly
 
-  one_event : (event : WEvent) (v w : List ℕ) (m n : List Note) (before a b : Parts) → drawn.Begins v stream → drawn.Begins w stream → Does event v m before a → Does event w n before b → AreOne v w m n a b
-  one_event (event.Router name id) v w m n before a b begins begun h k = one_begun name id v w m n before a b h k
-  one_event (event.Link name) v w m n before a b begins begun h k = one_quiet _ _ v w m n a b refl h k
-  one_event (event.Attach name endpoint link) v w m n before a b begins begun h k =
-      let at : h.link_at ≡ k.link_at = same_Some h.link_at k.link_at (sym h.is_link ∙ k.is_link) in
-      one_acts_changed name _ (attached_to h.link_at endpoint) v w m n before h.between k.between a b begins begun h.acts k.acts h.changes
-      (subst (λ (l : ℕ). Changes name (attached_to l endpoint) k.between b) (sym at) k.changes)
-  one_event (event.Detach name endpoint) v w m n before a b begins begun h k =
-      one_acts_changed name _ _ v w m n before h.between k.between a b begins begun h.acts k.acts h.changes k.changes
-  one_event (event.External name prefix valid preferred) v w m n before a b begins begun h k = one_acts name _ v w m n before a b begins begun h k
-  one_event (event.Withdraw name prefix) v w m n before a b begins begun h k = one_acts name _ v w m n before a b begins begun h k
-  one_event (event.Caps name caps) v w m n before a b begins begun h k = one_acts name _ v w m n before a b begins begun h k
-  one_event (event.Stop name) v w m n before a b begins begun h k = one_quiet h.changed k.changed v w m n a b (one_change name _ before h.changed k.changed h.changes k.changes) h.quietly k.quietly
-  one_event (event.Start name) v w m n before a b begins begun h k =
-      one_acts_changed name _ _ v w m n before h.between k.between a b begins begun h.acts k.acts h.changes k.changes
-  one_event (event.Time moment) v w m n before a b begins begun h k = one_quiet _ _ v w m n a b refl h k
-  one_event (event.Tick name) v w m n before a b begins begun h k = one_acts name _ v w m n before a b begins begun h k
-  one_event (event.Deliver copy) v w m n before a b begins begun h k =
+  one_stopped : (name : Name) (v w : List ℕ) (m n : List Note) (before a b : Parts) → Stops name v m before a → Stops name w n before b → AreOne v w m n a b
+  one_stopped name v w m n before a b h k =
+      let place : h.place ≡ k.place = same_Some h.place k.place (sym h.is_place ∙ k.is_place) in
+      let there : slice_get before.members h.place ≡ Some k.member = subst (λ (at : ℕ). slice_get before.members at ≡ Some k.member) (sym place) k.is_member in
+      let member : h.member ≡ k.member = same_Some h.member k.member (sym h.is_member ∙ there) in
+      let made : with_member h.place (stopped h.member) before ≡ with_member k.place (stopped k.member) before = λ i. with_member (place i) (stopped (member i)) before in
+      one_quiet _ _ v w m n a b made h.quietly k.quietly
+
+  one_else : (event : WEvent) (v w : List ℕ) (m n : List Note) (before a b : Parts) → drawn.Begins v stream → drawn.Begins w stream → DoesElse event v m before a → DoesElse event w n before b → AreOne v w m n a b
+  one_else (event.Router name id) v w m n before a b begins begun h k = one_begun name id v w m n before a b h k
+  one_else (event.Link name) v w m n before a b begins begun h k = one_quiet _ _ v w m n a b refl h k
+  one_else (event.Stop name) v w m n before a b begins begun h k = one_stopped name v w m n before a b h k
+  one_else (event.Time moment) v w m n before a b begins begun h k = one_quiet _ _ v w m n a b refl h k
+  one_else (event.Deliver copy) v w m n before a b begins begun h k =
       let mail : h.mail ≡ k.mail = same_Some h.mail k.mail (sym h.is_copy ∙ k.is_copy) in
-      let same = one_acts_at h.mail.to.place _ v w m n before h.between k.between begins begun h.acts (rw mail k.acts) in
+      let same = one_acts_at (λ m. m) h.mail.to.place _ v w m n before h.between k.between begins begun h.acts (rw mail k.acts) in
       let made : taken copy h.mail h.between ≡ taken copy k.mail k.between = λ i. taken copy (mail i) (same.world i) in
       record { words = same.words; notes = same.notes; world = h.gives ∙ made ∙ sym k.gives }
-  one_event (event.Drop copy) v w m n before a b begins begun h k =
+  one_else (event.Drop copy) v w m n before a b begins begun h k =
       let mail : h.mail ≡ k.mail = same_Some h.mail k.mail (sym h.is_copy ∙ k.is_copy) in
       one_quiet _ _ v w m n a b (ap (λ (c : MailCopy). taken copy c before) mail) h.quietly k.quietly
-  one_event (event.Inject name endpoint from multicast bytes) v w m n before a b begins begun h k = one_acts name _ v w m n before a b begins begun h k
+  one_else (event.Attach name endpoint link) v w m n before a b begins begun h k = absurd h
+  one_else (event.Detach name endpoint) v w m n before a b begins begun h k = absurd h
+  one_else (event.External name prefix valid preferred) v w m n before a b begins begun h k = absurd h
+  one_else (event.Withdraw name prefix) v w m n before a b begins begun h k = absurd h
+  one_else (event.Caps name caps) v w m n before a b begins begun h k = absurd h
+  one_else (event.Private name length) v w m n before a b begins begun h k = absurd h
+  one_else (event.Addresses name list) v w m n before a b begins begun h k = absurd h
+  one_else (event.Start name) v w m n before a b begins begun h k = absurd h
+  one_else (event.Tick name) v w m n before a b begins begun h k = absurd h
+  one_else (event.Inject name endpoint from multicast bytes) v w m n before a b begins begun h k = absurd h
+
+  one_at : (event : WEvent) (own : Option (Name × PlainEvent)) (v w : List ℕ) (m n : List Note) (before a b : Parts) → drawn.Begins v stream → drawn.Begins w stream
+      → DoesAt event own v m before a → DoesAt event own w n before b → AreOne v w m n a b
+  one_at event (Some own) v w m n before a b begins begun h k = one_acts (beside event before) own.0 own.1 v w m n before a b begins begun h k
+  one_at event None v w m n before a b begins begun h k = one_else event v w m n before a b begins begun h k
 
   -- and its entry in the trace
   one_step : (event : WEvent) (v w : List ℕ) (m n : List Note) (before a b : Parts) → drawn.Begins v stream → drawn.Begins w stream
       → Step (record { event = event; words = v }) m before a → Step (record { event = event; words = w }) n before b → AreOne v w m n a b
   one_step event v w m n before a b begins begun h k =
-      let same = one_event event v w m n before h.between k.between begins begun h.does k.does in
+      let same = one_at event (routed event) v w m n before h.between k.between begins begun h.does k.does in
       let made : entered (record { event = event; words = v }) h.between ≡ entered (record { event = event; words = w }) k.between = λ i. entered (record { event = event; words = same.words i }) (same.world i) in
       record { words = same.words; notes = same.notes; world = h.gives ∙ made ∙ sym k.gives }
 
@@ -154,31 +150,31 @@ one_world laws version ts a b h k = one_way laws (empty_world version) a b ts h 
 abbrev pub past_of : Parts → Version × List Traced
 past_of w = (w.version, w.trace)
 
-past_of_acts : (name : Name) (event : PlainEvent) (words : List ℕ) (notes : List Note) (before after : Parts) → Acts name event words notes before after → past_of after ≡ past_of before
-past_of_acts name event words notes before after h = ap past_of h.acts.gives
+past_of_else : (event : WEvent) (words : List ℕ) (notes : List Note) (before after : Parts) → DoesElse event words notes before after → past_of after ≡ past_of before
+past_of_else (event.Router name id) words notes before after h = ap past_of h.quietly.gives
+past_of_else (event.Link name) words notes before after h = ap past_of h.gives
+past_of_else (event.Stop name) words notes before after h = ap past_of h.quietly.gives
+past_of_else (event.Time moment) words notes before after h = ap past_of h.gives
+past_of_else (event.Deliver copy) words notes before after h = ap past_of h.gives ∙ ap past_of h.acts.gives
+past_of_else (event.Drop copy) words notes before after h = ap past_of h.quietly.gives
+past_of_else (event.Attach name endpoint link) words notes before after h = absurd h
+past_of_else (event.Detach name endpoint) words notes before after h = absurd h
+past_of_else (event.External name prefix valid preferred) words notes before after h = absurd h
+past_of_else (event.Withdraw name prefix) words notes before after h = absurd h
+past_of_else (event.Caps name caps) words notes before after h = absurd h
+past_of_else (event.Private name length) words notes before after h = absurd h
+past_of_else (event.Addresses name list) words notes before after h = absurd h
+past_of_else (event.Start name) words notes before after h = absurd h
+past_of_else (event.Tick name) words notes before after h = absurd h
+past_of_else (event.Inject name endpoint from multicast bytes) words notes before after h = absurd h
 
-past_of_change : (name : Name) (change : Member → Member) (before after : Parts) → Changes name change before after → past_of after ≡ past_of before
-past_of_change name change before after h = ap past_of h.gives
-
-past_of_event : (event : WEvent) (words : List ℕ) (notes : List Note) (before after : Parts) → Does event words notes before after → past_of after ≡ past_of before
-past_of_event (event.Router name id) words notes before after h = ap past_of h.quietly.gives
-past_of_event (event.Link name) words notes before after h = ap past_of h.gives
-past_of_event (event.Attach name endpoint link) words notes before after h = past_of_change name _ h.between after h.changes ∙ past_of_acts name _ words notes before h.between h.acts
-past_of_event (event.Detach name endpoint) words notes before after h = past_of_change name _ h.between after h.changes ∙ past_of_acts name _ words notes before h.between h.acts
-past_of_event (event.External name prefix valid preferred) words notes before after h = past_of_acts name _ words notes before after h
-past_of_event (event.Withdraw name prefix) words notes before after h = past_of_acts name _ words notes before after h
-past_of_event (event.Caps name caps) words notes before after h = past_of_acts name _ words notes before after h
-past_of_event (event.Stop name) words notes before after h = ap past_of h.quietly.gives ∙ past_of_change name _ before h.changed h.changes
-past_of_event (event.Start name) words notes before after h = past_of_change name _ h.between after h.changes ∙ past_of_acts name _ words notes before h.between h.acts
-past_of_event (event.Time moment) words notes before after h = ap past_of h.gives
-past_of_event (event.Tick name) words notes before after h = past_of_acts name _ words notes before after h
-past_of_event (event.Deliver copy) words notes before after h = ap past_of h.gives ∙ ap past_of h.acts.gives
-past_of_event (event.Drop copy) words notes before after h = ap past_of h.quietly.gives
-past_of_event (event.Inject name endpoint from multicast bytes) words notes before after h = past_of_acts name _ words notes before after h
+past_of_event : (event : WEvent) (own : Option (Name × PlainEvent)) (words : List ℕ) (notes : List Note) (before after : Parts) → DoesAt event own words notes before after → past_of after ≡ past_of before
+past_of_event event (Some own) words notes before after h = ap past_of h.acts.gives
+past_of_event event None words notes before after h = past_of_else event words notes before after h
 
 pub past_of_step : (t : Traced) (before after : Parts) → Any t before after → past_of after ≡ (before.version, before.trace ++ t ∷ [])
 past_of_step t before after h =
-    let kept = past_of_event t.event t.words h.0 before h.1.between h.1.does in
+    let kept = past_of_event t.event (routed t.event) t.words h.0 before h.1.between h.1.does in
     ap past_of h.1.gives ∙ ap (λ (past : Version × List Traced). (past.0, past.1 ++ t ∷ [])) kept
 
 pub trace_of_step : (t : Traced) (before after : Parts) → Any t before after → after.trace ≡ before.trace ++ t ∷ []

@@ -1,5 +1,7 @@
 -- Elements at their places.
-use Rattle.std.proofs.Common.{◌≡◌, ◌∙◌, ◌<◌, ℕ, zero, suc, Bool, List, [], ◌∷◌, ◌++◌, cond, length, Some, None, position, slice_get, slice_set, nat_lt, refl, sym, ap}
+use Rattle.std.proofs.Common.{◌≡◌, ◌∙◌, ◌<◌, ℕ, zero, suc, Bool, true, false, List, [], ◌∷◌, ◌++◌, cond, length, Option, Some, None, find, position, slice_get, slice_set, nat_lt, refl, sym, ap}
+use Rattle.std.specs.List.{position_or_len}
+use Rattle.std.proofs.lemmas.List.Folds.{find_at}
 use Rattle.std.proofs.lemmas.List.{length-set}
 use Rattle.std.proofs.lemmas.List.Folds.{position_or_len-set}
 use Rattle.std.proofs.lemmas.List.Quantifiers.{position-Some}
@@ -28,3 +30,14 @@ place_kept p xs i x y at same =
     let first = position_or_len-set p xs i y x (same ∙ ap p (sym (get_or_from_slice_get xs i x x at))) in
     let len = length-set xs i y in
     λ k. cond (nat_lt (first k) (len k)) (Some (first k)) None
+
+-- the first that passes stands at its place
+position_is : {A : Type 0} (p : A → Bool) (xs : List A) (i : ℕ) → position p xs ≡ Some i → position_or_len p xs ≡ i
+position_is p xs i found = by_test (nat_lt (position_or_len p xs) (length xs)) found
+  where
+    by_test : (b : Bool) → ◌≡◌ {A = Option ℕ} (cond b (Some (position_or_len p xs)) None) (Some i) → position_or_len p xs ≡ i
+    by_test true e = cc
+    by_test false e = absurd cc
+
+pub found_at : {A : Type 0} (p : A → Bool) (xs : List A) (i : ℕ) (x : A) → position p xs ≡ Some i → slice_get xs i ≡ Some x → find p xs ≡ Some x
+found_at p xs i x found at = find_at p xs ∙ ap (slice_get xs) (position_is p xs i found) ∙ at

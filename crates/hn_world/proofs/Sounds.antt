@@ -1,14 +1,16 @@
 -- The routers of a replayed world.
 use Rattle.std.proofs.Common.{◌≡◌, ◌≤◌, ◌⊎◌, ℕ, Bool, true, false, List, [], ◌∷◌, ◌++◌, Option, Some, None, All, slice_get, nat_lt, inl, inr, refl, sym, subst, arith}
-use Rattle.std.specs.Option.{option_or}
+use Rattle.std.specs.Option.{option_or, option_map_or}
 use Rattle.std.proofs.lemmas.Bool.{ltb-false}
 use Rattle.std.proofs.lemmas.List.Elements.{All-nil, All-push, All-set, All-weaker, All-contains}
 use Rattle.hn_base.proofs.Parts.{contains_at}
+use Rattle.hn_base.specs.Name.{name_text}
 use Rattle.hn_base.specs.declared.name.Name.{Name}
 use Rattle.hn_rules.specs.declared.done.Note.{Note}
-use Rattle.hn_router.specs.Act.{PlainEvent}
+use Rattle.hn_router.specs.Act.{PlainEvent, Arrive, IsEventInRange}
 use Rattle.hn_router.specs.Laws.{NewIsRouter, RouterStays, MomentIsNow}
 use Rattle.hn_rules.specs.Router.{IsRouter}
+use Rattle.hn_rules.specs.declared.state.State.{State}
 use Rattle.hn_world.specs.declared.event.WEvent.{WEvent}
 use Rattle.hn_world.specs.declared.event.WEvent.TheVariants as event
 use Rattle.hn_world.specs.declared.event.Traced.{Traced}
@@ -18,7 +20,9 @@ use Rattle.hn_world.specs.declared.member.Member.{Member}
 use Rattle.hn_world.specs.declared.parts.Parts.{Parts}
 use Rattle.hn_world.specs.Limits.{table_limit}
 use Rattle.hn_world.specs.Refusal.{code_if, refusal}
-use Rattle.hn_world.specs.Step.{ActsAt, Acts, Changes, Does}
+use Rattle.hn_world.specs.Names.{link_place}
+use Rattle.hn_world.specs.Routed.{routed}
+use Rattle.hn_world.specs.Step.{ActsAt, DoesElse, DoesAt, IsInRange, attached_to, beside, stopped}
 use Rattle.hn_world.specs.Replay.{empty_world, Goes, Replays, IsReplayed, IsSoundMember, IsSound, Always}
 use Rattle.hn_world.proofs.Onces.{Any}
 
@@ -63,21 +67,47 @@ pub record StayLaws : Type 0 where
   pub stays : RouterStays
   pub moment : MomentIsNow
 
-sound_acts_at : StayLaws → (place : ℕ) (event : PlainEvent) (words : List ℕ) (notes : List Note) (before after : Parts) → ActsAt place event words notes before after → IsSound before → IsSound after
-sound_acts_at laws place event words notes before after h all =
+-- a change that leaves the router
+abbrev pub KeepsRouters : (Member → Member) → Type 0
+KeepsRouters change = (m : Member) → (change m).router ≡ m.router
+
+sound_changed : (moment : ℕ) (change : Member → Member) → KeepsRouters change → (m : Member) → IsSoundMember moment m → IsSoundMember moment (change m)
+sound_changed moment change keeps m is = record {
+  router = subst IsRouter (sym (keeps m)) is.router;
+  past = subst (λ (s : State). s.moment ≤ moment) (sym (keeps m)) is.past;
+}
+
+sound_acts_at : StayLaws → (change : Member → Member) → KeepsRouters change → (place : ℕ) (event : PlainEvent) (words : List ℕ) (notes : List Note) (before after : Parts)
+    → IsEventInRange event → ActsAt change place event words notes before after → IsSound before → IsSound after
+sound_acts_at laws change keeps place event words notes before after ranged h all =
     let here : IsSoundMember before.moment h.member = all_at (IsSoundMember before.moment) before.members place h.member h.is_member all in
-    let router : IsRouter h.next = laws.stays before.moment event h.member.router h.next h.done here.router here.past h.happened in
+    let router : IsRouter h.next = laws.stays before.moment event h.member.router h.next h.done here.router here.past ranged h.happened in
     let moment : h.next.moment ≡ before.moment = laws.moment before.moment event h.member.router h.next h.done h.happened in
-    subst IsSound (sym h.gives) (All-set (IsSoundMember before.moment) before.members place (record h.member { router = h.next }) (record { router = router; past = omega arith }) all)
+    let next : Member = record h.member { router = h.next } in
+    subst IsSound (sym h.gives) (All-set (IsSoundMember before.moment) before.members place (change next) (sound_changed before.moment change keeps next (record { router = router; past = omega arith })) all)
 
-sound_acts : StayLaws → (name : Name) (event : PlainEvent) (words : List ℕ) (notes : List Note) (before after : Parts) → Acts name event words notes before after → IsSound before → IsSound after
-sound_acts laws name event words notes before after h all = sound_acts_at laws h.place event words notes before after h.acts all
-
-sound_change : (name : Name) (change : Member → Member) (before after : Parts) → ((moment : ℕ) (m : Member) → IsSoundMember moment m → IsSoundMember moment (change m))
-    → Changes name change before after → IsSound before → IsSound after
-sound_change name change before after keeps h all =
-    let here : IsSoundMember before.moment h.member = all_at (IsSoundMember before.moment) before.members h.place h.member h.is_member all in
-    subst IsSound (sym h.gives) (All-set (IsSoundMember before.moment) before.members h.place (change h.member) (keeps before.moment h.member here) all)
+-- what an event changes beside a router leaves the router
+pub beside_keeps : (event : WEvent) (w : Parts) → KeepsRouters (beside event w)
+beside_keeps (event.Attach name endpoint link) w m = by_link (link_place (name_text link) w)
+  where
+    by_link : (at : Option ℕ) → (option_map_or (λ at. attached_to at endpoint m) at m).router ≡ m.router
+    by_link None = refl
+    by_link (Some at) = refl
+beside_keeps (event.Router name id) w m = refl
+beside_keeps (event.Link name) w m = refl
+beside_keeps (event.Detach name endpoint) w m = refl
+beside_keeps (event.External name prefix valid preferred) w m = refl
+beside_keeps (event.Withdraw name prefix) w m = refl
+beside_keeps (event.Caps name caps) w m = refl
+beside_keeps (event.Start name) w m = refl
+beside_keeps (event.Tick name) w m = refl
+beside_keeps (event.Inject name endpoint from multicast bytes) w m = refl
+beside_keeps (event.Private name length) w m = refl
+beside_keeps (event.Addresses name list) w m = refl
+beside_keeps (event.Stop name) w m = refl
+beside_keeps (event.Time moment) w m = refl
+beside_keeps (event.Deliver copy) w m = refl
+beside_keeps (event.Drop copy) w m = refl
 
 -- ---- an event
 
@@ -92,32 +122,62 @@ limit_is_size : (version : Version) → (table_limit version ≡ 256) ⊎ (table
 limit_is_size One = inl refl
 limit_is_size Two = inr refl
 
-sound_event : StayLaws → (event : WEvent) (words : List ℕ) (notes : List Note) (before after : Parts) → refusal before event ≡ None → Does event words notes before after → IsSound before → IsSound after
-sound_event laws (event.Router name id) words notes before after accepted h all =
+sound_else : StayLaws → (event : WEvent) (words : List ℕ) (notes : List Note) (before after : Parts) → refusal before event ≡ None → IsInRange event → DoesElse event words notes before after → IsSound before → IsSound after
+sound_else laws (event.Router name id) words notes before after accepted fits h all =
     let moment : h.router.moment ≡ before.moment = h.is_new.moment_is in
     subst IsSound (sym h.quietly.gives) (All-push (IsSoundMember before.moment) before.members (record { name = name; running = true; router = h.router; attachments = [] }) all
-    (record { router = laws.new id (table_limit before.version) before.moment h.router (limit_is_size before.version) h.is_new; past = omega arith }))
-sound_event laws (event.Link name) words notes before after accepted h all = subst IsSound (sym h.gives) all
-sound_event laws (event.Attach name endpoint link) words notes before after accepted h all =
-    sound_change name _ h.between after (λ moment m is. record { router = is.router; past = is.past }) h.changes (sound_acts laws name _ words notes before h.between h.acts all)
-sound_event laws (event.Detach name endpoint) words notes before after accepted h all =
-    sound_change name _ h.between after (λ moment m is. record { router = is.router; past = is.past }) h.changes (sound_acts laws name _ words notes before h.between h.acts all)
-sound_event laws (event.External name prefix valid preferred) words notes before after accepted h all = sound_acts laws name _ words notes before after h all
-sound_event laws (event.Withdraw name prefix) words notes before after accepted h all = sound_acts laws name _ words notes before after h all
-sound_event laws (event.Caps name caps) words notes before after accepted h all = sound_acts laws name _ words notes before after h all
-sound_event laws (event.Stop name) words notes before after accepted h all =
-    subst IsSound (sym h.quietly.gives) (sound_change name _ before h.changed (λ moment m is. record { router = is.router; past = is.past }) h.changes all)
-sound_event laws (event.Start name) words notes before after accepted h all =
-    sound_change name _ h.between after (λ moment m is. record { router = is.router; past = is.past }) h.changes (sound_acts laws name _ words notes before h.between h.acts all)
-sound_event laws (event.Time moment) words notes before after accepted h all =
+    (record { router = laws.new id (table_limit before.version) before.moment h.router fits (limit_is_size before.version) h.is_new; past = omega arith }))
+sound_else laws (event.Link name) words notes before after accepted fits h all = subst IsSound (sym h.gives) all
+sound_else laws (event.Stop name) words notes before after accepted fits h all =
+    let here = all_at (IsSoundMember before.moment) before.members h.place h.member h.is_member all in
+    subst IsSound (sym h.quietly.gives) (All-set (IsSoundMember before.moment) before.members h.place (stopped h.member) (sound_changed before.moment stopped (λ m. refl) h.member here) all)
+sound_else laws (event.Time moment) words notes before after accepted fits h all =
     subst IsSound (sym h.gives) (sound_later before moment (ltb-false moment before.moment (not_before (nat_lt moment before.moment) _ accepted)) all)
-sound_event laws (event.Tick name) words notes before after accepted h all = sound_acts laws name _ words notes before after h all
-sound_event laws (event.Deliver copy) words notes before after accepted h all = subst IsSound (sym h.gives) (sound_acts_at laws h.mail.to.place _ words notes before h.between h.acts all)
-sound_event laws (event.Drop copy) words notes before after accepted h all = subst IsSound (sym h.quietly.gives) all
-sound_event laws (event.Inject name endpoint from multicast bytes) words notes before after accepted h all = sound_acts laws name _ words notes before after h all
+sound_else laws (event.Deliver copy) words notes before after accepted fits h all =
+    let arrival : PlainEvent = Arrive (record { endpoint = h.mail.to.endpoint; from = h.mail.from; multicast = h.mail.multicast }) h.mail.bytes in
+    subst IsSound (sym h.gives) (sound_acts_at laws (λ m. m) (λ m. refl) h.mail.to.place arrival words notes before h.between tt h.acts all)
+sound_else laws (event.Drop copy) words notes before after accepted fits h all = subst IsSound (sym h.quietly.gives) all
+sound_else laws (event.Attach name endpoint link) words notes before after accepted fits h all = absurd h
+sound_else laws (event.Detach name endpoint) words notes before after accepted fits h all = absurd h
+sound_else laws (event.External name prefix valid preferred) words notes before after accepted fits h all = absurd h
+sound_else laws (event.Withdraw name prefix) words notes before after accepted fits h all = absurd h
+sound_else laws (event.Caps name caps) words notes before after accepted fits h all = absurd h
+sound_else laws (event.Private name length) words notes before after accepted fits h all = absurd h
+sound_else laws (event.Addresses name list) words notes before after accepted fits h all = absurd h
+sound_else laws (event.Start name) words notes before after accepted fits h all = absurd h
+sound_else laws (event.Tick name) words notes before after accepted fits h all = absurd h
+sound_else laws (event.Inject name endpoint from multicast bytes) words notes before after accepted fits h all = absurd h
 
-sound_step : StayLaws → (t : Traced) (before after : Parts) → Any t before after → IsSound before → IsSound after
-sound_step laws t before after h all = subst IsSound (sym h.1.gives) (sound_event laws t.event t.words h.0 before h.1.between h.1.accepted h.1.does all)
+-- the event of a router is in range where its row is
+abbrev RangedAt : Option (Name × PlainEvent) → Type 0
+RangedAt (Some own) = IsEventInRange own.1
+RangedAt None = Unit {0}
+
+pub ranged_at : (event : WEvent) → IsInRange event → RangedAt (routed event)
+ranged_at (event.Attach name endpoint link) fits = fits.1
+ranged_at (event.Router name id) fits = tt
+ranged_at (event.Link name) fits = tt
+ranged_at (event.Detach name endpoint) fits = tt
+ranged_at (event.External name prefix valid preferred) fits = tt
+ranged_at (event.Withdraw name prefix) fits = tt
+ranged_at (event.Caps name caps) fits = tt
+ranged_at (event.Private name length) fits = tt
+ranged_at (event.Addresses name list) fits = tt
+ranged_at (event.Stop name) fits = tt
+ranged_at (event.Start name) fits = tt
+ranged_at (event.Time moment) fits = tt
+ranged_at (event.Tick name) fits = tt
+ranged_at (event.Deliver copy) fits = tt
+ranged_at (event.Drop copy) fits = tt
+ranged_at (event.Inject name endpoint from multicast bytes) fits = tt
+
+sound_at : StayLaws → (event : WEvent) (own : Option (Name × PlainEvent)) (words : List ℕ) (notes : List Note) (before after : Parts) → refusal before event ≡ None → IsInRange event → RangedAt own
+    → DoesAt event own words notes before after → IsSound before → IsSound after
+sound_at laws event (Some own) words notes before after accepted fits ranged h all = sound_acts_at laws (beside event before) (beside_keeps event before) h.place own.1 words notes before after ranged h.acts all
+sound_at laws event None words notes before after accepted fits ranged h all = sound_else laws event words notes before after accepted fits h all
+
+pub sound_step : StayLaws → (t : Traced) (before after : Parts) → Any t before after → IsSound before → IsSound after
+sound_step laws t before after h all = subst IsSound (sym h.1.gives) (sound_at laws t.event (routed t.event) t.words h.0 before h.1.between h.1.accepted h.1.in_range (ranged_at t.event h.1.in_range) h.1.does all)
 
 pub sound_replay : StayLaws → (version : Version) (ts : List Traced) (w : Parts) → Replays version ts w → IsSound w
 sound_replay laws version ts w h = replay_keeps IsSound (sound_step laws) version (All-nil (IsSoundMember 0)) ts w h

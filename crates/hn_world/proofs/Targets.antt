@@ -5,6 +5,7 @@ use Rattle.std.specs.List.{list_any}
 use Rattle.std.specs.Option.{option_map, option_map_or}
 use Rattle.std.proofs.lemmas.Bool.{cond_both, or_parts}
 use Rattle.std.proofs.lemmas.List.{append-nil}
+use Rattle.std.proofs.lemmas.List.Elements.{filter-append}
 use Rattle.hn_base.specs.declared.ids.EpId.{EpId}
 use Rattle.hn_own.specs.Ports.{endpoints_of}
 use Rattle.hn_world.specs.declared.copies.Target.{Target}
@@ -26,10 +27,15 @@ one_more link place (suc i) (x ∷ xs) d lt =
     ap (λ ys. here ++ ys) more ∙ ap (λ (n : ℕ). here ++ (on_link link (suc place) (take i xs) ++ on_link_at link n (get_or xs i d))) same
     ∙ sym (append_assoc here (on_link link (suc place) (take i xs)) (on_link_at link (place + suc i) (get_or xs i d)))
 
-pub on_link-more : (link i : ℕ) (xs : List Member) (d : Member) → i < length xs → on_link link 0 (take (i + 1) xs) ≡ on_link link 0 (take i xs) ++ on_link_at link i (get_or xs i d)
+on_link-more : (link i : ℕ) (xs : List Member) (d : Member) → i < length xs → on_link link 0 (take (i + 1) xs) ≡ on_link link 0 (take i xs) ++ on_link_at link i (get_or xs i d)
 on_link-more link i xs d lt =
     let same : 0 + i ≡ i = omega arith in
     rw add-one (one_more link 0 i xs d lt ∙ ap (λ (n : ℕ). on_link link 0 (take i xs) ++ on_link_at link n (get_or xs i d)) same)
+
+-- and those of them that pass
+pub getting-more : (p : Target → Bool) (link i : ℕ) (xs : List Member) (d : Member) → i < length xs
+    → filter p (on_link link 0 (take (i + 1) xs)) ≡ filter p (on_link link 0 (take i xs)) ++ filter p (on_link_at link i (get_or xs i d))
+getting-more p link i xs d lt = ap (filter p) (on_link-more link i xs d lt) ∙ filter-append p (on_link link 0 (take i xs)) (on_link_at link i (get_or xs i d))
 
 -- ---- a router with no attachment to a link
 

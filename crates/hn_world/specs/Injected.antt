@@ -5,12 +5,9 @@ use Rattle.hn_world.specs.declared.event.WEvent.TheVariants as event
 use Rattle.hn_world.specs.declared.event.Traced.{Traced}
 
 -- how many bytes an event injected
-abbrev pub injected_by : Traced → ℕ
-injected_by t = injected t.event
-  where
-    injected : WEvent → ℕ
-    injected (event.Inject name endpoint from multicast bytes) = length bytes
-    injected _ = 0
+abbrev pub injected_by : WEvent → ℕ
+injected_by (event.Inject name endpoint from multicast bytes) = length bytes
+injected_by _ = 0
 
 abbrev pub injected_of : List Traced → ℕ
-injected_of trace = sum (map injected_by trace)
+injected_of trace = sum (map (λ t. injected_by t.event) trace)

@@ -8,7 +8,7 @@ use Rattle.hn_world.specs.declared.event.WEvent.{WEvent}
 use Rattle.hn_world.specs.declared.event.Traced.{Traced}
 use Rattle.hn_world.specs.declared.parts.Parts.{Parts}
 use Rattle.hn_world.specs.Leaves.{Agrees}
-use Rattle.hn_world.specs.Replay.{Replays, IsReplayed, IsSound, AreAttached, Always}
+use Rattle.hn_world.specs.Replay.{Replays, IsReplayed, IsSound, AreAttached, Always, Throughout, Stepped}
 use Rattle.hn_world.specs.Step.{Step, IsStep}
 
 -- From one world, with one event and one stream of words that a draw tells, there is at most one result.
@@ -24,6 +24,10 @@ abbrev pub EachEventIsEntered : Type 0
 EachEventIsEntered =
     (t : Traced) (notes : List Note) (before after : Parts) → Step t notes before after
     → after.trace ≡ before.trace ++ t ∷ []
+
+-- And each event of a replayed world's trace was a step from a world of its past to the next one.
+abbrev pub EachEventIsAStep : Type 0
+EachEventIsAStep = (w : Parts) → IsReplayed w → Throughout Stepped w
 
 -- Two lists of leaves agree in one way.
 abbrev pub AgreementIsUnique : Type 0

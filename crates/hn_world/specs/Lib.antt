@@ -4,9 +4,13 @@ pub mod Mail
 pub mod Receivers
 pub mod Waiting
 pub mod Injected
+pub mod Routed
+pub mod Beside
 pub mod Refusal
 pub mod Step
 pub mod Prepared
 pub mod Replay
 pub mod Leaves
+pub mod Within
+pub mod Authentic
 pub mod Laws

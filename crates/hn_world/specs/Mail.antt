@@ -38,14 +38,14 @@ gets sender None at = not (is_same sender at)
 gets sender (Some to) at = has_address to at
 
 -- the copy for one of them
-abbrev pub copy_for : Target → Outgoing → Target → MailCopy
-copy_for sender send at =
-    record { to = at; from = address_of sender; multicast = is_none send.to; bytes = send.bytes; waiting = true }
+abbrev pub copy_for : Target → Option Addr → List ℕ → Target → MailCopy
+copy_for sender to bytes at =
+    record { to = at; from = address_of sender; multicast = is_none to; bytes = bytes; waiting = true }
 
 -- the copies of a datagram that a router sends; there is none where its endpoint is attached to no link
 abbrev pub copies_on : List Member → Target → Outgoing → Option ℕ → List MailCopy
 copies_on members sender send None = []
-copies_on members sender send (Some link) = map (copy_for sender send) (filter (gets sender send.to) (on_link link 0 members))
+copies_on members sender send (Some link) = map (copy_for sender send.to send.bytes) (filter (gets sender send.to) (on_link link 0 members))
 
 abbrev pub copies_of_send : List Member → ℕ → Member → Outgoing → List MailCopy
 copies_of_send members place m send =

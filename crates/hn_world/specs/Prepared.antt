@@ -15,6 +15,5 @@ pub record IsPrepared (place : ℕ) (event : PlainEvent) (told told_after : Opti
   pub place_is : p.place ≡ place
   pub happened : Happened w.moment event member.router p.plan.state p.plan.done
   pub drew : Took told p.plan.done.words told_after
-  pub words : p.words ≡ p.plan.done.words
   pub copies : p.copies.items ≡ copies_of w.members place member p.plan.done.sends
   pub waiting : All (λ c. c.waiting ≡ true) p.copies.items

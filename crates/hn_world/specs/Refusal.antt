@@ -4,8 +4,10 @@ use Rattle.std.specs.List.{list_any, slice_get}
 use Rattle.std.specs.Option.{option_or}
 use Rattle.hn_base.specs.Codes.{unless_there}
 use Rattle.hn_base.specs.Name.{name_text}
+use Rattle.hn_base.specs.declared.name.Name.{Name}
 use Rattle.hn_base.specs.declared.ids.EpId.{EpId}
 use Rattle.hn_base.specs.Prefix.{PlainPrefix}
+use Rattle.hn_own.specs.Addresses.{OwnAddress, may_address}
 use Rattle.hn_own.specs.Ports.{is_attached}
 use Rattle.hn_own.specs.OwnPrefixes.{may_delegate}
 use Rattle.hn_world.specs.declared.copies.MailCopy.{MailCopy}
@@ -15,6 +17,7 @@ use Rattle.hn_world.specs.declared.member.Member.{Member}
 use Rattle.hn_world.specs.declared.parts.Parts.{Parts}
 use Rattle.hn_world.specs.Limits.{most_routers}
 use Rattle.hn_world.specs.Names.{is_taken, member_named, link_place}
+use Rattle.hn_world.specs.Routed.{named_by}
 use Rattle.hn_world.specs.Waiting.{bytes_of}
 use Rattle.hn_world.specs.Injected.{injected_of}
 
@@ -44,6 +47,10 @@ unless_free endpoint m = code_if 11 (is_attached endpoint m.router.ports)
 abbrev pub unless_apart : ℕ → Member → Option ℕ
 unless_apart link m = code_if 14 (list_any (λ a. a.link == link) m.attachments)
 
+-- 19: the list may not be the addresses of the router
+abbrev pub unless_listed : List OwnAddress → Member → Option ℕ
+unless_listed list m = code_if 19 (not (may_address list m.router.ports))
+
 -- 9: the 17th endpoint of a router; its ninth delegated prefix; the 1,000,001st event
 abbrev pub unless_full_of_endpoints : Member → Option ℕ
 unless_full_of_endpoints m = code_if 9 (not (nat_lt (length m.router.ports) 16))
@@ -66,6 +73,10 @@ unless_acts w m = option_or (unless_running m) (unless_full_of_events w)
 -- of a router that is to get a delegated prefix: there is room for it
 abbrev pub unless_delegated : Parts → PlainPrefix → Member → Option ℕ
 unless_delegated w prefix m = option_or (unless_running m) (option_or (unless_full_of_prefixes prefix m) (unless_full_of_events w))
+
+-- of a router that is to get addresses: it may have them
+abbrev pub unless_addressed : Parts → List OwnAddress → Member → Option ℕ
+unless_addressed w list m = option_or (unless_running m) (option_or (unless_listed list m) (unless_full_of_events w))
 
 -- of an endpoint that is to do something: it is attached
 abbrev pub unless_detached : Parts → EpId → Member → Option ℕ
@@ -96,20 +107,30 @@ abbrev pub unless_new : Parts → List ℕ → ℕ → ℕ → Option ℕ
 unless_new w name count most =
     option_or (code_if 8 (is_taken name w)) (option_or (code_if 9 (not (nat_lt count most))) (unless_full_of_events w))
 
+-- what is asked of the router that an event names
+abbrev pub unless_able : WEvent → Parts → Member → Option ℕ
+unless_able (event.Attach name endpoint link) w m = of_link (unless_joined w endpoint m) (link_place (name_text link) w)
+unless_able (event.Detach name endpoint) w m = unless_detached w endpoint m
+unless_able (event.External name prefix valid preferred) w m = unless_delegated w prefix m
+unless_able (event.Addresses name list) w m = unless_addressed w list m
+unless_able (event.Start name) w m = unless_full_of_events w
+unless_able (event.Tick name) w m = unless_ticked w m
+unless_able (event.Inject name endpoint from multicast bytes) w m = unless_received w endpoint m
+unless_able _ w m = unless_acts w m
+
+-- the code of an event that names no router
+abbrev pub refusal_else : Parts → WEvent → Option ℕ
+refusal_else w (event.Router name id) = unless_new w (name_text name) (length w.members) (most_routers w.version)
+refusal_else w (event.Link name) = unless_new w (name_text name) (length w.links) 64
+refusal_else w (event.Time moment) = option_or (code_if 10 (nat_lt moment w.moment)) (unless_full_of_events w)
+refusal_else w (event.Deliver copy) = of_copy (λ c. of_router (unless_received w c.to.endpoint) (slice_get w.members c.to.place)) (copy_at w copy)
+refusal_else w (event.Drop copy) = of_copy (λ c. unless_full_of_events w) (copy_at w copy)
+refusal_else w _ = None
+
 -- the code with which an event is refused; an event that is accepted has none
+abbrev pub refusal_by : Option Name → Parts → WEvent → Option ℕ
+refusal_by (Some name) w event = of_router (unless_able event w) (member_named (name_text name) w)
+refusal_by None w event = refusal_else w event
+
 abbrev pub refusal : Parts → WEvent → Option ℕ
-refusal w (event.Router name id) = unless_new w (name_text name) (length w.members) (most_routers w.version)
-refusal w (event.Link name) = unless_new w (name_text name) (length w.links) 64
-refusal w (event.Attach name endpoint link) =
-    of_router (λ m. of_link (unless_joined w endpoint m) (link_place (name_text link) w)) (member_named (name_text name) w)
-refusal w (event.Detach name endpoint) = of_router (unless_detached w endpoint) (member_named (name_text name) w)
-refusal w (event.External name prefix valid preferred) = of_router (unless_delegated w prefix) (member_named (name_text name) w)
-refusal w (event.Withdraw name prefix) = of_router (unless_acts w) (member_named (name_text name) w)
-refusal w (event.Caps name caps) = of_router (unless_acts w) (member_named (name_text name) w)
-refusal w (event.Stop name) = of_router (unless_acts w) (member_named (name_text name) w)
-refusal w (event.Start name) = of_router (λ m. unless_full_of_events w) (member_named (name_text name) w)
-refusal w (event.Time moment) = option_or (code_if 10 (nat_lt moment w.moment)) (unless_full_of_events w)
-refusal w (event.Tick name) = of_router (unless_ticked w) (member_named (name_text name) w)
-refusal w (event.Deliver copy) = of_copy (λ c. of_router (unless_received w c.to.endpoint) (slice_get w.members c.to.place)) (copy_at w copy)
-refusal w (event.Drop copy) = of_copy (λ c. unless_full_of_events w) (copy_at w copy)
-refusal w (event.Inject name endpoint from multicast bytes) = of_router (unless_received w endpoint) (member_named (name_text name) w)
+refusal w event = refusal_by (named_by event) w event

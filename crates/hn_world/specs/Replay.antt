@@ -6,6 +6,7 @@ use Rattle.hn_rules.specs.declared.done.Note.{Note}
 use Rattle.hn_own.specs.Ports.{endpoints_of}
 use Rattle.hn_rules.specs.Router.{IsRouter}
 use Rattle.hn_world.specs.declared.event.Traced.{Traced}
+use Rattle.hn_world.specs.declared.event.WEvent.{WEvent}
 use Rattle.hn_base.specs.declared.version.Version.{Version}
 use Rattle.hn_world.specs.declared.member.Member.{Member}
 use Rattle.hn_world.specs.declared.parts.Parts.{Parts}
@@ -35,6 +36,18 @@ words_of ts = flat_map (λ t. t.words) ts
 -- each front of the trace leads to a world, and this held there
 abbrev pub Always : (Parts → Type 0) → Parts → Type 0
 Always P w = (past future : List Traced) → w.trace ≡ past ++ future → (then : Parts) × Replays w.version past then × P then
+
+-- each event of the trace led from a world of the past to the next one, and this held of the event and the two
+abbrev pub Throughout : (WEvent → Parts → Parts → Type 0) → Parts → Type 0
+Throughout P w =
+    (past future : List Traced) (t : Traced) → w.trace ≡ past ++ t ∷ future
+    → (before : Parts) × (after : Parts) × Replays w.version past before × Replays w.version (past ++ t ∷ []) after × P t.event before after
+
+-- it was a step
+pub record Stepped (event : WEvent) (before after : Parts) : Type 0 where
+  pub words : List ℕ
+  pub notes : List Note
+  pub step : Step (record { event = event; words = words }) notes before after
 
 -- a router of a world is one, and its last event is not after the world's moment
 pub record IsSoundMember (moment : ℕ) (m : Member) : Type 0 where

@@ -1,6 +1,7 @@
 -- What an event does to a world that accepts it.
 use Rattle.std.specs.Prelude.{◌≡◌, ℕ, ◌-◌, ◌^◌, ◌<◌, ◌≤◌, not, true, false, List, [], ◌∷◌, ◌++◌, filter, Option, None, Some}
 use Rattle.std.specs.List.{slice_get, slice_set}
+use Rattle.std.specs.Option.{option_map_or}
 use Rattle.hn_base.specs.Name.{name_text}
 use Rattle.hn_base.specs.declared.name.Name.{Name}
 use Rattle.hn_base.specs.declared.ids.NodeId.{NodeId}
@@ -9,7 +10,7 @@ use Rattle.hn_base.specs.Words.{Took}
 use Rattle.hn_rules.specs.declared.done.Done.{Done}
 use Rattle.hn_rules.specs.declared.done.Note.{Note}
 use Rattle.hn_rules.specs.declared.state.State.{State}
-use Rattle.hn_router.specs.Act.{PlainEvent, Arrive, Tick, Attach, Detach, External, Withdraw, SetCaps, Restart, Happened}
+use Rattle.hn_router.specs.Act.{PlainEvent, Arrive, Happened}
 use Rattle.hn_router.specs.New.{IsNew}
 use Rattle.hn_world.specs.declared.copies.MailCopy.{MailCopy}
 use Rattle.hn_world.specs.declared.event.WEvent.{WEvent}
@@ -21,21 +22,23 @@ use Rattle.hn_world.specs.Limits.{table_limit}
 use Rattle.hn_world.specs.Names.{router_place, link_place, is_of}
 use Rattle.hn_world.specs.Mail.{copies_of}
 use Rattle.hn_world.specs.Refusal.{refusal}
+use Rattle.hn_world.specs.Routed.{routed}
 
 -- a router of the world is changed
 abbrev pub with_member : ℕ → Member → Parts → Parts
 with_member place m w = record w { members = slice_set w.members place m }
 
--- what came of an event at the router of a place: its next state, the copies of what it sent, and what it published
-abbrev pub acted : ℕ → Member → State → Done → Parts → Parts
-acted place m next done w = record w {
-  members = slice_set w.members place (record m { router = next });
+-- what came of an event at the router of a place: its next state and what changes beside it, the copies of what it sent,
+-- and what it published
+abbrev pub acted : (Member → Member) → ℕ → Member → State → Done → Parts → Parts
+acted change place m next done w = record w {
+  members = slice_set w.members place (change (record m { router = next }));
   copies = w.copies ++ copies_of w.members place m done.sends;
   published = w.published ++ done.published;
 }
 
--- an event happens to the router at a place
-pub record ActsAt (place : ℕ) (event : PlainEvent) (words : List ℕ) (notes : List Note) (before after : Parts) : Type 0 where
+-- an event happens to the router at a place, and this changes beside it
+pub record ActsAt (change : Member → Member) (place : ℕ) (event : PlainEvent) (words : List ℕ) (notes : List Note) (before after : Parts) : Type 0 where
   pub member : Member
   pub is_member : slice_get before.members place ≡ Some member
   pub next : State
@@ -43,13 +46,13 @@ pub record ActsAt (place : ℕ) (event : PlainEvent) (words : List ℕ) (notes :
   pub happened : Happened before.moment event member.router next done
   pub took : words ≡ done.words
   pub noted : notes ≡ done.notes
-  pub gives : after ≡ acted place member next done before
+  pub gives : after ≡ acted change place member next done before
 
--- an event happens to the router of a name
-pub record Acts (name : Name) (event : PlainEvent) (words : List ℕ) (notes : List Note) (before after : Parts) : Type 0 where
+-- and so to the router of a name
+pub record Acts (change : Member → Member) (name : Name) (event : PlainEvent) (words : List ℕ) (notes : List Note) (before after : Parts) : Type 0 where
   pub place : ℕ
   pub is_place : router_place (name_text name) before ≡ Some place
-  pub acts : ActsAt place event words notes before after
+  pub acts : ActsAt change place event words notes before after
 
 -- with no word taken and nothing noted
 pub record Quietly (given : Parts) (words : List ℕ) (notes : List Note) (after : Parts) : Type 0 where
@@ -66,50 +69,34 @@ pub record Begins (name : Name) (id : NodeId) (words : List ℕ) (notes : List N
     published = before.published ++ record { id = id; number = 1; body = router.own.body } ∷ [];
   }) words notes after
 
--- the router of a name, changed in another way than by an event of its own
-pub record Changes (name : Name) (change : Member → Member) (before after : Parts) : Type 0 where
+-- an endpoint is attached to a link, and detached from its link
+abbrev pub attached_to : ℕ → EpId → Member → Member
+attached_to link endpoint m = record m { attachments = m.attachments ++ record { endpoint = endpoint; link = link } ∷ [] }
+
+abbrev pub detached_from : EpId → Member → Member
+detached_from endpoint m = record m { attachments = filter (λ a. not (is_of endpoint a)) m.attachments }
+
+-- a router starts, and it stops
+abbrev pub started : Member → Member
+started m = record m { running = true }
+
+abbrev pub stopped : Member → Member
+stopped m = record m { running = false }
+
+-- what an event at a router changes beside it: its endpoints' links, and whether it runs
+abbrev pub beside : WEvent → Parts → Member → Member
+beside (event.Attach name endpoint link) w m = option_map_or (λ at. attached_to at endpoint m) (link_place (name_text link) w) m
+beside (event.Detach name endpoint) w m = detached_from endpoint m
+beside (event.Start name) w m = started m
+beside _ w m = m
+
+-- a router stops
+pub record Stops (name : Name) (words : List ℕ) (notes : List Note) (before after : Parts) : Type 0 where
   pub place : ℕ
   pub member : Member
   pub is_place : router_place (name_text name) before ≡ Some place
   pub is_member : slice_get before.members place ≡ Some member
-  pub gives : after ≡ with_member place (change member) before
-
--- an endpoint is attached to a link
-abbrev pub attached_to : ℕ → EpId → Member → Member
-attached_to link endpoint m = record m { attachments = m.attachments ++ record { endpoint = endpoint; link = link } ∷ [] }
-
-pub record Attaches (name : Name) (endpoint : EpId) (link : Name) (words : List ℕ) (notes : List Note) (before after : Parts) : Type 0 where
-  pub link_at : ℕ
-  pub is_link : link_place (name_text link) before ≡ Some link_at
-  pub between : Parts
-  pub acts : Acts name (Attach endpoint) words notes before between
-  pub changes : Changes name (attached_to link_at endpoint) between after
-
--- an endpoint is detached from its link
-abbrev pub detached_from : EpId → Member → Member
-detached_from endpoint m = record m { attachments = filter (λ a. not (is_of endpoint a)) m.attachments }
-
-pub record Detaches (name : Name) (endpoint : EpId) (words : List ℕ) (notes : List Note) (before after : Parts) : Type 0 where
-  pub between : Parts
-  pub acts : Acts name (Detach endpoint) words notes before between
-  pub changes : Changes name (detached_from endpoint) between after
-
--- a router stops, and it starts
-abbrev pub stopped : Member → Member
-stopped m = record m { running = false }
-
-abbrev pub started : Member → Member
-started m = record m { running = true }
-
-pub record Stops (name : Name) (words : List ℕ) (notes : List Note) (before after : Parts) : Type 0 where
-  pub changed : Parts
-  pub changes : Changes name stopped before changed
-  pub quietly : Quietly changed words notes after
-
-pub record Starts (name : Name) (words : List ℕ) (notes : List Note) (before after : Parts) : Type 0 where
-  pub between : Parts
-  pub acts : Acts name Restart words notes before between
-  pub changes : Changes name started between after
+  pub quietly : Quietly (with_member place (stopped member) before) words notes after
 
 -- a copy waits no longer
 abbrev pub taken : ℕ → MailCopy → Parts → Parts
@@ -120,7 +107,7 @@ pub record Delivers (copy : ℕ) (words : List ℕ) (notes : List Note) (before 
   pub mail : MailCopy
   pub is_copy : slice_get before.copies (copy - 1) ≡ Some mail
   pub between : Parts
-  pub acts : ActsAt mail.to.place (Arrive (record { endpoint = mail.to.endpoint; from = mail.from; multicast = mail.multicast }) mail.bytes) words notes before between
+  pub acts : ActsAt (λ m. m) mail.to.place (Arrive (record { endpoint = mail.to.endpoint; from = mail.from; multicast = mail.multicast }) mail.bytes) words notes before between
   pub gives : after ≡ taken copy mail between
 
 -- a copy is dropped
@@ -129,31 +116,33 @@ pub record Drops (copy : ℕ) (words : List ℕ) (notes : List Note) (before aft
   pub is_copy : slice_get before.copies (copy - 1) ≡ Some mail
   pub quietly : Quietly (taken copy mail before) words notes after
 
--- what an event does
+-- what an event does that happens at no router by its name
+abbrev pub DoesElse : WEvent → List ℕ → List Note → Parts → Parts → Type 0
+DoesElse (event.Router name id) words notes before after = Begins name id words notes before after
+DoesElse (event.Link name) words notes before after = Quietly (record before { links = before.links ++ name ∷ [] }) words notes after
+DoesElse (event.Stop name) words notes before after = Stops name words notes before after
+DoesElse (event.Time moment) words notes before after = Quietly (record before { moment = moment }) words notes after
+DoesElse (event.Deliver copy) words notes before after = Delivers copy words notes before after
+DoesElse (event.Drop copy) words notes before after = Drops copy words notes before after
+DoesElse _ words notes before after = ⊥
+
+-- what an event does: what happens at its router, with what changes beside it, or else
+abbrev pub DoesAt : WEvent → Option (Name × PlainEvent) → List ℕ → List Note → Parts → Parts → Type 0
+DoesAt event (Some own) words notes before after = Acts (beside event before) own.0 own.1 words notes before after
+DoesAt event None words notes before after = DoesElse event words notes before after
+
 abbrev pub Does : WEvent → List ℕ → List Note → Parts → Parts → Type 0
-Does (event.Router name id) words notes before after = Begins name id words notes before after
-Does (event.Link name) words notes before after = Quietly (record before { links = before.links ++ name ∷ [] }) words notes after
-Does (event.Attach name endpoint link) words notes before after = Attaches name endpoint link words notes before after
-Does (event.Detach name endpoint) words notes before after = Detaches name endpoint words notes before after
-Does (event.External name prefix valid preferred) words notes before after = Acts name (External prefix valid preferred) words notes before after
-Does (event.Withdraw name prefix) words notes before after = Acts name (Withdraw prefix) words notes before after
-Does (event.Caps name caps) words notes before after = Acts name (SetCaps caps) words notes before after
-Does (event.Stop name) words notes before after = Stops name words notes before after
-Does (event.Start name) words notes before after = Starts name words notes before after
-Does (event.Time moment) words notes before after = Quietly (record before { moment = moment }) words notes after
-Does (event.Tick name) words notes before after = Acts name Tick words notes before after
-Does (event.Deliver copy) words notes before after = Delivers copy words notes before after
-Does (event.Drop copy) words notes before after = Drops copy words notes before after
-Does (event.Inject name endpoint from multicast bytes) words notes before after =
-    Acts name (Arrive (record { endpoint = endpoint; from = from; multicast = multicast }) bytes) words notes before after
+Does event words notes before after = DoesAt event (routed event) words notes before after
 
 -- with an event in its trace
 abbrev pub entered : Traced → Parts → Parts
 entered t w = record w { trace = w.trace ++ t ∷ [] }
 
--- the numbers of an event are in range: a moment is at most 2^48, and no endpoint has number 0
+-- the numbers of an event are in range: identifiers and endpoints have 32 bits, no endpoint has number 0, and a moment is
+-- at most 2^48
 abbrev pub IsInRange : WEvent → Type 0
-IsInRange (event.Attach name endpoint link) = 0 < endpoint.0
+IsInRange (event.Router name id) = id.0 < 2 ^ 32
+IsInRange (event.Attach name endpoint link) = (0 < endpoint.0) × (endpoint.0 < 2 ^ 32)
 IsInRange (event.Time moment) = moment ≤ 2 ^ 48
 IsInRange _ = Unit {0}
 

@@ -64,7 +64,7 @@ impl World {
         ensures { option_map (λ b. b.now) result ≡ option_map (λ c. c.bytes) (copy_at self.now copy) }
     {
         let mail = self.parts.copy_at(copy)?;
-        Some(mail.bytes.as_slice())
+        Some(mail.bytes.get().as_slice())
     }
 
     /// Where a copy goes, from where, and whether it waits; `None` if there is no copy of that number. Never allocates.

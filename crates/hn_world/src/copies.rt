@@ -4,7 +4,7 @@ ghost use Rattle.std.specs.List.{slice_get, slice_set};
 ghost use Rattle.hn_world.specs.declared.copies.MailCopy.{MailCopy};
 ghost use Rattle.hn_world.specs.Waiting.{first_waiting, bytes_of};
 
-use hn_base::{Addr, Bytes, EpId, Name, NoMemory};
+use hn_base::{Addr, Bytes, EpId, Name, NoMemory, Shared};
 use std::alloc::Global;
 use std::marker::Model;
 
@@ -27,7 +27,8 @@ pub struct MailCopy {
     pub from: Addr,
     /// Whether it was sent by multicast.
     pub multicast: bool,
-    pub bytes: Bytes,
+    /// Its bytes, which its copies share.
+    pub bytes: Shared<Bytes>,
     /// Whether it was neither delivered nor dropped yet.
     pub waiting: bool,
 }
@@ -72,7 +73,7 @@ fn bytes_of(copies: &[MailCopy]) -> u64
     let mut bytes: u64 = 0;
     for copy in copies {
         bytes = bytes
-            .saturating_add(copy.bytes.len() as u64)
+            .saturating_add(copy.bytes.get().len() as u64)
             .min(MOST_BYTES);
     }
     bytes

@@ -1,4 +1,6 @@
-use hn_base::{Addr, Bytes, Caps, EpId, Moment, Name, NoMemory, NodeId, Words};
+use hn_base::{
+    Addr, Bytes, Caps, EpId, LinkLength, Moment, Name, NoMemory, NodeId, Sequence, Words,
+};
 use hn_prefix::Prefix;
 use std::error::Error;
 use std::fmt;
@@ -43,6 +45,16 @@ pub enum WEvent {
     Caps {
         name: Name,
         caps: Caps,
+    },
+    /// A router gets a private link, of which the prefixes are of that length, or has none.
+    Private {
+        name: Name,
+        length: Option<LinkLength>,
+    },
+    /// A router gets these addresses, each of an endpoint.
+    Addresses {
+        name: Name,
+        list: Sequence<(EpId, u128)>,
     },
     /// A router stops.
     Stop {
@@ -93,7 +105,8 @@ pub enum WorldFault {
     /// of a router, its ninth delegated prefix, or the 1,000,001st event; 10, the moment would fall; 11, the endpoint is
     /// in use or not attached; 12, the router is stopped; 13, there is no such copy; 14, the router already has an
     /// endpoint on that link; 16, there are 1,000,000 copies, or they and the injected datagrams have 2^28 bytes
-    /// together.
+    /// together; 19, the addresses are not in strictly ascending order, more than 64, or one is of an endpoint that is
+    /// not attached.
     Refused(u8),
     /// Out of memory.
     NoMemory,

@@ -6,12 +6,15 @@ ghost use Rattle.hn_world.specs.declared.event.Traced.{Traced};
 ghost use Rattle.hn_world.specs.declared.parts.Parts.{Parts};
 ghost use Rattle.hn_world.specs.Replay.{IsReplayed, IsSound, Always};
 ghost use Rattle.hn_world.specs.Step.{Step};
+ghost use Rattle.hn_world.specs.Within.{AreWithinLimits};
+ghost use Rattle.hn_world.specs.Authentic.{AuthenticUnlessInjected};
 ghost use Rattle.hn_world.specs.Leaves.{EqualHashesAgree};
-ghost use Rattle.hn_world.specs.Laws.{StepIsUnique, EachEventIsEntered, AgreementIsUnique, AtMostOneWorld, WorldHasItsTrace, WorldHasItsVersion, WorldIsSound, AlwaysAttached};
+ghost use Rattle.hn_world.specs.Laws.{StepIsUnique, EachEventIsEntered, EachEventIsAStep, AgreementIsUnique, AtMostOneWorld, WorldHasItsTrace, WorldHasItsVersion, WorldIsSound, AlwaysAttached};
 
 use hn_hash::equal_hashes_agree_or_collide;
 use hn_router::{
-    endpoints_follow, moment_is_now, new_is_router, new_is_unique, one_result, router_stays,
+    endpoints_follow, genuine_stays, limit_stays, moment_is_now, new_is_router, new_is_unique,
+    one_result, router_stays, sends_are_short,
 };
 use hn_rules::hash_is_of_leaves;
 
@@ -27,6 +30,11 @@ pub fn step_is_unique()
 pub fn each_event_is_entered()
     ensures entered { EachEventIsEntered }
     ensures room { (t : Traced) (notes : List Note) (before after : Parts) → Step t notes before after → length before.trace < 1000000 }
+{}
+
+/// Each event of a replayed world's trace was a step from a world of its past to the next one.
+pub fn each_event_is_a_step()
+    ensures { EachEventIsAStep }
 {}
 
 /// Two lists of leaves agree in one way.
@@ -71,4 +79,29 @@ pub fn always_attached()
     ensures { AlwaysAttached }
 {
     endpoints_follow();
+}
+
+/// At each moment of a world's past its routers are within the limits of its version, and so is each datagram that was
+/// ever sent.
+pub fn always_within_limits()
+    ensures now { (w : Parts) → IsReplayed w → AreWithinLimits w }
+    ensures always { (w : Parts) → IsReplayed w → Always AreWithinLimits w }
+{
+    new_is_router();
+    router_stays();
+    moment_is_now();
+    sends_are_short();
+    limit_stays();
+}
+
+/// What routers hold was published, or two texts that were published collide, where nothing was injected; so it was at
+/// each moment of the world's past.
+pub fn always_authentic()
+    ensures now { (w : Parts) → IsReplayed w → AuthenticUnlessInjected w }
+    ensures always { (w : Parts) → IsReplayed w → Always AuthenticUnlessInjected w }
+{
+    new_is_router();
+    router_stays();
+    moment_is_now();
+    genuine_stays();
 }

@@ -5,7 +5,7 @@ ghost use Rattle.hn_world.specs.Mail.{address_of, on_link_at, on_link, is_same, 
 
 use crate::copies::{MailCopy, Target};
 use crate::member::Member;
-use hn_base::{Addr, Bytes, EpId, NoMemory};
+use hn_base::{Addr, Bytes, EpId, NoMemory, Shared};
 use hn_rules::Outgoing;
 use std::alloc::Global;
 
@@ -40,72 +40,82 @@ impl Target {
         }
     }
 
-    /// The copy of a datagram for the endpoint.
-    fn copy(&self, alloc: Global, sender: &Target, send: &Outgoing) -> Result<MailCopy, NoMemory>
-        ensures { IfOk result (λ copy. copy ≡ copy_for sender.now send.now self.now) }
+    /// The copy of a datagram for the endpoint, with the bytes that all copies of it share.
+    fn copy(
+        &self,
+        sender: &Target,
+        to: Option<Addr>,
+        bytes: &Shared<Bytes>,
+    ) -> Result<MailCopy, NoMemory>
+        ensures { IfOk result (λ copy. copy ≡ copy_for sender.now to bytes.now self.now) }
     {
         Ok(MailCopy {
             to: *self,
             from: sender.address(),
-            multicast: send.to.is_none(),
-            bytes: Bytes::copy_of(alloc, send.bytes.as_slice())?,
+            multicast: to.is_none(),
+            bytes: bytes.clone()?,
             waiting: true,
         })
     }
 }
 
-/// Adds the endpoints of a router that are attached to a link.
+/// Adds the endpoints of a router that are attached to a link and get what a sender on it sent.
 fn add_on_link(
-    alloc: Global,
     targets: &mut Vec<Target>,
     link: usize,
     place: usize,
     member: &Member,
+    sender: &Target,
+    to: Option<Addr>,
 ) -> Result<(), NoMemory>
-    ensures { OnOk result (targets.new.items ≡ targets.old.items ++ on_link_at link place member.now) }
+    ensures { OnOk result (targets.new.items ≡ targets.old.items ++ filter (gets sender.now to) (on_link_at link place member.now)) }
 {
     if !member.has_link(link) {
         return Ok(());
     }
-    let endpoints = member.router.endpoints(alloc)?;
-    for endpoint in &endpoints {
-        if member.is_on(link, *endpoint) {
-            targets.push(Target {
-                place,
-                endpoint: *endpoint,
-            })?;
+    for port in member.router.ports() {
+        let target = Target {
+            place,
+            endpoint: port.id,
+        };
+        if member.is_on(link, port.id) && target.gets(sender, to) {
+            targets.push(target)?;
         }
     }
     Ok(())
 }
 
-/// The endpoints that are attached to a link.
-fn on_link(alloc: Global, link: usize, members: &[Member]) -> Result<Vec<Target>, NoMemory>
-    ensures { IfOk result (λ targets. targets.items ≡ on_link link 0 members.now) }
+/// The endpoints that are attached to a link and get what a sender on it sent.
+fn receivers(
+    alloc: Global,
+    link: usize,
+    members: &[Member],
+    sender: &Target,
+    to: Option<Addr>,
+) -> Result<Vec<Target>, NoMemory>
+    ensures { IfOk result (λ targets. targets.items ≡ filter (gets sender.now to) (on_link link 0 members.now)) }
 {
     let mut targets = Vec::new(alloc);
     for (place, member) in members.iter().enumerate() {
-        add_on_link(alloc, &mut targets, link, place, member)?;
+        add_on_link(&mut targets, link, place, member, sender, to)?;
     }
     Ok(targets)
 }
 
-/// Adds the copies of a datagram for those of some endpoints who get it.
+/// Adds the copies of a datagram for some endpoints.
 fn add_copies(
-    alloc: Global,
     copies: &mut Vec<MailCopy>,
     targets: &[Target],
     sender: &Target,
-    send: &Outgoing,
+    to: Option<Addr>,
+    bytes: &Shared<Bytes>,
 ) -> Result<(), NoMemory>
     requires { All (λ c. c.waiting ≡ true) copies.old.items }
-    ensures copies { OnOk result (copies.new.items ≡ copies.old.items ++ map (copy_for sender.now send.now) (filter (gets sender.now send.now.to) targets.now)) }
+    ensures copies { OnOk result (copies.new.items ≡ copies.old.items ++ map (copy_for sender.now to bytes.now) targets.now) }
     ensures waiting { OnOk result (All (λ c. c.waiting ≡ true) copies.new.items) }
 {
     for target in targets {
-        if target.gets(sender, send.to) {
-            copies.push(target.copy(alloc, sender, send)?)?;
-        }
+        copies.push(target.copy(sender, to, bytes)?)?;
     }
     Ok(())
 }
@@ -130,8 +140,9 @@ fn add_copies_of_send(
         place,
         endpoint: send.endpoint,
     };
-    let targets = on_link(alloc, link, members)?;
-    add_copies(alloc, copies, targets.as_slice(), &sender, send)
+    let targets = receivers(alloc, link, members, &sender, send.to)?;
+    let bytes = Shared::new(alloc, Bytes::copy_of(alloc, send.bytes.as_slice())?)?;
+    add_copies(copies, targets.as_slice(), &sender, send.to, &bytes)
 }
 
 /// The copies of all that the router at a place sends.

@@ -1,12 +1,18 @@
-ghost use Rattle.std.specs.Prelude.{◌≡◌, ◌<◌, ◌==◌, [], ◌++◌, ◌∷◌, filter, length, position, not, IfOk, Some, option_copied, find};
+ghost use Rattle.std.specs.Prelude.{◌≡◌, ◌<◌, ◌==◌, [], ◌++◌, ◌∷◌, filter, length, position, not, IfOk, Some, option_copied, find, ◌≤◌, ◌^◌};
 ghost use Rattle.std.specs.List.{slice_get, slice_set, list_any};
 ghost use Rattle.hn_base.specs.Name.{name_text};
+ghost use Rattle.hn_router.specs.Act.{Tick, Happened};
+ghost use Rattle.hn_rules.specs.Done.{nothing};
+ghost use Rattle.hn_rules.specs.Still.{at_moment};
 ghost use Rattle.hn_world.specs.declared.member.Member.{Member};
 ghost use Rattle.hn_world.specs.Names.{is_named, is_of, link_of, is_on};
-ghost use Rattle.hn_world.specs.Step.{attached_to, detached_from};
+ghost use Rattle.hn_world.specs.Beside.{with_beside};
+ghost use Rattle.hn_world.specs.Step.{attached_to, detached_from, stopped};
 
-use hn_base::{EpId, Name, NoMemory, Sequence};
-use hn_router::{Plan, Router};
+use crate::routed::Beside;
+use hn_base::{EpId, Moment, Name, NoMemory, Sequence};
+use hn_io::Draw;
+use hn_router::{Event, Plan, Router};
 use hn_rules::Done;
 use std::alloc::Global;
 use std::marker::Model;
@@ -163,28 +169,42 @@ impl Members {
         &self.items[place]
     }
 
-    /// Does what the router at a place planned. Never allocates.
-    pub(crate) fn commit(&mut self, place: usize, plan: Plan) -> Done
+    /// Does what the router at a place planned, and changes what is beside it. Never allocates.
+    pub(crate) fn commit(&mut self, place: usize, plan: Plan, beside: Beside) -> Done
         requires { place < length self.old }
-        ensures members { (m : Member) → slice_get self.old place ≡ Some m → self.new ≡ slice_set self.old place (record m { router = plan.state }) }
+        ensures members { (m : Member) → slice_get self.old place ≡ Some m → self.new ≡ slice_set self.old place (with_beside beside (record m { router = plan.state })) }
         ensures done { result ≡ plan.done }
     {
-        self.items[place].router.commit(plan)
+        let member = &mut self.items[place];
+        match beside {
+            Beside::Nothing => {}
+            Beside::Attachments(attachments) => member.attachments = attachments,
+            Beside::Runs => member.running = true,
+        }
+        member.router.commit(plan)
     }
 
-    /// A router runs from now on, or not. Never allocates.
-    pub(crate) fn set_running(&mut self, place: usize, running: bool)
-        requires { place < length self.old }
-        ensures { (m : Member) → slice_get self.old place ≡ Some m → self.new ≡ slice_set self.old place (record m { running = running }) }
+    /// The router at a place looks at its clock before something is due for it. Never allocates.
+    pub(crate) fn pass<D: Draw>(&mut self, alloc: Global, place: usize, now: Moment, draw: &mut D)
+        requires there { place < length self.old }
+        requires past { (m : Member) → slice_get self.old place ≡ Some m → m.router.moment ≤ now }
+        requires in_range { now ≤ 2 ^ 48 }
+        requires undue { (m : Member) → slice_get self.old place ≡ Some m → now < m.router.due }
+        ensures members { (m : Member) → slice_get self.old place ≡ Some m → self.new ≡ slice_set self.old place (record m { router = at_moment now m.router }) }
+        ensures happened { (m : Member) → slice_get self.old place ≡ Some m → Happened now Tick m.router (at_moment now m.router) nothing }
+        ensures undrawn { D.words draw.new ≡ D.words draw.old }
     {
-        self.items[place].running = running;
+        let router = &mut self.items[place].router;
+        if router.act(alloc, &Event::Tick, now, draw).is_err() {
+            unreachable!()
+        }
     }
 
-    /// A router has these attachments from now on. Never allocates.
-    pub(crate) fn set_attachments(&mut self, place: usize, attachments: Sequence<Attachment>)
+    /// A router stops. Never allocates.
+    pub(crate) fn stop(&mut self, place: usize)
         requires { place < length self.old }
-        ensures { (m : Member) → slice_get self.old place ≡ Some m → self.new ≡ slice_set self.old place (record m { attachments = attachments }) }
+        ensures { (m : Member) → slice_get self.old place ≡ Some m → self.new ≡ slice_set self.old place (stopped m) }
     {
-        self.items[place].attachments = attachments;
+        self.items[place].running = false;
     }
 }

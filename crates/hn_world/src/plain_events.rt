@@ -1,6 +1,8 @@
 //! Events at no router: a new router, a new link, the moment, a router that stops, a copy that is dropped.
 
-ghost use Rattle.std.specs.Prelude.{◌≡◌, ◌≤◌, ◌^◌, ◌++◌, ◌∷◌, [], ℕ, List, Option, OnOk, OnErr, None};
+ghost use Rattle.std.specs.Prelude.{◌≡◌, ◌≤◌, ◌<◌, ◌^◌, ◌++◌, ◌∷◌, [], ℕ, List, Option, OnOk, OnErr, None, Some};
+ghost use Rattle.hn_base.specs.Name.{name_text};
+ghost use Rattle.hn_world.specs.Names.{router_place};
 ghost use Rattle.hn_rules.specs.declared.done.Note.{Note};
 ghost use Rattle.hn_world.specs.declared.event.WEvent.TheVariants as event;
 ghost use Rattle.hn_world.specs.Refusal.{refusal};
@@ -19,7 +21,7 @@ use hn_rules::{Present, Publication};
 use std::alloc::Global;
 
 /// An event that took no random words.
-fn without_words(alloc: Global, event: WEvent) -> Traced
+pub(crate) fn without_words(alloc: Global, event: WEvent) -> Traced
     ensures { result ≡ record { event = event; words = [] } }
 {
     Traced {
@@ -29,11 +31,11 @@ fn without_words(alloc: Global, event: WEvent) -> Traced
 }
 
 /// Enters an event in the trace, or not.
-fn enter(trace: &mut Trace, traced: Traced) -> Result<(), NoMemory>
+pub(crate) fn enter(trace: &mut Trace, traced: Traced) -> Result<(), NoMemory>
     ensures trace { OnOk result (trace.new ≡ trace.old ++ traced ∷ []) }
     ensures no_trace { OnErr result (trace.new ≡ trace.old) }
 {
-    let injected = trace.injected_with(&traced);
+    let injected = trace.injected_with(&traced.event);
     trace.items.push(traced)?;
     trace.injected = injected;
     Ok(())
@@ -90,6 +92,7 @@ impl Parts {
         id: NodeId,
     ) -> Result<(), NoMemory>
         requires accepted { refusal self.old (event.Router name id) ≡ None }
+        requires in_range { id.0 < 2 ^ 32 }
         ensures ok { OnOk result (Step (record { event = event.Router name id; words = [] }) [] self.old self.new) }
         ensures err { OnErr result (self.new ≡ self.old) }
     {
@@ -142,17 +145,15 @@ impl Parts {
         Ok(())
     }
 
-    /// A router stops.
-    pub(crate) fn stop(&mut self, alloc: Global, name: Name) -> Result<(), NoMemory>
+    /// A router stops, which is at this place.
+    pub(crate) fn stop(&mut self, alloc: Global, name: Name, place: usize) -> Result<(), NoMemory>
+        requires placed { router_place (name_text name) self.old ≡ Some place }
         requires accepted { refusal self.old (event.Stop name) ≡ None }
         ensures ok { OnOk result (Step (record { event = event.Stop name; words = [] }) [] self.old self.new) }
         ensures err { OnErr result (self.new ≡ self.old) }
     {
-        let Some(place) = self.members.place_of(&name) else {
-            unreachable!()
-        };
         enter(&mut self.trace, without_words(alloc, WEvent::Stop { name }))?;
-        self.members.set_running(place, false);
+        self.members.stop(place);
         Ok(())
     }
 

@@ -5,8 +5,9 @@ ghost use Rattle.std.specs.List.{slice_get};
 ghost use Rattle.hn_world.specs.declared.event.WEvent.TheVariants as event;
 ghost use Rattle.hn_base.specs.Name.{name_text};
 ghost use Rattle.hn_world.specs.Limits.{most_routers};
-ghost use Rattle.hn_world.specs.Names.{is_taken, member_named};
-ghost use Rattle.hn_world.specs.Refusal.{code_if, of_router, unless_running, unless_attached, unless_free, unless_apart, unless_full_of_endpoints, unless_full_of_prefixes, unless_full_of_events, unless_full_of_mail, unless_acts, unless_delegated, unless_detached, unless_ticked, unless_received, unless_joined, copy_at, unless_new, refusal};
+ghost use Rattle.hn_world.specs.Names.{is_taken, link_place};
+ghost use Rattle.hn_world.specs.Refusal.{code_if, of_router, unless_running, unless_attached, unless_free, unless_apart, unless_full_of_endpoints, unless_full_of_prefixes, unless_full_of_events, unless_full_of_mail, unless_acts, unless_delegated, unless_listed, unless_addressed, unless_detached, unless_ticked, unless_received, unless_joined, copy_at, unless_new, unless_able, refusal_else, refusal, of_link};
+ghost use Rattle.hn_world.specs.Routed.{named_by, place_by};
 
 use crate::copies::{MOST_BYTES, MailCopy};
 use crate::event::WEvent;
@@ -46,6 +47,9 @@ const LINK_IN_USE: u8 = 14;
 /// The code of one copy or byte of mail too many.
 const FULL_OF_MAIL: u8 = 16;
 
+/// The code of addresses that a router may not have.
+const UNLISTED: u8 = 19;
+
 /// The most events.
 const MOST_EVENTS: usize = 1_000_000;
 
@@ -82,6 +86,12 @@ impl Member {
         ensures { result ≡ unless_apart link self.now }
     {
         code_if(LINK_IN_USE, self.has_link(link))
+    }
+
+    fn unless_listed(&self, list: &[(EpId, u128)]) -> Option<u8>
+        ensures { result ≡ unless_listed list.now self.now }
+    {
+        code_if(UNLISTED, !self.router.may_address(list))
     }
 
     fn unless_full_of_endpoints(&self) -> Option<u8>
@@ -128,6 +138,12 @@ impl Parts {
                 .unless_full_of_prefixes(prefix)
                 .or(self.unless_full_of_events()),
         )
+    }
+
+    fn unless_addressed(&self, list: &[(EpId, u128)], member: &Member) -> Option<u8>
+        ensures { result ≡ unless_addressed self.now list.now member.now }
+    {
+        member.unless_running().or(member.unless_listed(list).or(self.unless_full_of_events()))
     }
 
     fn unless_detached(&self, endpoint: EpId, member: &Member) -> Option<u8>
@@ -200,12 +216,9 @@ impl Parts {
         }
     }
 
-    fn refuses_attach(&self, name: &Name, endpoint: EpId, link: &Name) -> Option<u8>
-        ensures { result ≡ refusal self.now (event.Attach name.now endpoint link.now) }
+    fn refuses_attach(&self, endpoint: EpId, member: &Member, link: &Name) -> Option<u8>
+        ensures { result ≡ of_link (unless_joined self.now endpoint member.now) (link_place (name_text link.now) self.now) }
     {
-        let Some(member) = self.members.find(name) else {
-            return Some(UNKNOWN);
-        };
         match self.links.place_of(link) {
             Some(link) => self.unless_joined(endpoint, member, link),
             None => Some(UNKNOWN),
@@ -239,85 +252,48 @@ impl Parts {
         }
     }
 
-    fn refuses_detach(&self, name: &Name, endpoint: EpId) -> Option<u8>
-        ensures { result ≡ refusal self.now (event.Detach name.now endpoint) }
+    /// What is asked of the router that an event names.
+    fn unless_able(&self, event: &WEvent, member: &Member) -> Option<u8>
+        ensures { result ≡ unless_able event.now self.now member.now }
     {
-        match self.members.find(name) {
-            Some(member) => self.unless_detached(endpoint, member),
-            None => Some(UNKNOWN),
+        match event {
+            WEvent::Attach { endpoint, link, .. } => self.refuses_attach(*endpoint, member, link),
+            WEvent::Detach { endpoint, .. } => self.unless_detached(*endpoint, member),
+            WEvent::External { prefix, .. } => self.unless_delegated(prefix, member),
+            WEvent::Addresses { list, .. } => self.unless_addressed(list.as_slice(), member),
+            WEvent::Start { .. } => self.unless_full_of_events(),
+            WEvent::Tick { .. } => self.unless_ticked(member),
+            WEvent::Inject { endpoint, .. } => self.unless_received(*endpoint, member),
+            _ => self.unless_acts(member),
         }
     }
 
-    fn refuses_arrival(&self, name: &Name, endpoint: EpId) -> Option<u8>
-        ensures { result ≡ of_router (unless_received self.now endpoint) (member_named (name_text name.now) self.now) }
-    {
-        match self.members.find(name) {
-            Some(member) => self.unless_received(endpoint, member),
-            None => Some(UNKNOWN),
-        }
-    }
-
-    fn refuses_act(&self, name: &Name) -> Option<u8>
-        ensures { result ≡ of_router (unless_acts self.now) (member_named (name_text name.now) self.now) }
-    {
-        match self.members.find(name) {
-            Some(member) => self.unless_acts(member),
-            None => Some(UNKNOWN),
-        }
-    }
-
-    fn refuses_external(&self, name: &Name, prefix: &Prefix) -> Option<u8>
-        ensures { result ≡ of_router (unless_delegated self.now prefix.now) (member_named (name_text name.now) self.now) }
-    {
-        match self.members.find(name) {
-            Some(member) => self.unless_delegated(prefix, member),
-            None => Some(UNKNOWN),
-        }
-    }
-
-    fn refuses_tick(&self, name: &Name) -> Option<u8>
-        ensures { result ≡ of_router (unless_ticked self.now) (member_named (name_text name.now) self.now) }
-    {
-        match self.members.find(name) {
-            Some(member) => self.unless_ticked(member),
-            None => Some(UNKNOWN),
-        }
-    }
-
-    fn refuses_start(&self, name: &Name) -> Option<u8>
-        ensures { result ≡ refusal self.now (event.Start name.now) }
-    {
-        match self.members.find(name) {
-            Some(_) => self.unless_full_of_events(),
-            None => Some(UNKNOWN),
-        }
-    }
-
-    /// The code with which an event is refused; `None` if and only if it is accepted. Never allocates.
-    pub(crate) fn refusal(&self, event: &WEvent) -> Option<u8>
-        ensures { result ≡ refusal self.now event.now }
+    /// The code with which an event is refused that names no router.
+    fn refusal_else(&self, event: &WEvent) -> Option<u8>
+        ensures { result ≡ refusal_else self.now event.now }
     {
         match event {
             WEvent::Router { name, .. } => self.refuses_router(name),
             WEvent::Link { name } => self.unless_new(name, self.links.len(), MOST_LINKS),
-            WEvent::Attach {
-                name,
-                endpoint,
-                link,
-            } => self.refuses_attach(name, *endpoint, link),
-            WEvent::Detach { name, endpoint } => self.refuses_detach(name, *endpoint),
-            WEvent::External { name, prefix, .. } => self.refuses_external(name, prefix),
-            WEvent::Withdraw { name, .. } | WEvent::Caps { name, .. } | WEvent::Stop { name } => {
-                self.refuses_act(name)
-            }
-            WEvent::Start { name } => self.refuses_start(name),
             WEvent::Time { moment } => {
                 code_if(PAST, *moment < self.moment.get()).or(self.unless_full_of_events())
             }
-            WEvent::Tick { name } => self.refuses_tick(name),
             WEvent::Deliver { copy } => self.refuses_deliver(*copy),
             WEvent::Drop { copy } => self.refuses_drop(*copy),
-            WEvent::Inject { name, endpoint, .. } => self.refuses_arrival(name, *endpoint),
+            _ => None,
+        }
+    }
+
+    /// The code with which an event is refused, whose router is at this place; `None` if and only if it is accepted.
+    /// Never allocates.
+    pub(crate) fn refusal(&self, event: &WEvent, place: Option<usize>) -> Option<u8>
+        requires { place ≡ place_by (named_by event.now) self.now }
+        ensures { result ≡ refusal self.now event.now }
+    {
+        match (event.named(), place) {
+            (None, _) => self.refusal_else(event),
+            (Some(_), Some(place)) => self.unless_able(event, self.members.at(place)),
+            (Some(_), None) => Some(UNKNOWN),
         }
     }
 }

@@ -1,4 +1,4 @@
-ghost use Rattle.std.specs.Prelude.{◌≡◌, ◌^◌, ◌++◌, ◌∷◌, [], min, length};
+ghost use Rattle.std.specs.Prelude.{◌≡◌, ◌^◌, ◌++◌, ◌∷◌, [], ℕ, List, min, length};
 ghost use Rattle.hn_world.specs.Injected.{injected_by, injected_of};
 
 use crate::copies::MOST_BYTES;
@@ -25,12 +25,12 @@ impl Model for Trace {
     ghost invariant = { λ t. t.injected ≡ min (injected_of t.items.items) (2 ^ 28) };
 }
 
-impl Traced {
+impl WEvent {
     /// How many bytes were injected. Never allocates.
     fn injected(&self) -> usize
         ensures { result ≡ injected_by self.now }
     {
-        match &self.event {
+        match self {
             WEvent::Inject { bytes, .. } => bytes.len(),
             _ => 0,
         }
@@ -63,11 +63,11 @@ impl Trace {
     }
 
     /// What is injected with one more event, up to 2^28. Never allocates.
-    pub(crate) fn injected_with(&self, traced: &Traced) -> u64
-        ensures { result ≡ min (injected_of (self.now ++ traced.now ∷ [])) (2 ^ 28) }
+    pub(crate) fn injected_with(&self, event: &WEvent) -> u64
+        ensures { (words : List ℕ) → result ≡ min (injected_of (self.now ++ record { event = event.now; words = words } ∷ [])) (2 ^ 28) }
     {
         self.injected
-            .saturating_add(traced.injected() as u64)
+            .saturating_add(event.injected() as u64)
             .min(MOST_BYTES)
     }
 }

@@ -5,6 +5,7 @@ ghost use Rattle.hn_base.specs.Name.{name_text};
 ghost use Rattle.hn_base.specs.declared.version.Version.TheVariants.{One};
 ghost use Rattle.hn_world.specs.Names.{member_named};
 ghost use Rattle.hn_world.specs.Refusal.{refusal};
+ghost use Rattle.hn_world.specs.Routed.{named_by, place_by};
 ghost use Rattle.hn_world.specs.Step.{IsStep, IsInRange};
 ghost use Rattle.hn_world.specs.Replay.{empty_world, IsReplayed, IsSound};
 
@@ -41,13 +42,14 @@ impl Model for World {
 }
 
 impl Parts {
-    /// Does what the event does.
-    fn happen<D: Draw>(
+    /// Does what an event does that names no router.
+    fn happen_else<D: Draw>(
         &mut self,
         alloc: Global,
         event: WEvent,
         draw: &mut D,
     ) -> Result<Sequence<Note>, NoMemory>
+        requires nameless { named_by event ≡ None }
         requires accepted { refusal self.old event ≡ None }
         requires in_range { IsInRange event }
         requires sound { IsSound self.old }
@@ -57,37 +59,38 @@ impl Parts {
         match event {
             WEvent::Router { name, id } => self.define_router(alloc, name, id)?,
             WEvent::Link { name } => self.define_link(alloc, name)?,
-            WEvent::Stop { name } => self.stop(alloc, name)?,
             WEvent::Time { moment } => self.pass(alloc, moment)?,
             WEvent::Drop { copy } => self.drop_copy(alloc, copy)?,
-            WEvent::Attach {
-                name,
-                endpoint,
-                link,
-            } => return self.attach(alloc, name, endpoint, link, draw),
-            WEvent::Detach { name, endpoint } => {
-                return self.detach(alloc, name, endpoint, draw);
-            }
-            WEvent::External {
-                name,
-                prefix,
-                valid,
-                preferred,
-            } => return self.delegate(alloc, name, prefix, valid, preferred, draw),
-            WEvent::Withdraw { name, prefix } => {
-                return self.withdraw(alloc, name, prefix, draw);
-            }
-            WEvent::Caps { name, caps } => return self.set_caps(alloc, name, caps, draw),
-            WEvent::Start { name } => return self.start(alloc, name, draw),
-            WEvent::Tick { name } => return self.tick(alloc, name, draw),
             WEvent::Deliver { copy } => return self.deliver(alloc, copy, draw),
-            WEvent::Inject {
-                name,
-                endpoint,
-                from,
-                multicast,
-                bytes,
-            } => return self.inject(alloc, name, endpoint, from, multicast, bytes, draw),
+            _ => unreachable!(),
+        }
+        Ok(Sequence::new(alloc))
+    }
+
+    /// Does what the event does. Its router, if it names one, is at this place.
+    fn happen<D: Draw>(
+        &mut self,
+        alloc: Global,
+        event: WEvent,
+        place: Option<usize>,
+        draw: &mut D,
+    ) -> Result<Sequence<Note>, NoMemory>
+        requires placed { place ≡ place_by (named_by event) self.old }
+        requires accepted { refusal self.old event ≡ None }
+        requires in_range { IsInRange event }
+        requires sound { IsSound self.old }
+        ensures ok { IfOk result (λ notes. IsStep event notes (D.words draw.old) (D.words draw.new) self.old self.new) }
+        ensures err { OnErr result (self.new ≡ self.old) }
+    {
+        let Some(place) = place else {
+            return self.happen_else(alloc, event, draw);
+        };
+        match event {
+            WEvent::Stop { name } => self.stop(alloc, name, place)?,
+            WEvent::Tick { name } if self.is_undue(place) => {
+                return self.pass_tick(alloc, name, place, draw);
+            }
+            event => return self.act(alloc, event, place, draw),
         }
         Ok(Sequence::new(alloc))
     }
@@ -122,7 +125,7 @@ impl World {
     pub fn refusal(&self, event: &WEvent) -> Option<u8>
         ensures { result ≡ refusal self.now event.now }
     {
-        self.parts.refusal(event)
+        self.parts.refusal(event, self.parts.place_by(event))
     }
 
     /// Lets an event happen, and answers what routers noted.
@@ -143,10 +146,11 @@ impl World {
         ensures undrawn { (code : ℕ) → result ≡ Err (WorldFault.Refused code) → draw.new ≡ draw.old }
     {
         always_sound();
-        if let Some(code) = self.parts.refusal(&event) {
+        let place = self.parts.place_by(&event);
+        if let Some(code) = self.parts.refusal(&event, place) {
             return Err(WorldFault::Refused(code));
         }
-        Ok(self.parts.happen(alloc, event, draw)?)
+        Ok(self.parts.happen(alloc, event, place, draw)?)
     }
 
     /// The moment of the world, in milliseconds. Never allocates.

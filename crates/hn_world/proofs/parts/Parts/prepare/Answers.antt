@@ -16,7 +16,6 @@ returns g c =
       place_is = refl;
       happened = subst (λ (now : ℕ). Happened now (plain_event c.args.event.now) m.router plan.state plan.done) c.get.ensures.moment c.in_ok-plan.ensures.happened;
       drew = c.in_ok-plan.ensures.drew;
-      words = c.from-words.ensures ∙ c.in_ok-from_slice.ensures.items ∙ c.as_slice-2.ensures ∙ ap (λ (d : Done). d.words) c.done-2.ensures;
       copies = c.in_ok-copies.ensures.copies ∙ ap (λ (ms : List Member). copies_of ms c.args.place m c.as_slice-sends.result.now) c.as_slice.ensures ∙ ap (copies_of c.args.self.now.members c.args.place m) sends;
       waiting = c.in_ok-copies.ensures.waiting;
     }

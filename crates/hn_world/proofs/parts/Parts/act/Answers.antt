@@ -1,0 +1,19 @@
+use Rattle.std.proofs.Common.{◌≡◌, ◌∙◌, Some, ap, sym}
+use Rattle.std.specs.Option.{option_map}
+use Rattle.hn_router.specs.Act.{plain_event}
+use Rattle.hn_world.specs.Beside.{with_beside}
+use Rattle.hn_world.specs.Routed.{routed}
+use Rattle.hn_world.proofs.Acting.{acted_step}
+use Rattle.hn_base.proofs.Results.{ok_both}
+use Rattle.hn_world.proofs.parts.Parts.act.Goals as goal
+
+pub returns-clause-ok : goal.returns-clause-ok
+returns-clause-ok g c =
+    let p = c.in_ok-prepared.prepared in
+    let is = c.in_ok-prepared.ensures in
+    let route : routed c.args.event ≡ Some (c.in-Some.field-0-0, plain_event c.in-Some.own) = sym c.routed.ensures ∙ ap (option_map (λ own. (own.0, plain_event own.1))) c.in-Some.is in
+    ok_both c.finish.result _ _ _
+    (λ notes world noted.
+    acted_step (with_beside c.in_ok-beside.beside) c.args.place (plain_event c.in-Some.own) _ _ c.args.self.now p is c.args.event c.in-Some.field-0-0 c.finish.new.self notes c.requires.accepted c.requires.in_range route c.requires.placed
+    (c.in_ok-beside.ensures is.member p.plan.state is.is_member) world noted)
+    c.finish.ensures.world c.finish.ensures.notes

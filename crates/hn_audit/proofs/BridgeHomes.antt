@@ -1,5 +1,5 @@
 -- The home of a settled set: its endpoints on links, and its assignments.
-use Rattle.std.proofs.Common.{◌≡◌, ◌≢◌, ◌∙◌, ◌<◌, ℕ, List, Option, Some, None, Contains, IsTrue, filter, find, map, not, refl, sym, ap, subst}
+use Rattle.std.proofs.Common.{◌≡◌, ◌≢◌, ◌∙◌, ◌<◌, ◌^◌, ℕ, List, Option, Some, None, Contains, IsTrue, filter, find, map, not, refl, sym, ap, subst}
 use Rattle.std.specs.Option.{option_map}
 use Rattle.std.specs.List.{filter_map, flat_map}
 use Rattle.std.proofs.lemmas.Bool.{and_from, and_parts, eqb-true, eq-eqb}
@@ -63,7 +63,7 @@ on_link_is_attached m e link attached on = id_is_found (λ (p : Port). p.id) m.r
 pub port_is_numbered : (m : Member) (e : EpId) → IsRouter m.router → Contains (endpoints_of m.router.ports) e → 0 < e.0
 port_is_numbered m e router there =
     let from = Contains-from_map (λ (p : Port). p.id) m.router.ports e there in
-    subst (λ (id : EpId). 0 < id.0) from.2 (All-contains (λ (p : Port). 0 < p.id.0) m.router.ports from.0 router.well.ports.numbered from.1)
+    subst (λ (id : EpId). 0 < id.0) from.2 (All-contains (λ (p : Port). (0 < p.id.0) × (p.id.0 < 2 ^ 32)) m.router.ports from.0 router.well.ports.numbered from.1).0
 
 -- no two endpoints of a router are on one link
 pub one_on_link : (m : Member) (e f : EpId) (link : ℕ) → IsAttachedMember m → IsPlugged link m e → IsPlugged link m f → e ≡ f

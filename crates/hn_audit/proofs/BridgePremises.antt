@@ -1,16 +1,20 @@
 -- The home of a settled and quiet set meets all that is asked of a home.
-use Rattle.std.proofs.Common.{◌≡◌, ◌∙◌, ◌≤◌, ℕ, List, Some, Contains, sym, subst, arith}
+use Rattle.std.proofs.Common.{◌≡◌, ◌∙◌, ◌≤◌, ℕ, List, Some, Contains, sym, ap, subst, arith}
 use Rattle.std.specs.Cmp.{IsTotalOrder}
 use Rattle.std.proofs.lemmas.List.Elements.{All-contains}
-use Rattle.std.proofs.lemmas.Option.{same_Some}
+use Rattle.std.proofs.lemmas.Option.{same_Some, slice_get_within, get_or_from_slice_get}
+use Rattle.hn_base.proofs.AscendingLists.{Contains-map}
+use Rattle.hn_base.specs.Ascending.{IsExact}
 use Rattle.hn_base.specs.Prefix.{PlainPrefix, IsWithin}
 use Rattle.hn_assign.specs.declared.assigned.Assigned.{Assigned}
 use Rattle.hn_assign.specs.Facts.{IsInDelegated, HasOwnPriority}
-use Rattle.hn_assign.specs.Pair.{assigned_pair, pair_cmp}
+use Rattle.hn_assign.specs.declared.pair.Pair.{Pair}
+use Rattle.hn_assign.specs.Pair.{IsWished, assigned_pair, pair_cmp}
 use Rattle.hn_deleg.specs.declared.delegated.Delegated.{Delegated}
 use Rattle.hn_deleg.specs.Used.{AreUsable, prefixes_of}
 use Rattle.hn_deleg.specs.Laws.{UsableIsUnique, UsableNeverOverlap}
-use Rattle.hn_rules.specs.Laws.{AssignedIsPublished}
+use Rattle.hn_link.specs.Laws.{CommonLinkExists}
+use Rattle.hn_rules.specs.Laws.{AssignedIsPublished, OwnPeersAreOfEndpoints}
 use Rattle.hn_rules.specs.Seen.{seen_by}
 use Rattle.hn_sound.specs.Home.{Endpoint, HasAssignment, HasPublished}
 use Rattle.hn_sound.specs.Premises.{IsHome}
@@ -22,7 +26,7 @@ use Rattle.hn_audit.specs.Reached.{IsReached}
 use Rattle.hn_audit.specs.Settled.{AreSame}
 use Rattle.hn_audit.specs.Quiet.{IsQuiet}
 use Rattle.hn_audit.specs.Sound as said
-use Rattle.hn_audit.proofs.BridgeSets.{IsKnown, OwnVersions, OwnPeers, router_of, itself, one_member}
+use Rattle.hn_audit.proofs.BridgeSets.{IsKnown, OwnVersions, router_of, itself, one_member}
 use Rattle.hn_audit.proofs.BridgeUsed.{used_same}
 use Rattle.hn_audit.proofs.BridgeHomes.{home_of, IsEndOf, IsPlugged, of_end, of_has, one_on_link}
 use Rattle.hn_base.proofs.Parts.{one_of_ascending}
@@ -36,8 +40,10 @@ pub record IsCase (w : Parts) (r : Member) (usable : List Delegated) : Type 0 wh
   pub apart : UsableNeverOverlap
   pub published : AssignedIsPublished
   pub versions : OwnVersions
-  pub peers : OwnPeers
+  pub peers : OwnPeersAreOfEndpoints
   pub pairs_total : IsTotalOrder pair_cmp
+  pub pairs_exact : IsExact pair_cmp
+  pub links : CommonLinkExists
 
 module _ (w : Parts) (r : Member) (usable : List Delegated) (case : IsCase w r usable) where
   -- a router of the set uses what r uses
@@ -48,7 +54,13 @@ module _ (w : Parts) (r : Member) (usable : List Delegated) (case : IsCase w r u
   pub for_used : (s : Member) (c : Assigned) → IsReached w r s → Contains s.router.held.assigned c → Contains (prefixes_of usable) c.delegated
   for_used s c s_in there =
       let rest = case.quiet s s_in in
-      subst (λ (ps : List PlainPrefix). Contains ps c.delegated) (uses_same s rest.usable s_in rest.are_usable).prefixes (rest.for_pairs c there).used
+      let wished = All-contains (λ (x : Assigned). IsWished rest.wishes (assigned_pair x)) s.router.held.assigned c rest.wished there in
+      let for = (rest.are_asked.exact wished.0).0 wished.1 in
+      let u = for.asked.delegated in
+      let in_list : Contains rest.usable u = (for.place, slice_get_within rest.usable for.place u for.asked.at, get_or_from_slice_get rest.usable for.place u u for.asked.at) in
+      let delegated : u.prefix ≡ c.delegated = sym for.asked.prefix ∙ ap (λ (p : Pair). p.delegated) wished.2 in
+      let here : Contains (prefixes_of rest.usable) c.delegated = subst (Contains (prefixes_of rest.usable)) delegated (Contains-map (λ (v : Delegated). v.prefix) rest.usable u in_list) in
+      subst (λ (ps : List PlainPrefix). Contains ps c.delegated) (uses_same s rest.usable s_in rest.are_usable).prefixes here
 
   pub is_inside : (s : Member) (c : Assigned) → IsReached w r s → Contains s.router.held.assigned c → IsWithin c.prefix c.delegated
   is_inside s c s_in there = All-contains IsInDelegated s.router.held.assigned c (router_of w r case.known s s_in).well.pairs.inside there

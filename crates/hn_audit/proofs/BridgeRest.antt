@@ -1,5 +1,9 @@
 -- In the home of a settled and quiet set each pair is at rest as its router sees it.
-use Rattle.std.proofs.Common.{◌≡◌, ◌∙◌, ◌↔◌, ◌<◌, ℕ, List, Option, Some, None, Contains, IsTrue, length, sym, ap, subst}
+use Rattle.std.proofs.Common.{◌≡◌, ◌∙◌, ◌↔◌, ◌<◌, ◌==◌, ℕ, Bool, true, false, cond, not, List, Option, Some, None, Contains, refl, sym, ap, subst, arith}
+use Rattle.std.specs.List.{slice_get}
+use Rattle.std.proofs.lemmas.Bool.{eqb-true}
+use Rattle.std.proofs.lemmas.List.Elements.{Contains-append_right}
+use Rattle.hn_base.proofs.Ats.{has_some}
 use Rattle.hn_base.specs.declared.ids.NodeId.{NodeId}
 use Rattle.hn_base.specs.declared.ids.EpId.{EpId}
 use Rattle.hn_base.specs.Prefix.{PlainPrefix}
@@ -7,12 +11,15 @@ use Rattle.hn_assign.specs.declared.assigned.Assigned.{Assigned}
 use Rattle.hn_assign.specs.declared.assigned.Wish.{Wish}
 use Rattle.hn_assign.specs.declared.pair.Pair.{Pair}
 use Rattle.hn_base.specs.Ascending.{HasAt}
-use Rattle.hn_assign.specs.Pair.{assigned_pair, wish_pair}
+use Rattle.hn_assign.specs.Pair.{assigned_pair, pair_cmp, wish_pair}
 use Rattle.hn_assign.specs.Rest.{IsAtRest}
 use Rattle.hn_deleg.specs.declared.delegated.Delegated.{Delegated}
 use Rattle.hn_deleg.specs.Used.{prefixes_of}
 use Rattle.hn_link.specs.CommonLink.{IsCommonLink}
-use Rattle.hn_own.specs.Ports.{is_attached}
+use Rattle.hn_own.specs.Ports.{endpoints_of}
+use Rattle.hn_own.specs.Posts.{length_at, posts_of, private_posts}
+use Rattle.hn_rules.specs.Assigning.{IsWishAt}
+use Rattle.hn_rules.specs.Router.{IsRouter}
 use Rattle.hn_rules.specs.Seen.{seen_by}
 use Rattle.hn_sound.specs.AtRest.{IsAssignmentOf}
 use Rattle.hn_sound.specs.Home.{Endpoint, wish_of}
@@ -20,35 +27,62 @@ use Rattle.hn_sound.specs.Members.{IsOnLinkOf, IsSeenAtRest}
 use Rattle.hn_world.specs.declared.member.Member.{Member}
 use Rattle.hn_world.specs.declared.parts.Parts.{Parts}
 use Rattle.hn_audit.specs.Settled.{AreSame}
-use Rattle.hn_audit.specs.Quiet.{IsRouterAtRest, IsPairAtRest}
-use Rattle.hn_audit.proofs.BridgeUsed.{IsAskedFor, asked_for, place_of, place_within}
-use Rattle.hn_audit.proofs.BridgeHomes.{home_of, IsEndOf, of_end, to_has, of_has, on_link_is_attached}
+use Rattle.hn_audit.specs.Quiet.{IsRouterAtRest}
+use Rattle.hn_audit.proofs.BridgeSets.{router_of}
+use Rattle.hn_audit.proofs.BridgeUsed.{IsAskedFor, asked_for, delegated_at, is_unwanted, is_wanted, place_of}
+use Rattle.hn_audit.proofs.BridgeHomes.{home_of, IsEndOf, of_end, to_has, of_has, on_link_is_port}
 use Rattle.hn_audit.proofs.BridgePremises.{IsCase, uses_same}
 use Rattle.hn_audit.proofs.BridgeSeen.{gathered_is_published, common_is_link}
 
+-- an attached endpoint, which is numbered from 1, gets prefixes of 64 bits
+length_attached : (private : Option ℕ) (e : EpId) → 0 < e.0 → length_at private e ≡ 64
+length_attached None e some = refl
+length_attached (Some length) e some = by_test (e.0 == 0) refl
+  where
+    by_test : (b : Bool) → (e.0 == 0) ≡ b → cond b length 64 ≡ 64
+    by_test true none = let zero : e.0 ≡ 0 = eqb-true e.0 0 none in absurd (omega arith)
+    by_test false is = refl
+
 module _ (w : Parts) (r : Member) (usable : List Delegated) (case : IsCase w r usable) where
-  -- a pair of the home, and how it is at rest for its router
+  -- a pair of the home, the wish for it, and how it is at rest for its router
   record IsResting (s : Member) (x : Endpoint) (d : PlainPrefix) : Type 0 where
     end : IsEndOf w r s x
     rest : IsRouterAtRest s.router
     place : ℕ
-    pair : IsPairAtRest s.router rest.usable rest.advertised place x.id
-    asked : IsAskedFor usable d pair.wish
+    wish : Wish
+    is_asked : IsWishAt s.router.private (seen_by s.router) rest.usable place wish
+    of_endpoint : wish.endpoint ≡ x.id
+    asked : IsAskedFor usable d wish
+    assignment : Option Assigned
+    its_own : HasAt assigned_pair (wish_pair wish) assignment s.router.held.assigned
+    at_rest : IsAtRest rest.advertised s.router.id.0 wish assignment
 
   resting : (s : Member) (x : Endpoint) (d : PlainPrefix) → IsEndOf w r s x → Contains (prefixes_of usable) d → IsResting s x d
   resting s x d end d_in =
       let rest = case.quiet s end.reached in
       let at = place_of usable d d_in in
       let same : AreSame rest.usable usable = uses_same w r usable case s rest.usable end.reached rest.are_usable in
-      let within : at.0 < length rest.usable = place_within rest.usable usable d at.0 same at.1 in
-      let attached : IsTrue (is_attached x.id s.router.ports) = on_link_is_attached s x.id x.link (case.known.attached s end.reached.runs.there) end.on_link in
-      let pair = rest.each_pair at.0 x.id within attached in
+      let here = delegated_at rest.usable d at.0 (ap (λ (ps : List PlainPrefix). slice_get ps at.0) same.prefixes ∙ at.1) in
+      let router : IsRouter s.router = router_of w r case.known s end.reached in
+      let common = case.links (seen_by s.router) x.id.0 (case.known.network s.router router) in
+      let wish : Wish = record { delegated = here.0.prefix; wanted = not (is_unwanted rest.usable here.0.prefix); endpoint = x.id; common = common.0; length = length_at s.router.private x.id } in
+      let is_asked : IsWishAt s.router.private (seen_by s.router) rest.usable at.0 wish =
+      record { delegated = here.0; at = here.1; prefix = refl; wanted = is_wanted rest.usable rest.are_usable.ascending at.0 here.0 here.1; common = common.1; length = refl } in
+      let port : Contains (endpoints_of s.router.ports) x.id = on_link_is_port s x.id x.link (case.known.attached s end.reached.runs.there) end.on_link in
+      let post : Contains (posts_of s.router.private s.router.ports) x.id = Contains-append_right (private_posts s.router.private) (endpoints_of s.router.ports) x.id port in
+      let wished : Contains rest.wishes wish = (rest.are_asked.exact wish).1 (record { place = at.0; asked = is_asked; post = post }) in
+      let own = has_some assigned_pair pair_cmp case.pairs_total case.pairs_exact (wish_pair wish) s.router.held.assigned in
       record {
         end = end;
         rest = rest;
         place = at.0;
-        pair = pair;
-        asked = asked_for (seen_by s.router) rest.usable usable d at.0 pair.wish same case.are_usable.ascending at.1 pair.asked;
+        wish = wish;
+        is_asked = is_asked;
+        of_endpoint = refl;
+        asked = asked_for s.router.private (seen_by s.router) rest.usable usable d at.0 wish same case.are_usable.ascending at.1 is_asked;
+        assignment = own.0;
+        its_own = own.1;
+        at_rest = rest.at_rest wish wished own.0 own.1;
       }
 
   -- its assignment is that of the home
@@ -65,18 +99,21 @@ module _ (w : Parts) (r : Member) (usable : List Delegated) (case : IsCase w r u
       })
 
   -- and what is asked for it too
-  its_wish : (s : Member) (x : Endpoint) (d : PlainPrefix) (h : IsResting s x d) → h.pair.wish ≡ record (wish_of (home_of w r usable) x d) { common = h.pair.wish.common }
-  its_wish s x d h = λ i. record {
-    delegated = h.asked.delegated i;
-    wanted = h.asked.wanted i;
-    endpoint = h.pair.of_endpoint i;
-    common = h.pair.wish.common;
-    length = h.pair.asked.length i;
-  }
+  its_wish : (s : Member) (x : Endpoint) (d : PlainPrefix) (h : IsResting s x d) → h.wish ≡ record (wish_of (home_of w r usable) x d) { common = h.wish.common }
+  its_wish s x d h =
+      let numbered : 0 < h.wish.endpoint.0 = subst (λ (e : EpId). 0 < e.0) (sym h.of_endpoint) h.end.on_link.0 in
+      let length : h.wish.length ≡ 64 = h.is_asked.length ∙ length_attached s.router.private h.wish.endpoint numbered in
+      λ i. record {
+        delegated = h.asked.delegated i;
+        wanted = h.asked.wanted i;
+        endpoint = h.of_endpoint i;
+        common = h.wish.common;
+        length = length i;
+      }
 
-  its_link : (s : Member) (x : Endpoint) (d : PlainPrefix) (h : IsResting s x d) (node : NodeId) (id : EpId) → Contains h.pair.wish.common (node, id) ↔ IsOnLinkOf (home_of w r usable) x node id
+  its_link : (s : Member) (x : Endpoint) (d : PlainPrefix) (h : IsResting s x d) (node : NodeId) (id : EpId) → Contains h.wish.common (node, id) ↔ IsOnLinkOf (home_of w r usable) x node id
   its_link s x d h node id =
-      let common : IsCommonLink (seen_by s.router) x.id.0 h.pair.wish.common = subst (λ (e : EpId). IsCommonLink (seen_by s.router) e.0 h.pair.wish.common) h.pair.of_endpoint h.pair.asked.common in
+      let common : IsCommonLink (seen_by s.router) x.id.0 h.wish.common = subst (λ (e : EpId). IsCommonLink (seen_by s.router) e.0 h.wish.common) h.of_endpoint h.is_asked.common in
       let link = common_is_link w r usable case s h.end.reached x h.end node id in
       (λ there. link.0 ((common.exact (node, id)).0 there), λ on. (common.exact (node, id)).1 (link.1 on))
 
@@ -84,13 +121,13 @@ module _ (w : Parts) (r : Member) (usable : List Delegated) (case : IsCase w r u
   seen_at_rest s x d h = record {
     adv = h.rest.advertised;
     advertised = gathered_is_published w r usable case s h.end.reached h.rest.advertised h.rest.are_advertised;
-    common = h.pair.wish.common;
+    common = h.wish.common;
     on_link = its_link s x d h;
-    assignment = h.pair.assignment;
-    its_own = its_own s x d h.pair.wish h.pair.assignment h.end h.asked.delegated h.pair.of_endpoint h.pair.its_own;
+    assignment = h.assignment;
+    its_own = its_own s x d h.wish h.assignment h.end h.asked.delegated h.of_endpoint h.its_own;
     at_rest =
-        subst (λ (node : NodeId). IsAtRest h.rest.advertised node.0 (record (wish_of (home_of w r usable) x d) { common = h.pair.wish.common }) h.pair.assignment) (sym h.end.of_node)
-        (subst (λ (wish : Wish). IsAtRest h.rest.advertised s.router.id.0 wish h.pair.assignment) (its_wish s x d h) h.pair.at_rest);
+        subst (λ (node : NodeId). IsAtRest h.rest.advertised node.0 (record (wish_of (home_of w r usable) x d) { common = h.wish.common }) h.assignment) (sym h.end.of_node)
+        (subst (λ (wish : Wish). IsAtRest h.rest.advertised s.router.id.0 wish h.assignment) (its_wish s x d h) h.at_rest);
   }
 
   pub rests_as_seen : (x : Endpoint) (d : PlainPrefix) → Contains (home_of w r usable).endpoints x → Contains (home_of w r usable).used d → IsSeenAtRest (home_of w r usable) x d

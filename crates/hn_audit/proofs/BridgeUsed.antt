@@ -1,5 +1,5 @@
 -- The used delegated prefixes of a settled set, which of them are wanted, and what is asked for a pair.
-use Rattle.std.proofs.Common.{◌≡◌, ◌∙◌, ◌<◌, ℕ, Bool, true, List, Some, Contains, length, not, refl, sym, ap, subst, ◌==◌, ◌&&◌, nat_lt}
+use Rattle.std.proofs.Common.{◌≡◌, ◌∙◌, ◌<◌, ◌↔◌, ℕ, Bool, true, IsTrue, List, Option, Some, Contains, length, not, refl, sym, ap, subst, ◌==◌, ◌&&◌, nat_lt}
 use Rattle.std.specs.List.{list_any, slice_get}
 use Rattle.std.specs.List.Sorted.{IsStrictlySortedBy}
 use Rattle.std.specs.Ordering.{on}
@@ -63,6 +63,14 @@ module _ (list : List Delegated) (up : IsStrictlySortedBy prefix_cmp (prefixes_o
       (any_from (is_deprecated u.prefix) list u there (and_from (is_one_prefix u.prefix u.prefix) (u.preferred == 0) ((prefix_decided u.prefix u.prefix).1 refl) (eq-eqb u.preferred 0 ended)))
       (any_from is_preferred list un.other un.in_list (lt-ltb 0 un.other.preferred un.preferred))
 
+-- whether what is at a place is wanted
+pub is_wanted : (list : List Delegated) → IsStrictlySortedBy prefix_cmp (prefixes_of list) → (place : ℕ) (u : Delegated) → slice_get list place ≡ Some u
+    → IsTrue (not (is_unwanted list u.prefix)) ↔ ¬ (IsUnwanted list place)
+is_wanted list up place u at = (
+  λ wanted un. let no = not-true (is_unwanted list u.prefix) wanted in let yes = from_unwanted list up place u at un in absurd (cc (sym yes ∙ no)),
+  λ wanted. not_from_false (is_unwanted list u.prefix) (false_from_ne_true (is_unwanted list u.prefix) (λ un. wanted (to_unwanted list up place u at un))),
+)
+
 -- ---- places of used prefixes
 
 -- a used prefix is at a place
@@ -90,9 +98,9 @@ pub record IsAskedFor (list : List Delegated) (d : PlainPrefix) (wish : Wish) : 
   pub delegated : wish.delegated ≡ d
   pub wanted : wish.wanted ≡ not (is_unwanted list d)
 
-pub asked_for : (view : PlainView) (a b : List Delegated) (d : PlainPrefix) (place : ℕ) (wish : Wish) → AreSame a b → IsStrictlySortedBy prefix_cmp (prefixes_of b)
-    → slice_get (prefixes_of b) place ≡ Some d → IsWishAt view a place wish → IsAskedFor b d wish
-asked_for view a b d place wish same up at asked = record {
+pub asked_for : (private : Option ℕ) (view : PlainView) (a b : List Delegated) (d : PlainPrefix) (place : ℕ) (wish : Wish) → AreSame a b → IsStrictlySortedBy prefix_cmp (prefixes_of b)
+    → slice_get (prefixes_of b) place ≡ Some d → IsWishAt private view a place wish → IsAskedFor b d wish
+asked_for private view a b d place wish same up at asked = record {
   delegated = asked.prefix ∙ same_Some asked.delegated.prefix d (sym (at_prefix a place asked.delegated asked.at) ∙ (ap (λ (ps : List PlainPrefix). slice_get ps place) same.prefixes ∙ at));
   wanted =
       let here = delegated_at b d place at in

@@ -1,28 +1,23 @@
--- The node data of a router has one HNCP-Version, with its capabilities, and the peers of its endpoints.
+-- The node data of a router has one HNCP-Version, with its capabilities.
 use Rattle.std.proofs.Common.{◌≡◌, ◌∙◌, ℕ, List, [], ◌∷◌, ◌++◌, map, Option, Some, Contains, refl, sym, ap, subst}
 use Rattle.std.specs.Prelude.{codes}
 use Rattle.std.specs.List.{filter_map}
-use Rattle.std.proofs.lemmas.List.{append-nil}
-use Rattle.hn_base.proofs.AscendingLists.{Contains-head, Contains-one, nothing_in, Contains-map, Contains-from_map}
+use Rattle.std.proofs.lemmas.List.Elements.{filter_map-append}
+use Rattle.hn_base.proofs.AscendingLists.{Contains-head, Contains-one, nothing_in}
 use Rattle.hn_base.specs.Caps.{PlainCaps, plain_caps}
 use Rattle.hn_typed.specs.Item.{PlainItem, Version}
 use Rattle.hn_data.specs.Items.{Reads, first_of}
 use Rattle.hn_data.specs.Laws.{ItemsAreUnique}
-use Rattle.hn_data.specs.Peers.{HasPeer, peer_of}
 use Rattle.hn_data.specs.Said.{caps_of, version_of}
-use Rattle.hn_data.specs.declared.said.PeerLink.{PeerLink}
 use Rattle.hn_own.specs.declared.own.OwnItems.{OwnItems}
 use Rattle.hn_own.specs.declared.own_prefixes.OwnPrefix.{OwnPrefix}
-use Rattle.hn_own.specs.Own.{links_at, link_at, links_of, peer_item, external_items, assigned_item, items_of}
-use Rattle.hn_dncp.specs.declared.port.Port.{Port}
-use Rattle.hn_own.specs.Ports.{endpoints_of}
+use Rattle.hn_own.specs.Own.{peer_item, external_items, assigned_item, address_item, items_of}
 use Rattle.hn_rules.specs.declared.state.State.{State}
 use Rattle.hn_rules.specs.Router.{IsRouter}
 use Rattle.hn_base.proofs.Elements.{in_filter_map, from_filter_map}
-use Rattle.hn_audit.proofs.Lists.{from_flat_map}
-use Rattle.hn_audit.proofs.BridgeSets.{OwnVersions, OwnPeers}
+use Rattle.hn_audit.proofs.BridgeSets.{OwnVersions}
 use Rattle.hn_rules.specs.Laws.{ItemsArePublished}
-use Rattle.hn_base.proofs.Elements.{all_given, none_given, given_by_parts, none_or_some}
+use Rattle.hn_base.proofs.Elements.{none_given, given_by_parts, none_or_some}
 
 -- ---- the version among own items
 
@@ -31,25 +26,17 @@ one_version now own =
     let links = none_given caps_of peer_item (λ _. refl) own.links in
     let external : filter_map caps_of (external_items now own.delegated) ≡ [] =
     none_or_some (λ (list : List OwnPrefix). filter_map caps_of (external_items now list) ≡ []) refl (λ p ps. refl) own.delegated in
+    let assigned = none_given caps_of assigned_item (λ _. refl) own.assigned in
+    let addresses = none_given caps_of address_item (λ _. refl) own.addresses in
     let parts = given_by_parts caps_of (map peer_item own.links) (external_items now own.delegated) (map assigned_item own.assigned) in
-    let others = parts ∙ rw (links, external) (none_given caps_of assigned_item (λ _. refl) own.assigned) in
+    let last = filter_map-append caps_of (map peer_item own.links ++ external_items now own.delegated ++ map assigned_item own.assigned) (map address_item own.addresses) in
+    let others = last ∙ rw (parts, links, external, assigned) addresses in
     ap (λ (rest : List PlainCaps). plain_caps own.caps ∷ rest) others
 
 -- the first of a list whose elements are all one
 first_is : (xs : List PlainCaps) (c : PlainCaps) → Contains xs c → ((y : PlainCaps) → Contains xs y → y ≡ c) → first_of xs ≡ Some c
 first_is [] c there all = absurd (nothing_in c there)
 first_is (x ∷ xs) c there all = ap Some (all x (Contains-head x xs))
-
--- ---- the peers among own items
-
-peers_among : (now : ℕ) (own : OwnItems) → filter_map peer_of (items_of now own) ≡ own.links
-peers_among now own =
-    let links = all_given peer_of peer_item (λ _. refl) own.links in
-    let external : filter_map peer_of (external_items now own.delegated) ≡ [] =
-    none_or_some (λ (list : List OwnPrefix). filter_map peer_of (external_items now list) ≡ []) refl (λ p ps. refl) own.delegated in
-    let assigned = none_given peer_of assigned_item (λ _. refl) own.assigned in
-    let parts = given_by_parts peer_of (map peer_item own.links) (external_items now own.delegated) (map assigned_item own.assigned) in
-    parts ∙ rw (links, external, assigned) (append-nil (own.links ++ []) ∙ append-nil own.links)
 
 -- ---- and in own node data
 
@@ -86,19 +73,5 @@ module _ (laws : ReadLaws) (s : State) (router : IsRouter s) where
   pub own_version : Reads s.own.body (λ items. version_of items ≡ Some (plain_caps s.own.items.caps))
   own_version = (read, (laws.published s router).1, first_is (filter_map caps_of read) (plain_caps s.own.items.caps) version_read no_other)
 
-  pub peer_from : (link : PeerLink) → HasPeer s.own.body link → Contains s.own.items.links link
-  peer_from link (other, are, there) =
-      let same : other ≡ read = laws.one_items s.own.body other read are (laws.published s router).1 in
-      subst (λ (list : List PeerLink). Contains list link) (peers_among s.own.born s.own.items)
-      (read_is_own peer_of link (subst (λ (items : List PlainItem). Contains (filter_map peer_of items) link) same there))
-
 pub own_versions : ReadLaws → OwnVersions
 own_versions laws s router = own_version laws s router
-
-pub own_peers : ReadLaws → OwnPeers
-own_peers laws s link router has =
-    let published : Contains (links_of s.ports) link =
-    subst (λ (own : OwnItems). Contains own.links link) (sym router.refreshed.published) (peer_from laws s router link has) in
-    let at = from_flat_map links_at s.ports link published in
-    let peer = Contains-from_map (link_at at.0) at.0.peers link at.2 in
-    subst (Contains (endpoints_of s.ports)) (ap (λ (l : PeerLink). l.endpoint) peer.2) (Contains-map (λ (p : Port). p.id) s.ports at.0 at.1)

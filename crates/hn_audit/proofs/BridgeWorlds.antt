@@ -3,11 +3,13 @@ use Rattle.std.proofs.Common.{List, [], sym, subst}
 use Rattle.std.specs.Cmp.{IsTotalOrder}
 use Rattle.std.proofs.lemmas.List.{append-nil}
 use Rattle.std.proofs.lemmas.List.Elements.{All-contains}
+use Rattle.hn_base.specs.Ascending.{IsExact}
 use Rattle.hn_assign.specs.Pair.{pair_cmp}
 use Rattle.hn_data.specs.Laws.{ItemsAreUnique}
 use Rattle.hn_deleg.specs.declared.delegated.Delegated.{Delegated}
 use Rattle.hn_deleg.specs.Laws.{UsableIsUnique, UsableNeverOverlap}
-use Rattle.hn_rules.specs.Laws.{AssignedIsPublished, ViewIsNetwork, EntriesAreAsKnown}
+use Rattle.hn_link.specs.Laws.{CommonLinkExists}
+use Rattle.hn_rules.specs.Laws.{AssignedIsPublished, ViewIsNetwork, EntriesAreAsKnown, OwnPeersAreOfEndpoints}
 use Rattle.hn_sound.specs.Laws.{AdvertisedIsExact, CommonLinkIsExact, HomeRestsAsSeen, HomeAtRestIsSound}
 use Rattle.hn_sound.specs.Sound as home
 use Rattle.hn_world.specs.declared.member.Member.{Member}
@@ -18,7 +20,7 @@ use Rattle.hn_audit.specs.Laws.{SettledAndQuietIsSound, SetIsSoundAlike}
 use Rattle.hn_audit.specs.Reached.{IsRunning}
 use Rattle.hn_audit.specs.Settled.{IsSettled}
 use Rattle.hn_audit.specs.Sound.{IsSound}
-use Rattle.hn_audit.proofs.BridgeSets.{IsKnown, OwnVersions, OwnPeers, itself}
+use Rattle.hn_audit.proofs.BridgeSets.{IsKnown, OwnVersions, itself}
 use Rattle.hn_audit.proofs.BridgeHomes.{home_of}
 use Rattle.hn_audit.proofs.BridgePremises.{IsCase, is_home}
 use Rattle.hn_audit.proofs.BridgeRest.{rests_as_seen}
@@ -39,8 +41,10 @@ pub record BridgeLaws : Type 0 where
   pub worlds : WorldLaws
   pub published : AssignedIsPublished
   pub versions : OwnVersions
-  pub peers : OwnPeers
+  pub peers : OwnPeersAreOfEndpoints
   pub pairs_total : IsTotalOrder pair_cmp
+  pub pairs_exact : IsExact pair_cmp
+  pub links : CommonLinkExists
   pub unique : UsableIsUnique
   pub apart : UsableNeverOverlap
   pub one_items : ItemsAreUnique
@@ -90,6 +94,8 @@ sound_where_quiet laws w r replayed runs settled quiet =
       versions = laws.versions;
       peers = laws.peers;
       pairs_total = laws.pairs_total;
+      pairs_exact = laws.pairs_exact;
+      links = laws.links;
     })
 
 pub alike_where_settled : UsableIsUnique → WorldLaws → SetIsSoundAlike

@@ -16,7 +16,6 @@ mod FrontWorlds
 mod Judging
 mod Lists
 mod QuietSets
-mod RestRuns
 mod Restings
 mod Sames
 mod Settling

@@ -18,7 +18,7 @@ pub record IsRunAnew (s : State) (ran : Ran) : Type 0 where
   pub usable : List Delegated
   pub are_usable : AreUsable (seen_by s) usable
   pub wishes : List Wish
-  pub are_asked : AreAsked (seen_by s) usable s.ports wishes
+  pub are_asked : AreAsked s usable wishes
   pub run : IsDueRun (seen_by s) wishes s.held.assigned ran
 
 -- whatever it comes to on a router of the set of r, with whatever random words, it makes, changes and destroys no

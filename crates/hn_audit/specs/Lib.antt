@@ -2,7 +2,6 @@ pub mod Reached
 pub mod Set
 pub mod Settled
 pub mod Quiet
-pub mod Resting
 pub mod Fixed
 pub mod Sound
 pub mod Laws

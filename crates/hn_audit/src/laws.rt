@@ -8,9 +8,10 @@ use hn_assign::{
 };
 use hn_data::items_are_unique;
 use hn_deleg::{usable_is_unique, usable_never_overlap};
-use hn_link::{common_link_exists, common_link_is_unique};
+use hn_link::common_link_exists;
 use hn_rules::{
-    assigned_is_published, entries_are_as_known, items_are_published, view_is_a_network,
+    assigned_is_published, entries_are_as_known, items_are_published, own_peers_are_of_endpoints,
+    view_is_a_network,
 };
 use hn_sound::{home_at_rest_is_sound, home_rests_as_seen, lists_are_exact};
 use hn_world::{always_attached, always_sound, at_most_one_world};
@@ -28,6 +29,8 @@ pub fn settled_and_quiet_is_sound()
     entries_are_as_known();
     items_are_published();
     items_are_unique();
+    own_peers_are_of_endpoints();
+    common_link_exists();
     usable_is_unique();
     usable_never_overlap();
     pairs_are_ordered();
@@ -76,12 +79,9 @@ pub fn rest_is_the_fixed_point()
     ensures comes { RestHasARun }
 {
     advertised_exists();
-    common_link_exists();
-    common_link_is_unique();
     pairs_are_ordered();
     rest_has_a_run();
     rest_is_unchanged();
     subroutine_leaves();
     usable_is_unique();
-    view_is_a_network();
 }

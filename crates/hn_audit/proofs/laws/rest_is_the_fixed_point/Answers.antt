@@ -1,19 +1,14 @@
-use Rattle.hn_audit.proofs.FixedPoints.{FixedLaws, changes_nothing, unchanged_rests}
-use Rattle.hn_audit.proofs.RestRuns.{rest_has_a_run}
+use Rattle.hn_audit.proofs.FixedPoints.{FixedLaws, changes_nothing, unchanged_rests, rest_has_a_run}
 use Rattle.hn_audit.proofs.laws.rest_is_the_fixed_point.Goals as goal
 
 pub returns-clause-unchanged : goal.returns-clause-unchanged
 returns-clause-unchanged c s ran router run rest =
     let laws : FixedLaws = record {
       one_list = c.usable_is_unique.ensures;
-      one_link = c.common_link_is_unique.ensures;
-      link_exists = c.common_link_exists.ensures;
       advertised_exists = c.advertised_exists.ensures;
-      network = c.view_is_a_network.ensures;
       rest = c.rest_is_unchanged.ensures;
       wished = c.subroutine_leaves.ensures.wished;
       pairs_total = c.pairs_are_ordered.ensures.total;
-      pairs_exact = c.pairs_are_ordered.ensures.exact;
     } in
     changes_nothing laws s ran run rest router
 
@@ -21,28 +16,12 @@ pub returns-clause-rests : goal.returns-clause-rests
 returns-clause-rests c s ran router run same =
     let laws : FixedLaws = record {
       one_list = c.usable_is_unique.ensures;
-      one_link = c.common_link_is_unique.ensures;
-      link_exists = c.common_link_exists.ensures;
       advertised_exists = c.advertised_exists.ensures;
-      network = c.view_is_a_network.ensures;
       rest = c.rest_is_unchanged.ensures;
       wished = c.subroutine_leaves.ensures.wished;
       pairs_total = c.pairs_are_ordered.ensures.total;
-      pairs_exact = c.pairs_are_ordered.ensures.exact;
     } in
     unchanged_rests laws s ran run same router
 
 pub returns-clause-comes : goal.returns-clause-comes
-returns-clause-comes c =
-    let laws : FixedLaws = record {
-      one_list = c.usable_is_unique.ensures;
-      one_link = c.common_link_is_unique.ensures;
-      link_exists = c.common_link_exists.ensures;
-      advertised_exists = c.advertised_exists.ensures;
-      network = c.view_is_a_network.ensures;
-      rest = c.rest_is_unchanged.ensures;
-      wished = c.subroutine_leaves.ensures.wished;
-      pairs_total = c.pairs_are_ordered.ensures.total;
-      pairs_exact = c.pairs_are_ordered.ensures.exact;
-    } in
-    rest_has_a_run laws c.rest_has_a_run.ensures
+returns-clause-comes c = rest_has_a_run c.rest_has_a_run.ensures

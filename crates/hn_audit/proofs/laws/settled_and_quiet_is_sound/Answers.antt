@@ -1,4 +1,4 @@
-use Rattle.hn_audit.proofs.BridgeVersions.{ReadLaws, own_versions, own_peers}
+use Rattle.hn_audit.proofs.BridgeVersions.{ReadLaws, own_versions}
 use Rattle.hn_audit.proofs.BridgeWorlds.{WorldLaws, BridgeLaws, sound_where_quiet}
 use Rattle.hn_audit.proofs.laws.settled_and_quiet_is_sound.Goals as goal
 
@@ -16,8 +16,10 @@ returns c =
       worlds = worlds;
       published = c.assigned_is_published.ensures;
       versions = own_versions read;
-      peers = own_peers read;
+      peers = c.own_peers_are_of_endpoints.ensures;
       pairs_total = c.pairs_are_ordered.ensures.total;
+      pairs_exact = c.pairs_are_ordered.ensures.exact;
+      links = c.common_link_exists.ensures;
       unique = c.usable_is_unique.ensures;
       apart = c.usable_never_overlap.ensures;
       one_items = c.items_are_unique.ensures;

@@ -1,5 +1,5 @@
 -- What a play of a script comes to, and what holds of the whole source.
-use Rattle.std.proofs.Common.{◌≡◌, ◌≢◌, ◌<◌, ◌≤◌, ◌^◌, ℕ, zero, suc, List, [], ◌∷◌, Option, Result, Ok, Err, length, inl, inr, subst, refl, arith, lit<}
+use Rattle.std.proofs.Common.{◌≡◌, ◌≢◌, ◌<◌, ◌≤◌, ◌^◌, ℕ, zero, suc, List, [], ◌∷◌, Option, Some, Result, Ok, Err, length, inl, inr, subst, refl, arith, lit<}
 use Rattle.std.specs.Prelude.{IfOk, Contains}
 use Rattle.std.specs.Io.KnownBytes.{Appends}
 use Rattle.hn_io.specs.declared.fault.IoFault.{IoFault}
@@ -11,8 +11,9 @@ use Rattle.hn_script.specs.declared.script.Script.{Script}
 use Rattle.hn_world.specs.declared.parts.Parts.{Parts}
 use Rattle.hn_lab.specs.declared.end.End.{End}
 use Rattle.hn_lab.specs.declared.end.End.TheVariants.{Done, Refused}
-use Rattle.hn_lab.specs.Lab.{play_status, HasDonePlay, HasRefusal, IsLabOf}
-use Rattle.hn_lab.specs.Play.{begun, IsPlay}
+use Rattle.hn_lab.specs.Lab.{play_status, HasDonePlay, HasRefusal, IsWholePlay, IsBrokenPlay, Plays, IsLabOf}
+use Rattle.hn_lab.specs.Output.{IsCutText}
+use Rattle.hn_lab.specs.Play.{begun, IsPlay, IsCutPlay}
 use Rattle.hn_lab.specs.Stage.{Stage}
 use Rattle.hn_lab.specs.Told.{Told, bytes_of}
 
@@ -42,6 +43,34 @@ not_done law script status (Ok Done) p a h k is begins uncut refused none =
 not_done law script status (Ok (Refused number code)) p a h k is begins uncut refused none = absurd (omega arith)
 not_done law script status (Err Failed) p a h k is begins uncut refused none = absurd (omega arith)
 not_done law script status (Err NoMemory) p a h k is begins uncut refused none = absurd (omega arith)
+
+-- where memory sufficed, a play is whole, or a failed sink cut it
+pub plays_out : (script : Script) (status : ℕ) (r : Result End IoFault) (p a : Stage) (h k : Option (List ℕ)) → status ≡ play_status r → ¬ (status ≡ 6) → p ≡ begun script.version → IsUncut script.lines p a h k r
+    → (r ≡ Err Failed → (text : List Told) × (written : List ℕ) × IsCutPlay script.lines p text a.world × IsCutText text written × Appends h k written)
+    → (written : List ℕ) × Plays script status (Some a.world) written × Appends h k written
+plays_out script status (Ok end) p a h k is rest begins (text, play, appends) cut =
+    let whole : IsWholePlay script status (Some a.world) (bytes_of text) = record {
+      end = end;
+      text = text;
+      after = a;
+      play = subst (λ (x : Stage). IsPlay script.lines end x text a) begins play;
+      status_is = is;
+      world_is = refl;
+      written_is = refl;
+    } in
+    (bytes_of text, inl whole, appends)
+plays_out script status (Err Failed) p a h k is rest begins uncut cut =
+    let part = cut refl in
+    let broken : IsBrokenPlay script status (Some a.world) part.1 = record {
+      text = part.0;
+      last = a.world;
+      play = subst (λ (x : Stage). IsCutPlay script.lines x part.0 a.world) begins part.2;
+      status_is = is;
+      world_is = refl;
+      written_is = part.3;
+    } in
+    (part.1, inr (inl broken), part.4)
+plays_out script status (Err NoMemory) p a h k is rest begins uncut cut = absurd (rest is)
 
 -- ---- statuses among others
 

@@ -7,7 +7,9 @@ ghost use Rattle.hn_script.specs.Script.{IsScript, IsFirstFault};
 ghost use Rattle.hn_script.specs.declared.fault.ScriptFault.{ScriptFault as AFault};
 ghost use Rattle.hn_script.specs.declared.script.Script.{Script as AScript};
 ghost use Rattle.hn_world.specs.Replay.{IsReplayed, Always};
+ghost use Rattle.hn_world.specs.Authentic.{AuthenticUnlessInjected};
 ghost use Rattle.hn_world.specs.Leaves.{EqualHashesAgree};
+ghost use Rattle.hn_world.specs.Within.{AreWithinLimits};
 ghost use Rattle.hn_audit.specs.Laws.{SettledAreSound};
 ghost use Rattle.hn_lab.specs.Lab.{play_status, Plays, IsLineWritten, IsLabOf, HasDonePlay, HasRefusal};
 ghost use Rattle.hn_lab.specs.Reports.{refused_line};
@@ -22,7 +24,7 @@ use hn_io::{IoFault, Sink, Source};
 use hn_script::{
     ParseFault, Script, ScriptFault, fault_or_script, parse, script_is_limited, script_is_unique,
 };
-use hn_world::{World, equal_hashes_always_agree};
+use hn_world::{World, always_authentic, always_within_limits, equal_hashes_always_agree};
 use std::alloc::Global;
 
 /// The input was read to its end and the whole text was written.
@@ -101,6 +103,8 @@ pub fn play<K: Sink>(alloc: Global, script: Script, out: &mut K) -> Played
     ensures replayed { IfSome result.world IsReplayed }
     ensures headline { IfSome result.world (Always EqualHashesAgree) }
     ensures settled { IfSome result.world (Always SettledAreSound) }
+    ensures within_limits { IfSome result.world (Always AreWithinLimits) }
+    ensures authentic { IfSome result.world (Always AuthenticUnlessInjected) }
     ensures statuses { Contains (DONE ∷ REFUSED ∷ SINK_FAILED ∷ NO_MEMORY ∷ []) result.status }
     ensures counts { Counts (result.status ≡ SINK_FAILED) (K.faults out.old) (K.faults out.new) }
     ensures reliable { IsReliable (result.status ≡ SINK_FAILED) (K.never_fails out.old) (K.never_fails out.new) }
@@ -108,6 +112,8 @@ pub fn play<K: Sink>(alloc: Global, script: Script, out: &mut K) -> Played
     at_most_one_play();
     equal_hashes_always_agree();
     settled_are_always_sound();
+    always_within_limits();
+    always_authentic();
     let mut playing = Playing::new(alloc, script.version);
     let end = playing.play(alloc, script.lines.into_vec(), out);
     let status = play_status(&end);
@@ -132,6 +138,8 @@ fn play_bytes<K: Sink>(alloc: Global, bytes: &[u8], out: &mut K) -> Played
     ensures replayed { IfSome result.world IsReplayed }
     ensures headline { IfSome result.world (Always EqualHashesAgree) }
     ensures settled { IfSome result.world (Always SettledAreSound) }
+    ensures within_limits { IfSome result.world (Always AreWithinLimits) }
+    ensures authentic { IfSome result.world (Always AuthenticUnlessInjected) }
     ensures statuses { Contains (DONE ∷ REFUSED ∷ SINK_FAILED ∷ NO_MEMORY ∷ []) result.status }
     ensures counts { Counts (result.status ≡ SINK_FAILED) (K.faults out.old) (K.faults out.new) }
     ensures reliable { IsReliable (result.status ≡ SINK_FAILED) (K.never_fails out.old) (K.never_fails out.new) }
@@ -158,6 +166,8 @@ pub fn lab<S: Source, K: Sink>(alloc: Global, src: &mut S, out: &mut K) -> Playe
     ensures replayed { IfSome result.world IsReplayed }
     ensures headline { IfSome result.world (Always EqualHashesAgree) }
     ensures settled { IfSome result.world (Always SettledAreSound) }
+    ensures within_limits { IfSome result.world (Always AreWithinLimits) }
+    ensures authentic { IfSome result.world (Always AuthenticUnlessInjected) }
     ensures statuses { Contains (DONE ∷ REFUSED ∷ SOURCE_FAILED ∷ SINK_FAILED ∷ NO_MEMORY ∷ []) result.status }
     ensures unwritten { result.status ≡ SOURCE_FAILED → out.new ≡ out.old }
     ensures source_counts { Counts (result.status ≡ SOURCE_FAILED) (S.faults src.old) (S.faults src.new) }

@@ -7,7 +7,9 @@ ghost use Rattle.hn_script.specs.Soak.{soak_text};
 ghost use Rattle.hn_script.specs.declared.fault.ScriptFault.{ScriptFault};
 ghost use Rattle.hn_script.specs.declared.script.Script.{Script};
 ghost use Rattle.hn_world.specs.Replay.{IsReplayed, Always};
+ghost use Rattle.hn_world.specs.Authentic.{AuthenticUnlessInjected};
 ghost use Rattle.hn_world.specs.Leaves.{EqualHashesAgree};
+ghost use Rattle.hn_world.specs.Within.{AreWithinLimits};
 ghost use Rattle.hn_audit.specs.Laws.{SettledAreSound};
 ghost use Rattle.hn_lab.specs.Lab.{IsLabOf, HasDonePlay, HasRefusal};
 ghost use Rattle.hncp.specs.Decode.{SpellsTlvs, WritesDecode, CutsDecode};
@@ -98,6 +100,13 @@ pub fn run<S: Source, K: Sink>(alloc: Global, words: &[String], src: &mut S, out
 
     // At each moment of the world's past, a running router that is settled and quiet is sound.
     ensures settled { IfSome result.world (Always SettledAreSound) }
+
+    // At each moment of the world's past, tables, lists and datagrams are within the limits of the world's version.
+    ensures within_limits { IfSome result.world (Always AreWithinLimits) }
+
+    // At each moment of the world's past until which nothing was injected, what routers hold of other nodes was
+    // published, or two texts that were published collide.
+    ensures authentic { IfSome result.world (Always AuthenticUnlessInjected) }
 
     // `decode`: what is written is the text of the datagram that the source spells, or after a fault a front of it.
     ensures decode { IsFormOf Form.Decode (map string_bytes words.now) → (result.status ≡ DONE) ⊎ (result.status ≡ REFUSED)

@@ -5,7 +5,9 @@ ghost use Rattle.hn_script.specs.Script.{IsScript};
 ghost use Rattle.hn_script.specs.Soak.{soak_text};
 ghost use Rattle.hn_script.specs.declared.script.Script.{Script};
 ghost use Rattle.hn_world.specs.Replay.{IsReplayed, Always};
+ghost use Rattle.hn_world.specs.Authentic.{AuthenticUnlessInjected};
 ghost use Rattle.hn_world.specs.Leaves.{EqualHashesAgree};
+ghost use Rattle.hn_world.specs.Within.{AreWithinLimits};
 ghost use Rattle.hn_audit.specs.Laws.{SettledAreSound};
 ghost use Rattle.hn_lab.specs.Lab.{HasDonePlay, HasRefusal};
 ghost use Rattle.hncp.specs.Soak.{IsSoakPlay};
@@ -29,6 +31,8 @@ pub fn soak<K: Sink>(alloc: Global, n: u32, seed: u64, out: &mut K) -> Played
     ensures replayed { IfSome result.world IsReplayed }
     ensures headline { IfSome result.world (Always EqualHashesAgree) }
     ensures settled { IfSome result.world (Always SettledAreSound) }
+    ensures within_limits { IfSome result.world (Always AreWithinLimits) }
+    ensures authentic { IfSome result.world (Always AuthenticUnlessInjected) }
     ensures statuses { Contains (DONE ∷ REFUSED ∷ SINK_FAILED ∷ NO_MEMORY ∷ []) result.status }
     ensures counts { Counts (result.status ≡ SINK_FAILED) (K.faults out.old) (K.faults out.new) }
     ensures reliable { IsReliable (result.status ≡ SINK_FAILED) (K.never_fails out.old) (K.never_fails out.new) }

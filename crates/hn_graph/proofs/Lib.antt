@@ -5,3 +5,4 @@ mod Found
 mod Progress
 mod Staying
 mod Laters
+mod Following

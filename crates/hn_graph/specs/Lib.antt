@@ -2,3 +2,4 @@ pub mod Path
 pub mod Search
 pub mod Later
 pub mod Laws
+pub mod Following

@@ -1,5 +1,6 @@
 //! Laws of reachability. Each is the contract of a function that does nothing: call it to know its law.
 
+ghost use Rattle.hn_graph.specs.Following.{ReachabilityFollows};
 ghost use Rattle.hn_graph.specs.Laws.{OwnIsReachable, ReachableIsANode, ReachabilityStays, ReachabilityOfLater};
 
 /// The own node is reachable.
@@ -21,4 +22,9 @@ pub fn reachability_stays()
 /// While time passes and no age comes to its limit, the same nodes are reachable.
 pub fn reachability_of_later()
     ensures { ReachabilityOfLater }
+{}
+
+/// What is reachable is so among nodes that say as much of their peers: which other node data they have changes nothing.
+pub fn reachability_follows()
+    ensures { ReachabilityFollows }
 {}

@@ -96,7 +96,7 @@ remaining_later time age seconds fits = elim (remaining_cases age seconds) [
       ]
 ]
 
-remaining_before : (time age seconds : ℕ) → 0 < remaining (age + time) seconds → 0 < remaining age seconds
+pub remaining_before : (time age seconds : ℕ) → 0 < remaining (age + time) seconds → 0 < remaining age seconds
 remaining_before time age seconds some = elim (remaining_cases age seconds) [
   | inl (endless, is) ↦ omega (arith, is)
   | inr (other, is) ↦

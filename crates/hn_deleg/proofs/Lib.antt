@@ -9,3 +9,4 @@ mod Fits
 mod Ordered
 mod Laters
 mod Exists
+mod Candidates

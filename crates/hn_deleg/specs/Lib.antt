@@ -4,3 +4,4 @@ pub mod Used
 pub mod Due
 pub mod Later
 pub mod Laws
+pub mod Candidates

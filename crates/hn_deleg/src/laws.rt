@@ -1,5 +1,6 @@
 //! Laws of usable prefixes. Each is the contract of a function that does nothing: call it to know its law.
 
+ghost use Rattle.hn_deleg.specs.Candidates.{SameCandidatesSameUsed, PreferredIsAnnounced, PreferredWasSo};
 ghost use Rattle.hn_deleg.specs.Laws.{UsableNeverOverlap, UsableIsUnique, UsableExists, LifetimesFit, InsideKeepsTheOrder, UsableOfLater, AgedAreTheSamePrefixes, UnwantedOfLater, EndsOfLater};
 
 use hn_data::{items_are_unique, items_or_none};
@@ -50,4 +51,12 @@ pub fn usable_of_later()
 /// While time passes, the ends of announced lifetimes that are still to come stay the same.
 pub fn ends_of_later()
     ensures { EndsOfLater }
+{}
+
+/// Views with the same candidates have the same usable prefixes. The preferred lifetime of a usable prefix has not ended if
+/// and only if that of one of its announcements has not; and while time passes, none begins again.
+pub fn used_by_candidates()
+    ensures used { SameCandidatesSameUsed }
+    ensures preferred { PreferredIsAnnounced }
+    ensures was { PreferredWasSo }
 {}

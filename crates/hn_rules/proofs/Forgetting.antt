@@ -29,7 +29,7 @@ use Rattle.hn_base.proofs.Passing.{find-filter}
 -- ---- lists
 
 module _ {A B : Type 0} where
-  filter_map-same : (f g : A → Option B) (xs : List A) → All (λ x. f x ≡ g x) xs → filter_map f xs ≡ filter_map g xs
+  pub filter_map-same : (f g : A → Option B) (xs : List A) → All (λ x. f x ≡ g x) xs → filter_map f xs ≡ filter_map g xs
   filter_map-same f g [] same = refl
   filter_map-same f g (x ∷ xs) same =
       ap (λ o. cons_option o (filter_map f xs)) (All-head (λ x. f x ≡ g x) x xs same)
@@ -116,7 +116,7 @@ module _ (s : State) (moment now : ℕ) (is_reach : IsReach (record s { moment =
     known = λ y there. (y, stays_between lower greater own after before y (was_held y) there, like_itself y);
   }
 
-  same_held : (id : NodeId) → Contains s.reach id → held (filter (stays now) s.table.entries) id.0 ≡ held s.table.entries id.0
+  pub same_held : (id : NodeId) → Contains s.reach id → held (filter (stays now) s.table.entries) id.0 ≡ held s.table.entries id.0
   same_held id there =
       let same = find-filter (λ (node : HeldNode). node.id.0 == id.0) (stays now) s.table.entries
       (All-weaker (IsMarked s.reach) (λ node. (node.id.0 == id.0) ≡ true → stays now node ≡ true)

@@ -73,13 +73,13 @@ module _ (laws : ReadLaws) (own : PlainData) (is : IsOwnData own) where
   abbrev items : List PlainItem
   items = items_of own.born own.items
 
-  read_is : AreRead items is.encoded.ascending
+  pub read_is : AreRead items is.encoded.ascending
   read_is =
       let ascending = is.encoded.ascending in
       are_read laws.same_begin laws.same_item laws.written_is_item items is.writable (own_fit laws.of_bytes own.born own.items) ascending
       (All-weaker (Contains ascending) (Contains (map encoding items)) (λ piece there. (is.encoded.same piece).0 there) ascending (All-contains_itself ascending))
 
-  are_items : AreItems own.body read_is.read
+  pub are_items : AreItems own.body read_is.read
   are_items = record { tlvs = map tlv_of read_is.read; list = subst (IsTlvList (map tlv_of read_is.read)) (sym is.encoded.joined) read_is.list; read = read_is.reading }
 
   assigned_from : (a : AssignedPrefix) → HasAssigned own.body a → Contains own.items.assigned a
@@ -96,13 +96,27 @@ module _ (laws : ReadLaws) (own : PlainData) (is : IsOwnData own) where
       let among : Contains items from.0 = All-contains (Contains items) read_is.read from.0 read_is.of_items (subst (λ (list : List PlainItem). Contains list from.0) same from.1) in
       subst (λ (list : List PeerLink). Contains list link) (peers_among own.born own.items) (in_filter_map peer_of items from.0 link among from.2)
 
-  item_read : (item : PlainItem) → Contains items item → Contains read_is.read item
+  pub item_read : (item : PlainItem) → Contains items item → Contains read_is.read item
   item_read item there =
       let piece : Contains is.encoded.ascending (encoding item) = (is.encoded.same (encoding item)).1 (Contains-map encoding items item there) in
       let from = Contains-from_map encoding read_is.read (encoding item) (subst (λ (pieces : List (List ℕ)). Contains pieces (encoding item)) (sym read_is.encoded) piece) in
       let among : Contains items from.0 = All-contains (Contains items) read_is.read from.0 read_is.of_items from.1 in
       let same : from.0 ≡ item = same_encoded laws.same_begin laws.same_item laws.written_is_item items is.writable (own_fit laws.of_bytes own.born own.items) from.0 item among there from.2 in
       subst (Contains read_is.read) same from.1
+
+  peer_there : (now : ℕ) (some : OwnItems) (link : PeerLink) → Contains some.links link → Contains (items_of now some) (peer_item link)
+  peer_there now some link there =
+      let links = map peer_item some.links in
+      let external = external_items now some.delegated in
+      let assigned = map assigned_item some.assigned in
+      let addresses = map address_item some.addresses in
+      Contains-tail _ (((links ++ external) ++ assigned) ++ addresses) (peer_item link)
+      (Contains-append_left ((links ++ external) ++ assigned) addresses (peer_item link)
+      (Contains-append_left (links ++ external) assigned (peer_item link) (Contains-append_left links external (peer_item link) (Contains-map peer_item some.links link there))))
+
+  pub peer_in : (link : PeerLink) → Contains own.items.links link → HasPeer own.body link
+  peer_in link there =
+      (read_is.read, are_items, in_filter_map peer_of read_is.read (peer_item link) link (item_read (peer_item link) (peer_there own.born own.items link there)) refl)
 
   pub assigned_in : (a : AssignedPrefix) → HasAssigned own.body a ↔ Contains own.items.assigned a
   assigned_in a = (

@@ -1,3 +1,4 @@
+mod Announcing
 mod Arriving
 mod AssignPairs
 mod AssignRuns
@@ -11,6 +12,7 @@ mod Growing
 mod Hashed
 mod Known
 mod LawAssigned
+mod LawDelegated
 mod LawPairs
 mod LawPublished
 mod LawSpelled
@@ -31,6 +33,7 @@ mod Shrinking
 mod SilentPorts
 mod Idles
 mod AtPorts
+mod Calm
 mod PostParts
 mod PrivatePosts
 mod Recent
@@ -38,12 +41,14 @@ mod Refreshes
 mod Refreshing
 mod Resting
 mod Restarting
+mod SameIds
 mod Routers
 mod Sayings
 mod Shorts
 mod TickParts
 mod Ticking
 mod Touched
+mod UsedLemmas
 mod Walk
 mod Wells
 mod WishLists

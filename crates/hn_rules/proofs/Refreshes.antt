@@ -199,7 +199,7 @@ with_hash s net is same = record {
   young = is.young;
 }
 
-reset_keeps : KeepsLinks IsPortReset
+pub reset_keeps : KeepsLinks IsPortReset
 reset_keeps start port r a (inl (shortest, is)) changed kept = subst (Kept start) (sym is) kept
 reset_keeps start port r a (inr (longer, (word, is))) changed kept = subst (Kept start) (sym is) (changed (record port { trickle = started r.state.moment 200 word }) refl refl)
 
@@ -221,7 +221,7 @@ fresh_refresh r a (published, publishes, (reached, reaches, hashes)) are =
     let same : reached.state.ports ≡ r.state.ports = ap (λ (x : Running). x.state.ports) reaches.gives ∙ ports_after r published publishes in
     fresh_hashing reached a hashes (subst ArePorts (sym same) are) (reached_after published reached reaches (published_after r published publishes) (young_after r published publishes))
 
-tick_keeps : KeepsLinks IsPortTick
+pub tick_keeps : KeepsLinks IsPortTick
 tick_keeps start port r a (between, moves, sends) changed kept =
     sent sends (subst (Kept start) (sym moves.gives) (changed (ticked r.state.moment moves.words port) refl refl))
   where

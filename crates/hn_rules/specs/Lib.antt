@@ -21,6 +21,7 @@ pub mod Idle
 pub mod Events
 pub mod Changes
 pub mod Router
+pub mod Rested
 pub mod Grows
 pub mod Lengths
 pub mod Genuine

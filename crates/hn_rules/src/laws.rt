@@ -14,6 +14,7 @@ ghost use Rattle.hn_rules.specs.Delegating.{delegating, withdrawing, ending};
 ghost use Rattle.hn_rules.specs.Events.{IsAttaching, detaching, setting_caps, setting_private, setting_addresses, IsRestarting};
 ghost use Rattle.hn_rules.specs.Laws.{HashIsOfLeaves, AssignedIsPublished, ItemsArePublished, ViewIsNetwork, OwnPeersAreOfEndpoints, PrivatePostIsAlone, EntriesAreAsKnown, RouterStaysLater, NextDueIsOne, NextDueStays, UneventfulReaches, StillStays, KeepsRouter, KeepsWell, KeepsEndpoints, RefreshMakesRouter, AssigningKeeps, DelegatingKeeps, AttachingKeeps, AddressingKeeps, MakesChanges, DelegatingMakesChanges, AddressingMakesChanges, ChangesKeepWell, ChangesKeepLimit, ChangesOnlyAdd, StillIsIdle, IdleIsStill, IdleUntilDue, RefreshRests, RouterIsHashed, ChangesKeepHashed, ChangesKeepShort, ChangesKeepGenuine, SilentTickIsStill};
 ghost use Rattle.hn_rules.specs.Refresh.{IsRefresh};
+ghost use Rattle.hn_rules.specs.Rested.{KeepsId, RestfulTick, UsedWhereAssigned, ViewOfLater};
 ghost use Rattle.hn_rules.specs.Rules.{IsSole};
 ghost use Rattle.hn_rules.specs.Tick.{IsExpiry, forgetting, IsPortsTick};
 ghost use Rattle.hn_rules.specs.Ticks.{IsTick};
@@ -24,12 +25,12 @@ use hn_assign::{
 };
 use hn_base::{NodeId, ascending_is_unique};
 use hn_data::items_are_unique;
-use hn_deleg::{ends_of_later, usable_is_unique, usable_of_later};
+use hn_deleg::{ends_of_later, usable_is_unique, usable_of_later, used_by_candidates};
 use hn_dncp::{
     packing_is_not_empty, packing_is_read, packing_is_short, packing_is_unique, peers_stay,
     still_port, still_port_stays,
 };
-use hn_graph::{own_is_reachable, reachability_stays};
+use hn_graph::{own_is_reachable, reachability_follows, reachability_stays};
 use hn_hash::hash_has_eight_bytes;
 use hn_link::common_link_of_later;
 use hn_own::{
@@ -42,7 +43,7 @@ use hn_store::{
 };
 use hn_timers::expiry_is_a_moment;
 use hn_tlv::{first_fault_is_unique, list_is_of_bytes, list_is_unique, spelling_is_prefix_free};
-use hn_typed::{item_fault_is_unique, item_is_unique, written_is_read};
+use hn_typed::{item_fault_is_unique, item_is_unique, item_or_fault, written_is_read};
 
 /// The network state hash of a router is that of the leaves of the nodes that it reaches.
 pub fn hash_is_of_leaves()
@@ -189,6 +190,55 @@ pub fn idle_until_due()
     still_stays();
     next_due_stays();
 }
+
+/// Where nothing that a router keeps has come to its moment, and the assignment subroutine would change nothing, a tick
+/// leaves what the router says of itself, its posts, the nodes that it reaches and its assignments, marks of application
+/// aside.
+pub fn restful_tick()
+    ensures { RestfulTick }
+{
+    reachability_stays();
+    ending_leaves();
+    rules_have_one_result();
+}
+
+/// Where nothing that a router keeps has come to its moment, and it uses and wants after a tick what it did before, it used
+/// the same delegated prefixes where the tick assigned prefixes, and what it had not wanted it did not want there. So it is
+/// whatever the tick publishes anew.
+pub fn used_where_assigned()
+    ensures { UsedWhereAssigned }
+{
+    reachability_stays();
+    reachability_follows();
+    ending_leaves();
+    rules_have_one_result();
+    used_by_candidates();
+    router_stays_later();
+    rules_keep_a_router();
+    rules_keep_the_rest();
+    refresh_makes_a_router();
+    held_is_of_an_entry();
+    list_is_of_bytes();
+    list_is_unique();
+    spelling_is_prefix_free();
+    item_is_unique();
+    item_fault_is_unique();
+    item_or_fault();
+    written_is_read();
+    items_are_unique();
+}
+
+/// While time passes and nothing happens, a router sees the same network.
+pub fn view_of_later()
+    ensures { ViewOfLater }
+{
+    held_is_of_an_entry();
+}
+
+/// A tick keeps the identifier.
+pub fn tick_keeps_the_identifier()
+    ensures { KeepsId IsTick }
+{}
 
 /// Right after a refresh another changes nothing.
 pub fn refresh_after_a_refresh_rests()

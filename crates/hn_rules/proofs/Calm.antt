@@ -1,0 +1,190 @@
+-- A tick of a router that keeps nothing which has come to its moment.
+use Rattle.std.proofs.Common.{◌≡◌, ◌∙◌, ℕ, ◌≤◌, cond, List, [], ◌∷◌, map, get_or, Option, Some, refl, sym, ap, subst}
+use Rattle.std.specs.Prelude.{Contains, ◌==◌}
+use Rattle.std.specs.List.{filter_map, cons_option}
+use Rattle.std.specs.Option.{option_map}
+use Rattle.std.proofs.lemmas.List.Elements.{All-contains_itself, All-filter, All-weaker}
+use Rattle.hn_base.specs.Words.{Begins}
+use Rattle.hn_base.specs.declared.ids.NodeId.{NodeId}
+use Rattle.hn_assign.specs.Fixed.{IsUnchanged, unmarked}
+use Rattle.hn_assign.specs.Subroutine.{IsSubroutine}
+use Rattle.hn_assign.specs.declared.assigned.Assigned.{Assigned}
+use Rattle.hn_assign.specs.declared.held.Held.{Held}
+use Rattle.hn_assign.specs.declared.held.Ran.{Ran}
+use Rattle.hn_data.specs.View.{PlainView}
+use Rattle.hn_data.specs.declared.said.AssignedPrefix.{AssignedPrefix}
+use Rattle.hn_data.specs.declared.view.Entry.{Entry}
+use Rattle.hn_deleg.specs.Used.{AreUsable}
+use Rattle.hn_graph.specs.Laws.{ReachabilityStays}
+use Rattle.hn_own.specs.HeldPairs.{published_in, published_of}
+use Rattle.hn_own.specs.Laws.{NoneEnds}
+use Rattle.hn_own.specs.Ports.{ArePorts, endpoints_of}
+use Rattle.hn_own.specs.declared.own.OwnItems.{OwnItems}
+use Rattle.hn_own.specs.declared.own_prefixes.OwnPrefix.{OwnPrefix}
+use Rattle.hn_store.specs.Loss.{remembered}
+use Rattle.hn_store.specs.Nodes.{held}
+use Rattle.hn_store.specs.declared.stored.HeldNode.{HeldNode}
+use Rattle.hn_store.specs.declared.stored.Stored.{Stored}
+use Rattle.hn_rules.specs.declared.running.Running.{Running}
+use Rattle.hn_rules.specs.declared.state.State.{State}
+use Rattle.hn_rules.specs.Assigning.{IsWishAt, IsAssigned}
+use Rattle.hn_rules.specs.Delegating.{ending}
+use Rattle.hn_rules.specs.Nodes.{held_entry, own_entry, entry_of}
+use Rattle.hn_rules.specs.Refresh.{own_items, IsRefresh}
+use Rattle.hn_rules.specs.Rested.{IsRested, RestfulTick}
+use Rattle.hn_rules.specs.Router.{IsRefreshed, IsFresh, IsRouter}
+use Rattle.hn_rules.specs.Rules.{Rule, AtPort, IsSole, begun_at, with_words}
+use Rattle.hn_rules.specs.Seen.{seen_by}
+use Rattle.hn_rules.specs.Still.{at_moment, IsUneventful}
+use Rattle.hn_rules.specs.Tick.{IsExpiry, forgetting, IsPortTick}
+use Rattle.hn_rules.specs.Ticks.{IsLosing, IsSettling, IsTick}
+use Rattle.hn_rules.proofs.Endpoints.{ports_stand}
+use Rattle.hn_rules.proofs.Forgetting.{stays, filter_map-same, same_held, refreshed_forgetting}
+use Rattle.hn_rules.proofs.Leads.{keeps_each}
+use Rattle.hn_rules.proofs.Recent.{LeadsOn, recent_fresh, same_refresh}
+use Rattle.hn_rules.proofs.Refreshes.{Kept, kept_self, keeps_kept_at, refreshed-later, tick_keeps}
+use Rattle.hn_rules.proofs.Resting.{none_expire_at}
+
+-- the laws on which it rests
+pub record CalmLaws : Type 0 where
+  pub reach : ReachabilityStays
+  pub ending : NoneEnds
+  pub one_expiry : IsSole IsExpiry
+  pub one_refresh : IsSole IsRefresh
+
+-- where a rule may leave all as it was, it does
+only : (rule : Rule) → IsSole rule → (r a : Running) → rule r a → rule r r → a ≡ r
+only rule sole r a holds rests =
+    let stream : ℕ → ℕ = λ i. get_or a.done.words i 0 in
+    let begins : Begins a.done.words stream = λ i within. refl in
+    sole.one stream r a r holds rests begins (sole.grows stream r a holds begins)
+
+-- ---- assignments that differ in marks alone
+
+published_unmarked : (xs : List Assigned) → filter_map published_of (map unmarked xs) ≡ published_in xs
+published_unmarked [] = refl
+published_unmarked (c ∷ xs) = ap (cons_option (published_of c)) (published_unmarked xs)
+
+-- they publish the same
+pub same_published : (before after : List Assigned) → IsUnchanged before after → published_in after ≡ published_in before
+same_published before after same = sym (published_unmarked after) ∙ ap (filter_map published_of) same ∙ published_unmarked before
+
+with_held : (s : State) (ran : Held) → IsUnchanged s.held.assigned ran.assigned → IsFresh s → IsFresh (record s { held = ran })
+with_held s ran same is = record {
+  refreshed = record {
+    published = ap (λ (list : List AssignedPrefix). let items : OwnItems = record (own_items s) { assigned = list } in items) (same_published s.held.assigned ran.assigned same) ∙ is.refreshed.published;
+    reached = record {
+      moment = is.refreshed.reached.moment;
+      past = is.refreshed.reached.past;
+      was = record { ascending = is.refreshed.reached.was.ascending; exactly = is.refreshed.reached.was.exactly };
+    };
+    lost = is.refreshed.lost;
+    hashed = is.refreshed.hashed;
+  };
+  reached = record { ascending = is.reached.ascending; exactly = is.reached.exactly };
+  young = is.young;
+}
+
+-- ---- a tick
+
+module _ (laws : CalmLaws) (s : State) (now : ℕ) (router : IsRouter s) (begun : s.moment ≤ now) (quiet : IsUneventful now s) where
+  abbrev pub start : Running
+  start = begun_at now s
+
+  abbrev pub then : State
+  then = at_moment now s
+
+  -- and without the nodes that are forgotten
+  abbrev pub forgot : State
+  forgot = record then { table = remembered now s.table }
+
+  refreshed_then : IsRefreshed then
+  refreshed_then = refreshed-later now s begun router.refreshed
+
+  -- nobody is silent, no prefix has ended, nothing is published
+  pub nothing_lost : (lost : Running) → IsLosing start lost → lost ≡ start
+  nothing_lost lost (expired, expiry, (ended, ends, refresh)) =
+      let none : expired ≡ start = only IsExpiry laws.one_expiry start expired expiry (none_expire_at start router.well.ports quiet.heard) in
+      let same : ending start ≡ start = ap (λ (list : List OwnPrefix). let x : Running = record start { state = record start.state { delegated = list } } in x) ((laws.ending now s.delegated).1 quiet.lasting) in
+      let whole : ended ≡ start = ends ∙ ap ending none ∙ same in
+      only IsRefresh laws.one_refresh start lost (subst (λ (x : Running). IsRefresh x lost) whole refresh) (same_refresh start (recent_fresh laws.reach then refreshed_then quiet.young quiet.leads))
+
+  refreshed_forgot : IsRefreshed forgot
+  refreshed_forgot = refreshed_forgetting laws.reach start refreshed_then
+
+  pub fresh_forgot : IsFresh forgot
+  fresh_forgot = recent_fresh laws.reach forgot refreshed_forgot quiet.young (All-filter (stays now) (LeadsOn now) s.table.entries quiet.leads)
+
+  -- what is held of a reachable node stays
+  pub known_forgot : (id : NodeId) → Contains s.reach id → held forgot.table.entries id.0 ≡ held s.table.entries id.0
+  known_forgot id there = same_held s router.refreshed.reached.moment now router.refreshed.reached.was router.refreshed.lost id there
+
+  seen_forgot : (id : NodeId) → Contains s.reach id → entry_of forgot id ≡ entry_of then id
+  seen_forgot id there =
+      ap (λ (h : Option Stored). cond (id.0 == s.id.0) (Some (own_entry then)) (option_map (λ (stored : Stored). held_entry now (record { id = id; stored = stored })) h)) (known_forgot id there)
+
+  -- the router sees the same
+  pub same_view : seen_by forgot ≡ seen_by then
+  same_view =
+      ap (λ (nodes : List Entry). let view : PlainView = record { own = s.id.0; now = now; nodes = nodes } in view)
+      (filter_map-same (entry_of forgot) (entry_of then) s.reach (All-weaker (Contains s.reach) (λ id. entry_of forgot id ≡ entry_of then id) seen_forgot s.reach (All-contains_itself s.reach)))
+
+  -- and prefixes are assigned as then
+  pub assigned_then : (ran : Ran) → IsAssigned forgot ran → IsAssigned then ran
+  assigned_then ran is = record {
+    usable = is.usable;
+    are_usable = subst (λ (view : PlainView). AreUsable view is.usable) same_view is.are_usable;
+    wishes = is.wishes;
+    are_asked = record {
+      ascending = is.are_asked.ascending;
+      exact = λ wish. (
+        λ there. let w = (is.are_asked.exact wish).0 there in
+            record { place = w.place; asked = subst (λ (view : PlainView). IsWishAt s.private view is.usable w.place wish) same_view w.asked; post = w.post },
+        λ w. (is.are_asked.exact wish).1 (record { place = w.place; asked = subst (λ (view : PlainView). IsWishAt s.private view is.usable w.place wish) (sym same_view) w.asked; post = w.post }),
+      );
+    };
+    is_subroutine = subst (λ (view : PlainView). IsSubroutine view is.wishes s.held ran) same_view is.is_subroutine;
+  }
+
+  module _ (changes_none : (ran : Ran) → IsAssigned then ran → IsUnchanged s.held.assigned ran.held.assigned) where
+    -- prefixes are assigned as they were, and nothing is published
+    record IsSettled (settled : Running) : Type 0 where
+      pub holds : Held
+      pub same : IsUnchanged s.held.assigned holds.assigned
+      pub is : settled.state ≡ record forgot { held = holds }
+
+    settles : (settled : Running) → IsSettling (forgetting start) settled → IsSettled settled
+    settles settled (assigned, assigns, refresh) =
+        let ran = assigns.ran in
+        let same = changes_none ran (assigned_then ran assigns.is_assigned) in
+        let after : Running = with_words ran.words (record (forgetting start) { state = record forgot { held = ran.held } }) in
+        let here : IsRefresh after settled = subst (λ (x : Running). IsRefresh x settled) assigns.gives refresh in
+        let none : settled ≡ after = only IsRefresh laws.one_refresh after settled here (same_refresh after (with_held forgot ran.held same fresh_forgot)) in
+        record { holds = ran.held; same = same; is = ap (λ (x : Running). x.state) none }
+
+    rested : (after : Running) → IsTick start after → IsRested s after.state
+    rested after (lost, losing, (forgetful, forgets, (settled, settling, ticks))) =
+        let none : forgetful ≡ forgetting start = forgets ∙ ap forgetting (nothing_lost lost losing) in
+        let rest = settles settled (subst (λ (x : Running). IsSettling x settled) none settling) in
+        let ports_are : settled.state.ports ≡ s.ports = ap (λ (x : State). x.ports) rest.is in
+        let kept : Kept settled.state after =
+        keeps_each (Kept settled.state) (λ at. AtPort at IsPortTick) (λ at. keeps_kept_at settled.state at IsPortTick tick_keeps) (endpoints_of settled.state.ports) settled after ticks
+        (kept_self settled.state (subst ArePorts (sym ports_are) router.well.ports))
+        in
+        let whole : after.state ≡ record forgot { held = rest.holds; ports = after.state.ports } =
+        kept.untouched.gives ∙ ap (λ (x : State). let y : State = record x { ports = after.state.ports } in y) rest.is in
+        let assigned_is : after.state.held.assigned ≡ rest.holds.assigned = ap (λ (x : State). x.held.assigned) whole in
+        let table_is : after.state.table.entries ≡ forgot.table.entries = ap (λ (x : State). x.table.entries) whole in
+        record {
+          id = ap (λ (x : State). x.id) whole;
+          number = ap (λ (x : State). x.number) whole;
+          own = ap (λ (x : State). x.own) whole;
+          private = ap (λ (x : State). x.private) whole;
+          reach = ap (λ (x : State). x.reach) whole;
+          endpoints = (ports_stand settled after ticks).1 ∙ ap endpoints_of ports_are;
+          known = λ id there. ap (λ (entries : List HeldNode). held entries id.0) table_is ∙ known_forgot id there;
+          assigned = subst (IsUnchanged s.held.assigned) (sym assigned_is) rest.same;
+        }
+
+pub restful_tick : CalmLaws → RestfulTick
+restful_tick laws now s after router begun quiet changes_none tick = rested laws s now router begun quiet changes_none after tick

@@ -12,3 +12,4 @@ mod OneAdverts
 mod Changing
 mod Facts
 mod Refused
+mod Restful

@@ -13,10 +13,15 @@ use Rattle.hn_rules.specs.declared.running.Running.{Running}
 use Rattle.hn_router.specs.Advertising.{IsAdvertBytes}
 use Rattle.hn_router.specs.New.{IsNew}
 use Rattle.hn_own.specs.Ports.{endpoints_of}
-use Rattle.hn_router.specs.Act.{PlainEvent, Arrive, Attach, Detach, is_refused, IsEventInRange, IsEvent, Happened}
+use Rattle.hn_router.specs.Act.{PlainEvent, Arrive, Tick, Attach, Detach, is_refused, IsEventInRange, IsEvent, Happened}
 use Rattle.hn_rules.specs.Genuine.{IsGenuine, TextsCollide, BytesSayPublished}
 use Rattle.hn_rules.specs.Lengths.{most_datagram}
 use Rattle.hn_rules.specs.Router.{IsRouter}
+use Rattle.hn_rules.specs.Assigning.{IsAssigned}
+use Rattle.hn_rules.specs.Rested.{IsRested}
+use Rattle.hn_rules.specs.Still.{at_moment, IsUneventful}
+use Rattle.hn_assign.specs.Fixed.{IsUnchanged}
+use Rattle.hn_assign.specs.declared.held.Ran.{Ran}
 
 -- From one state, with one event, moment and stream of words, there is at most one result.
 abbrev pub OneResult : Type 0
@@ -87,6 +92,14 @@ pub record RefusedInputStays : Type 0 where
       → ¬ (IsLinkLocal from.from.ip) → next ≡ record s { moment = now; due = 0 }
   pub malformed : (now : ℕ) (from : Origin) (bytes : List ℕ) (place why : ℕ) (s next : State) (done : Done) → Happened now (Arrive from bytes) s next done
       → FirstFault bytes place why → next ≡ record s { moment = now; due = 0 }
+
+-- Where nothing that a router keeps has come to its moment, and the assignment subroutine would change nothing, a tick
+-- changes neither what others see of the router nor its assignments, marks of application aside.
+abbrev pub RestfulTickStays : Type 0
+RestfulTickStays =
+    (now : ℕ) (s next : State) (done : Done) → IsRouter s → s.moment ≤ now → IsUneventful now s
+    → ((ran : Ran) → IsAssigned (at_moment now s) ran → IsUnchanged s.held.assigned ran.held.assigned)
+    → Happened now Tick s next done → IsRested s next
 
 -- ---- what was published
 

@@ -6,3 +6,7 @@ use Rattle.hn_rules.specs.declared.done.Done.{Done}
 pub record PlainPlan : Type 0 where
   pub state : State
   pub done : Done
+
+-- the state of a router after what was planned is done
+abbrev pub changed : PlainPlan → State → State
+changed plan s = plan.state

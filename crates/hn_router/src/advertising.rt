@@ -3,7 +3,7 @@
 ghost use Rattle.std.specs.Prelude.{◌≡◌, ◌≢◌, ◌^◌, ◌<◌, All, Contains, IfOk, IfSome, IfNone};
 ghost use Rattle.hn_base.specs.Prefix.{IsPrefix};
 ghost use Rattle.hn_deleg.specs.Used.{whole_seconds};
-ghost use Rattle.hn_router.specs.Advertising.{AreInfos, IsLifetime, IsAdvertBytes};
+ghost use Rattle.hn_router.specs.Advertising.{AreInfos, IsLifetime, IsAdvertAt, IsAdvertBytes};
 ghost use Rattle.hn_router.specs.Infos.{FitsFields, IsInfoFrom, HasNoInfo};
 
 use crate::router::Router;
@@ -78,12 +78,29 @@ impl Router {
         Ok(if outside { LIFETIME } else { 0 })
     }
 
-    /// The Router Advertisement on an endpoint at the router's moment, as the bytes of the ICMPv6 message (RFC 4861,
-    /// sections 4.2 and 4.6.2; RFC 7788, section 7). It has the flags M and O if and only if a node is elected for
-    /// capability H on the endpoint's Common Link; the router lifetime 1800 seconds if a reachable node with an
-    /// HNCP-Version has a connection to the outside, and else 0; and the prefix of each applied assignment of the endpoint
-    /// whose delegated prefix is used, in ascending order, with what is left of the lifetimes of the delegated prefix in
-    /// whole seconds, rounded down. An endpoint that is not attached is answered too.
+    /// The Router Advertisement on an endpoint at the router's moment (RFC 4861, sections 4.2 and 4.6.2; RFC 7788, section
+    /// 7). It has the flags M and O if and only if a node is elected for capability H on the endpoint's Common Link; the
+    /// router lifetime 1800 seconds if a reachable node with an HNCP-Version has a connection to the outside, and else 0;
+    /// and the prefix of each applied assignment of the endpoint whose delegated prefix is used, in ascending order, with
+    /// what is left of the lifetimes of the delegated prefix in whole seconds, rounded down. An endpoint that is not
+    /// attached is answered too.
+    ///
+    /// # Errors
+    ///
+    /// Out of memory.
+    pub fn advertisement(&self, alloc: Global, e: EpId) -> Result<Advert, NoMemory>
+        ensures { IfOk result (IsAdvertAt self.now e) }
+    {
+        let managed = self.elected(alloc, e, Letter::H)?.is_some();
+        Ok(Advert {
+            managed,
+            other: managed,
+            lifetime: self.lifetime(alloc)?,
+            infos: self.infos(alloc, e)?,
+        })
+    }
+
+    /// The same advertisement as the bytes of the ICMPv6 message.
     ///
     /// # Errors
     ///
@@ -91,13 +108,6 @@ impl Router {
     pub fn advert(&self, alloc: Global, e: EpId) -> Result<Bytes, NoMemory>
         ensures { IfOk result (IsAdvertBytes self.now e) }
     {
-        let managed = self.elected(alloc, e, Letter::H)?.is_some();
-        let advert = Advert {
-            managed,
-            other: managed,
-            lifetime: self.lifetime(alloc)?,
-            infos: self.infos(alloc, e)?,
-        };
-        bytes(alloc, &advert)
+        bytes(alloc, &self.advertisement(alloc, e)?)
     }
 }

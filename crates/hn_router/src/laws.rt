@@ -1,6 +1,6 @@
 //! Laws of the router. Each is the contract of a function that does nothing: call it to know its law.
 
-ghost use Rattle.hn_router.specs.Laws.{OneResult, NewIsUnique, NewIsRouter, RouterStays, MomentStays, MomentIsNow, EndpointsFollow, RouterHasOneAdvert, SendsAreShort, LimitStays, RefusedInputStays, GenuineStays};
+ghost use Rattle.hn_router.specs.Laws.{OneResult, NewIsUnique, NewIsRouter, RouterStays, MomentStays, MomentIsNow, EndpointsFollow, RouterHasOneAdvert, SendsAreShort, LimitStays, RefusedInputStays, RestfulTickStays, GenuineStays};
 
 use hn_deleg::usable_is_unique;
 use hn_graph::{own_is_reachable, reachable_is_a_node};
@@ -8,8 +8,9 @@ use hn_link::{common_link_is_unique, elected_is_unique};
 use hn_own::{none_are_well, own_data_is_unique};
 use hn_rules::{
     changes_keep_genuine, changes_keep_hashed, changes_keep_short, changes_keep_the_limit,
-    next_due_is_one, refresh_makes_a_router, router_stays_later, rules_have_one_result,
-    rules_keep_a_router, rules_keep_the_endpoints, rules_keep_the_rest, rules_make_changes,
+    next_due_is_one, refresh_makes_a_router, restful_tick, router_stays_later,
+    rules_have_one_result, rules_keep_a_router, rules_keep_the_endpoints, rules_keep_the_rest,
+    rules_make_changes,
 };
 use hn_store::loss_keeps_table;
 use hn_tlv::{first_fault_is_unique, list_is_unique};
@@ -105,6 +106,14 @@ pub fn refused_input_stays()
     ensures { RefusedInputStays }
 {
     first_fault_is_unique();
+}
+
+/// A tick that nothing disturbs, at which the assignment subroutine would change nothing, changes neither what others see of
+/// the router nor its assignments, marks of application aside.
+pub fn restful_ticks_stay()
+    ensures { RestfulTickStays }
+{
+    restful_tick();
 }
 
 /// A router's own and held node data stay published, and so does what it sends, or texts that were published collide.

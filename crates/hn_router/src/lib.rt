@@ -13,7 +13,7 @@ mod router;
 pub use event::Event;
 pub use laws::{
     endpoints_follow, events_keep_the_moment, genuine_stays, limit_stays, moment_is_now,
-    new_is_router, new_is_unique, one_result, refused_input_stays, router_has_one_advert,
-    router_stays, sends_are_short,
+    new_is_router, new_is_unique, one_result, refused_input_stays, restful_ticks_stay,
+    router_has_one_advert, router_stays, sends_are_short,
 };
 pub use router::{Plan, Router};

@@ -3,7 +3,7 @@ ghost use Rattle.hn_base.specs.Caps.{plain_caps};
 ghost use Rattle.hn_assign.specs.Gathered.{AreAdvertised};
 ghost use Rattle.hn_base.specs.Words.{Took};
 ghost use Rattle.hn_own.specs.Ports.{is_attached, endpoints_of};
-ghost use Rattle.hn_rules.specs.Nodes.{leaves_of};
+ghost use Rattle.hn_rules.specs.Nodes.{leaves_of, view_of};
 ghost use Rattle.hn_own.specs.OwnPrefixes.{may_delegate};
 ghost use Rattle.hn_own.specs.Addresses.{may_address};
 ghost use Rattle.hn_own.specs.Posts.{posts_of, length_at};
@@ -14,10 +14,13 @@ ghost use Rattle.hn_own.specs.HeldPairs.{AreHeldPairs};
 ghost use Rattle.hn_link.specs.CommonLink.{IsCommonLink};
 ghost use Rattle.hn_rules.specs.Done.{nothing};
 ghost use Rattle.hn_rules.specs.Due.{IsNextDue};
+ghost use Rattle.hn_rules.specs.Router.{IsRouter};
 ghost use Rattle.hn_rules.specs.Idle.{IsIdleTick};
+ghost use Rattle.hn_rules.specs.Router.{IsRouter};
 ghost use Rattle.hn_rules.specs.Still.{at_moment};
 ghost use Rattle.hn_router.specs.Act.{plain_event, Tick, Happened};
 ghost use Rattle.hn_router.specs.New.{no_caps, IsNew};
+ghost use Rattle.hn_router.specs.Plan.{changed};
 
 use crate::act::{event_in_range, run};
 use crate::due::{due_after, is_tick};
@@ -27,7 +30,7 @@ use hn_assign::{AdvertisedPrefixes, Assigned, Held, Wishes, gather};
 use hn_base::{
     Caps, Endpoints, EpId, Letter, LinkLength, Moment, NoMemory, NodeId, NodeIds, Sequence, Shared,
 };
-use hn_data::NodeData;
+use hn_data::{Entry, NodeData};
 use hn_deleg::{Delegated, outside, used};
 use hn_dncp::Port;
 use hn_hash::{Leaf, Part, network_of};
@@ -217,7 +220,8 @@ impl Router {
 
     /// Does what was planned. Never allocates.
     pub fn commit(&mut self, plan: Plan) -> Done
-        ensures router { self.new ≡ plan.state }
+        requires { IsRouter (changed plan self.old) }
+        ensures router { self.new ≡ changed plan self.old }
         ensures done { result ≡ plan.done }
     {
         let Plan { state, done } = plan;
@@ -264,7 +268,7 @@ impl Router {
         ensures next { IfOk result (λ done. plain_event event.now ≡ Tick → IsIdleTick now self.old → IsNextDue self.new self.new.due) }
     {
         rules_have_one_result();
-        if is_tick(event) && now < self.state.due {
+        if is_tick(event) && now < self.due_at() {
             self.pass(now);
             return Ok(Done::new(alloc));
         }
@@ -423,6 +427,18 @@ impl Router {
         Ok(outside(&self.state.view(nodes.as_slice())))
     }
 
+    /// What the router sees: the nodes that were reachable at the last refresh, itself among them, in ascending order of
+    /// their identifiers, each with its node data (RFC 7787, section 4.6).
+    ///
+    /// # Errors
+    ///
+    /// Out of memory.
+    pub fn nodes(&self, alloc: Global) -> Result<Vec<Entry>, NoMemory>
+        ensures { IfOk result (λ nodes. nodes.items ≡ view_of self.now) }
+    {
+        self.state.seen(alloc)
+    }
+
     /// The delegated prefixes that the router uses, in ascending order, at its moment (RFC 7788, sections 6.2 and 6.3).
     ///
     /// # Errors
@@ -527,5 +543,12 @@ impl Router {
         ensures { IfOk result (λ leaves. leaves.items ≡ leaves_of self.now) }
     {
         self.state.leaves(alloc)
+    }
+
+    /// What holds of each router holds of this one. Does nothing: call it to know its law.
+    pub fn is_router(&self)
+        ensures { IsRouter self.now }
+    {
+        let _ = &self.state;
     }
 }

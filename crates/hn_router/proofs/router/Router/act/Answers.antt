@@ -9,8 +9,8 @@ use Rattle.hn_router.specs.Act.{plain_event, PlainEvent, Tick, Happened}
 use Rattle.hn_router.proofs.Keeping.{passed, next_known}
 use Rattle.hn_router.proofs.router.Router.act.Goals as goal
 
-pub returns-then-now-self-clause-happened : goal.returns-then-now-self-clause-happened
-returns-then-now-self-clause-happened g c =
+pub returns-then-now-due_at-clause-happened : goal.returns-then-now-due_at-clause-happened
+returns-then-now-due_at-clause-happened g c =
     let now = c.args.now in
     let s = c.args.self.now in
     let tick : plain_event c.args.event.now ≡ Tick = c.is_tick.ensures.0 c.if-is_tick.true in

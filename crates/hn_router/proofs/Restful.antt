@@ -1,0 +1,37 @@
+-- A tick that nothing disturbs.
+use Rattle.std.proofs.Common.{◌≤◌, ℕ, inl, inr, sym, subst}
+use Rattle.hn_assign.specs.Fixed.{IsUnchanged}
+use Rattle.hn_assign.specs.declared.held.Ran.{Ran}
+use Rattle.hn_rules.specs.Assigning.{IsAssigned}
+use Rattle.hn_rules.specs.Rested.{IsRested, RestfulTick}
+use Rattle.hn_rules.specs.Router.{IsRouter}
+use Rattle.hn_rules.specs.Rules.{begun_at}
+use Rattle.hn_rules.specs.Still.{at_moment, IsUneventful}
+use Rattle.hn_rules.specs.Ticks.{IsTick}
+use Rattle.hn_rules.specs.declared.done.Done.{Done}
+use Rattle.hn_rules.specs.declared.running.Running.{Running}
+use Rattle.hn_rules.specs.declared.state.State.{State}
+use Rattle.hn_router.specs.Act.{Tick, IsEvent, Happened}
+
+ticks : (now : ℕ) (s : State) (after : Running) → IsEvent Tick (begun_at now s) after → IsTick (begun_at now s) after
+ticks now s after (inl refused) = absurd cc
+ticks now s after (inr rule) = rule.1
+
+-- the moment that it keeps is not among what stays
+but_due : (s then : State) (due : ℕ) → IsRested s then → IsRested s (record then { due = due })
+but_due s then due r = record {
+  id = r.id;
+  number = r.number;
+  own = r.own;
+  private = r.private;
+  endpoints = r.endpoints;
+  reach = r.reach;
+  known = r.known;
+  assigned = r.assigned;
+}
+
+pub restful : RestfulTick → (now : ℕ) (s next : State) (done : Done) → IsRouter s → s.moment ≤ now → IsUneventful now s
+    → ((ran : Ran) → IsAssigned (at_moment now s) ran → IsUnchanged s.held.assigned ran.held.assigned) → Happened now Tick s next done → IsRested s next
+unfolding Happened
+restful law now s next done router past calm same (after, ran, (due, is_due, gives), is) =
+    subst (IsRested s) (sym gives) (but_due s after.state due (law now s after router past calm same (ticks now s after ran)))

@@ -14,3 +14,5 @@ mod Copied
 mod Limited
 mod Authentics
 mod Grown
+mod Received
+mod Addressed

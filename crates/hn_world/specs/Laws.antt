@@ -1,5 +1,5 @@
 -- Laws of worlds that are the replay of their trace.
-use Rattle.std.specs.Prelude.{◌≡◌, ◌++◌, ◌∷◌, [], ℕ, List, Some}
+use Rattle.std.specs.Prelude.{◌≡◌, ◌<◌, ◌++◌, ◌∷◌, [], ℕ, List, Some, All, length}
 use Rattle.hn_base.specs.declared.version.Version.{Version}
 use Rattle.hn_hash.specs.declared.agreement.Agreement.{Agreement}
 use Rattle.hn_hash.specs.declared.leaf.Leaf.{Leaf}
@@ -53,3 +53,7 @@ WorldIsSound = (w : Parts) → IsReplayed w → IsSound w
 -- At each moment of a replayed world's past, each router has the endpoints that are attached, and no two of them on one link.
 abbrev pub AlwaysAttached : Type 0
 AlwaysAttached = (w : Parts) → IsReplayed w → Always AreAttached w
+
+-- Each copy of a replayed world goes to a router that is there.
+abbrev pub CopiesHaveReceivers : Type 0
+CopiesHaveReceivers = (w : Parts) → IsReplayed w → All (λ c. c.to.place < length w.members) w.copies

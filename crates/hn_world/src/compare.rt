@@ -1,4 +1,4 @@
-ghost use Rattle.std.specs.Prelude.{◌≡◌, ◌+◌, ◌<◌, ℕ, suc, IsSome, IfOk, Some, length, count_by, option_copied};
+ghost use Rattle.std.specs.Prelude.{◌≡◌, ◌↔◌, ◌+◌, ◌<◌, ℕ, suc, IsSome, IfOk, None, Some, length, count_by, option_copied};
 ghost use Rattle.std.specs.Option.{option_map};
 ghost use Rattle.hn_base.specs.Name.{name_text};
 ghost use Rattle.hn_rules.specs.Nodes.{leaves_of};
@@ -9,6 +9,7 @@ ghost use Rattle.hn_world.specs.Refusal.{copy_at};
 ghost use Rattle.hn_world.specs.Leaves.{Agrees, HasInfo};
 
 use crate::copies::CopyInfo;
+use crate::law::copies_have_receivers;
 use crate::world::World;
 use hn_base::{Name, NoMemory};
 use hn_hash::{Agreement, agree};
@@ -67,10 +68,13 @@ impl World {
         Some(mail.bytes.get().as_slice())
     }
 
-    /// Where a copy goes, from where, and whether it waits; `None` if there is no copy of that number. Never allocates.
+    /// Where a copy goes, from where, and whether it waits; `None` if and only if there is no copy of that number. Never
+    /// allocates.
     pub fn copy_info(&self, copy: u64) -> Option<CopyInfo>
-        ensures { HasInfo self.now (copy_at self.now copy) result }
+        ensures info { HasInfo self.now (copy_at self.now copy) result }
+        ensures none { (result ≡ None) ↔ (copy_at self.now copy ≡ None) }
     {
+        copies_have_receivers();
         let mail = self.parts.copy_at(copy)?;
         let member = self.parts.members.get(mail.to.place)?;
         Some(CopyInfo {

@@ -9,6 +9,7 @@ ghost use Rattle.hn_world.specs.Beside.{with_beside};
 ghost use Rattle.hn_world.specs.Mail.{copies_of};
 ghost use Rattle.hn_world.specs.Step.{acted, entered};
 ghost use Rattle.hn_world.specs.Prepared.{IsPrepared};
+ghost use Rattle.hn_world.specs.Replay.{IsSound};
 
 use crate::copies::MailCopy;
 use crate::event::{Traced, WEvent};
@@ -39,7 +40,7 @@ impl Parts {
         draw: &mut D,
     ) -> Result<Prepared, NoMemory>
         requires there { place < length self.now.members }
-        requires past { (m : Member) → slice_get self.now.members place ≡ Some m → m.router.moment ≤ self.now.moment }
+        requires sound { IsSound self.now }
         ensures { IfOk result (IsPrepared place (plain_event event.now) (D.words draw.old) (D.words draw.new) self.now) }
     {
         let member = self.members.at(place);

@@ -9,7 +9,7 @@ ghost use Rattle.hn_world.specs.Step.{Step};
 ghost use Rattle.hn_world.specs.Within.{AreWithinLimits};
 ghost use Rattle.hn_world.specs.Authentic.{AuthenticUnlessInjected};
 ghost use Rattle.hn_world.specs.Leaves.{EqualHashesAgree};
-ghost use Rattle.hn_world.specs.Laws.{StepIsUnique, EachEventIsEntered, EachEventIsAStep, AgreementIsUnique, AtMostOneWorld, WorldHasItsTrace, WorldHasItsVersion, WorldIsSound, AlwaysAttached};
+ghost use Rattle.hn_world.specs.Laws.{StepIsUnique, EachEventIsEntered, EachEventIsAStep, AgreementIsUnique, AtMostOneWorld, WorldHasItsTrace, WorldHasItsVersion, WorldIsSound, AlwaysAttached, CopiesHaveReceivers};
 
 use hn_hash::equal_hashes_agree_or_collide;
 use hn_router::{
@@ -80,6 +80,11 @@ pub fn always_attached()
 {
     endpoints_follow();
 }
+
+/// Each copy goes to a router that is there.
+pub fn copies_have_receivers()
+    ensures { CopiesHaveReceivers }
+{}
 
 /// At each moment of a world's past its routers are within the limits of its version, and so is each datagram that was
 /// ever sent.

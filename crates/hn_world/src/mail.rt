@@ -1,6 +1,7 @@
 //! The copies of what a router sends.
 
-ghost use Rattle.std.specs.Prelude.{◌≡◌, ◌++◌, ◌<◌, ◌+◌, ◌≤◌, true, All, length, Option, IfOk, OnOk, filter, map};
+ghost use Rattle.std.specs.Prelude.{◌≡◌, ◌++◌, ◌∷◌, [], ◌<◌, ◌+◌, ◌≤◌, ◌^◌, true, All, length, Option, None, Some, IfOk, IfSome, IsTrue, OnOk, filter, map};
+ghost use Rattle.hn_own.specs.Ports.{ArePorts};
 ghost use Rattle.hn_world.specs.Mail.{address_of, on_link_at, on_link, is_same, has_address, gets, copy_for, copies_on, copies_of_send, copies_of};
 
 use crate::copies::{MailCopy, Target};
@@ -59,16 +60,38 @@ impl Target {
     }
 }
 
-/// Adds the endpoints of a router that are attached to a link and get what a sender on it sent.
+/// Adds the copy of a datagram for an endpoint on the link of the sender, if it gets what was sent.
+fn add_copy(
+    copies: &mut Vec<MailCopy>,
+    at: &Target,
+    sender: &Target,
+    to: Option<Addr>,
+    bytes: &Shared<Bytes>,
+) -> Result<(), NoMemory>
+    requires { All (λ c. c.waiting ≡ true) copies.old.items }
+    ensures copies { OnOk result (copies.new.items ≡ copies.old.items ++ map (copy_for sender.now to bytes.now) (filter (gets sender.now to) (at.now ∷ []))) }
+    ensures waiting { OnOk result (All (λ c. c.waiting ≡ true) copies.new.items) }
+{
+    if at.gets(sender, to) {
+        copies.push(at.copy(sender, to, bytes)?)?;
+    }
+    Ok(())
+}
+
+/// Adds the copies of a datagram for those endpoints of a router that are attached to a link and get what a sender on it
+/// sent.
 fn add_on_link(
-    targets: &mut Vec<Target>,
+    copies: &mut Vec<MailCopy>,
     link: usize,
     place: usize,
     member: &Member,
     sender: &Target,
     to: Option<Addr>,
+    bytes: &Shared<Bytes>,
 ) -> Result<(), NoMemory>
-    ensures { OnOk result (targets.new.items ≡ targets.old.items ++ filter (gets sender.now to) (on_link_at link place member.now)) }
+    requires { All (λ c. c.waiting ≡ true) copies.old.items }
+    ensures copies { OnOk result (copies.new.items ≡ copies.old.items ++ map (copy_for sender.now to bytes.now) (filter (gets sender.now to) (on_link_at link place member.now))) }
+    ensures waiting { OnOk result (All (λ c. c.waiting ≡ true) copies.new.items) }
 {
     if !member.has_link(link) {
         return Ok(());
@@ -78,46 +101,69 @@ fn add_on_link(
             place,
             endpoint: port.id,
         };
-        if member.is_on(link, port.id) && target.gets(sender, to) {
-            targets.push(target)?;
+        if member.is_on(link, port.id) {
+            add_copy(copies, &target, sender, to, bytes)?;
         }
     }
     Ok(())
 }
 
-/// The endpoints that are attached to a link and get what a sender on it sent.
-fn receivers(
-    alloc: Global,
+/// The place of the router whose endpoints have addresses as this one, where there are so many routers.
+fn place_of(to: &Addr, count: usize) -> Option<usize>
+    ensures there { IfSome result (λ place. place < count) }
+    ensures place { (at : Target) → at.place < count → at.endpoint.0 < 2 ^ 32 → IsTrue (has_address to.now at) → result ≡ Some at.place }
+{
+    let ordinal = (to.ip >> 32).checked_sub(0xfe80 << 80)?;
+    if ordinal == 0 || ordinal > count as u128 {
+        return None;
+    }
+    Some((ordinal - 1) as usize)
+}
+
+/// Adds the copies of a datagram for the endpoints that are attached to a link and get what a sender on it sent by multicast.
+fn add_for_others(
+    copies: &mut Vec<MailCopy>,
     link: usize,
     members: &[Member],
     sender: &Target,
-    to: Option<Addr>,
-) -> Result<Vec<Target>, NoMemory>
-    ensures { IfOk result (λ targets. targets.items ≡ filter (gets sender.now to) (on_link link 0 members.now)) }
-{
-    let mut targets = Vec::new(alloc);
-    for (place, member) in members.iter().enumerate() {
-        add_on_link(&mut targets, link, place, member, sender, to)?;
-    }
-    Ok(targets)
-}
-
-/// Adds the copies of a datagram for some endpoints.
-fn add_copies(
-    copies: &mut Vec<MailCopy>,
-    targets: &[Target],
-    sender: &Target,
-    to: Option<Addr>,
     bytes: &Shared<Bytes>,
 ) -> Result<(), NoMemory>
     requires { All (λ c. c.waiting ≡ true) copies.old.items }
-    ensures copies { OnOk result (copies.new.items ≡ copies.old.items ++ map (copy_for sender.now to bytes.now) targets.now) }
+    ensures copies { OnOk result (copies.new.items ≡ copies.old.items ++ map (copy_for sender.now None bytes.now) (filter (gets sender.now None) (on_link link 0 members.now))) }
     ensures waiting { OnOk result (All (λ c. c.waiting ≡ true) copies.new.items) }
 {
-    for target in targets {
-        copies.push(target.copy(sender, to, bytes)?)?;
+    for (place, member) in members.iter().enumerate() {
+        add_on_link(copies, link, place, member, sender, None, bytes)?;
     }
     Ok(())
+}
+
+/// Adds the copy of a datagram for the endpoint with an address, if it is attached to a link.
+fn add_for_address(
+    copies: &mut Vec<MailCopy>,
+    link: usize,
+    members: &[Member],
+    sender: &Target,
+    to: Addr,
+    bytes: &Shared<Bytes>,
+) -> Result<(), NoMemory>
+    requires ports { All (λ m. ArePorts m.router.ports) members.now }
+    requires waiting { All (λ c. c.waiting ≡ true) copies.old.items }
+    ensures copies { OnOk result (copies.new.items ≡ copies.old.items ++ map (copy_for sender.now (Some to) bytes.now) (filter (gets sender.now (Some to)) (on_link link 0 members.now))) }
+    ensures waiting { OnOk result (All (λ c. c.waiting ≡ true) copies.new.items) }
+{
+    let Some(place) = place_of(&to, members.len()) else {
+        return Ok(());
+    };
+    add_on_link(
+        copies,
+        link,
+        place,
+        &members[place],
+        sender,
+        Some(to),
+        bytes,
+    )
 }
 
 /// Adds the copies of a datagram that the router at a place sends.
@@ -129,7 +175,8 @@ fn add_copies_of_send(
     member: &Member,
     send: &Outgoing,
 ) -> Result<(), NoMemory>
-    requires { All (λ c. c.waiting ≡ true) copies.old.items }
+    requires ports { All (λ m. ArePorts m.router.ports) members.now }
+    requires waiting { All (λ c. c.waiting ≡ true) copies.old.items }
     ensures copies { OnOk result (copies.new.items ≡ copies.old.items ++ copies_of_send members.now place member.now send.now) }
     ensures waiting { OnOk result (All (λ c. c.waiting ≡ true) copies.new.items) }
 {
@@ -140,9 +187,11 @@ fn add_copies_of_send(
         place,
         endpoint: send.endpoint,
     };
-    let targets = receivers(alloc, link, members, &sender, send.to)?;
     let bytes = Shared::new(alloc, Bytes::copy_of(alloc, send.bytes.as_slice())?)?;
-    add_copies(copies, targets.as_slice(), &sender, send.to, &bytes)
+    match send.to {
+        None => add_for_others(copies, link, members, &sender, &bytes),
+        Some(to) => add_for_address(copies, link, members, &sender, to, &bytes),
+    }
 }
 
 /// The copies of all that the router at a place sends.
@@ -153,6 +202,7 @@ pub(crate) fn copies_of(
     member: &Member,
     sends: &[Outgoing],
 ) -> Result<Vec<MailCopy>, NoMemory>
+    requires { All (λ m. ArePorts m.router.ports) members.now }
     ensures copies { IfOk result (λ copies. copies.items ≡ copies_of members.now place member.now sends.now) }
     ensures waiting { IfOk result (λ copies. All (λ c. c.waiting ≡ true) copies.items) }
 {

@@ -3,6 +3,7 @@ ghost use Rattle.std.specs.Option.{option_map, option_map_or};
 ghost use Rattle.std.specs.List.{slice_get};
 ghost use Rattle.hn_base.specs.Name.{name_text};
 ghost use Rattle.hn_base.specs.declared.version.Version.TheVariants.{One};
+ghost use Rattle.hn_world.specs.Authentic.{AuthenticUnlessInjected};
 ghost use Rattle.hn_world.specs.Names.{member_named};
 ghost use Rattle.hn_world.specs.Refusal.{refusal};
 ghost use Rattle.hn_world.specs.Routed.{named_by, place_by};
@@ -11,7 +12,7 @@ ghost use Rattle.hn_world.specs.Replay.{empty_world, IsReplayed, IsSound};
 
 use crate::copies::Copies;
 use crate::event::{Traced, WEvent, WorldFault};
-use crate::law::always_sound;
+use crate::law::{always_authentic, always_sound};
 use crate::links::Links;
 use crate::member::{Member, Members};
 use crate::parts::Parts;
@@ -128,7 +129,8 @@ impl World {
         self.parts.refusal(event, self.parts.place_by(event))
     }
 
-    /// Lets an event happen, and answers what routers noted.
+    /// Lets an event happen, and answers what routers noted. What routers hold afterwards was published, or two texts that
+    /// were published collide, where no datagram was injected so far (RFC 7787, section 7.2.3).
     ///
     /// # Errors
     ///
@@ -144,8 +146,10 @@ impl World {
         ensures refused { (code : ℕ) → (result ≡ Err (WorldFault.Refused code)) ↔ (refusal self.old event ≡ Some code) }
         ensures err { OnErr result (self.new ≡ self.old) }
         ensures undrawn { (code : ℕ) → result ≡ Err (WorldFault.Refused code) → draw.new ≡ draw.old }
+        ensures authentic { IfOk result (λ _. AuthenticUnlessInjected self.new) }
     {
         always_sound();
+        always_authentic();
         let place = self.parts.place_by(&event);
         if let Some(code) = self.parts.refusal(&event, place) {
             return Err(WorldFault::Refused(code));

@@ -1,5 +1,5 @@
 -- The routers of a settled set are sound alike.
-use Rattle.std.proofs.Common.{◌≡◌, ◌↔◌, ℕ, List, Contains, inl, inr, sym, subst}
+use Rattle.std.proofs.Common.{◌≡◌, ◌↔◌, List, Contains, inl, inr, sym, subst}
 use Rattle.hn_base.specs.declared.ids.NodeId.{NodeId}
 use Rattle.hn_base.specs.declared.ids.EpId.{EpId}
 use Rattle.hn_base.specs.Prefix.{PlainPrefix}
@@ -11,7 +11,7 @@ use Rattle.hn_world.specs.declared.member.Member.{Member}
 use Rattle.hn_world.specs.declared.parts.Parts.{Parts}
 use Rattle.hn_audit.specs.Reached.{IsReached}
 use Rattle.hn_audit.specs.Settled.{UseSame}
-use Rattle.hn_audit.specs.Sound.{Uses, IsThere, IsServed, IsWithout, IsHeldOn, IsSound}
+use Rattle.hn_audit.specs.Sound.{Uses, Link, Joint, IsThere, IsServed, IsWithout, IsHeldOn, IsSound}
 use Rattle.hn_audit.proofs.BridgeSets.{IsKnown, itself, reach_is}
 
 -- where one router uses what the other uses, it uses each prefix that the other uses
@@ -30,37 +30,37 @@ module _ (w : Parts) (r s : Member) (reach : s.router.reach ≡ r.router.reach)
   reached_to : (m : Member) → IsReached w r m → IsReached w s m
   reached_to m h = record { runs = h.runs; reached = subst (λ (ids : List NodeId). Contains ids m.router.id) (sym reach) h.reached }
 
-  there_from : (link : ℕ) (m : Member) (e : EpId) → IsThere w s link m e → IsThere w r link m e
+  there_from : (link : Link) (m : Member) (e : EpId) → IsThere w s link m e → IsThere w r link m e
   there_from link m e h =
       let set = h.of_set in
-      record { runs = h.runs; attached = h.attached; on_link = h.on_link; of_set = record { router = set.router; reached = reached_from set.router set.reached; endpoint = set.endpoint; on_link = set.on_link } }
+      record { runs = h.runs; on_link = h.on_link; of_set = record { router = set.router; reached = reached_from set.router set.reached; post = set.post; on_link = set.on_link } }
 
-  there_to : (link : ℕ) (m : Member) (e : EpId) → IsThere w r link m e → IsThere w s link m e
+  there_to : (link : Link) (m : Member) (e : EpId) → IsThere w r link m e → IsThere w s link m e
   there_to link m e h =
       let set = h.of_set in
-      record { runs = h.runs; attached = h.attached; on_link = h.on_link; of_set = record { router = set.router; reached = reached_to set.router set.reached; endpoint = set.endpoint; on_link = set.on_link } }
+      record { runs = h.runs; on_link = h.on_link; of_set = record { router = set.router; reached = reached_to set.router set.reached; post = set.post; on_link = set.on_link } }
 
-  served_to : (link : ℕ) (d : PlainPrefix) → IsServed w r link d → IsServed w s link d
+  served_to : (link : Link) (d : PlainPrefix) → IsServed w r link d → IsServed w s link d
   served_to link d is = record {
     every = λ m e there. is.every m e (there_from link m e there);
     prefix = is.prefix;
     one_prefix = λ m e c there has. is.one_prefix m e c (there_from link m e there) has;
     publisher = is.publisher;
-    endpoint = is.endpoint;
-    there = there_to link is.publisher is.endpoint is.there;
+    post = is.post;
+    there = there_to link is.publisher is.post is.there;
     assignment = is.assignment;
     has = is.has;
     published = is.published;
     no_other = λ m e c there has some. is.no_other m e c (there_from link m e there) has some;
   }
 
-  without_to : (link : ℕ) (d : PlainPrefix) → IsWithout w r link d → IsWithout w s link d
+  without_to : (link : Link) (d : PlainPrefix) → IsWithout w r link d → IsWithout w s link d
   without_to link d is = record {
     none = λ m e c there has. is.none m e c (there_from link m e there) has;
     no_use = λ m e there. is.no_use m e (there_from link m e there);
   }
 
-  held_from : (link : ℕ) (p : PlainPrefix) → IsHeldOn w s link p → IsHeldOn w r link p
+  held_from : (link : Link) (p : PlainPrefix) → IsHeldOn w s link p → IsHeldOn w r link p
   held_from link p is = record {
     router = is.router;
     assignment = is.assignment;
@@ -77,7 +77,7 @@ module _ (w : Parts) (r s : Member) (reach : s.router.reach ≡ r.router.reach)
       | inr without ↦ inr (without_to link d without)
     ];
     links_apart = λ link other p q one two differ. is.links_apart link other p q (held_from link p one) (held_from other q two) differ;
-    one_elected = λ letter link m u e f one other. is.one_elected letter link m u e f (there_from link m e one) (there_from link u f other);
+    one_elected = λ letter place m u e f one other. is.one_elected letter place m u e f (there_from (Joint place) m e one) (there_from (Joint place) u f other);
   }
 
 pub sound_alike : (unique : UsableIsUnique) (w : Parts) (r : Member) → IsKnown w r

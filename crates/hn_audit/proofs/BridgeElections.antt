@@ -30,15 +30,15 @@ use Rattle.hn_sound.specs.Laws.{CommonLinkIsExact}
 use Rattle.hn_world.specs.declared.member.Member.{Member}
 use Rattle.hn_world.specs.declared.parts.Parts.{Parts}
 use Rattle.hn_audit.specs.Reached.{IsReached}
-use Rattle.hn_audit.specs.Sound.{IsThere, ElectSame}
+use Rattle.hn_audit.specs.Sound.{Link, IsThere, ElectSame}
 use Rattle.hn_base.proofs.Elements.{in_filter, from_filter}
 use Rattle.hn_base.proofs.Elements.{any_of, any_from}
 use Rattle.hn_base.proofs.AscendingMade.{ascending_of}
 use Rattle.hn_audit.proofs.BridgeSets.{router_of, in_view, of_view}
-use Rattle.hn_audit.proofs.BridgeHomes.{home_of, set_of, in_set, of_set, IsEndOf}
+use Rattle.hn_audit.proofs.BridgeHomes.{home_of, set_of, in_set, of_set, end_on}
 use Rattle.hn_audit.proofs.BridgePremises.{IsCase}
 use Rattle.hn_audit.proofs.BridgeSeen.{common_is_link}
-use Rattle.hn_audit.proofs.BridgeSounds.{end_on, reached_there, plugged_there}
+use Rattle.hn_audit.proofs.BridgeSounds.{reached_there, there_end}
 use Rattle.hn_base.proofs.Greatest.{greatest_of}
 
 -- ---- orders
@@ -73,21 +73,18 @@ stands letter common m = list_any (is_at m) common && nat_lt 0 (priority_of lett
 
 module _ (w : Parts) (r : Member) (usable : List Delegated) (case : IsCase w r usable)
     (one_items : ItemsAreUnique) (links_exact : CommonLinkIsExact) where
-  an_end : (link : ℕ) (s : Member) (e : EpId) → IsThere w r link s e → IsEndOf w r s (end_on s e link)
-  an_end link s e there = record { reached = reached_there w r case.known link s e there; of_node = refl; on_link = plugged_there w r case.known link s e there }
-
   -- ---- the Common Link
 
   -- an endpoint has a Common Link
-  has_common : (link : ℕ) (s : Member) (e : EpId) → IsThere w r link s e → (common : List (NodeId × EpId)) × IsCommonLink (seen_by s.router) e.0 common
+  has_common : (link : Link) (s : Member) (e : EpId) → IsThere w r link s e → (common : List (NodeId × EpId)) × IsCommonLink (seen_by s.router) e.0 common
   has_common link s e there =
-      let x = end_on s e link in
+      let x = end_on link s e in
       let sorted = ascending_of endpoint_cmp endpoint_total endpoint_exact (common_link (home_of w r usable) x) in (
         sorted.0,
         record {
           ascending = sorted.1;
           exact = λ at.
-              let known = common_is_link w r usable case s (reached_there w r case.known link s e there) x (an_end link s e there) at.0 at.1 in (
+              let known = common_is_link w r usable case s (reached_there w r case.known link s e there) x (there_end w r case.known link s e there) at.0 at.1 in (
                 λ h. known.1 ((links_exact (home_of w r usable) x at.0 at.1).0 ((sorted.2 at).0 h)),
                 λ h. (sorted.2 at).1 ((links_exact (home_of w r usable) x at.0 at.1).1 (known.0 h)),
               );
@@ -95,15 +92,15 @@ module _ (w : Parts) (r : Member) (usable : List Delegated) (case : IsCase w r u
       )
 
   -- that of each other endpoint on the link
-  on_both : (link : ℕ) (s u : Member) (e f : EpId) → IsThere w r link s e → IsThere w r link u f → (at : NodeId × EpId)
+  on_both : (link : Link) (s u : Member) (e f : EpId) → IsThere w r link s e → IsThere w r link u f → (at : NodeId × EpId)
       → IsOnCommonLink (seen_by s.router) e.0 at → IsOnCommonLink (seen_by u.router) f.0 at
   on_both link s u e f one other at on =
-      let here : IsOnLinkOf (home_of w r usable) (end_on s e link) at.0 at.1 = (common_is_link w r usable case s (reached_there w r case.known link s e one) (end_on s e link) (an_end link s e one) at.0 at.1).0 on in
-      let there : IsOnLinkOf (home_of w r usable) (end_on u f link) at.0 at.1 =
+      let here : IsOnLinkOf (home_of w r usable) (end_on link s e) at.0 at.1 = (common_is_link w r usable case s (reached_there w r case.known link s e one) (end_on link s e) (there_end w r case.known link s e one) at.0 at.1).0 on in
+      let there : IsOnLinkOf (home_of w r usable) (end_on link u f) at.0 at.1 =
       record { endpoint = here.endpoint; there = here.there; on_link = here.on_link; of_node = here.of_node; of_id = here.of_id } in
-      (common_is_link w r usable case u (reached_there w r case.known link u f other) (end_on u f link) (an_end link u f other) at.0 at.1).1 there
+      (common_is_link w r usable case u (reached_there w r case.known link u f other) (end_on link u f) (there_end w r case.known link u f other) at.0 at.1).1 there
 
-  common_too : (link : ℕ) (s u : Member) (e f : EpId) (common : List (NodeId × EpId)) → IsThere w r link s e → IsThere w r link u f
+  common_too : (link : Link) (s u : Member) (e f : EpId) (common : List (NodeId × EpId)) → IsThere w r link s e → IsThere w r link u f
       → IsCommonLink (seen_by s.router) e.0 common → IsCommonLink (seen_by u.router) f.0 common
   common_too link s u e f common one other is = record {
     ascending = is.ascending;
@@ -247,7 +244,7 @@ module _ (w : Parts) (r : Member) (usable : List Delegated) (case : IsCase w r u
         )
       ]
 
-  pub one_elected : (letter : Letter) (link : ℕ) (s u : Member) (e f : EpId) → IsThere w r link s e → IsThere w r link u f → ElectSame s.router e u.router f letter
+  pub one_elected : (letter : Letter) (link : Link) (s u : Member) (e f : EpId) → IsThere w r link s e → IsThere w r link u f → ElectSame s.router e u.router f letter
   one_elected letter link s u e f one other =
       let common = has_common link s e one in
       let s_in = reached_there w r case.known link s e one in

@@ -2,9 +2,10 @@
 use Rattle.std.proofs.Common.{◌≡◌, ◌∙◌, ◌≤◌, ℕ, List, Some, Contains, sym, ap, subst, arith}
 use Rattle.std.specs.Cmp.{IsTotalOrder}
 use Rattle.std.proofs.lemmas.List.Elements.{All-contains}
-use Rattle.std.proofs.lemmas.Option.{same_Some, slice_get_within, get_or_from_slice_get}
+use Rattle.std.proofs.lemmas.Option.{slice_get_within, get_or_from_slice_get}
 use Rattle.hn_base.proofs.AscendingLists.{Contains-map}
 use Rattle.hn_base.specs.Ascending.{IsExact}
+use Rattle.hn_base.specs.declared.ids.EpId.{EpId}
 use Rattle.hn_base.specs.Prefix.{PlainPrefix, IsWithin}
 use Rattle.hn_assign.specs.declared.assigned.Assigned.{Assigned}
 use Rattle.hn_assign.specs.Facts.{IsInDelegated, HasOwnPriority}
@@ -14,21 +15,21 @@ use Rattle.hn_deleg.specs.declared.delegated.Delegated.{Delegated}
 use Rattle.hn_deleg.specs.Used.{AreUsable, prefixes_of}
 use Rattle.hn_deleg.specs.Laws.{UsableIsUnique, UsableNeverOverlap}
 use Rattle.hn_link.specs.Laws.{CommonLinkExists}
-use Rattle.hn_rules.specs.Laws.{AssignedIsPublished, OwnPeersAreOfEndpoints}
+use Rattle.hn_rules.specs.Laws.{AssignedIsPublished, OwnPeersAreOfEndpoints, PrivatePostIsAlone}
 use Rattle.hn_rules.specs.Seen.{seen_by}
 use Rattle.hn_sound.specs.Home.{Endpoint, HasAssignment, HasPublished}
 use Rattle.hn_sound.specs.Premises.{IsHome}
 use Rattle.hn_sound.specs.Premises.Premise.{OneLink, OnceOnLink, UsedApart, ForUsed, PublishedInside, OneEach, PriorityTwo}
 use Rattle.hn_world.specs.declared.member.Member.{Member}
 use Rattle.hn_world.specs.declared.parts.Parts.{Parts}
-use Rattle.hn_world.specs.Names.{link_of}
 use Rattle.hn_audit.specs.Reached.{IsReached}
 use Rattle.hn_audit.specs.Settled.{AreSame}
 use Rattle.hn_audit.specs.Quiet.{IsQuiet}
 use Rattle.hn_audit.specs.Sound as said
+use Rattle.hn_audit.specs.Sound.{Link, IsPostOn}
 use Rattle.hn_audit.proofs.BridgeSets.{IsKnown, OwnVersions, router_of, itself, one_member}
 use Rattle.hn_audit.proofs.BridgeUsed.{used_same}
-use Rattle.hn_audit.proofs.BridgeHomes.{home_of, IsEndOf, IsPlugged, of_end, of_has, one_on_link}
+use Rattle.hn_audit.proofs.BridgeHomes.{home_of, number_of, IsEndOf, same_link, of_end, of_has, one_link_of, one_on_link}
 use Rattle.hn_base.proofs.Parts.{one_of_ascending}
 
 -- a settled and quiet router of a replayed world, and the delegated prefixes that it uses
@@ -41,6 +42,7 @@ pub record IsCase (w : Parts) (r : Member) (usable : List Delegated) : Type 0 wh
   pub published : AssignedIsPublished
   pub versions : OwnVersions
   pub peers : OwnPeersAreOfEndpoints
+  pub alone : PrivatePostIsAlone
   pub pairs_total : IsTotalOrder pair_cmp
   pub pairs_exact : IsExact pair_cmp
   pub links : CommonLinkExists
@@ -80,16 +82,19 @@ module _ (w : Parts) (r : Member) (usable : List Delegated) (case : IsCase w r u
       let a = of_end w r case.known usable e e_there in
       let b = of_end w r case.known usable f f_there in
       let same : a.0 ≡ b.0 = one_router e f a.0 b.0 a.1 b.1 node in
-      let moved : link_of e.id a.0 ≡ link_of f.id b.0 = λ i. link_of (id i) (same i) in
-      same_Some e.link f.link (sym a.1.on_link.1 ∙ (moved ∙ b.1.on_link.1))
+      let e_on : IsPostOn a.1.link b.0 f.id = subst (λ (x : EpId). IsPostOn a.1.link b.0 x) id (subst (λ (m : Member). IsPostOn a.1.link m e.id) same a.1.on_link) in
+      let link : a.1.link ≡ b.1.link = one_link_of a.1.link b.1.link b.0 f.id (router_of w r case.known b.0 b.1.reached) e_on b.1.on_link in
+      a.1.number ∙ (ap number_of link ∙ sym b.1.number)
 
   pub once_on_link : (e f : Endpoint) → Contains (home_of w r usable).endpoints e → Contains (home_of w r usable).endpoints f → e.node ≡ f.node → e.link ≡ f.link → e.id ≡ f.id
   once_on_link e f e_there f_there node link =
       let a = of_end w r case.known usable e e_there in
       let b = of_end w r case.known usable f f_there in
       let same : a.0 ≡ b.0 = one_router e f a.0 b.0 a.1 b.1 node in
-      let e_on : IsPlugged f.link b.0 e.id = subst (λ (l : ℕ). IsPlugged l b.0 e.id) link (subst (λ (m : Member). IsPlugged e.link m e.id) same a.1.on_link) in
-      one_on_link b.0 e.id f.id f.link (case.known.attached b.0 b.1.reached.runs.there) e_on b.1.on_link
+      let links : a.1.link ≡ b.1.link =
+      same_link w r case.known a.1.link b.1.link a.0 b.0 e.id f.id a.1.reached b.1.reached a.1.on_link b.1.on_link (sym a.1.number ∙ (link ∙ b.1.number)) in
+      let e_on : IsPostOn b.1.link b.0 e.id = subst (λ (l : Link). IsPostOn l b.0 e.id) links (subst (λ (m : Member). IsPostOn a.1.link m e.id) same a.1.on_link) in
+      one_on_link b.1.link b.0 e.id f.id (case.known.attached b.0 b.1.reached.runs.there) e_on b.1.on_link
 
   -- ---- assignments
 

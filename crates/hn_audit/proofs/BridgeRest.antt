@@ -1,8 +1,6 @@
 -- In the home of a settled and quiet set each pair is at rest as its router sees it.
-use Rattle.std.proofs.Common.{◌≡◌, ◌∙◌, ◌↔◌, ◌<◌, ◌==◌, ℕ, Bool, true, false, cond, not, List, Option, Some, None, Contains, refl, sym, ap, subst, arith}
+use Rattle.std.proofs.Common.{◌≡◌, ◌∙◌, ◌↔◌, ℕ, not, List, Option, Some, None, Contains, refl, sym, ap, subst}
 use Rattle.std.specs.List.{slice_get}
-use Rattle.std.proofs.lemmas.Bool.{eqb-true}
-use Rattle.std.proofs.lemmas.List.Elements.{Contains-append_right}
 use Rattle.hn_base.proofs.Ats.{has_some}
 use Rattle.hn_base.specs.declared.ids.NodeId.{NodeId}
 use Rattle.hn_base.specs.declared.ids.EpId.{EpId}
@@ -16,8 +14,7 @@ use Rattle.hn_assign.specs.Rest.{IsAtRest}
 use Rattle.hn_deleg.specs.declared.delegated.Delegated.{Delegated}
 use Rattle.hn_deleg.specs.Used.{prefixes_of}
 use Rattle.hn_link.specs.CommonLink.{IsCommonLink}
-use Rattle.hn_own.specs.Ports.{endpoints_of}
-use Rattle.hn_own.specs.Posts.{length_at, posts_of, private_posts}
+use Rattle.hn_own.specs.Posts.{length_at, posts_of}
 use Rattle.hn_rules.specs.Assigning.{IsWishAt}
 use Rattle.hn_rules.specs.Router.{IsRouter}
 use Rattle.hn_rules.specs.Seen.{seen_by}
@@ -30,18 +27,9 @@ use Rattle.hn_audit.specs.Settled.{AreSame}
 use Rattle.hn_audit.specs.Quiet.{IsRouterAtRest}
 use Rattle.hn_audit.proofs.BridgeSets.{router_of}
 use Rattle.hn_audit.proofs.BridgeUsed.{IsAskedFor, asked_for, delegated_at, is_unwanted, is_wanted, place_of}
-use Rattle.hn_audit.proofs.BridgeHomes.{home_of, IsEndOf, of_end, to_has, of_has, on_link_is_port}
+use Rattle.hn_audit.proofs.BridgeHomes.{home_of, set_of, length_in, length_is, IsEndOf, of_end, to_has, of_has, on_link_is_post}
 use Rattle.hn_audit.proofs.BridgePremises.{IsCase, uses_same}
 use Rattle.hn_audit.proofs.BridgeSeen.{gathered_is_published, common_is_link}
-
--- an attached endpoint, which is numbered from 1, gets prefixes of 64 bits
-length_attached : (private : Option ℕ) (e : EpId) → 0 < e.0 → length_at private e ≡ 64
-length_attached None e some = refl
-length_attached (Some length) e some = by_test (e.0 == 0) refl
-  where
-    by_test : (b : Bool) → (e.0 == 0) ≡ b → cond b length 64 ≡ 64
-    by_test true none = let zero : e.0 ≡ 0 = eqb-true e.0 0 none in absurd (omega arith)
-    by_test false is = refl
 
 module _ (w : Parts) (r : Member) (usable : List Delegated) (case : IsCase w r usable) where
   -- a pair of the home, the wish for it, and how it is at rest for its router
@@ -68,8 +56,7 @@ module _ (w : Parts) (r : Member) (usable : List Delegated) (case : IsCase w r u
       let wish : Wish = record { delegated = here.0.prefix; wanted = not (is_unwanted rest.usable here.0.prefix); endpoint = x.id; common = common.0; length = length_at s.router.private x.id } in
       let is_asked : IsWishAt s.router.private (seen_by s.router) rest.usable at.0 wish =
       record { delegated = here.0; at = here.1; prefix = refl; wanted = is_wanted rest.usable rest.are_usable.ascending at.0 here.0 here.1; common = common.1; length = refl } in
-      let port : Contains (endpoints_of s.router.ports) x.id = on_link_is_port s x.id x.link (case.known.attached s end.reached.runs.there) end.on_link in
-      let post : Contains (posts_of s.router.private s.router.ports) x.id = Contains-append_right (private_posts s.router.private) (endpoints_of s.router.ports) x.id port in
+      let post : Contains (posts_of s.router.private s.router.ports) x.id = on_link_is_post end.link s x.id end.on_link in
       let wished : Contains rest.wishes wish = (rest.are_asked.exact wish).1 (record { place = at.0; asked = is_asked; post = post }) in
       let own = has_some assigned_pair pair_cmp case.pairs_total case.pairs_exact (wish_pair wish) s.router.held.assigned in
       record {
@@ -101,8 +88,8 @@ module _ (w : Parts) (r : Member) (usable : List Delegated) (case : IsCase w r u
   -- and what is asked for it too
   its_wish : (s : Member) (x : Endpoint) (d : PlainPrefix) (h : IsResting s x d) → h.wish ≡ record (wish_of (home_of w r usable) x d) { common = h.wish.common }
   its_wish s x d h =
-      let numbered : 0 < h.wish.endpoint.0 = subst (λ (e : EpId). 0 < e.0) (sym h.of_endpoint) h.end.on_link.0 in
-      let length : h.wish.length ≡ 64 = h.is_asked.length ∙ length_attached s.router.private h.wish.endpoint numbered in
+      let length : h.wish.length ≡ length_in (set_of w r) x =
+      h.is_asked.length ∙ (ap (length_at s.router.private) h.of_endpoint ∙ sym (length_is w r case.known s x h.end)) in
       λ i. record {
         delegated = h.asked.delegated i;
         wanted = h.asked.wanted i;

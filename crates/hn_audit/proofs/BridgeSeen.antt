@@ -23,11 +23,13 @@ use Rattle.hn_sound.specs.Home.{Endpoint}
 use Rattle.hn_sound.specs.Members.{IsAdvertised, IsOnLinkOf}
 use Rattle.hn_world.specs.declared.member.Member.{Member}
 use Rattle.hn_world.specs.declared.parts.Parts.{Parts}
-use Rattle.hn_audit.specs.Reached.{IsReached, IsOnLink, AreOnOneLink}
+use Rattle.hn_world.specs.Names.{link_of}
+use Rattle.hn_audit.specs.Reached.{IsReached, AreOnOneLink}
 use Rattle.hn_audit.specs.Settled.{AreLinked, IsSameEndpoint}
+use Rattle.hn_audit.specs.Sound.{Link, Joint, Private, IsPostOn}
 use Rattle.hn_base.proofs.Elements.{in_filter_map, from_filter_map}
 use Rattle.hn_audit.proofs.BridgeSets.{router_of, one_member, in_view, of_view}
-use Rattle.hn_audit.proofs.BridgeHomes.{home_of, IsEndOf, to_end, of_end, to_held, of_held, port_is_numbered}
+use Rattle.hn_audit.proofs.BridgeHomes.{home_of, number_of, end_on, IsEndOf, same_link, to_end, of_end, end_there, to_held, of_held, port_is_numbered, on_link_is_attached}
 use Rattle.hn_audit.proofs.BridgePremises.{IsCase}
 
 -- ---- what is published of an assignment
@@ -201,22 +203,21 @@ module _ (w : Parts) (r : Member) (usable : List Delegated) (case : IsCase w r u
       )
 
   module _ (x : Endpoint) (x_end : IsEndOf w r s x) where
-    own_is_there : Contains (home_of w r usable).endpoints x
-    own_is_there =
-        let same : record { node = s.router.id; id = x.id; link = x.link } ≡ x = λ i. record { node = sym x_end.of_node i; id = x.id; link = x.link } in
-        subst (Contains (home_of w r usable).endpoints) same (to_end w r case.known usable s x.id x.link s_in x_end.on_link)
-
     own_on_link : (node : NodeId) (id : EpId) → node ≡ s.router.id → id ≡ x.id → IsOnLinkOf (home_of w r usable) x node id
-    own_on_link node id node_is id_is = record { endpoint = x; there = own_is_there; on_link = refl; of_node = x_end.of_node ∙ sym node_is; of_id = sym id_is }
+    own_on_link node id node_is id_is = record { endpoint = x; there = end_there w r case.known usable s x x_end; on_link = refl; of_node = x_end.of_node ∙ sym node_is; of_id = sym id_is }
 
-    other_on_link : (u : Member) (f : EpId) → IsReached w r u → 0 < f.0 → AreOnOneLink s x.id u f → IsOnLinkOf (home_of w r usable) x u.router.id f
-    other_on_link u f u_in positive one = record {
-      endpoint = record { node = u.router.id; id = f; link = one.link };
-      there = to_end w r case.known usable u f one.link u_in (positive, one.other);
-      on_link = same_Some one.link x.link (sym one.one ∙ x_end.on_link.1);
-      of_node = refl;
-      of_id = refl;
-    }
+    other_on_link : (place : ℕ) (u : Member) (f : EpId) → x_end.link ≡ Joint place → IsReached w r u → 0 < f.0 → AreOnOneLink s x.id u f → IsOnLinkOf (home_of w r usable) x u.router.id f
+    other_on_link place u f is u_in positive one =
+        let on : IsPostOn (Joint place) s x.id = subst (λ (l : Link). IsPostOn l s x.id) is x_end.on_link in
+        let same : one.link ≡ place = same_Some one.link place (sym one.one ∙ on.1) in
+        let other : link_of f u ≡ Some place = one.other ∙ ap Some same in
+        record {
+          endpoint = end_on (Joint place) u f;
+          there = to_end w r case.known usable (Joint place) u f u_in (on_link_is_attached u f place (case.known.attached u u_in.runs.there) positive other, other);
+          on_link = ap number_of (sym is) ∙ sym x_end.number;
+          of_node = refl;
+          of_id = refl;
+        }
 
     -- an endpoint that has a peer is one of its router
     linked_is_numbered : (f : EpId) (u : Member) → IsReached w r u → HasPeer u.router.own.body (peer_link s.router.id.0 x.id.0 f.0) → 0 < f.0
@@ -224,32 +225,56 @@ module _ (w : Parts) (r : Member) (usable : List Delegated) (case : IsCase w r u
         let router = router_of w r case.known u u_in in
         port_is_numbered u f router (case.peers u.router (peer_link s.router.id.0 x.id.0 f.0) router has)
 
-    from_common : (node : NodeId) (id : EpId) → IsOnCommonLink (seen_by s.router) x.id.0 (node, id) → IsOnLinkOf (home_of w r usable) x node id
-    from_common node id (inl own) = own_on_link node id (same_node node s.router.id own.own) (same_id id x.id own.endpoint)
-    from_common node id (inr linked) =
+    -- an attached endpoint and one that is linked with it are on one link
+    from_linked : (place : ℕ) (node : NodeId) (id : EpId) → x_end.link ≡ Joint place → IsLinkedWithOwn (seen_by s.router) x.id.0 node.0 id.0 → IsOnLinkOf (home_of w r usable) x node id
+    from_linked place node id is linked =
         let by = view_linked x.id id node linked in
         subst (λ (n : NodeId). IsOnLinkOf (home_of w r usable) x n id) by.2 (
         elim (same_or_not x.id by.0 id) [
           | inl same ↦ own_on_link by.0.router.id id (sym same.0) (sym same.1)
-          | inr differ ↦ other_on_link by.0 id by.1 (linked_is_numbered id by.0 by.1 by.3.back) ((case.known.settled.linked s by.0 x.id id s_in by.1 differ).0 by.3)
+          | inr differ ↦ other_on_link place by.0 id is by.1 (linked_is_numbered id by.0 by.1 by.3.back) ((case.known.settled.linked s by.0 x.id id s_in by.1 differ).0 by.3)
         ]
         )
+
+    -- and the private post is alone
+    from_own : (n : Member) (node : NodeId) (id : EpId) → x_end.link ≡ Private n → IsOnCommonLink (seen_by s.router) x.id.0 (node, id) → IsOnLinkOf (home_of w r usable) x node id
+    from_own n node id is common =
+        let on : IsPostOn (Private n) s x.id = subst (λ (l : Link). IsPostOn l s x.id) is x_end.on_link in
+        let alone = case.alone s.router (node, id) (router_of w r case.known s s_in) (subst (λ (e : EpId). IsOnCommonLink (seen_by s.router) e.0 (node, id)) on.1 common) in
+        own_on_link node id alone.0 (alone.1 ∙ sym on.1)
+
+    from_common : (node : NodeId) (id : EpId) → IsOnCommonLink (seen_by s.router) x.id.0 (node, id) → IsOnLinkOf (home_of w r usable) x node id
+    from_common node id common = go x_end.link refl common
+      where
+        go : (link : Link) → x_end.link ≡ link → IsOnCommonLink (seen_by s.router) x.id.0 (node, id) → IsOnLinkOf (home_of w r usable) x node id
+        go (Private n) is common = from_own n node id is common
+        go (Joint place) is (inl own) = own_on_link node id (same_node node s.router.id own.own) (same_id id x.id own.endpoint)
+        go (Joint place) is (inr linked) = from_linked place node id is linked
+
+    -- posts of two routers that are on one link are endpoints on one, unless they are one post
+    both_on_link : (link : Link) (u : Member) (f : EpId) → ¬ (IsSameEndpoint s.router x.id u.router f) → IsPostOn link s x.id → IsPostOn link u f → AreOnOneLink s x.id u f
+    both_on_link (Joint place) u f differ one two = record { link = place; one = one.1; other = two.1 }
+    both_on_link (Private n) u f differ one two =
+        absurd (differ (ap (λ (m : Member). m.router.id) (one.0 ∙ sym two.0), one.1 ∙ sym two.1))
 
     to_common : (node : NodeId) (id : EpId) → IsOnLinkOf (home_of w r usable) x node id → IsOnCommonLink (seen_by s.router) x.id.0 (node, id)
     to_common node id on =
         let u = of_end w r case.known usable on.endpoint on.there in
         let is : u.0.router.id ≡ node = sym u.1.of_node ∙ on.of_node in
+        let f = on.endpoint.id in
         subst (λ (n : NodeId). IsOnCommonLink (seen_by s.router) x.id.0 (n, id)) is (
-        subst (λ (f : EpId). IsOnCommonLink (seen_by s.router) x.id.0 (u.0.router.id, f)) on.of_id (
-        elim (same_or_not x.id u.0 on.endpoint.id) [
-          | inl same ↦ inl (record { own = ap (λ (n : NodeId). n.0) (sym same.0); endpoint = ap (λ (f : EpId). f.0) (sym same.1) })
+        subst (λ (g : EpId). IsOnCommonLink (seen_by s.router) x.id.0 (u.0.router.id, g)) on.of_id (
+        elim (same_or_not x.id u.0 f) [
+          | inl same ↦ inl (record { own = ap (λ (n : NodeId). n.0) (sym same.0); endpoint = ap (λ (g : EpId). g.0) (sym same.1) })
           | inr differ ↦
-              let both : AreOnOneLink s x.id u.0 on.endpoint.id = record { link = x.link; one = x_end.on_link.1; other = subst (λ (l : ℕ). IsOnLink l u.0 on.endpoint.id) on.on_link u.1.on_link.1 } in
-              inr (linked_in_view x.id on.endpoint.id u.0 u.1.reached ((case.known.settled.linked s u.0 x.id on.endpoint.id s_in u.1.reached differ).1 both))
+              let links : u.1.link ≡ x_end.link =
+              same_link w r case.known u.1.link x_end.link u.0 s f x.id u.1.reached s_in u.1.on_link x_end.on_link (sym u.1.number ∙ (on.on_link ∙ x_end.number)) in
+              let both = both_on_link x_end.link u.0 f differ x_end.on_link (subst (λ (l : Link). IsPostOn l u.0 f) links u.1.on_link) in
+              inr (linked_in_view x.id f u.0 u.1.reached ((case.known.settled.linked s u.0 x.id f s_in u.1.reached differ).1 both))
         ]
         )
         )
 
-    -- the Common Link of an endpoint is the endpoints of the set on its link
+    -- the Common Link of a post is the posts of the set on its link
     pub common_is_link : (node : NodeId) (id : EpId) → IsOnCommonLink (seen_by s.router) x.id.0 (node, id) ↔ IsOnLinkOf (home_of w r usable) x node id
     common_is_link node id = (from_common node id, to_common node id)

@@ -9,7 +9,7 @@ use Rattle.hn_data.specs.Laws.{ItemsAreUnique}
 use Rattle.hn_deleg.specs.declared.delegated.Delegated.{Delegated}
 use Rattle.hn_deleg.specs.Laws.{UsableIsUnique, UsableNeverOverlap}
 use Rattle.hn_link.specs.Laws.{CommonLinkExists}
-use Rattle.hn_rules.specs.Laws.{AssignedIsPublished, ViewIsNetwork, EntriesAreAsKnown, OwnPeersAreOfEndpoints}
+use Rattle.hn_rules.specs.Laws.{AssignedIsPublished, ViewIsNetwork, EntriesAreAsKnown, OwnPeersAreOfEndpoints, PrivatePostIsAlone}
 use Rattle.hn_sound.specs.Laws.{AdvertisedIsExact, CommonLinkIsExact, HomeRestsAsSeen, HomeAtRestIsSound}
 use Rattle.hn_sound.specs.Sound as home
 use Rattle.hn_world.specs.declared.member.Member.{Member}
@@ -19,7 +19,7 @@ use Rattle.hn_world.specs.Laws.{AtMostOneWorld, WorldIsSound, AlwaysAttached}
 use Rattle.hn_audit.specs.Laws.{SettledAndQuietIsSound, SetIsSoundAlike}
 use Rattle.hn_audit.specs.Reached.{IsRunning}
 use Rattle.hn_audit.specs.Settled.{IsSettled}
-use Rattle.hn_audit.specs.Sound.{IsSound}
+use Rattle.hn_audit.specs.Sound.{Joint, IsSound}
 use Rattle.hn_audit.proofs.BridgeSets.{IsKnown, OwnVersions, itself}
 use Rattle.hn_audit.proofs.BridgeHomes.{home_of}
 use Rattle.hn_audit.proofs.BridgePremises.{IsCase, is_home}
@@ -42,6 +42,7 @@ pub record BridgeLaws : Type 0 where
   pub published : AssignedIsPublished
   pub versions : OwnVersions
   pub peers : OwnPeersAreOfEndpoints
+  pub alone : PrivatePostIsAlone
   pub pairs_total : IsTotalOrder pair_cmp
   pub pairs_exact : IsExact pair_cmp
   pub links : CommonLinkExists
@@ -59,7 +60,7 @@ attached_now laws w replayed =
     let found = laws.attached w replayed w.trace [] (sym (append-nil w.trace)) in
     subst AreAttached (laws.one_world w.version w.trace found.0 w found.1 replayed) found.2
 
-known_of : WorldLaws → (w : Parts) (r : Member) → IsReplayed w → IsRunning w r → IsSettled w r → IsKnown w r
+pub known_of : WorldLaws → (w : Parts) (r : Member) → IsReplayed w → IsRunning w r → IsSettled w r → IsKnown w r
 known_of laws w r replayed runs settled = record {
   routers = λ m there. (All-contains (IsSoundMember w.moment) w.members m (laws.sound w replayed) there).router;
   attached = λ m there. All-contains IsAttachedMember w.members m (attached_now laws w replayed) there;
@@ -77,7 +78,7 @@ sound_case laws w r usable case =
       inside = inside w r usable case laws.advertised_exact is_sound;
       each_link = each_link w r usable case laws.advertised_exact is_sound;
       links_apart = links_apart w r usable case laws.advertised_exact is_sound;
-      one_elected = one_elected w r usable case laws.one_items laws.links_exact;
+      one_elected = λ letter place. one_elected w r usable case laws.one_items laws.links_exact letter (Joint place);
     }
 
 pub sound_where_quiet : BridgeLaws → SettledAndQuietIsSound
@@ -93,6 +94,7 @@ sound_where_quiet laws w r replayed runs settled quiet =
       published = laws.published;
       versions = laws.versions;
       peers = laws.peers;
+      alone = laws.alone;
       pairs_total = laws.pairs_total;
       pairs_exact = laws.pairs_exact;
       links = laws.links;

@@ -10,6 +10,7 @@ mod BridgeSets
 mod BridgeSounds
 mod BridgeUsed
 mod BridgeVersions
+mod BridgeViews
 mod BridgeWorlds
 mod FixedPoints
 mod FrontWorlds
@@ -20,3 +21,6 @@ mod Restings
 mod Sames
 mod Settling
 mod Spotting
+mod StayingRests
+mod StayingSets
+mod StayingSteps

@@ -1,8 +1,11 @@
 -- Laws of settled and quiet routers.
-use Rattle.std.specs.Prelude.{◌≡◌, ◌↔◌, List, [], ◌++◌}
+use Rattle.std.specs.Prelude.{◌≡◌, ◌↔◌, List, [], ◌++◌, Contains}
+use Rattle.hn_base.specs.declared.ids.NodeId.{NodeId}
 use Rattle.hn_assign.specs.declared.held.Ran.{Ran}
 use Rattle.hn_assign.specs.Fixed.{IsUnchanged}
+use Rattle.hn_data.specs.declared.view.Entry.{Entry}
 use Rattle.hn_rules.specs.declared.state.State.{State}
+use Rattle.hn_rules.specs.Nodes.{view_of}
 use Rattle.hn_rules.specs.Router.{IsRouter}
 use Rattle.hn_world.specs.declared.event.Traced.{Traced}
 use Rattle.hn_world.specs.declared.member.Member.{Member}
@@ -23,6 +26,23 @@ abbrev pub SetIsSoundAlike : Type 0
 SetIsSoundAlike =
     (w : Parts) (r : Member) → IsReplayed w → IsRunning w r → IsSettled w r
     → IsSound w r ↔ ((s : Member) → IsReached w r s → IsSound w s)
+
+-- s, one of the set of r, sees each of the set as it is, and sees nobody else
+pub record AreSeen (w : Parts) (r s : Member) : Type 0 where
+  pub each_member :
+      (u : Member) → IsReached w r u
+      → (n : Entry) × Contains (view_of s.router) n × (n.id ≡ u.router.id) × (n.body ≡ u.router.own.body)
+  pub nobody_else :
+      (n : Entry) → Contains (view_of s.router) n
+      → (u : Member) × IsReached w r u × (n.id ≡ u.router.id) × (n.body ≡ u.router.own.body)
+  -- what s reaches are the identifiers of the set, and no two of the set have one
+  pub reach_is_theirs : (id : NodeId) → Contains s.router.reach id → (u : Member) × IsReached w r u × (u.router.id ≡ id)
+  pub one_of_an_id : (u v : Member) → IsReached w r u → IsReached w r v → u.router.id ≡ v.router.id → u ≡ v
+
+-- In a replayed world, of the set of a running router that is settled, each sees each other as it is, and nobody else.
+abbrev pub SettledSeeEachOther : Type 0
+SettledSeeEachOther =
+    (w : Parts) (r s : Member) → IsReplayed w → IsRunning w r → IsSettled w r → IsReached w r s → AreSeen w r s
 
 -- each running router that is settled and quiet is sound
 abbrev pub SettledAreSound : Parts → Type 0

@@ -5,3 +5,4 @@ pub mod Quiet
 pub mod Fixed
 pub mod Sound
 pub mod Laws
+pub mod Staying

@@ -1,4 +1,5 @@
--- A settled router: its set know each other as they are, and nobody else is on their links.
+-- A settled router: its set know each other as they are, and nobody else is on their links. A private link needs no fact
+-- of its own: it is no link of the world, and no router has a Peer of endpoint 0.
 use Rattle.std.specs.Prelude.{◌≡◌, ◌≢◌, ◌↔◌, ℕ, List, Some, All}
 use Rattle.hn_base.specs.declared.ids.EpId.{EpId}
 use Rattle.hn_data.specs.Peers.{IsLinked}

@@ -1,9 +1,10 @@
-ghost use Rattle.std.specs.Prelude.{◌≡◌, ◌↔◌, IsTrue, IfOk, Some, All};
+ghost use Rattle.std.specs.Prelude.{◌≡◌, ◌↔◌, IsTrue, IfOk, Some, All, filter, map};
 ghost use Rattle.hn_base.specs.Name.{name_text};
 ghost use Rattle.hn_world.specs.declared.member.Member.{Member};
 ghost use Rattle.hn_world.specs.declared.parts.Parts.{Parts};
 ghost use Rattle.hn_world.specs.Names.{member_named};
 ghost use Rattle.hn_audit.specs.Reached.{runs, IsOfOne};
+ghost use Rattle.hn_audit.specs.Set.{is_in_set};
 ghost use Rattle.hn_audit.specs.Settled.{IsSettled};
 ghost use Rattle.hn_audit.specs.Fixed.{ChangesNothing, IsFixed, MayChangeNothing};
 ghost use Rattle.hn_audit.specs.Quiet.{IsQuiet, IsRouterAtRest};
@@ -11,7 +12,7 @@ ghost use Rattle.hn_audit.specs.Sound.{IsSound};
 
 use crate::knowing::know_each_other;
 use crate::laws::{rest_is_the_fixed_point, settled_and_quiet_is_sound};
-use crate::reached::{are_known, set_of};
+use crate::reached::{are_known, names_of, set_of};
 use crate::resting::rests;
 use crate::spots::{are_on_their_links, spots_of};
 use hn_base::{Name, NoMemory};
@@ -21,6 +22,16 @@ use std::alloc::Global;
 /// What a world says of a running router and those that it reaches.
 pub trait Audit {
     ghost parts: { Self → Parts };
+
+    /// The names of the running routers that a running router reaches, in order of definition: its set.
+    ///
+    /// # Errors
+    ///
+    /// Out of memory.
+    fn reached(&self, alloc: Global, name: &Name) -> Result<Vec<Name>, NoMemory>
+        requires { IsTrue (runs (name_text name.now) (parts self.now)) }
+        ensures { IfOk result (λ names. (r : Member) → member_named (name_text name.now) (parts self.now) ≡ Some r
+            → names.items ≡ map (λ m. m.name) (filter (is_in_set r.router.reach) (parts self.now).members)) };
 
     /// Whether a running router is settled: those that it reaches know each other as they are.
     ///
@@ -83,6 +94,14 @@ fn is_settled(alloc: Global, world: &World, r: &Member) -> Result<bool, NoMemory
 
 impl Audit for World {
     ghost parts = { λ w. w };
+
+    fn reached(&self, alloc: Global, name: &Name) -> Result<Vec<Name>, NoMemory> {
+        let Some(r) = self.member(name) else {
+            unreachable!()
+        };
+        let set = set_of(alloc, self, r.router.reach())?;
+        names_of(alloc, set.as_slice())
+    }
 
     fn settled(&self, alloc: Global, name: &Name) -> Result<bool, NoMemory> {
         let Some(r) = self.member(name) else {

@@ -1,23 +1,27 @@
 //! Laws of settled and quiet routers. Each is the contract of a function that does nothing.
 
 ghost use Rattle.hn_world.specs.Leaves.{EqualHashesAgree};
-ghost use Rattle.hn_audit.specs.Laws.{SettledAndQuietIsSound, SetIsSoundAlike, AlwaysSettledAreSound, IsOfEachFront, SettledAreSound, RestChangesNothing, RestHasARun, UnchangedIsAtRest};
+ghost use Rattle.hn_audit.specs.Laws.{SettledAndQuietIsSound, SetIsSoundAlike, SettledSeeEachOther, AlwaysSettledAreSound, IsOfEachFront, SettledAreSound, RestChangesNothing, RestHasARun, UnchangedIsAtRest};
+ghost use Rattle.hn_audit.specs.Staying.{QuietHomesStay, QuietHomesAlwaysStay};
 
 use hn_assign::{
-    advertised_exists, pairs_are_ordered, rest_has_a_run, rest_is_unchanged, subroutine_leaves,
+    advertised_exists, advertised_of_later, advertised_of_unchanged, pairs_are_ordered,
+    rest_changes_nothing, rest_has_a_run, rest_is_unchanged, rest_stays, subroutine_leaves,
 };
 use hn_data::items_are_unique;
 use hn_deleg::{usable_is_unique, usable_never_overlap};
-use hn_link::common_link_exists;
+use hn_link::{common_link_exists, common_link_of_later};
+use hn_router::moment_is_now;
 use hn_rules::{
     assigned_is_published, entries_are_as_known, items_are_published, own_peers_are_of_endpoints,
-    view_is_a_network,
+    private_post_is_alone, restful_tick, tick_keeps_the_identifier, used_where_assigned,
+    view_is_a_network, view_of_later,
 };
 use hn_sound::{home_at_rest_is_sound, home_rests_as_seen, lists_are_exact};
-use hn_world::{always_attached, always_sound, at_most_one_world};
+use hn_world::{always_attached, always_sound, at_most_one_world, each_event_is_a_step};
 
-/// In a replayed world a running router that is settled and quiet is sound: each link of those that it reaches is served
-/// with one prefix inside each used delegated prefix, unless none was free or wanted.
+/// In a replayed world a running router that is settled and quiet is sound: each link of those that it reaches, also each
+/// private link, is served with one prefix inside each used delegated prefix, unless none was free or wanted.
 pub fn settled_and_quiet_is_sound()
     ensures { SettledAndQuietIsSound }
 {
@@ -30,6 +34,7 @@ pub fn settled_and_quiet_is_sound()
     items_are_published();
     items_are_unique();
     own_peers_are_of_endpoints();
+    private_post_is_alone();
     common_link_exists();
     usable_is_unique();
     usable_never_overlap();
@@ -49,6 +54,18 @@ pub fn set_is_sound_alike()
     view_is_a_network();
     entries_are_as_known();
     usable_is_unique();
+}
+
+/// In a replayed world, of the set of a running router that is settled, each router sees each other as it is, and sees
+/// nobody else.
+pub fn settled_see_each_other()
+    ensures { SettledSeeEachOther }
+{
+    at_most_one_world();
+    always_sound();
+    always_attached();
+    view_is_a_network();
+    entries_are_as_known();
 }
 
 /// At each moment of a replayed world's past each running router that is settled and quiet is sound.
@@ -84,4 +101,37 @@ pub fn rest_is_the_fixed_point()
     rest_is_unchanged();
     subroutine_leaves();
     usable_is_unique();
+}
+
+/// A settled and quiet router stays so, with the same assignments, marks of application aside, when time passes, and when
+/// a router ticks: one that it does not reach, or one that keeps and holds nothing which has come to its moment, and that
+/// uses and wants the same delegated prefixes after the tick as before.
+pub fn quiet_homes_stay()
+    ensures { QuietHomesStay }
+{
+    at_most_one_world();
+    always_sound();
+    always_attached();
+    view_is_a_network();
+    entries_are_as_known();
+    moment_is_now();
+    tick_keeps_the_identifier();
+    restful_tick();
+    used_where_assigned();
+    view_of_later();
+    usable_is_unique();
+    common_link_of_later();
+    advertised_of_later();
+    advertised_of_unchanged();
+    rest_stays();
+    rest_changes_nothing();
+}
+
+/// So it was over each event of a replayed world's trace.
+pub fn quiet_homes_always_stay()
+    ensures { QuietHomesAlwaysStay }
+{
+    at_most_one_world();
+    each_event_is_a_step();
+    quiet_homes_stay();
 }

@@ -10,6 +10,7 @@ mod spots;
 
 pub use audit::Audit;
 pub use laws::{
-    headline_of_each_front, rest_is_the_fixed_point, set_is_sound_alike,
-    settled_and_quiet_is_sound, settled_are_always_sound,
+    headline_of_each_front, quiet_homes_always_stay, quiet_homes_stay, rest_is_the_fixed_point,
+    set_is_sound_alike, settled_and_quiet_is_sound, settled_are_always_sound,
+    settled_see_each_other,
 };

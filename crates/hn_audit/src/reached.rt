@@ -1,10 +1,10 @@
 //! The set of a router: the running routers that it reaches.
 
-ghost use Rattle.std.specs.Prelude.{◌≡◌, ◌↔◌, IsTrue, IfOk, All, filter};
+ghost use Rattle.std.specs.Prelude.{◌≡◌, ◌↔◌, IsTrue, IfOk, All, filter, map};
 ghost use Rattle.hn_audit.specs.Reached.{runs_as, IsOfOne};
 ghost use Rattle.hn_audit.specs.Set.{is_in_set, members_of};
 
-use hn_base::{NoMemory, NodeId};
+use hn_base::{Name, NoMemory, NodeId};
 use hn_world::{Member, World};
 use std::alloc::Global;
 
@@ -52,4 +52,15 @@ pub(crate) fn set_of<'a>(
         }
     }
     Ok(set)
+}
+
+/// The names of routers, in their order.
+pub(crate) fn names_of(alloc: Global, set: &[&Member]) -> Result<Vec<Name>, NoMemory>
+    ensures { IfOk result (λ names. names.items ≡ map (λ m. m.name) (members_of set.now)) }
+{
+    let mut names = Vec::new(alloc);
+    for member in set {
+        names.push(member.name)?;
+    }
+    Ok(names)
 }

@@ -17,6 +17,7 @@ returns c =
       published = c.assigned_is_published.ensures;
       versions = own_versions read;
       peers = c.own_peers_are_of_endpoints.ensures;
+      alone = c.private_post_is_alone.ensures;
       pairs_total = c.pairs_are_ordered.ensures.total;
       pairs_exact = c.pairs_are_ordered.ensures.exact;
       links = c.common_link_exists.ensures;

@@ -1,0 +1,255 @@
+-- A settled and quiet router stays so when time passes, and when a router ticks.
+use Rattle.std.proofs.Common.{◌≡◌, ◌≢◌, ◌∙◌, ◌⊎◌, ℕ, zero, suc, Bool, cond, get_or, List, [], ◌∷◌, Some, slice_get, inl, inr, refl, sym, ap, subst, arith}
+use Rattle.std.specs.Prelude.{◌==◌, ◌&&◌}
+use Rattle.std.specs.List.{count_by, slice_set}
+use Rattle.std.proofs.lemmas.Bool.{cases_eq}
+use Rattle.std.proofs.lemmas.List.Elements.{All-contains}
+use Rattle.std.proofs.lemmas.List.Sums.{sum_by-set}
+use Rattle.std.proofs.lemmas.Option.{get_or_from_slice_get, same_Some, slice_get_within}
+use Rattle.hn_base.specs.declared.ids.NodeId.{NodeId}
+use Rattle.hn_base.specs.declared.name.Name.{Name}
+use Rattle.hn_data.specs.View.{PlainView}
+use Rattle.hn_deleg.specs.Used.{AreUsable}
+use Rattle.hn_rules.specs.declared.done.Done.{Done}
+use Rattle.hn_rules.specs.declared.done.Note.{Note}
+use Rattle.hn_rules.specs.declared.running.Running.{Running}
+use Rattle.hn_rules.specs.declared.state.State.{State}
+use Rattle.hn_rules.specs.Rested.{IsRested, KeepsId}
+use Rattle.hn_rules.specs.Rules.{begun_at}
+use Rattle.hn_rules.specs.Seen.{seen_by}
+use Rattle.hn_rules.specs.Ticks.{IsTick}
+use Rattle.hn_router.specs.Act.{Tick, Happened}
+use Rattle.hn_router.specs.Laws.{MomentIsNow}
+use Rattle.hn_world.specs.declared.event.Traced.{Traced}
+use Rattle.hn_world.specs.declared.event.WEvent.{WEvent}
+use Rattle.hn_world.specs.declared.event.WEvent.TheVariants as event
+use Rattle.hn_world.specs.declared.member.Member.{Member}
+use Rattle.hn_world.specs.declared.parts.Parts.{Parts}
+use Rattle.hn_world.specs.Laws.{EachEventIsAStep, WorldHasItsTrace, WorldHasItsVersion}
+use Rattle.hn_world.specs.Replay.{IsReplayed, IsSoundMember}
+use Rattle.hn_world.specs.Step.{Does}
+use Rattle.hn_audit.specs.Quiet.{IsQuiet}
+use Rattle.hn_audit.specs.Reached.{runs_as, IsRunning, IsReached}
+use Rattle.hn_audit.specs.Settled.{UseSame, IsSettled}
+use Rattle.hn_audit.specs.Staying.{IsMemberAt, IsRestful, KeepAssignments, QuietStays, QuietHomesStay, QuietHomesAlwaysStay}
+use Rattle.hn_audit.proofs.BridgeSets.{itself}
+use Rattle.hn_audit.proofs.BridgeWorlds.{WorldLaws, known_of}
+use Rattle.hn_audit.proofs.FrontWorlds.{replayed}
+use Rattle.hn_audit.proofs.StayingRests.{RestLaws, rested, rests_next}
+use Rattle.hn_audit.proofs.StayingSets.{IsKept, IsStillAs, AreStill, settled_now, quiet_now, kept_now}
+
+-- ---- an element in place of another
+
+put_there : {A : Type 0} (xs : List A) (i : ℕ) (x y : A) → slice_get xs i ≡ Some x → slice_get (slice_set xs i y) i ≡ Some y
+put_there [] i x y at = absurd cc
+put_there (z ∷ zs) zero x y at = refl
+put_there (z ∷ zs) (suc i) x y at = put_there zs i x y at
+
+put_elsewhere : {A : Type 0} (xs : List A) (i k : ℕ) (y : A) → k ≢ i → slice_get (slice_set xs i y) k ≡ slice_get xs k
+put_elsewhere [] i k y other = refl
+put_elsewhere (z ∷ zs) zero zero y other = absurd (other refl)
+put_elsewhere (z ∷ zs) zero (suc k) y other = refl
+put_elsewhere (z ∷ zs) (suc i) zero y other = refl
+put_elsewhere (z ∷ zs) (suc i) (suc k) y other = put_elsewhere zs i k y (λ same. other (ap (λ (n : ℕ). suc n) same))
+
+count_put : {A : Type 0} (p : A → Bool) (xs : List A) (i : ℕ) (x y : A) → slice_get xs i ≡ Some x → p y ≡ p x → count_by p (slice_set xs i y) ≡ count_by p xs
+count_put {A} p xs i x y at same =
+    let f = λ (z : A). cond (p z) 1 0 in
+    let whole = sum_by-set f xs i y x (slice_get_within xs i x at) in
+    let was : f (get_or xs i x) ≡ f x = ap f (get_or_from_slice_get xs i x x at) in
+    let now : f y ≡ f x = ap (λ (b : Bool). cond b 1 0) same in
+    omega (arith, whole, was, now)
+
+-- ---- time passes
+
+module _ (before after : Parts) (same : after.members ≡ before.members) (r : Member) (settled : IsSettled before r) (quiet : IsQuiet before r) where
+  same_at : (place : ℕ) → slice_get after.members place ≡ slice_get before.members place
+  same_at place = ap (λ (members : List Member). slice_get members place) same
+
+  itself_at : (place : ℕ) (m next : Member) → IsMemberAt place before after m next → m ≡ next
+  itself_at place m next at = same_Some m next (sym at.was ∙ sym (same_at place) ∙ at.is)
+
+  still_itself : (m : Member) → IsReached before r m → IsStillAs m.router m.router
+  still_itself m is = record { number = refl; own = refl; reach = refl; known = λ id there. refl; used = settled.used m m is is; assigned = refl; rests = quiet m is }
+
+  still_later : AreStill before after r
+  still_later = record {
+    kept = λ place m next at. subst (IsKept m) (itself_at place m next at) (record { running = refl; attachments = refl; id = refl });
+    still = λ place m next at is. subst (λ (n : Member). IsStillAs m.router n.router) (itself_at place m next at) (still_itself m is);
+    was = λ place next at. (next, record { was = sym (same_at place) ∙ at; is = at });
+    count = λ id. ap (count_by (runs_as id)) same;
+  }
+
+-- ---- a router ticks
+
+module _ (before after : Parts) (place : ℕ) (x : Member) (n : State) (there : slice_get before.members place ≡ Some x) (gives : after.members ≡ slice_set before.members place (record x { router = n }))
+    (r : Member) (settled : IsSettled before r) (quiet : IsQuiet before r) where
+  abbrev next_x : Member
+  next_x = record x { router = n }
+
+  now_there : slice_get after.members place ≡ Some next_x
+  now_there = ap (λ (members : List Member). slice_get members place) gives ∙ put_there before.members place x next_x there
+
+  now_elsewhere : (k : ℕ) → k ≢ place → slice_get after.members k ≡ slice_get before.members k
+  now_elsewhere k other = ap (λ (members : List Member). slice_get members k) gives ∙ put_elsewhere before.members place k next_x other
+
+  -- the router at a place is the one that ticks, or one that does not
+  which : (k : ℕ) (m next : Member) → IsMemberAt k before after m next → ((m ≡ x) × (next ≡ next_x)) ⊎ (m ≡ next)
+  which k m next at = elim (cases_eq k place) [
+    | inl is ↦ inl (
+      same_Some m x (sym at.was ∙ ap (slice_get before.members) is ∙ there),
+      same_Some next next_x (sym at.is ∙ ap (slice_get after.members) is ∙ now_there),
+    )
+    | inr other ↦ inr (same_Some m next (sym at.was ∙ sym (now_elsewhere k other) ∙ at.is))
+  ]
+
+  module _ (id : n.id ≡ x.router.id) (x_still : IsReached before r x → IsStillAs x.router n) where
+    kept_tick : (k : ℕ) (m next : Member) → IsMemberAt k before after m next → IsKept m next
+    kept_tick k m next at = elim (which k m next at) [
+      | inl (was, is) ↦
+          let kept : IsKept x next_x = record { running = refl; attachments = refl; id = id } in
+          subst (λ (a : Member). IsKept a next) (sym was) (subst (IsKept x) (sym is) kept)
+      | inr same ↦ subst (IsKept m) same (record { running = refl; attachments = refl; id = refl })
+    ]
+
+    still_tick : (k : ℕ) (m next : Member) → IsMemberAt k before after m next → IsReached before r m → IsStillAs m.router next.router
+    still_tick k m next at reached = elim (which k m next at) [
+      | inl (was, is) ↦
+          let still : IsStillAs x.router n = x_still (subst (IsReached before r) was reached) in
+          subst (λ (a : Member). IsStillAs a.router next.router) (sym was) (subst (λ (b : Member). IsStillAs x.router b.router) (sym is) still)
+      | inr same ↦
+          let still : IsStillAs m.router m.router =
+          record { number = refl; own = refl; reach = refl; known = λ id there. refl; used = settled.used m m reached reached; assigned = refl; rests = quiet m reached }
+          in
+          subst (λ (b : Member). IsStillAs m.router b.router) same still
+    ]
+
+    was_tick : (k : ℕ) (next : Member) → slice_get after.members k ≡ Some next → (m : Member) × IsMemberAt k before after m next
+    was_tick k next at = elim (cases_eq k place) [
+      | inl is ↦ (x, record { was = ap (slice_get before.members) is ∙ there; is = at })
+      | inr other ↦ (next, record { was = sym (now_elsewhere k other) ∙ at; is = at })
+    ]
+
+    tick_still : AreStill before after r
+    tick_still = record {
+      kept = kept_tick;
+      still = still_tick;
+      was = was_tick;
+      count = λ some. ap (count_by (runs_as some)) gives ∙ count_put (runs_as some) before.members place x next_x there (ap (λ (i : NodeId). x.running && i.0 == some.0) id);
+    }
+
+-- what a tick of a router is
+record IsTicked (now : ℕ) (s next : State) : Type 0 where
+  pub after : Running
+  pub tick : IsTick (begun_at now s) after
+  pub due : ℕ
+  pub is : next ≡ record after.state { due = due }
+
+ticked : (now : ℕ) (s next : State) (done : Done) → Happened now Tick s next done → IsTicked now s next
+unfolding Happened
+ticked now s next done (after, inl (refused, _), _, _) = absurd cc
+ticked now s next done (after, inr (_, tick), (due, _, is), _) = record { after = after; tick = tick; due = due; is = is }
+
+-- the laws of the crates below on which it rests
+pub record StayLaws : Type 0 where
+  pub worlds : WorldLaws
+  pub rests : RestLaws
+  pub id : KeepsId IsTick
+  pub moment : MomentIsNow
+
+module _ (laws : StayLaws) (before after : Parts) (replays : IsReplayed before) (place : ℕ) (r next : Member) (here : IsMemberAt place before after r next)
+    (runs : IsRunning before r) (settled : IsSettled before r) (quiet : IsQuiet before r) where
+  -- where the set is still, the router stays
+  stays_where_still : AreStill before after r → IsSettled after next × IsQuiet after next × KeepAssignments before after r next
+  stays_where_still are =
+      let self = itself before r (known_of laws.worlds before r replays runs settled) in (
+        settled_now laws.rests.unique before after r next place here are self settled,
+        quiet_now laws.rests.unique before after r next place here are self settled,
+        kept_now laws.rests.unique before after r next place here are self settled,
+      )
+
+  -- a router of the set whose tick is restful is still
+  module _ (x : Member) (n : State) (done : Done) (reached : IsReached before r x) (happened : Happened before.moment Tick x.router n done) (restful : IsRestful before.moment x.router n) where
+    x_still : IsStillAs x.router n
+    x_still =
+        let now = before.moment in
+        let s = x.router in
+        let sound = All-contains (IsSoundMember now) before.members x (laws.worlds.sound before replays) reached.runs.there in
+        let run = ticked now s n done happened in
+        let used = restful.used in
+        let seen : seen_by n ≡ seen_by run.after.state = ap seen_by run.is in
+        let same : UseSame s run.after.state = record { one = used.one; is_one = used.is_one; other = used.other; is_other = subst (λ (view : PlainView). AreUsable view used.other) seen used.is_other; same = used.same } in
+        let rest = quiet x reached in
+        let was = rested laws.rests now s sound.router sound.past restful.uneventful rest run.after run.tick same in
+        let with_due : IsRested s (record run.after.state { due = run.due }) = record {
+          id = was.id;
+          number = was.number;
+          own = was.own;
+          private = was.private;
+          endpoints = was.endpoints;
+          reach = was.reach;
+          known = was.known;
+          assigned = was.assigned;
+        } in
+        let left : IsRested s n = subst (IsRested s) (sym run.is) with_due in
+        let moment = laws.moment now Tick s n done happened in
+        record {
+          number = left.number;
+          own = left.own;
+          reach = left.reach;
+          known = left.known;
+          used = used;
+          assigned = left.assigned;
+          rests = rests_next laws.rests now s sound.router sound.past restful.uneventful rest run.after run.tick same n used left moment;
+        }
+
+-- a router ticks, and if it is of the set, the tick is restful
+stays_tick : StayLaws → (name : Name) (words : List ℕ) (notes : List Note) (before between after : Parts) → IsReplayed before → after.members ≡ between.members
+    → Does (event.Tick name) words notes before between → QuietStays (event.Tick name) before after
+stays_tick laws name words notes before between after replays same does place r next here runs settled quiet calm =
+    let acts = does.acts in
+    let x = acts.member in
+    let n = acts.next in
+    let gives : after.members ≡ slice_set before.members does.place (record x { router = n }) = same ∙ ap (λ (w : Parts). w.members) acts.gives in
+    let run = ticked before.moment x.router n acts.done acts.happened in
+    let id : n.id ≡ x.router.id = ap (λ (s : State). s.id) run.is ∙ laws.id (begun_at before.moment x.router) run.after run.tick in
+    let at : IsMemberAt does.place before after x (record x { router = n }) = record {
+      was = acts.is_member;
+      is = ap (λ (members : List Member). slice_get members does.place) gives ∙ put_there before.members does.place x (record x { router = n }) acts.is_member;
+    } in
+    let still : IsReached before r x → IsStillAs x.router n = λ reached.
+    x_still laws before after replays place r next here runs settled quiet x n acts.done reached acts.happened (calm does.place x (record x { router = n }) does.is_place at reached)
+    in
+    stays_where_still laws before after replays place r next here runs settled quiet (tick_still before after does.place x n acts.is_member gives r settled quiet id still)
+
+stays_by : StayLaws → (event : WEvent) (words : List ℕ) (notes : List Note) (before between after : Parts) → IsReplayed before → after.members ≡ between.members
+    → Does event words notes before between → QuietStays event before after
+stays_by laws (event.Time moment) words notes before between after replays same does place r next here runs settled quiet calm =
+    stays_where_still laws before after replays place r next here runs settled quiet (still_later before after (same ∙ ap (λ (w : Parts). w.members) does.gives) r settled quiet)
+stays_by laws (event.Tick name) words notes before between after replays same does place r next here runs settled quiet calm =
+    stays_tick laws name words notes before between after replays same does place r next here runs settled quiet calm
+stays_by laws (event.Router name id) words notes before between after replays same does place r next here runs settled quiet calm = absurd calm
+stays_by laws (event.Link name) words notes before between after replays same does place r next here runs settled quiet calm = absurd calm
+stays_by laws (event.Attach name endpoint link) words notes before between after replays same does place r next here runs settled quiet calm = absurd calm
+stays_by laws (event.Detach name endpoint) words notes before between after replays same does place r next here runs settled quiet calm = absurd calm
+stays_by laws (event.External name prefix valid preferred) words notes before between after replays same does place r next here runs settled quiet calm = absurd calm
+stays_by laws (event.Withdraw name prefix) words notes before between after replays same does place r next here runs settled quiet calm = absurd calm
+stays_by laws (event.Caps name caps) words notes before between after replays same does place r next here runs settled quiet calm = absurd calm
+stays_by laws (event.Private name length) words notes before between after replays same does place r next here runs settled quiet calm = absurd calm
+stays_by laws (event.Addresses name list) words notes before between after replays same does place r next here runs settled quiet calm = absurd calm
+stays_by laws (event.Stop name) words notes before between after replays same does place r next here runs settled quiet calm = absurd calm
+stays_by laws (event.Start name) words notes before between after replays same does place r next here runs settled quiet calm = absurd calm
+stays_by laws (event.Deliver copy) words notes before between after replays same does place r next here runs settled quiet calm = absurd calm
+stays_by laws (event.Drop copy) words notes before between after replays same does place r next here runs settled quiet calm = absurd calm
+stays_by laws (event.Inject name endpoint from multicast bytes) words notes before between after replays same does place r next here runs settled quiet calm = absurd calm
+
+pub quiet_stays : StayLaws → QuietHomesStay
+quiet_stays laws t notes before after replays step = stays_by laws t.event t.words notes before step.between after replays (ap (λ (w : Parts). w.members) step.gives) step.does
+
+-- ---- over each event of a trace
+
+pub always_stays : WorldHasItsTrace → WorldHasItsVersion → EachEventIsAStep → QuietHomesStay → QuietHomesAlwaysStay
+always_stays traces versions steps stays w is past future t split =
+    let (before, after, leads, leads_on, stepped) = steps w is past future t split in
+    let traced : Traced = record { event = t.event; words = stepped.words } in
+    (before, after, leads, leads_on, stays traced stepped.notes before after (replayed traces versions w.version past before leads) stepped.step)

@@ -1,10 +1,12 @@
--- The numbers of a script's lines.
+-- The lines of a script are of its version, and their numbers in range.
 use Rattle.std.proofs.Common.{ℕ, ◌+◌, List, [], ◌∷◌, Option, Some, None, sym, subst}
 use Rattle.std.specs.List.{AllZip, AllByRecursion}
 use Rattle.hn_script.specs.Field.{IsField}
-use Rattle.hn_script.specs.Laws.{IsLimited, ScriptIsLimited}
-use Rattle.hn_script.specs.Line.{spelling, Gives}
-use Rattle.hn_script.specs.Script.{IsEntry, numbered}
+use Rattle.hn_script.specs.Laws.{IsLimited, ScriptIsLimited, LinesAreOfVersion}
+use Rattle.hn_base.specs.declared.version.Version.{Version}
+use Rattle.hn_script.specs.Entries.{IsEntry, numbered}
+use Rattle.hn_script.specs.Language.{Gives}
+use Rattle.hn_script.specs.Line.{spelling, IsOfVersion, of_version}
 use Rattle.hn_script.specs.Texts.{words_of}
 use Rattle.hn_script.specs.declared.line.Line.{Line}
 use Rattle.hn_script.specs.declared.line.Line.TheVariants.{Attach, Time, Run}
@@ -20,16 +22,26 @@ limited_fields (Run t step) (a ∷ []) zip = absurd zip.1
 limited_fields (Run t step) (a ∷ b ∷ words) zip = (zip.0.high, zip.1.0.high)
 limited_fields _ words zip = tt
 
-spelled : (line : Line) (words : List (List ℕ)) → Gives (Some line) words → IsLimited line
-spelled line [] gives = absurd gives.0
-spelled line (word ∷ words) gives = limited_fields line words gives.0.1
+spelled : (version : Version) (line : Line) (words : List (List ℕ)) → Gives (of_version version) (Some line) words → IsOfVersion version line × IsLimited line
+spelled version line [] gives = absurd gives.0
+spelled version line (word ∷ words) gives = (gives.0.0, limited_fields line words gives.0.2)
 
-limited_lines : (n : ℕ) (entries : List (Option Line)) (texts : List (List ℕ)) → AllZip IsEntry entries texts → AllByRecursion (λ line. IsLimited line.1) (numbered n entries)
-limited_lines n [] texts zip = tt
-limited_lines n (None ∷ entries) [] zip = absurd zip
-limited_lines n (Some line ∷ entries) [] zip = absurd zip
-limited_lines n (None ∷ entries) (text ∷ texts) zip = limited_lines (n + 1) entries texts zip.1
-limited_lines n (Some line ∷ entries) (text ∷ texts) zip = (spelled line (words_of text) zip.0.gives, limited_lines (n + 1) entries texts zip.1)
+-- what each line of a script is
+both_lines : (version : Version) (n : ℕ) (entries : List (Option Line)) (texts : List (List ℕ)) → AllZip (IsEntry (of_version version)) entries texts
+    → AllByRecursion (λ line. IsOfVersion version line.1) (numbered n entries) × AllByRecursion (λ line. IsLimited line.1) (numbered n entries)
+both_lines version n [] texts zip = (tt, tt)
+both_lines version n (None ∷ entries) [] zip = absurd zip
+both_lines version n (Some line ∷ entries) [] zip = absurd zip
+both_lines version n (None ∷ entries) (text ∷ texts) zip = both_lines version (n + 1) entries texts zip.1
+both_lines version n (Some line ∷ entries) (text ∷ texts) zip =
+    let here = spelled version line (words_of text) zip.0.gives in
+    let later = both_lines version (n + 1) entries texts zip.1 in
+    ((here.0, later.0), (here.1, later.1))
 
 pub limited : ScriptIsLimited
-limited script bytes h = subst (λ lines. AllByRecursion (λ line. IsLimited line.1) lines) (sym h.lines.2) (limited_lines 2 h.lines.0 h.texts h.lines.1)
+limited script bytes h =
+    subst (λ lines. AllByRecursion (λ line. IsLimited line.1) lines) (sym h.lines.2) (both_lines script.version 2 h.lines.0 h.texts h.lines.1).1
+
+pub lines_of_version : LinesAreOfVersion
+lines_of_version bytes script h =
+    subst (λ lines. AllByRecursion (λ line. IsOfVersion script.version line.1) lines) (sym h.lines.2) (both_lines script.version 2 h.lines.0 h.texts h.lines.1).0

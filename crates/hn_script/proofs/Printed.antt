@@ -1,5 +1,5 @@
 -- What is printed is read again.
-use Rattle.std.proofs.Common.{◌≡◌, ℕ, ◌+◌, ◌^◌, ◌<◌, ◌≤◌, true, List, [], ◌∷◌, ◌++◌, length, get_or, take, map, codes, Option, Some, refl, sym, ap, ◌∙◌, arith, append_assoc}
+use Rattle.std.proofs.Common.{◌≡◌, ℕ, ◌+◌, ◌^◌, ◌<◌, ◌≤◌, true, List, [], ◌∷◌, ◌++◌, length, get_or, take, map, codes, Option, Some, None, refl, sym, ap, ◌∙◌, arith, append_assoc}
 use Rattle.std.proofs.lemmas.Bool.{and_parts}
 use Rattle.std.proofs.lemmas.Bool.Decides.{nat_tests}
 use Rattle.std.proofs.lemmas.List.{append-nil, map_push, take_more}
@@ -20,16 +20,17 @@ use Rattle.hn_base.proofs.SplitLemmas.{Lacks-from_fact}
 use Rattle.hn_prefix.specs.PrefixText.{prefix_text_of}
 use Rattle.hn_prefix.specs.Laws.{PrefixTextIsRead}
 use Rattle.hn_script.specs.Fault.{IsPlain}
-use Rattle.hn_script.specs.Field.{Field, Named, Node, Endpoint, Number, Prefixed, Capability, Way, Hex, IsField, IsInRange, IsNumberText, field_text, letter_text, way_text}
+use Rattle.hn_script.specs.Field.{Field, Named, Node, Endpoint, Number, Prefixed, Capability, Way, Hex, Length, IsField, IsInRange, IsNumberText, field_text, letter_text, way_text}
 use Rattle.hn_script.specs.Laws.{IsPrintable, renumbered, PrintedIsRead}
-use Rattle.hn_script.specs.Line.{spelling, line_text}
-use Rattle.hn_script.specs.Script.{IsEntry, ended, first_line, numbered}
+use Rattle.hn_script.specs.Entries.{IsEntry, numbered}
+use Rattle.hn_script.specs.Line.{spelling, IsOfVersion, of_version, values_text, line_text}
+use Rattle.hn_script.specs.Script.{ended, first_line}
 use Rattle.hn_script.specs.Texts.{words_of, lines_of}
 use Rattle.hn_script.specs.declared.line.How.{How}
 use Rattle.hn_script.specs.declared.line.How.TheVariants.{Uni, Multi, Far}
 use Rattle.hn_script.specs.declared.line.Line.{Line}
 use Rattle.hn_base.specs.declared.version.Version.{Version}
-use Rattle.hn_script.proofs.Entries.{plain_first}
+use Rattle.hn_script.proofs.SameScripts.{plain_first}
 use Rattle.hn_script.proofs.HexTexts.{printed_id, IsWord-digits, IsWord-hex}
 use Rattle.hn_script.proofs.LineWords.{first_letters}
 use Rattle.hn_script.proofs.Pieces.{words_last, words_cut, lines_none, lines_cut}
@@ -101,6 +102,10 @@ printed_word print (Hex (byte ∷ bytes)) h =
       bytes = IsWord-hex (byte ∷ bytes) h;
       some = omega (arith, long);
     }
+printed_word print (Length None) h = record { writes = refl; bytes = IsWord-from_letters (codes "off") refl; some = omega arith }
+printed_word print (Length (Some bits)) h =
+    let read = number_text 1 64 bits h.0 h.1 (omega (arith, h.1)) in
+    record { writes = read; bytes = digits_word bits read.numeral; some = read.numeral.digits.0 }
 
 -- ---- words in a row
 
@@ -138,12 +143,12 @@ line_words print line h =
     let letters = first_letters line in
     ((IsWord-from_letters (spelling line).first letters, letters_some (spelling line).first letters), printed_words print (spelling line).fields h.in_range)
 
-printed_entry : PrefixTextIsRead → (line : Line) → IsPrintable line → IsEntry (Some line) (line_text line)
-printed_entry print line h = record {
+printed_entry : PrefixTextIsRead → (version : Version) (line : Line) → IsOfVersion version line → IsPrintable line → IsEntry (of_version version) (Some line) (line_text line)
+printed_entry print version line of h = record {
   short = h.short;
   plain = joined_plain (spelling line).first (map field_text (spelling line).fields) (line_words print line h);
   gives = rw (joined_words (spelling line).first (map field_text (spelling line).fields) (line_words print line h))
-      ((refl, printed_fields print (spelling line).fields h.in_range), letters_no_hash (spelling line).first (first_letters line));
+      ((of, refl, printed_fields print (spelling line).fields h.in_range), letters_no_hash (spelling line).first (first_letters line));
 }
 
 plain_lacks : (text : List ℕ) → IsPlain text → Lacks 10 text
@@ -156,17 +161,22 @@ texts_of lines = map (λ (line : ℕ × Line). line_text line.1) lines
 abbrev given : List (ℕ × Line) → List (Option Line)
 given lines = map (λ (line : ℕ × Line). Some line.1) lines
 
-given_entries : PrefixTextIsRead → (lines : List (ℕ × Line)) → AllByRecursion (λ line. IsPrintable line.1) lines → AllZip IsEntry (given lines) (texts_of lines)
-given_entries print [] h = tt
-given_entries print (line ∷ lines) h = (printed_entry print line.1 h.0, given_entries print lines h.1)
+-- each line is of the version, and can be printed
+abbrev AreGood : Version → List (ℕ × Line) → Type 0
+AreGood version lines = AllByRecursion (λ line. IsOfVersion version line.1) lines × AllByRecursion (λ line. IsPrintable line.1) lines
+
+given_entries : PrefixTextIsRead → (version : Version) (lines : List (ℕ × Line)) → AreGood version lines → AllZip (IsEntry (of_version version)) (given lines) (texts_of lines)
+given_entries print version [] h = tt
+given_entries print version (line ∷ lines) h = (printed_entry print version line.1 h.0.0 h.1.0, given_entries print version lines (h.0.1, h.1.1))
 
 given_numbers : (n : ℕ) (lines : List (ℕ × Line)) → renumbered n lines ≡ numbered n (given lines)
 given_numbers n [] = refl
 given_numbers n (line ∷ lines) = ap (λ (found : List (ℕ × Line)). (n, line.1) ∷ found) (given_numbers (n + 1) lines)
 
-texts_lack : PrefixTextIsRead → (lines : List (ℕ × Line)) → AllByRecursion (λ line. IsPrintable line.1) lines → AllByRecursion (Lacks 10) (texts_of lines)
-texts_lack print [] h = tt
-texts_lack print (line ∷ lines) h = (plain_lacks (line_text line.1) (printed_entry print line.1 h.0).plain, texts_lack print lines h.1)
+texts_lack : PrefixTextIsRead → (version : Version) (lines : List (ℕ × Line)) → AreGood version lines → AllByRecursion (Lacks 10) (texts_of lines)
+texts_lack print version [] h = tt
+texts_lack print version (line ∷ lines) h =
+    (plain_lacks (line_text line.1) (printed_entry print version line.1 h.0.0 h.1.0).plain, texts_lack print version lines (h.0.1, h.1.1))
 
 ended_lines : (texts : List (List ℕ)) → AllByRecursion (Lacks 10) texts → lines_of (ended texts) ≡ texts
 ended_lines [] h = lines_none [] refl
@@ -178,14 +188,18 @@ first_lacks : (version : Version) → Lacks 10 (first_line version)
 first_lacks version = plain_lacks (first_line version) (plain_first version)
 
 pub printed_script : PrefixTextIsRead → PrintedIsRead
-printed_script print script h small = record {
+printed_script print script of h small = record {
   small = small;
   texts = texts_of script.lines;
-  parts = ended_lines (first_line script.version ∷ texts_of script.lines) (first_lacks script.version, texts_lack print script.lines h);
-  lines = (given script.lines, given_entries print script.lines h, given_numbers 2 script.lines);
+  parts = ended_lines (first_line script.version ∷ texts_of script.lines) (first_lacks script.version, texts_lack print script.version script.lines (of, h));
+  lines = (given script.lines, given_entries print script.version script.lines (of, h), given_numbers 2 script.lines);
 }
 
 -- ---- the printing itself
+
+words_are : (first : List ℕ) (fields : List Field) → join_with_byte 32 (first ∷ map field_text fields) ≡ first ++ values_text fields
+words_are first [] = sym (append-nil first)
+words_are first (field ∷ fields) = refl
 
 ended-push : (texts : List (List ℕ)) (text : List ℕ) → ended (texts ++ text ∷ []) ≡ ended texts ++ text ++ 10 ∷ []
 ended-push [] text = append-nil (text ++ 10 ∷ [])
@@ -199,3 +213,7 @@ printed_more first lines i line lt is =
     ap (λ (found : List (ℕ × Line)). ended (first ∷ texts_of found)) more
     ∙ ap (λ (texts : List (List ℕ)). ended (first ∷ texts)) (map_push (λ (l : ℕ × Line). line_text l.1) (take i lines) line)
     ∙ ended-push (first ∷ texts_of (take i lines)) (line_text line.1)
+
+-- the values of a line stand after its first word
+pub line_is : (line : Line) → line_text line ≡ (spelling line).first ++ values_text (spelling line).fields
+line_is line = words_are (spelling line).first (spelling line).fields

@@ -1,5 +1,5 @@
 -- A word writes one value of a kind, and words spell one line.
-use Rattle.std.proofs.Common.{◌≡◌, ◌≢◌, ℕ, ◌==◌, if◌then◌else◌, true, false, List, [], ◌∷◌, map, codes, slice_index, Ok, refl, sym, ap, ◌∙◌, subst, arith}
+use Rattle.std.proofs.Common.{◌≡◌, ◌≢◌, ℕ, ◌==◌, if◌then◌else◌, true, false, List, [], ◌∷◌, map, codes, slice_index, Option, Some, None, Ok, refl, sym, ap, ◌∙◌, subst, arith}
 use Rattle.std.proofs.lemmas.Bool.{false≢true}
 use Rattle.std.specs.List.{AllZip}
 use Rattle.hex.specs.Hex.{decode_of}
@@ -8,18 +8,22 @@ use Rattle.hn_base.proofs.NumeralLemmas.{same_number}
 use Rattle.hn_base.specs.declared.letter.Letter.{Letter}
 use Rattle.hn_base.specs.declared.letter.Letter.TheVariants.{M, P, H, L}
 use Rattle.hn_prefix.specs.Laws.{PrefixTextIsOfOne}
-use Rattle.hn_script.specs.Field.{Field, Named, Node, Endpoint, Number, Prefixed, Capability, Way, Hex, IsField, IsHexWord, letter_text, way_text}
-use Rattle.hn_script.specs.Line.{spelling, Spells}
+use Rattle.hn_script.specs.Field.{Field, Named, Node, Endpoint, Number, Prefixed, Capability, Way, Hex, Length, IsField, IsHexWord, IsNumberText, letter_text, way_text}
+use Rattle.hn_script.specs.Line.{spelling, of_version}
+use Rattle.hn_base.specs.declared.caps.Caps.{Caps as PriorityCaps}
+use Rattle.hn_base.specs.declared.name.Name.{Name}
+use Rattle.hn_base.specs.declared.version.Version.{Version}
 use Rattle.hn_script.specs.declared.line.How.{How}
 use Rattle.hn_script.specs.declared.line.How.TheVariants.{Uni, Multi, Far}
 use Rattle.hn_script.specs.declared.line.Line.{Line}
-use Rattle.hn_script.specs.declared.line.Line.TheVariants.{Router, Link, Attach, Detach, External, Withdraw, Caps, Stop, Start, Seed, Loss, Time, Tick, Run, Deliver, Drop, Flow, Inject, Show, Hash, Used, Prefixes, Elect, Advert, Audit, Compare, Mail}
-use Rattle.hn_script.proofs.Families.{Family, SameKind, without_range, same_text, same_text-refl}
-use Rattle.hn_script.proofs.LineWords.{router_lines, link_lines, attach_lines, detach_lines, external_lines, withdraw_lines, caps_lines, stop_lines, start_lines, seed_lines, loss_lines, time_lines, tick_lines, run_lines, deliver_lines, drop_lines, flow_lines, inject_lines, show_lines, hash_lines, used_lines, prefixes_lines, elect_lines, advert_lines, audit_lines, compare_lines, mail_lines}
+use Rattle.hn_script.specs.declared.line.Line.TheVariants.{Router, Link, Attach, Detach, External, Withdraw, Caps, Stop, Start, Seed, Loss, Time, Tick, Run, Deliver, Drop, Flow, Inject, Show, Hash, Used, Prefixes, Elect, Advert, Audit, Compare, Mail, Private, Sync, Address, Addresses, Addressed, Ula, Ulas, Radv, Solicit}
+use Rattle.hn_script.proofs.LineWords.{same_text, same_text-refl}
+use Rattle.hn_script.proofs.SameEntries.{IsTold}
+use Rattle.hn_base.proofs.Fields.{same_caps}
 use Rattle.hn_script.proofs.Values.{same_name}
 use Rattle.hn_base.proofs.Keys.{same_id, same_node}
 
-apart : (a b : List ℕ) → a ≡ b → same_text a b ≡ false → ⊥
+pub apart : (a b : List ℕ) → a ≡ b → same_text a b ≡ false → ⊥
 apart a b e differ = false≢true (sym differ ∙ subst (λ t. same_text a t ≡ true) e (same_text-refl a))
 
 same_way : (a b : How) → way_text a ≡ way_text b → a ≡ b
@@ -55,6 +59,34 @@ same_bytes [] (c ∷ b) word h k = absurd (odd_dash (c ∷ b) (subst (λ w. deco
 same_bytes (c ∷ a) [] word h k = absurd (odd_dash (c ∷ a) (subst (λ w. decode_of w ≡ Ok (c ∷ a)) k h))
 same_bytes (c ∷ a) (d ∷ b) word h k = decode_of-same word (c ∷ a) (d ∷ b) h k
 
+-- `off` is no number
+off_no_number : (bits : ℕ) → ¬ IsNumberText 1 64 (codes "off") bits
+off_no_number bits h = let digit = h.numeral.digits.1.0 in absurd (omega (arith, digit))
+
+same_length : (a b : Option ℕ) (word : List ℕ) → IsField (Length a) word → IsField (Length b) word → a ≡ b
+same_length None None word h k = refl
+same_length None (Some m) word h k = absurd (off_no_number m (subst (λ w. IsNumberText 1 64 w m) h k))
+same_length (Some n) None word h k = absurd (off_no_number n (subst (λ w. IsNumberText 1 64 w n) k h))
+same_length (Some n) (Some m) word h k = ap Some (same_number 10 20 word n m h.numeral k.numeral)
+
+-- two values of one kind
+abbrev pub SameKind : Field → Field → Type 0
+SameKind (Named a) (Named b) = Unit {0}
+SameKind (Node a) (Node b) = Unit {0}
+SameKind (Endpoint a) (Endpoint b) = Unit {0}
+SameKind (Number lowest highest n) (Number low high m) = Unit {0}
+SameKind (Prefixed a) (Prefixed b) = Unit {0}
+SameKind (Capability a) (Capability b) = Unit {0}
+SameKind (Way a) (Way b) = Unit {0}
+SameKind (Hex a) (Hex b) = Unit {0}
+SameKind (Length a) (Length b) = Unit {0}
+SameKind _ _ = ⊥
+
+-- the value, without the range of a number
+abbrev pub without_range : Field → Field
+without_range (Number lowest highest n) = Number 0 0 n
+without_range field = field
+
 -- a word writes one value of a kind, whatever the range of a number is
 same_field : PrefixTextIsOfOne → (f g : Field) (word : List ℕ) → SameKind f g → IsField f word → IsField g word → without_range f ≡ without_range g
 same_field one (Named a) (Named b) word kind h k = ap Named (same_name a b (sym h.text ∙ k.text) h.room k.room)
@@ -65,9 +97,10 @@ same_field one (Prefixed a) (Prefixed b) word kind h k = ap Prefixed (one word a
 same_field one (Capability a) (Capability b) word kind h k = ap Capability (same_letter a b (sym h ∙ k))
 same_field one (Way a) (Way b) word kind h k = ap Way (same_way a b (sym h ∙ k))
 same_field one (Hex a) (Hex b) word kind h k = ap Hex (same_bytes a b word h k)
+same_field one (Length a) (Length b) word kind h k = ap Length (same_length a b word h k)
 same_field one _ _ word kind h k = absurd kind
 
-same_fields : PrefixTextIsOfOne → (fs gs : List Field) (words : List (List ℕ)) → AllZip SameKind fs gs → AllZip IsField fs words → AllZip IsField gs words
+pub same_fields : PrefixTextIsOfOne → (fs gs : List Field) (words : List (List ℕ)) → AllZip SameKind fs gs → AllZip IsField fs words → AllZip IsField gs words
     → map without_range fs ≡ map without_range gs
 same_fields one [] [] words kinds h k = refl
 same_fields one [] (g ∷ gs) words kinds h k = absurd kinds
@@ -78,39 +111,67 @@ same_fields one (f ∷ fs) (g ∷ gs) (word ∷ words) kinds h k =
     let tail = same_fields one fs gs words kinds.1 h.1 k.1 in
     cc
 
-family_same : {A : Type 0} (word : List ℕ) (count : ℕ) (line_of : A → Line) → Family word count line_of → PrefixTextIsOfOne
-    → (values : A) (other : Line) (first : List ℕ) (words : List (List ℕ))
-    → Spells (line_of values) (first ∷ words) → Spells other (first ∷ words) → line_of values ≡ other
-family_same word count line_of family one values other first words h k =
-    let found = family.only other (k.0 ∙ sym h.0 ∙ family.first values) in
-    let fields = subst (λ l. AllZip IsField (spelling l).fields words) found.1 k.1 in
-    family.injective values found.0 (same_fields one _ _ words (family.kinds values found.0) h.1 fields) ∙ sym found.1
+-- capabilities that four priorities of a line give
+same_caps_lines : (a : Name) (b : PriorityCaps) (c : Name) (d : PriorityCaps)
+    → map without_range (spelling (Caps a b)).fields ≡ map without_range (spelling (Caps c d)).fields → Caps a b ≡ Caps c d
+same_caps_lines a b c d e =
+    let name : a ≡ c = cc in
+    let m : b.m ≡ d.m = cc in
+    let p : b.p ≡ d.p = cc in
+    let h : b.h ≡ d.h = cc in
+    let l : b.l ≡ d.l = cc in
+    rw (name, same_caps b d m p h l) refl
 
-pub same_line : PrefixTextIsOfOne → (line other : Line) (first : List ℕ) (words : List (List ℕ)) → Spells line (first ∷ words) → Spells other (first ∷ words) → line ≡ other
-same_line one (Router a b) = family_same (codes "router") _ _ router_lines one (a, b)
-same_line one (Link a) = family_same (codes "link") _ _ link_lines one a
-same_line one (Attach a b c) = family_same (codes "attach") _ _ attach_lines one (a, b, c)
-same_line one (Detach a b) = family_same (codes "detach") _ _ detach_lines one (a, b)
-same_line one (External a b c d) = family_same (codes "external") _ _ external_lines one (a, b, c, d)
-same_line one (Withdraw a b) = family_same (codes "withdraw") _ _ withdraw_lines one (a, b)
-same_line one (Caps a b) = family_same (codes "caps") _ _ caps_lines one (a, b)
-same_line one (Stop a) = family_same (codes "stop") _ _ stop_lines one a
-same_line one (Start a) = family_same (codes "start") _ _ start_lines one a
-same_line one (Seed a) = family_same (codes "seed") _ _ seed_lines one a
-same_line one (Loss a) = family_same (codes "loss") _ _ loss_lines one a
-same_line one (Time a) = family_same (codes "time") _ _ time_lines one a
-same_line one (Tick a) = family_same (codes "tick") _ _ tick_lines one a
-same_line one (Run a b) = family_same (codes "run") _ _ run_lines one (a, b)
-same_line one (Deliver a) = family_same (codes "deliver") _ _ deliver_lines one a
-same_line one (Drop a) = family_same (codes "drop") _ _ drop_lines one a
-same_line one Flow = family_same (codes "flow") _ _ flow_lines one tt
-same_line one (Inject a b c d) = family_same (codes "inject") _ _ inject_lines one (a, b, c, d)
-same_line one (Show a) = family_same (codes "show") _ _ show_lines one a
-same_line one (Hash a) = family_same (codes "hash") _ _ hash_lines one a
-same_line one (Used a) = family_same (codes "used") _ _ used_lines one a
-same_line one (Prefixes a) = family_same (codes "prefixes") _ _ prefixes_lines one a
-same_line one (Elect a b c) = family_same (codes "elect") _ _ elect_lines one (a, b, c)
-same_line one (Advert a b) = family_same (codes "advert") _ _ advert_lines one (a, b)
-same_line one (Audit a) = family_same (codes "audit") _ _ audit_lines one a
-same_line one (Compare a b) = family_same (codes "compare") _ _ compare_lines one (a, b)
-same_line one Mail = family_same (codes "mail") _ _ mail_lines one tt
+-- the values of a line
+abbrev values_of : Line → List Field
+values_of line = map without_range (spelling line).fields
+
+same_values : PrefixTextIsOfOne → (line other : Line) (words : List (List ℕ)) → AllZip SameKind (spelling line).fields (spelling other).fields
+    → AllZip IsField (spelling line).fields words → AllZip IsField (spelling other).fields words → values_of line ≡ values_of other
+same_values one line other = same_fields one (spelling line).fields (spelling other).fields
+
+-- words spell one line of a first word
+same_row : PrefixTextIsOfOne → (line other : Line) (words : List (List ℕ)) → same_text (spelling line).first (spelling other).first ≡ true
+    → AllZip IsField (spelling line).fields words → AllZip IsField (spelling other).fields words → line ≡ other
+same_row one (Router a b) (Router g h) words e p q = let values = same_values one (Router a b) (Router g h) words (tt, (tt, tt)) p q in cc
+same_row one (Link a) (Link g) words e p q = let values = same_values one (Link a) (Link g) words (tt, tt) p q in cc
+same_row one (Attach a b c) (Attach g h i) words e p q = let values = same_values one (Attach a b c) (Attach g h i) words (tt, (tt, (tt, tt))) p q in cc
+same_row one (Detach a b) (Detach g h) words e p q = let values = same_values one (Detach a b) (Detach g h) words (tt, (tt, tt)) p q in cc
+same_row one (External a b c d) (External g h i j) words e p q = let values = same_values one (External a b c d) (External g h i j) words (tt, (tt, (tt, (tt, tt)))) p q in cc
+same_row one (Withdraw a b) (Withdraw g h) words e p q = let values = same_values one (Withdraw a b) (Withdraw g h) words (tt, (tt, tt)) p q in cc
+same_row one (Caps a b) (Caps g h) words e p q = same_caps_lines a b g h (same_values one (Caps a b) (Caps g h) words (tt, (tt, (tt, (tt, (tt, tt))))) p q)
+same_row one (Stop a) (Stop g) words e p q = let values = same_values one (Stop a) (Stop g) words (tt, tt) p q in cc
+same_row one (Start a) (Start g) words e p q = let values = same_values one (Start a) (Start g) words (tt, tt) p q in cc
+same_row one (Seed a) (Seed g) words e p q = let values = same_values one (Seed a) (Seed g) words (tt, tt) p q in cc
+same_row one (Loss a) (Loss g) words e p q = let values = same_values one (Loss a) (Loss g) words (tt, tt) p q in cc
+same_row one (Time a) (Time g) words e p q = let values = same_values one (Time a) (Time g) words (tt, tt) p q in cc
+same_row one (Tick a) (Tick g) words e p q = let values = same_values one (Tick a) (Tick g) words (tt, tt) p q in cc
+same_row one (Run a b) (Run g h) words e p q = let values = same_values one (Run a b) (Run g h) words (tt, (tt, tt)) p q in cc
+same_row one (Deliver a) (Deliver g) words e p q = let values = same_values one (Deliver a) (Deliver g) words (tt, tt) p q in cc
+same_row one (Drop a) (Drop g) words e p q = let values = same_values one (Drop a) (Drop g) words (tt, tt) p q in cc
+same_row one Flow Flow words e h k = refl
+same_row one (Inject a b c d) (Inject g h i j) words e p q = let values = same_values one (Inject a b c d) (Inject g h i j) words (tt, (tt, (tt, (tt, tt)))) p q in cc
+same_row one (Show a) (Show g) words e p q = let values = same_values one (Show a) (Show g) words (tt, tt) p q in cc
+same_row one (Hash a) (Hash g) words e p q = let values = same_values one (Hash a) (Hash g) words (tt, tt) p q in cc
+same_row one (Used a) (Used g) words e p q = let values = same_values one (Used a) (Used g) words (tt, tt) p q in cc
+same_row one (Prefixes a) (Prefixes g) words e p q = let values = same_values one (Prefixes a) (Prefixes g) words (tt, tt) p q in cc
+same_row one (Elect a b c) (Elect g h i) words e p q = let values = same_values one (Elect a b c) (Elect g h i) words (tt, (tt, (tt, tt))) p q in cc
+same_row one (Advert a b) (Advert g h) words e p q = let values = same_values one (Advert a b) (Advert g h) words (tt, (tt, tt)) p q in cc
+same_row one (Audit a) (Audit g) words e p q = let values = same_values one (Audit a) (Audit g) words (tt, tt) p q in cc
+same_row one (Compare a b) (Compare g h) words e p q = let values = same_values one (Compare a b) (Compare g h) words (tt, (tt, tt)) p q in cc
+same_row one Mail Mail words e h k = refl
+same_row one (Private a b) (Private g h) words e p q = let values = same_values one (Private a b) (Private g h) words (tt, (tt, tt)) p q in cc
+same_row one (Sync a b) (Sync g h) words e p q = let values = same_values one (Sync a b) (Sync g h) words (tt, (tt, tt)) p q in cc
+same_row one (Address a) (Address g) words e p q = let values = same_values one (Address a) (Address g) words (tt, tt) p q in cc
+same_row one (Addresses a) (Addresses g) words e p q = let values = same_values one (Addresses a) (Addresses g) words (tt, tt) p q in cc
+same_row one (Addressed a) (Addressed g) words e p q = let values = same_values one (Addressed a) (Addressed g) words (tt, tt) p q in cc
+same_row one (Ula a) (Ula g) words e p q = let values = same_values one (Ula a) (Ula g) words (tt, tt) p q in cc
+same_row one (Ulas a) (Ulas g) words e p q = let values = same_values one (Ulas a) (Ulas g) words (tt, tt) p q in cc
+same_row one (Radv a b) (Radv g h) words e p q = let values = same_values one (Radv a b) (Radv g h) words (tt, (tt, tt)) p q in cc
+same_row one (Solicit a b) (Solicit g h) words e p q = let values = same_values one (Solicit a b) (Solicit g h) words (tt, (tt, tt)) p q in cc
+same_row one _ _ words e p q = absurd (false≢true e)
+
+-- words spell one line
+pub same_line : PrefixTextIsOfOne → (version : Version) → IsTold (of_version version)
+same_line one version line other word words h k =
+    same_row one line other words (subst (λ w. same_text (spelling line).first w ≡ true) (h.1 ∙ sym k.1) (same_text-refl (spelling line).first)) h.2 k.2

@@ -1,43 +1,36 @@
 -- Bytes are one script, or have one first fault.
-use Rattle.std.proofs.Common.{◌≡◌, ◌≢◌, ℕ, ◌+◌, List, [], ◌∷◌, slice_index, Option, Some, None, inl, inr, refl, sym, ap, ◌∙◌, subst, arith}
-use Rattle.std.specs.List.{AllZip}
+use Rattle.std.proofs.Common.{◌≡◌, ◌≢◌, ◌≤◌, ℕ, List, [], ◌∷◌, length, slice_index, inl, inr, refl, sym, ap, ◌∙◌, subst, arith}
 use Rattle.hn_base.specs.Causes.{OnCause, NoCause}
-use Rattle.hn_prefix.specs.Laws.{PrefixTextIsOfOne}
-use Rattle.hn_script.specs.Fault.{IsUnknown, IsMiscounted, IsMalformed, TextFault, WordsFault, LineFault}
-use Rattle.hn_script.specs.Laws.{AtMostOneScript, AtMostOneFault}
-use Rattle.hn_script.specs.Line.{Gives}
-use Rattle.hn_script.specs.Script.{IsEntry, IsScript, FaultFrom, FaultOfLines, FirstLineFault, IsFirstFault, numbered, first_line}
-use Rattle.hn_script.specs.Texts.{words_of, lines_of}
-use Rattle.hn_script.specs.declared.fault.ScriptFault.{ScriptFault}
-use Rattle.hn_script.specs.declared.line.Line.{Line}
-use Rattle.hn_script.specs.declared.script.Script.{Script}
 use Rattle.hn_base.specs.declared.version.Version.{Version}
 use Rattle.hn_base.specs.declared.version.Version.TheVariants.{One, Two}
-use Rattle.hn_script.proofs.Entries.{no_line_fault, no_first_fault}
-use Rattle.hn_script.proofs.SameFields.{same_line}
 use Rattle.hn_base.proofs.Fronts.{head_is, tail_is}
-use Rattle.hn_base.proofs.Causes.{one_cause}
+use Rattle.hn_prefix.specs.Laws.{PrefixTextIsOfOne}
+use Rattle.hn_script.specs.Entries.{AreLines, FaultFrom, numbered}
+use Rattle.hn_script.specs.Fault.{IsPlain}
+use Rattle.hn_script.specs.Laws.{AtMostOneScript, AtMostOneFault, FaultExcludesScript}
+use Rattle.hn_script.specs.Line.{of_version}
+use Rattle.hn_script.specs.Script.{FaultOfLines, FirstLineFault, first_line}
+use Rattle.hn_script.specs.declared.fault.ScriptFault.{ScriptFault}
+use Rattle.hn_script.specs.declared.line.Line.{Line}
+use Rattle.hn_script.proofs.Entries.{no_text_fault}
+use Rattle.hn_script.proofs.SameEntries.{same_entries, no_fault_from, sole_none, sole_else, sole_text, same_fault, one_fault_from, one_bytes_fault}
+use Rattle.hn_script.proofs.SameFields.{same_line}
 
--- ---- one script
+-- ---- first lines
 
-same_given : PrefixTextIsOfOne → (a b : Option Line) (words : List (List ℕ)) → Gives a words → Gives b words → a ≡ b
-same_given one None None words h k = refl
-same_given one None (Some line) words h k = absurd (k.1 h)
-same_given one (Some line) None words h k = absurd (h.1 k)
-same_given one (Some line) (Some other) [] h k = absurd h.0
-same_given one (Some line) (Some other) (word ∷ words) h k = ap Some (same_line one line other word words h.0 k.0)
+pub plain_first : (version : Version) → IsPlain (first_line version)
+plain_first One = ((omega arith, omega arith), ((omega arith, omega arith), ((omega arith, omega arith), ((omega arith, omega arith), ((omega arith, omega arith), ((omega arith, omega arith), tt))))))
+plain_first Two = ((omega arith, omega arith), ((omega arith, omega arith), ((omega arith, omega arith), ((omega arith, omega arith), ((omega arith, omega arith), ((omega arith, omega arith), tt))))))
 
-same_entries : PrefixTextIsOfOne → (left right : List (Option Line)) (texts : List (List ℕ)) → AllZip IsEntry left texts → AllZip IsEntry right texts → left ≡ right
-same_entries one [] [] texts h k = refl
-same_entries one [] (b ∷ right) [] h k = absurd k
-same_entries one [] (b ∷ right) (text ∷ texts) h k = absurd h
-same_entries one (a ∷ left) [] [] h k = absurd h
-same_entries one (a ∷ left) [] (text ∷ texts) h k = absurd k
-same_entries one (a ∷ left) (b ∷ right) [] h k = absurd h
-same_entries one (a ∷ left) (b ∷ right) (text ∷ texts) h k =
-    let head = same_given one a b (words_of text) h.0.gives k.0.gives in
-    let tail = same_entries one left right texts h.1 k.1 in
-    cc
+pub short_first : (version : Version) → length (first_line version) ≤ 16384
+short_first One = omega arith
+short_first Two = omega arith
+
+no_first_fault : (version : Version) (code : ℕ) → ¬ FirstLineFault (first_line version) code
+no_first_fault version code = no_text_fault (first_line version) (OnCause ((other : Version) → first_line version ≢ first_line other) 1 NoCause) code (short_first version) (plain_first version) (λ found fault. elim fault [
+  | inl wrong ↦ wrong.0 version refl
+  | inr never ↦ never.1
+])
 
 -- versions have different first lines
 same_version : (a b : Version) → first_line a ≡ first_line b → a ≡ b
@@ -46,106 +39,55 @@ same_version One Two same = absurd (let last : 49 ≡ 50 = ap (λ (text : List �
 same_version Two One same = absurd (let last : 50 ≡ 49 = ap (λ (text : List ℕ). slice_index text 5) same in omega arith)
 same_version Two Two same = refl
 
+-- ---- one script
+
+same_lines : PrefixTextIsOfOne → (version : Version) (texts : List (List ℕ)) (lines others : List (ℕ × Line)) → AreLines (of_version version) 2 texts lines → AreLines (of_version version) 2 texts others → lines ≡ others
+same_lines one version texts lines others h k =
+    h.2 ∙ ap (numbered 2) (same_entries (of_version version) (same_line one version) h.0 k.0 texts h.1 k.1) ∙ sym k.2
+
 pub one_script : PrefixTextIsOfOne → AtMostOneScript
 one_script one bytes script other h k =
     let texts : h.texts ≡ k.texts = tail_is (sym h.parts ∙ k.parts) in
-    let given = subst (λ found. AllZip IsEntry k.lines.0 found) (sym texts) k.lines.1 in
-    let entries = same_entries one h.lines.0 k.lines.0 h.texts h.lines.1 given in
-    let lines : script.lines ≡ other.lines = h.lines.2 ∙ ap (numbered 2) entries ∙ sym k.lines.2 in
     let version : script.version ≡ other.version = same_version script.version other.version (head_is (sym h.parts ∙ k.parts)) in
+    let there = subst (λ v. AreLines (of_version v) 2 h.texts other.lines) (sym version) (subst (λ found. AreLines (of_version other.version) 2 found other.lines) (sym texts) k.lines) in
+    let lines : script.lines ≡ other.lines = same_lines one script.version h.texts script.lines other.lines h.lines there in
     rw (version, lines) refl
 
 -- ---- no fault of a script
 
-no_fault_from : (n : ℕ) (texts : List (List ℕ)) (entries : List (Option Line)) (fault : ScriptFault) → AllZip IsEntry entries texts → ¬ FaultFrom n texts fault
-no_fault_from n [] entries fault h found = found
-no_fault_from n (text ∷ texts) [] fault h found = h
-no_fault_from n (text ∷ texts) (entry ∷ entries) fault h found = elim found [
-  | inl here ↦ no_line_fault entry text h.0 fault.code here.0
-  | inr later ↦ no_fault_from (n + 1) texts entries fault h.1 later.1
-]
-
-no_fault_of_lines : (version : Version) (texts : List (List ℕ)) (entries : List (Option Line)) (fault : ScriptFault) → AllZip IsEntry entries texts
+no_fault_of_lines : (version : Version) (texts : List (List ℕ)) (lines : List (ℕ × Line)) (fault : ScriptFault) → AreLines (of_version version) 2 texts lines
     → ¬ FaultOfLines (first_line version ∷ texts) fault
-no_fault_of_lines version texts entries fault h found = elim found [
+no_fault_of_lines version texts lines fault h found = elim found [
   | inl first ↦ no_first_fault version fault.code first.0
-  | inr later ↦ no_fault_from 2 texts entries fault h later.1
+  | inr later ↦ no_fault_from (of_version version) 2 texts h.0 fault h.1 (subst (λ v. FaultFrom (of_version v) 2 texts fault) (sym (same_version version later.0 later.1)) later.2)
 ]
 
-pub script_no_fault : (bytes : List ℕ) (script : Script) (fault : ScriptFault) → IsScript script bytes → ¬ IsFirstFault fault bytes
-script_no_fault bytes script fault h found = elim found [
+pub script_no_fault : FaultExcludesScript
+script_no_fault bytes fault script found h = elim found [
   | inl large ↦ absurd (let far = large.0 in let small = h.small in omega arith)
-  | inr later ↦ no_fault_of_lines script.version h.texts h.lines.0 fault h.lines.1
+  | inr later ↦ no_fault_of_lines script.version h.texts script.lines fault h.lines
       (subst (λ texts. FaultOfLines texts fault) h.parts later.1)
 ]
 
 -- ---- one first fault
 
-IsSole : (ℕ → Type 0) → Type 0
-IsSole P = (a b : ℕ) → P a → P b → a ≡ b
-
-sole_none : IsSole NoCause
-unfolding IsSole
-sole_none a b h k = absurd h
-
-sole_else : (Broken : Type 0) (code : ℕ) (further : ℕ → Type 0) → IsSole further → IsSole (OnCause Broken code further)
-unfolding IsSole
-sole_else Broken code further sole a b h k = one_cause Broken code further a b (sole a b) h k
-
-sole_words : (words : List (List ℕ)) → IsSole (WordsFault words)
-unfolding IsSole
-sole_words [] a b h k = absurd h
-sole_words (word ∷ words) a b h k =
-    sole_else (IsUnknown word) 2 _ (sole_else (IsMiscounted word words) 3 _ (sole_else (IsMalformed (word ∷ words)) 4 NoCause sole_none)) a b h.1 k.1
-
-sole_text : (text : List ℕ) (further : ℕ → Type 0) → IsSole further → IsSole (TextFault text further)
-sole_text text further sole = sole_else _ 5 _ (sole_else _ 6 further sole)
-
-same_code : (text : List ℕ) (a b : ℕ) → LineFault text a → LineFault text b → a ≡ b
-unfolding IsSole
-same_code text = sole_text text (WordsFault (words_of text)) (sole_words (words_of text))
-
 same_first_code : (text : List ℕ) (a b : ℕ) → FirstLineFault text a → FirstLineFault text b → a ≡ b
-unfolding IsSole
 same_first_code text = sole_text text _ (sole_else ((version : Version) → text ≢ first_line version) 1 NoCause sole_none)
-
-same_fault : (fault other : ScriptFault) → fault.line ≡ other.line → fault.code ≡ other.code → fault ≡ other
-same_fault fault other line code = rw (line, code) refl
-
-one_fault_from : (n : ℕ) (texts : List (List ℕ)) (fault other : ScriptFault) → FaultFrom n texts fault → FaultFrom n texts other → fault ≡ other
-one_fault_from n [] fault other h k = absurd h
-one_fault_from n (text ∷ texts) fault other h k = elim h [
-  | inl here ↦ elim k [
-    | inl there ↦ same_fault fault other (here.1 ∙ sym there.1) (same_code text fault.code other.code here.0 there.0)
-    | inr later ↦ absurd (later.0 fault.code here.0)
-  ]
-  | inr early ↦ elim k [
-    | inl there ↦ absurd (early.0 other.code there.0)
-    | inr later ↦ one_fault_from (n + 1) texts fault other early.1 later.1
-  ]
-]
 
 one_fault_of_lines : (texts : List (List ℕ)) (fault other : ScriptFault) → FaultOfLines texts fault → FaultOfLines texts other → fault ≡ other
 one_fault_of_lines [] fault other h k = same_fault fault other (h.0 ∙ sym k.0) (h.1 ∙ sym k.1)
 one_fault_of_lines (text ∷ texts) fault other h k = elim h [
   | inl here ↦ elim k [
     | inl there ↦ same_fault fault other (here.1 ∙ sym there.1) (same_first_code text fault.code other.code here.0 there.0)
-    | inr later ↦ absurd (later.0 fault.code here.0)
+    | inr later ↦ absurd (no_first_fault later.0 fault.code (subst (λ t. FirstLineFault t fault.code) later.1 here.0))
   ]
   | inr early ↦ elim k [
-    | inl there ↦ absurd (early.0 other.code there.0)
-    | inr later ↦ one_fault_from 2 texts fault other early.1 later.1
+    | inl there ↦ absurd (no_first_fault early.0 other.code (subst (λ t. FirstLineFault t other.code) early.1 there.0))
+    | inr later ↦
+        let version : early.0 ≡ later.0 = same_version early.0 later.0 (sym early.1 ∙ later.1) in
+        one_fault_from (of_version early.0) 2 texts fault other early.2 (subst (λ v. FaultFrom (of_version v) 2 texts other) (sym version) later.2)
   ]
 ]
 
 pub one_fault : AtMostOneFault
-one_fault bytes fault other h k = elim h [
-  | inl large ↦ elim k [
-    | inl far ↦ same_fault fault other (large.1 ∙ sym far.1) (large.2 ∙ sym far.2)
-    | inr small ↦ absurd (let far = large.0 in let near = small.0 in omega arith)
-  ]
-  | inr small ↦ elim k [
-    | inl large ↦ absurd (let far = large.0 in let near = small.0 in omega arith)
-    | inr near ↦ one_fault_of_lines (lines_of bytes) fault other small.1 near.1
-  ]
-]
+one_fault bytes fault other h k = one_bytes_fault FaultOfLines bytes fault other (λ texts a b. one_fault_of_lines texts fault other a b) h k

@@ -5,8 +5,9 @@ use Rattle.std.specs.Prelude.{◌==◌}
 use Rattle.std.specs.List.{AllZip, AllByRecursion}
 use Rattle.hn_base.specs.HexText.{id_text}
 use Rattle.hn_script.specs.Laws.{IsPrintable, PrintedIsRead, renumbered}
-use Rattle.hn_script.specs.Line.{line_text}
-use Rattle.hn_script.specs.Script.{IsScript, ended, first_line, numbered, script_text, most_bytes}
+use Rattle.hn_script.specs.Entries.{most_bytes, numbered}
+use Rattle.hn_script.specs.Line.{IsOfVersion, line_text}
+use Rattle.hn_script.specs.Script.{IsScript, ended, first_line, script_text}
 use Rattle.hn_script.specs.Soak.{router_name, link_name, up_to, chance_texts, link_texts, upward_texts, router_texts, run_texts, report_texts, soak_texts, soak_text}
 use Rattle.hn_script.specs.SoakLines.{IsLineOf, Adds}
 use Rattle.hn_script.specs.declared.line.Line.{Line}
@@ -77,6 +78,11 @@ numbered_printable n [] texts h = tt
 numbered_printable n (line ∷ lines) [] h = absurd h
 numbered_printable n (line ∷ lines) (text ∷ texts) h = (h.0.printable, numbered_printable (n + 1) lines texts h.1)
 
+numbered_of_one : (n : ℕ) (lines : List Line) (texts : List (List ℕ)) → AllZip IsLineOf lines texts → AllByRecursion (λ line. IsOfVersion One line.1) (numbered n (map Some lines))
+numbered_of_one n [] texts h = tt
+numbered_of_one n (line ∷ lines) [] h = absurd h
+numbered_of_one n (line ∷ lines) (text ∷ texts) h = (h.0.of_one, numbered_of_one (n + 1) lines texts h.1)
+
 -- ---- the script
 
 ended_short : (lines : List Line) (texts : List (List ℕ)) → AllZip IsLineOf lines texts → length (ended texts) ≤ 16385 * length texts
@@ -94,7 +100,7 @@ script_so read texts lines h few =
     let text : script_text script ≡ ended (first_line One ∷ texts) = ap (λ (found : List (List ℕ)). ended (first_line One ∷ found)) (numbered_texts 2 lines texts h) in
     let short = ended_short lines texts h in
     let small : length (ended (first_line One ∷ texts)) ≤ most_bytes = omega arith in
-    let is = read script (numbered_printable 2 lines texts h) (subst (λ (bytes : List ℕ). length bytes ≤ most_bytes) (sym text) small) in
+    let is = read script (numbered_of_one 2 lines texts h) (numbered_printable 2 lines texts h) (subst (λ (bytes : List ℕ). length bytes ≤ most_bytes) (sym text) small) in
     subst (λ (bytes : List ℕ). IsScript script bytes) text
     (subst (λ (found : List (ℕ × Line)). IsScript (record { version = One; lines = found }) (script_text script)) (numbered_again 2 lines) is)
 

@@ -18,7 +18,8 @@ use Rattle.hn_prefix.specs.AddressText.{groups, address_text_of}
 use Rattle.hn_base.specs.Prefix.{PlainPrefix, IsPrefix}
 use Rattle.hn_prefix.specs.PrefixText.{prefix_text_of}
 use Rattle.hn_script.specs.Field.{Field, Named, Node, Endpoint, Number, Prefixed, IsInRange, IsNameWord, field_text}
-use Rattle.hn_script.specs.Line.{spelling, line_text}
+use Rattle.hn_base.specs.declared.version.Version.TheVariants.{One}
+use Rattle.hn_script.specs.Line.{spelling, IsOfVersion, line_text}
 use Rattle.hn_script.specs.Soak.{router_name, link_name, up_to, upward_texts}
 use Rattle.hn_script.specs.SoakLines.{IsLineOf, Adds}
 use Rattle.hn_script.specs.declared.line.Line.{Line}
@@ -87,32 +88,32 @@ short_words first (field ∷ fields) h =
     let short = h.0.short in
     omega (arith, length-append first (32 ∷ join_with_byte 32 (field_text field ∷ map field_text fields)))
 
-line_so : (line : Line) (text : List ℕ) → AllByRecursion IsShort (spelling line).fields → length (spelling line).first + 65 * length (spelling line).fields ≤ 16384 → line_text line ≡ text → IsLineOf line text
-line_so line text h few is =
+line_so : (line : Line) (text : List ℕ) → IsOfVersion One line → AllByRecursion IsShort (spelling line).fields → length (spelling line).first + 65 * length (spelling line).fields ≤ 16384 → line_text line ≡ text → IsLineOf line text
+line_so line text of h few is =
     let short = short_words (spelling line).first (spelling line).fields h in
-    record { printable = record { in_range = in_range_of (spelling line).fields h; short = omega arith }; text_is = is }
+    record { of_one = of; printable = record { in_range = in_range_of (spelling line).fields h; short = omega arith }; text_is = is }
 
 -- ---- each line
 
 pub seed_line : (seed : ℕ) → seed < 2 ^ 64 → IsLineOf (Seed seed) (codes "seed " ++ decimal seed)
-seed_line seed small = line_so _ _ (short_number 0 (2 ^ 64 - 1) seed (omega arith) (omega arith) small, tt) (omega arith) refl
+seed_line seed small = line_so _ _ tt (short_number 0 (2 ^ 64 - 1) seed (omega arith) (omega arith) small, tt) (omega arith) refl
 
 pub loss_line : IsLineOf (Loss 10) (codes "loss 10")
 unfolding digits
-loss_line = line_so _ _ (short_number 0 100 10 (omega arith) (omega arith) (lit< tt), tt) (omega arith) refl
+loss_line = line_so _ _ tt (short_number 0 100 10 (omega arith) (omega arith) (lit< tt), tt) (omega arith) refl
 
 pub link_line : (name : Name) (word : List ℕ) → IsNameWord name word → IsLineOf (Link name) (codes "link " ++ word)
-link_line name word h = line_so _ _ (short_name name word h, tt) (omega arith) (ap (λ (w : List ℕ). codes "link " ++ w) (sym h.text))
+link_line name word h = line_so _ _ tt (short_name name word h, tt) (omega arith) (ap (λ (w : List ℕ). codes "link " ++ w) (sym h.text))
 
 pub router_line : (name : Name) (word : List ℕ) (id : ℕ) → id < 2 ^ 32 → IsNameWord name word → IsLineOf (Router name (record { 0 = id })) (codes "router " ++ word ++ codes " " ++ id_text id)
 router_line name word id small h =
-    line_so _ _ (short_name name word h, (short_node id small, tt)) (omega arith)
+    line_so _ _ tt (short_name name word h, (short_node id small, tt)) (omega arith)
     (ap (λ (w : List ℕ). codes "router " ++ (w ++ (codes " " ++ id_text id))) (sym h.text) ∙ ap (λ (w : List ℕ). codes "router " ++ w) (sym (append_assoc word (codes " ") (id_text id))))
 
 pub first_attach_line : (name link : Name) (word other : List ℕ) → IsNameWord name word → IsNameWord link other → IsLineOf (Attach name (record { 0 = 1 }) link) (codes "attach " ++ word ++ codes " 1 " ++ other)
 unfolding digits
 first_attach_line name link word other h k =
-    line_so _ _ (short_name name word h, (short_endpoint 1 (omega arith) (lit< tt), (short_name link other k, tt))) (omega arith)
+    line_so _ _ tt (short_name name word h, (short_endpoint 1 (omega arith) (lit< tt), (short_name link other k, tt))) (omega arith)
     (ap (λ (w : List ℕ). codes "attach " ++ (w ++ (codes " 1 " ++ name_text link))) (sym h.text)
     ∙ ap (λ (w : List ℕ). codes "attach " ++ (word ++ (codes " 1 " ++ w))) (sym k.text)
     ∙ ap (λ (w : List ℕ). codes "attach " ++ w) (sym (append_assoc word (codes " 1 ") other)))
@@ -120,7 +121,7 @@ first_attach_line name link word other h k =
 pub second_attach_line : (name link : Name) (word other : List ℕ) → IsNameWord name word → IsNameWord link other → IsLineOf (Attach name (record { 0 = 2 }) link) (codes "attach " ++ word ++ codes " 2 " ++ other)
 unfolding digits
 second_attach_line name link word other h k =
-    line_so _ _ (short_name name word h, (short_endpoint 2 (omega arith) (lit< tt), (short_name link other k, tt))) (omega arith)
+    line_so _ _ tt (short_name name word h, (short_endpoint 2 (omega arith) (lit< tt), (short_name link other k, tt))) (omega arith)
     (ap (λ (w : List ℕ). codes "attach " ++ (w ++ (codes " 2 " ++ name_text link))) (sym h.text)
     ∙ ap (λ (w : List ℕ). codes "attach " ++ (word ++ (codes " 2 " ++ w))) (sym k.text)
     ∙ ap (λ (w : List ℕ). codes "attach " ++ w) (sym (append_assoc word (codes " 2 ") other)))
@@ -144,33 +145,33 @@ pub external_line : (name : Name) (prefix : PlainPrefix) → prefix ≡ uplink �
 unfolding digits
 external_line name prefix is h =
     subst (λ (p : PlainPrefix). IsLineOf (External name p 7200 3600) (codes "external r1 2001:db8::/56 7200 3600")) (sym is)
-    (line_so _ _ (short_name name (codes "r1") h, (short_uplink, (short_number 0 (2 ^ 32 - 1) 7200 (omega arith) (lit≤ tt) (lit< tt), (short_number 0 7200 3600 (omega arith) (lit≤ tt) (lit< tt), tt)))) (omega arith)
+    (line_so _ _ tt (short_name name (codes "r1") h, (short_uplink, (short_number 0 (2 ^ 32 - 1) 7200 (omega arith) (lit≤ tt) (lit< tt), (short_number 0 7200 3600 (omega arith) (lit≤ tt) (lit< tt), tt)))) (omega arith)
     (ap (λ (w : List ℕ). codes "external " ++ (w ++ (codes " " ++ (prefix_text_of uplink ++ codes " 7200 3600")))) (sym h.text)
     ∙ ap (λ (w : List ℕ). codes "external r1 " ++ (w ++ codes " 7200 3600")) uplink_text))
 
 pub run_line : IsLineOf (Run 60000 100) (codes "run 60000 100")
 unfolding digits
-run_line = line_so _ _ (short_number 0 (2 ^ 48) 60000 (omega arith) (lit≤ tt) (lit< tt), (short_number 1 (2 ^ 48) 100 (lit≤ tt) (lit≤ tt) (lit< tt), tt)) (omega arith) refl
+run_line = line_so _ _ tt (short_number 0 (2 ^ 48) 60000 (omega arith) (lit≤ tt) (lit< tt), (short_number 1 (2 ^ 48) 100 (lit≤ tt) (lit≤ tt) (lit< tt), tt)) (omega arith) refl
 
 pub compare_line : (left right : Name) (word : List ℕ) → IsNameWord left (codes "r1") → IsNameWord right word → IsLineOf (Compare left right) (codes "compare r1 " ++ word)
 compare_line left right word h k =
-    line_so _ _ (short_name left (codes "r1") h, (short_name right word k, tt)) (omega arith)
+    line_so _ _ tt (short_name left (codes "r1") h, (short_name right word k, tt)) (omega arith)
     (ap (λ (w : List ℕ). codes "compare " ++ (w ++ (codes " " ++ name_text right))) (sym h.text) ∙ ap (λ (w : List ℕ). codes "compare r1 " ++ w) (sym k.text))
 
 pub audit_line : (name : Name) (word : List ℕ) → IsNameWord name word → IsLineOf (Audit name) (codes "audit " ++ word)
-audit_line name word h = line_so _ _ (short_name name word h, tt) (omega arith) (ap (λ (w : List ℕ). codes "audit " ++ w) (sym h.text))
+audit_line name word h = line_so _ _ tt (short_name name word h, tt) (omega arith) (ap (λ (w : List ℕ). codes "audit " ++ w) (sym h.text))
 
 pub used_line : (name : Name) (word : List ℕ) → IsNameWord name word → IsLineOf (Used name) (codes "used " ++ word)
-used_line name word h = line_so _ _ (short_name name word h, tt) (omega arith) (ap (λ (w : List ℕ). codes "used " ++ w) (sym h.text))
+used_line name word h = line_so _ _ tt (short_name name word h, tt) (omega arith) (ap (λ (w : List ℕ). codes "used " ++ w) (sym h.text))
 
 pub prefixes_line : (name : Name) (word : List ℕ) → IsNameWord name word → IsLineOf (Prefixes name) (codes "prefixes " ++ word)
-prefixes_line name word h = line_so _ _ (short_name name word h, tt) (omega arith) (ap (λ (w : List ℕ). codes "prefixes " ++ w) (sym h.text))
+prefixes_line name word h = line_so _ _ tt (short_name name word h, tt) (omega arith) (ap (λ (w : List ℕ). codes "prefixes " ++ w) (sym h.text))
 
 pub show_line : (name : Name) (word : List ℕ) → IsNameWord name word → IsLineOf (Show name) (codes "show " ++ word)
-show_line name word h = line_so _ _ (short_name name word h, tt) (omega arith) (ap (λ (w : List ℕ). codes "show " ++ w) (sym h.text))
+show_line name word h = line_so _ _ tt (short_name name word h, tt) (omega arith) (ap (λ (w : List ℕ). codes "show " ++ w) (sym h.text))
 
 pub mail_line : IsLineOf Mail (codes "mail")
-mail_line = line_so _ _ tt (omega arith) refl
+mail_line = line_so _ _ tt tt (omega arith) refl
 
 -- ---- lines after lines
 

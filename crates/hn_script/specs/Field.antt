@@ -1,5 +1,5 @@
 -- The words of a line after its first: which text writes which value.
-use Rattle.std.specs.Prelude.{◌≡◌, ℕ, ◌^◌, ◌-◌, ◌≤◌, ◌<◌, List, [], ◌∷◌, length, codes, Ok}
+use Rattle.std.specs.Prelude.{◌≡◌, ℕ, ◌^◌, ◌-◌, ◌≤◌, ◌<◌, List, [], ◌∷◌, length, codes, Ok, Option, Some, None}
 use Rattle.std.specs.Fmt.{decimal}
 use Rattle.hex.specs.Hex.{IsBytes, decode_of}
 use Rattle.hn_base.specs.HexText.{IsIdText, hex_text, id_text}
@@ -15,7 +15,7 @@ use Rattle.hn_prefix.specs.PrefixText.{IsPrefixText, prefix_text_of}
 use Rattle.hn_script.specs.declared.line.How.{How}
 use Rattle.hn_script.specs.declared.line.How.TheVariants.{Uni, Multi, Far}
 
--- a value that a word writes; a number has its lowest and highest value beside it
+-- a value that a word writes; a number has its lowest and highest value beside it; no length is written `off`
 pub data Field : Type 0 where
   Named : (name : Name) → Field
   Node : (id : NodeId) → Field
@@ -25,6 +25,7 @@ pub data Field : Type 0 where
   Capability : (letter : Letter) → Field
   Way : (how : How) → Field
   Hex : (bytes : List ℕ) → Field
+  Length : (bits : Option ℕ) → Field
 
 -- the letter of each capability (RFC 7788, section 10.1)
 abbrev pub letter_text : Letter → List ℕ
@@ -59,6 +60,10 @@ pub record IsNumberText (lowest highest : ℕ) (word : List ℕ) (n : ℕ) : Typ
 abbrev pub last_endpoint : ℕ
 last_endpoint = 2 ^ 32 - 1
 
+-- the greatest length of the prefixes of a link
+abbrev pub longest_link : ℕ
+longest_link = 64
+
 -- the word writes the value
 abbrev pub IsField : Field → List ℕ → Type 0
 IsField (Named name) word = IsNameWord name word
@@ -69,6 +74,8 @@ IsField (Prefixed prefix) word = IsPrefixText word prefix
 IsField (Capability letter) word = word ≡ letter_text letter
 IsField (Way how) word = word ≡ way_text how
 IsField (Hex bytes) word = IsHexWord bytes word
+IsField (Length None) word = word ≡ codes "off"
+IsField (Length (Some bits)) word = IsNumberText 1 longest_link word bits
 
 -- the word that is printed for a value
 abbrev pub field_text : Field → List ℕ
@@ -80,6 +87,8 @@ field_text (Prefixed prefix) = prefix_text_of prefix
 field_text (Capability letter) = letter_text letter
 field_text (Way how) = way_text how
 field_text (Hex bytes) = hex_text bytes
+field_text (Length None) = codes "off"
+field_text (Length (Some bits)) = decimal bits
 
 -- the value is in its range
 abbrev pub IsInRange : Field → Type 0
@@ -91,3 +100,5 @@ IsInRange (Prefixed prefix) = IsPrefix prefix
 IsInRange (Capability letter) = Unit {0}
 IsInRange (Way how) = Unit {0}
 IsInRange (Hex bytes) = IsBytes bytes
+IsInRange (Length None) = Unit {0}
+IsInRange (Length (Some bits)) = (1 ≤ bits) × (bits ≤ longest_link)

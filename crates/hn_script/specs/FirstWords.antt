@@ -1,23 +1,36 @@
 -- The first words of the lines that have the same after it.
-use Rattle.std.specs.Prelude.{◌≡◌, ◌⊎◌, ℕ, List, [], ◌∷◌, codes}
+use Rattle.std.specs.Prelude.{◌≡◌, ◌≢◌, ◌⊎◌, ℕ, List, [], ◌∷◌, ◌++◌, codes}
+use Rattle.std.specs.List.{AllByRecursion}
 
 -- the word is one of these
 abbrev pub IsOneOf : List (List ℕ) → List ℕ → Type 0
 IsOneOf [] word = ⊥
 IsOneOf (first ∷ firsts) word = (word ≡ first) ⊎ IsOneOf firsts word
 
+-- the word is none of these
+abbrev pub IsNoneOf : List (List ℕ) → List ℕ → Type 0
+IsNoneOf firsts word = AllByRecursion (λ first. word ≢ first) firsts
+
 -- a name
 abbrev pub name_words : List (List ℕ)
-name_words = codes "link" ∷ codes "stop" ∷ codes "start" ∷ codes "tick" ∷ codes "show" ∷ codes "hash" ∷ codes "used" ∷ codes "prefixes" ∷ codes "audit" ∷ []
+name_words = codes "link" ∷ codes "stop" ∷ codes "start" ∷ codes "tick" ∷ codes "show" ∷ codes "hash" ∷ codes "used" ∷ codes "prefixes" ∷ codes "audit" ∷ codes "address" ∷ codes "addresses" ∷ codes "addressed" ∷ codes "ula" ∷ codes "ulas" ∷ []
 
 -- a name and an endpoint
 abbrev pub endpoint_words : List (List ℕ)
-endpoint_words = codes "detach" ∷ codes "advert" ∷ []
+endpoint_words = codes "detach" ∷ codes "advert" ∷ codes "radv" ∷ codes "solicit" ∷ []
 
 -- a number of 64 bits
 abbrev pub number_words : List (List ℕ)
 number_words = codes "seed" ∷ codes "deliver" ∷ codes "drop" ∷ []
 
+-- two names
+abbrev pub pair_words : List (List ℕ)
+pair_words = codes "compare" ∷ codes "sync" ∷ []
+
 -- nothing
 abbrev pub lone_words : List (List ℕ)
 lone_words = codes "flow" ∷ codes "mail" ∷ []
+
+-- the words that share what is after them with others; and `inject`, whose bytes are read last
+abbrev pub shared_words : List (List ℕ)
+shared_words = name_words ++ endpoint_words ++ number_words ++ pair_words ++ lone_words ++ codes "inject" ∷ []

@@ -1,13 +1,16 @@
--- What holds of scripts and their faults.
+-- What holds of scripts, of node files, and of their faults.
 use Rattle.std.specs.Prelude.{◌≡◌, ℕ, ◌+◌, ◌^◌, ◌<◌, ◌≤◌, ◌↔◌, List, [], ◌∷◌, length}
 use Rattle.std.specs.List.{AllByRecursion}
 use Rattle.hn_script.specs.Field.{IsInRange}
-use Rattle.hn_script.specs.Line.{spelling, line_text}
-use Rattle.hn_script.specs.Script.{IsScript, IsFirstFault, most_bytes, script_text}
+use Rattle.hn_script.specs.Entries.{most_bytes}
+use Rattle.hn_script.specs.Line.{spelling, IsOfVersion, line_text}
+use Rattle.hn_script.specs.NodeFile.{IsNodeFile, IsFirstNodeFault}
+use Rattle.hn_script.specs.Script.{IsScript, IsFirstFault, script_text}
 use Rattle.hn_script.specs.Soak.{soak_text}
 use Rattle.hn_script.specs.declared.fault.ScriptFault.{ScriptFault}
 use Rattle.hn_script.specs.declared.line.Line.{Line}
 use Rattle.hn_script.specs.declared.line.Line.TheVariants.{Attach, Time, Run}
+use Rattle.hn_script.specs.declared.node_file.NodeLine.{NodeLine}
 use Rattle.hn_script.specs.declared.script.Script.{Script}
 
 -- bytes are at most one script
@@ -22,6 +25,15 @@ AtMostOneFault = (bytes : List ℕ) (fault other : ScriptFault) → IsFirstFault
 abbrev pub HasFaultOrScript : List ℕ → Type 0
 HasFaultOrScript bytes = ((fault : ScriptFault) × IsFirstFault fault bytes) ↔ ((script : Script) → ¬ IsScript script bytes)
 
+-- bytes with a first fault are no script
+abbrev pub FaultExcludesScript : Type 0
+FaultExcludesScript = (bytes : List ℕ) (fault : ScriptFault) (script : Script) → IsFirstFault fault bytes → ¬ IsScript script bytes
+
+-- the lines of a script are of its version: a script of version 1 has no line of a later one
+abbrev pub LinesAreOfVersion : Type 0
+LinesAreOfVersion = (bytes : List ℕ) (script : Script) → IsScript script bytes
+    → AllByRecursion (λ line. IsOfVersion script.version line.1) script.lines
+
 -- a line with its values in their ranges, of at most 16,384 bytes when it is printed
 pub record IsPrintable (line : Line) : Type 0 where
   pub in_range : AllByRecursion IsInRange (spelling line).fields
@@ -35,7 +47,8 @@ renumbered n (line ∷ lines) = (n, line.1) ∷ renumbered (n + 1) lines
 -- what is printed is the script again, numbered from line 2 on
 abbrev pub PrintedIsRead : Type 0
 PrintedIsRead =
-    (script : Script) → AllByRecursion (λ line. IsPrintable line.1) script.lines → length (script_text script) ≤ most_bytes
+    (script : Script) → AllByRecursion (λ line. IsOfVersion script.version line.1) script.lines
+    → AllByRecursion (λ line. IsPrintable line.1) script.lines → length (script_text script) ≤ most_bytes
     → IsScript (record { version = script.version; lines = renumbered 2 script.lines }) (script_text script)
 
 -- no endpoint is attached under number 0, and no moment or span of time is above 2^48
@@ -52,3 +65,17 @@ ScriptIsLimited = (script : Script) (bytes : List ℕ) → IsScript script bytes
 -- the text of each soak is a script
 abbrev pub SoakIsAScript : Type 0
 SoakIsAScript = (n seed : ℕ) → 2 ≤ n → n ≤ 32 → seed < 2 ^ 64 → (script : Script) × IsScript script (soak_text n seed)
+
+-- bytes are at most one node file
+abbrev pub AtMostOneNodeFile : Type 0
+AtMostOneNodeFile = (bytes : List ℕ) (lines others : List (ℕ × NodeLine)) → IsNodeFile lines bytes → IsNodeFile others bytes → lines ≡ others
+
+-- and have at most one first fault as one
+abbrev pub AtMostOneNodeFault : Type 0
+AtMostOneNodeFault =
+    (bytes : List ℕ) (fault other : ScriptFault) → IsFirstNodeFault fault bytes → IsFirstNodeFault other bytes → fault ≡ other
+
+-- with which they are none
+abbrev pub FaultExcludesNodeFile : Type 0
+FaultExcludesNodeFile =
+    (bytes : List ℕ) (fault : ScriptFault) (lines : List (ℕ × NodeLine)) → IsFirstNodeFault fault bytes → ¬ IsNodeFile lines bytes

@@ -1,9 +1,12 @@
 pub mod Draft
+pub mod Entries
 pub mod Fault
 pub mod Field
+pub mod Language
 pub mod Laws
 pub mod Line
 pub mod FirstWords
+pub mod NodeFile
 pub mod Reading
 pub mod Script
 pub mod Soak

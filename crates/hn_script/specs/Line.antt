@@ -1,18 +1,13 @@
--- The lines of a script: how each is spelled.
-use Rattle.std.specs.Prelude.{◌≡◌, ℕ, ◌^◌, ◌-◌, List, [], ◌∷◌, map, codes, Option, Some, None, slice_index}
-use Rattle.std.specs.List.{AllZip, join_with_byte}
-use Rattle.hn_script.specs.Field.{Field, Named, Node, Endpoint, Number, Prefixed, Capability, Way, Hex, IsField, field_text}
+-- The lines of a script: how each is spelled, and of which versions it is.
+use Rattle.std.specs.Prelude.{ℕ, ◌^◌, ◌-◌, List, [], ◌∷◌, map, codes}
+use Rattle.std.specs.List.{join_with_byte}
+use Rattle.hn_base.specs.declared.version.Version.{Version}
+use Rattle.hn_base.specs.declared.version.Version.TheVariants.{One}
+use Rattle.hn_script.specs.Field.{Field, Named, Node, Endpoint, Number, Prefixed, Capability, Way, Hex, Length, field_text}
+use Rattle.hn_script.specs.Language.{Spelling, spelled, Language}
 use Rattle.hn_script.specs.Texts.{space}
 use Rattle.hn_script.specs.declared.line.Line.{Line}
-use Rattle.hn_script.specs.declared.line.Line.TheVariants.{Router, Link, Attach, Detach, External, Withdraw, Caps, Stop, Start, Seed, Loss, Time, Tick, Run, Deliver, Drop, Flow, Inject, Show, Hash, Used, Prefixes, Elect, Advert, Audit, Compare, Mail}
-
--- a first word, and the values of the words after it
-pub record Spelling : Type 0 where
-  pub first : List ℕ
-  pub fields : List Field
-
-abbrev pub spelled : List ℕ → List Field → Spelling
-spelled first fields = record { first = first; fields = fields }
+use Rattle.hn_script.specs.declared.line.Line.TheVariants.{Router, Link, Attach, Detach, External, Withdraw, Caps, Stop, Start, Seed, Loss, Time, Tick, Run, Deliver, Drop, Flow, Inject, Show, Hash, Used, Prefixes, Elect, Advert, Audit, Compare, Mail, Private, Sync, Address, Addresses, Addressed, Ula, Ulas, Radv, Solicit}
 
 -- a number of 64 bits
 abbrev pub any_number : ℕ → Field
@@ -59,21 +54,41 @@ spelling (Advert name e) = spelled (codes "advert") (Named name ∷ Endpoint e �
 spelling (Audit name) = spelled (codes "audit") (Named name ∷ [])
 spelling (Compare left right) = spelled (codes "compare") (Named left ∷ Named right ∷ [])
 spelling Mail = spelled (codes "mail") []
+spelling (Private name bits) = spelled (codes "private") (Named name ∷ Length bits ∷ [])
+spelling (Sync left right) = spelled (codes "sync") (Named left ∷ Named right ∷ [])
+spelling (Address name) = spelled (codes "address") (Named name ∷ [])
+spelling (Addresses name) = spelled (codes "addresses") (Named name ∷ [])
+spelling (Addressed name) = spelled (codes "addressed") (Named name ∷ [])
+spelling (Ula name) = spelled (codes "ula") (Named name ∷ [])
+spelling (Ulas name) = spelled (codes "ulas") (Named name ∷ [])
+spelling (Radv name e) = spelled (codes "radv") (Named name ∷ Endpoint e ∷ [])
+spelling (Solicit name e) = spelled (codes "solicit") (Named name ∷ Endpoint e ∷ [])
 
--- the words spell the line
-abbrev pub Spells : Line → List (List ℕ) → Type 0
-Spells line [] = ⊥
-Spells line (word ∷ words) = ((spelling line).first ≡ word) × AllZip IsField (spelling line).fields words
+-- whether a line is of a version; some are of none, since no version knows their words yet
+abbrev pub IsOfVersion : Version → Line → Type 0
+IsOfVersion One (Private name bits) = ⊥
+IsOfVersion _ (Sync left right) = ⊥
+IsOfVersion _ (Address name) = ⊥
+IsOfVersion _ (Addresses name) = ⊥
+IsOfVersion _ (Addressed name) = ⊥
+IsOfVersion _ (Ula name) = ⊥
+IsOfVersion _ (Ulas name) = ⊥
+IsOfVersion _ (Radv name e) = ⊥
+IsOfVersion _ (Solicit name e) = ⊥
+IsOfVersion _ _ = Unit {0}
 
--- a line that gives nothing: it has no words, or begins with `#`
-abbrev pub IsSkipped : List (List ℕ) → Type 0
-IsSkipped [] = Unit {0}
-IsSkipped (word ∷ words) = slice_index word 0 ≡ 35
+-- the language of the lines of a version
+abbrev pub of_version : Version → Language Line
+of_version version = record { spelling = spelling; has = IsOfVersion version }
 
--- what the words of a line give: a line, or nothing
-abbrev pub Gives : Option Line → List (List ℕ) → Type 0
-Gives None words = IsSkipped words
-Gives (Some line) words = Spells line words × ¬ IsSkipped words
+-- the language of the lines of all versions, also of those that no version has yet
+abbrev pub every_line : Language Line
+every_line = record { spelling = spelling; has = λ _. Unit {0} }
+
+-- the text that is printed for the values of a line: each after a space
+abbrev pub values_text : List Field → List ℕ
+values_text [] = []
+values_text (field ∷ fields) = space ∷ join_with_byte space (map field_text (field ∷ fields))
 
 -- the text that is printed for a line
 abbrev pub line_text : Line → List ℕ

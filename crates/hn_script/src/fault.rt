@@ -6,12 +6,12 @@ use std::alloc::{AllocError, AllocFailed};
 use std::error::Error;
 use std::fmt;
 
-/// The first fault of bytes that are no script.
+/// The first fault of bytes that are no script, or no node file.
 #[derive(Clone, Copy, Debug, PartialEq, Eq)]
 pub struct ScriptFault {
     /// The line, from 1; 0 if the script as a whole has too many bytes.
     pub line: u32,
-    /// 1: the first line is not `hncp 1`. 2: the first word is unknown. 3: the count of words is wrong. 4: a word is
+    /// 1: the first line is that of no version. 2: the first word is unknown. 3: the count of words is wrong. 4: a word is
     /// malformed or out of range. 5: the line has more than 16,384 bytes. 6: the line has a byte that is none from 20
     /// to 7E in hexadecimal. 15: the script has more than 2^24 bytes.
     pub code: u8,

@@ -4,14 +4,14 @@ ghost use Rattle.std.specs.Prelude.{◌≡◌, ◌≢◌, ◌<◌, ℕ, List, le
 ghost use Rattle.std.specs.Char.{is_ascii_hexdigit};
 ghost use Rattle.std.specs.List.{list_all};
 ghost use Rattle.hex.specs.Hex.{decode_of};
-ghost use Rattle.hn_script.specs.Field.{Named, Node, Endpoint, Number, Prefixed, Capability, Way, IsHexWord, IsNumberText};
+ghost use Rattle.hn_script.specs.Field.{Named, Node, Endpoint, Number, Prefixed, Capability, Way, Length, IsHexWord, IsNumberText};
 ghost use Rattle.hn_script.specs.Line.{priority as priority_field};
 ghost use Rattle.hn_script.specs.Reading.{ReadsField};
 
 use crate::code::MALFORMED;
 use crate::draft::decoded;
 use crate::line::How;
-use hn_base::{Bytes, EpId, Letter, Name, NoMemory, NodeId};
+use hn_base::{Bytes, EpId, Letter, LinkLength, Name, NoMemory, NodeId};
 use hn_prefix::Prefix;
 use std::alloc::Global;
 
@@ -80,6 +80,17 @@ pub(crate) fn prefix(word: &[u8]) -> Result<Prefix, u8>
     ensures { ReadsField Prefixed word.now result }
 {
     Prefix::parse(word).map_err(|_| MALFORMED)
+}
+
+/// The length of the prefixes of a private link that this word writes; none is `off`.
+pub(crate) fn length(word: &[u8]) -> Result<Option<LinkLength>, u8>
+    ensures { ReadsField Length word.now result }
+{
+    if word == b"off".as_slice() {
+        return Ok(None);
+    }
+    let bits = number(word, 1, 64)?;
+    Ok(Some(LinkLength::new(bits as u8)))
 }
 
 /// The capability that this word names.

@@ -1,8 +1,7 @@
 //! Laws: functions without work, whose clauses say what holds of the definitions.
 
-ghost use Rattle.hn_script.specs.Laws.{AtMostOneScript, AtMostOneFault, HasFaultOrScript, PrintedIsRead, ScriptIsLimited, SoakIsAScript};
+ghost use Rattle.hn_script.specs.Laws.{AtMostOneScript, AtMostOneFault, FaultExcludesScript, LinesAreOfVersion, PrintedIsRead, ScriptIsLimited, SoakIsAScript, AtMostOneNodeFile, AtMostOneNodeFault, FaultExcludesNodeFile};
 
-use crate::script::first_fault;
 use hn_prefix::{read_form_is_of_one, written_form_is_read};
 
 /// Bytes are at most one script, so that `parse` has one answer.
@@ -17,15 +16,18 @@ pub fn fault_is_unique()
     ensures { AtMostOneFault }
 {}
 
-/// Bytes have a first fault if and only if they are no script.
-pub fn fault_or_script(bytes: &[u8])
-    ensures { HasFaultOrScript bytes.now }
-{
-    let _fault = first_fault(bytes);
-}
+/// Bytes with a first fault are no script. `first_fault` decides which of both they are.
+pub fn fault_excludes_script()
+    ensures { FaultExcludesScript }
+{}
 
-/// What `print` writes is the script again, but for the numbers of lines, if its values are in their ranges, each line
-/// is short enough, and all lines together are.
+/// The lines of a script are of its version. So a script of version 1 has no line that only version 2 has.
+pub fn lines_are_of_version()
+    ensures { LinesAreOfVersion }
+{}
+
+/// What `print` writes is the script again, but for the numbers of lines, if its lines are of its version, their values
+/// are in their ranges, each line is short enough, and all lines together are.
 pub fn printed_is_read()
     ensures { PrintedIsRead }
 {
@@ -43,3 +45,20 @@ pub fn soak_is_a_script()
 {
     printed_is_read();
 }
+
+/// Bytes are at most one node file.
+pub fn node_file_is_unique()
+    ensures { AtMostOneNodeFile }
+{
+    read_form_is_of_one();
+}
+
+/// Bytes have at most one first fault as a node file.
+pub fn node_fault_is_unique()
+    ensures { AtMostOneNodeFault }
+{}
+
+/// Bytes with a first fault as a node file are none.
+pub fn fault_excludes_node_file()
+    ensures { FaultExcludesNodeFile }
+{}

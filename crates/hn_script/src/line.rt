@@ -1,7 +1,9 @@
 ghost use Rattle.std.specs.Prelude.{◌≡◌};
+ghost use Rattle.std.specs.Fmt.{WritesOnOk};
 ghost use Rattle.hn_script.specs.Field.{letter_text};
+ghost use Rattle.hn_script.specs.Line.{spelling, values_text};
 
-use hn_base::{Bytes, Caps, EpId, Hex, Letter, Moment, Name, NodeId};
+use hn_base::{Bytes, Caps, EpId, Hex, Letter, LinkLength, Moment, Name, NodeId};
 use hn_prefix::Prefix;
 use std::fmt;
 
@@ -103,6 +105,125 @@ pub enum Line {
     Compare(Name, Name),
     /// How many copies were made and wait is shown.
     Mail,
+    /// The router's private link has prefixes of this length; without a length the router has no private link.
+    Private(Name, Option<LinkLength>),
+    /// The first router takes over from the second what it does not have.
+    Sync(Name, Name),
+    /// The router chooses its own addresses.
+    Address(Name),
+    /// The router's own addresses are shown.
+    Addresses(Name),
+    /// Whether the addresses of the router and of those that it reaches stay is shown.
+    Addressed(Name),
+    /// The router decides on a local prefix (RFC 4193).
+    Ula(Name),
+    /// How many of the router and those that it reaches have a local prefix is shown.
+    Ulas(Name),
+    /// The router sends Router Advertisements on its endpoint, from 1 on.
+    Radv(Name, EpId),
+    /// The router's endpoint, from 1 on, is asked for a Router Advertisement (RFC 4861, section 4.1).
+    Solicit(Name, EpId),
+}
+
+impl Line {
+    /// The first word.
+    fn word(&self) -> &'static str
+        ensures { result.now ≡ (spelling self.now).first }
+    {
+        match self {
+            Line::Router(..) => "router",
+            Line::Link(_) => "link",
+            Line::Attach(..) => "attach",
+            Line::Detach(..) => "detach",
+            Line::External(..) => "external",
+            Line::Withdraw(..) => "withdraw",
+            Line::Caps(..) => "caps",
+            Line::Stop(_) => "stop",
+            Line::Start(_) => "start",
+            Line::Seed(_) => "seed",
+            Line::Loss(_) => "loss",
+            Line::Time(_) => "time",
+            Line::Tick(_) => "tick",
+            Line::Run(..) => "run",
+            Line::Deliver(_) => "deliver",
+            Line::Drop(_) => "drop",
+            Line::Flow => "flow",
+            Line::Inject(..) => "inject",
+            Line::Show(_) => "show",
+            Line::Hash(_) => "hash",
+            Line::Used(_) => "used",
+            Line::Prefixes(_) => "prefixes",
+            Line::Elect(..) => "elect",
+            Line::Advert(..) => "advert",
+            Line::Audit(_) => "audit",
+            Line::Compare(..) => "compare",
+            Line::Mail => "mail",
+            Line::Private(..) => "private",
+            Line::Sync(..) => "sync",
+            Line::Address(_) => "address",
+            Line::Addresses(_) => "addresses",
+            Line::Addressed(_) => "addressed",
+            Line::Ula(_) => "ula",
+            Line::Ulas(_) => "ulas",
+            Line::Radv(..) => "radv",
+            Line::Solicit(..) => "solicit",
+        }
+    }
+
+    /// Writes the values, each after a space.
+    fn write_values<W: fmt::Write>(&self, f: &mut fmt::Formatter<W>) -> fmt::Result
+        ensures { WritesOnOk W.Write.write_str_gives f.old result (values_text (spelling self.now).fields) f.new }
+    {
+        match self {
+            Line::Flow | Line::Mail => Ok(()),
+            Line::Link(name)
+            | Line::Stop(name)
+            | Line::Start(name)
+            | Line::Tick(name)
+            | Line::Show(name)
+            | Line::Hash(name)
+            | Line::Used(name)
+            | Line::Prefixes(name)
+            | Line::Audit(name)
+            | Line::Address(name)
+            | Line::Addresses(name)
+            | Line::Addressed(name)
+            | Line::Ula(name)
+            | Line::Ulas(name) => write!(f, " {name}"),
+            Line::Detach(name, EpId(e))
+            | Line::Advert(name, EpId(e))
+            | Line::Radv(name, EpId(e))
+            | Line::Solicit(name, EpId(e)) => write!(f, " {name} {e}"),
+            Line::Seed(n) | Line::Deliver(n) | Line::Drop(n) | Line::Time(n) => write!(f, " {n}"),
+            Line::Compare(left, right) | Line::Sync(left, right) => write!(f, " {left} {right}"),
+            Line::Router(name, id) => write!(f, " {name} {id}"),
+            Line::Attach(name, EpId(e), link) => write!(f, " {name} {e} {link}"),
+            Line::External(name, prefix, valid, preferred) => {
+                let prefix = prefix.text();
+                write!(f, " {name} {prefix} {valid} {preferred}")
+            }
+            Line::Withdraw(name, prefix) => {
+                let prefix = prefix.text();
+                write!(f, " {name} {prefix}")
+            }
+            Line::Caps(name, Caps { m, p, h, l }) => write!(f, " {name} {m} {p} {h} {l}"),
+            Line::Loss(percent) => write!(f, " {percent}"),
+            Line::Run(end, step) => write!(f, " {end} {step}"),
+            Line::Inject(name, EpId(e), how, bytes) => {
+                let bytes = Hex(bytes.as_slice());
+                write!(f, " {name} {e} {how} {bytes}")
+            }
+            Line::Elect(name, EpId(e), letter) => {
+                let letter = letter_text(*letter);
+                write!(f, " {name} {e} {letter}")
+            }
+            Line::Private(name, None) => write!(f, " {name} off"),
+            Line::Private(name, Some(length)) => {
+                let bits = length.get();
+                write!(f, " {name} {bits}")
+            }
+        }
+    }
 }
 
 /// The line as it is printed: one space between words, and no LF.
@@ -113,46 +234,7 @@ impl fmt::Display for Line {
     ghost output = { λ line. Some (line_text line) };
 
     fn fmt<W: fmt::Write>(&self, f: &mut fmt::Formatter<W>) -> fmt::Result {
-        match self {
-            Line::Router(name, id) => write!(f, "router {name} {id}"),
-            Line::Link(name) => write!(f, "link {name}"),
-            Line::Attach(name, EpId(e), link) => write!(f, "attach {name} {e} {link}"),
-            Line::Detach(name, EpId(e)) => write!(f, "detach {name} {e}"),
-            Line::External(name, prefix, valid, preferred) => {
-                let prefix = prefix.text();
-                write!(f, "external {name} {prefix} {valid} {preferred}")
-            }
-            Line::Withdraw(name, prefix) => {
-                let prefix = prefix.text();
-                write!(f, "withdraw {name} {prefix}")
-            }
-            Line::Caps(name, Caps { m, p, h, l }) => write!(f, "caps {name} {m} {p} {h} {l}"),
-            Line::Stop(name) => write!(f, "stop {name}"),
-            Line::Start(name) => write!(f, "start {name}"),
-            Line::Seed(seed) => write!(f, "seed {seed}"),
-            Line::Loss(percent) => write!(f, "loss {percent}"),
-            Line::Time(moment) => write!(f, "time {moment}"),
-            Line::Tick(name) => write!(f, "tick {name}"),
-            Line::Run(end, step) => write!(f, "run {end} {step}"),
-            Line::Deliver(copy) => write!(f, "deliver {copy}"),
-            Line::Drop(copy) => write!(f, "drop {copy}"),
-            Line::Flow => write!(f, "flow"),
-            Line::Inject(name, EpId(e), how, bytes) => {
-                let bytes = Hex(bytes.as_slice());
-                write!(f, "inject {name} {e} {how} {bytes}")
-            }
-            Line::Show(name) => write!(f, "show {name}"),
-            Line::Hash(name) => write!(f, "hash {name}"),
-            Line::Used(name) => write!(f, "used {name}"),
-            Line::Prefixes(name) => write!(f, "prefixes {name}"),
-            Line::Elect(name, EpId(e), letter) => {
-                let letter = letter_text(*letter);
-                write!(f, "elect {name} {e} {letter}")
-            }
-            Line::Advert(name, EpId(e)) => write!(f, "advert {name} {e}"),
-            Line::Audit(name) => write!(f, "audit {name}"),
-            Line::Compare(left, right) => write!(f, "compare {left} {right}"),
-            Line::Mail => write!(f, "mail"),
-        }
+        f.write_str(self.word())?;
+        self.write_values(f)
     }
 }

@@ -2,9 +2,10 @@
 
 ghost use Rattle.std.specs.Prelude.{◌≡◌, ◌≢◌, ◌<◌, ◌≤◌, length, codes, Option, MatchResult, IfSome, IfNone};
 ghost use Rattle.hn_script.specs.Fault.{IsPlain, TextFault, LineFault};
+ghost use Rattle.hn_script.specs.Entries.{IsEntry};
+ghost use Rattle.hn_script.specs.FirstWords.{IsOneOf, IsNoneOf, shared_words, name_words, endpoint_words, number_words, pair_words, lone_words};
+ghost use Rattle.hn_script.specs.Line.{every_line, of_version};
 ghost use Rattle.hn_script.specs.Reading.{ReadsLine, ReadsDraft, ReadsText};
-ghost use Rattle.hn_script.specs.FirstWords.{IsOneOf, name_words, endpoint_words, number_words, lone_words};
-ghost use Rattle.hn_script.specs.Script.{IsEntry};
 ghost use Rattle.hn_script.specs.Texts.{words_of};
 ghost use Rattle.hn_script.specs.declared.line.Line.{Line as ALine};
 
@@ -14,10 +15,13 @@ use crate::fields::{digits, endpoint, name, way};
 use crate::line::Line;
 use crate::shapes::{
     any_number, attachment, candidacy, delegation, moment, moment_and_span, name_and_caps,
-    name_and_endpoint, name_and_node, name_and_prefix, nothing, one_name, one_number, two_names,
+    name_and_endpoint, name_and_length, name_and_node, name_and_prefix, nothing, one_name,
+    one_number, two_names,
 };
 use crate::texts::next_word;
+use crate::version::is_of_version;
 use crate::words::four_words;
+use hn_base::Version;
 
 /// The most bytes of a line, its LF not counted.
 const MOST_BYTES: usize = 16_384;
@@ -25,7 +29,7 @@ const MOST_BYTES: usize = 16_384;
 /// The line of a first word that has a name after it, and the words in `rest`.
 fn read_named(word: &str, rest: &[u8]) -> Result<Line, u8>
     requires { IsOneOf name_words word.now }
-    ensures { ReadsLine word.now (words_of rest.now) result }
+    ensures { ReadsLine every_line word.now (words_of rest.now) result }
 {
     let name = one_name(rest)?;
     match word {
@@ -37,26 +41,33 @@ fn read_named(word: &str, rest: &[u8]) -> Result<Line, u8>
         "hash" => Ok(Line::Hash(name)),
         "used" => Ok(Line::Used(name)),
         "prefixes" => Ok(Line::Prefixes(name)),
-        _ => Ok(Line::Audit(name)),
+        "audit" => Ok(Line::Audit(name)),
+        "address" => Ok(Line::Address(name)),
+        "addresses" => Ok(Line::Addresses(name)),
+        "addressed" => Ok(Line::Addressed(name)),
+        "ula" => Ok(Line::Ula(name)),
+        _ => Ok(Line::Ulas(name)),
     }
 }
 
 /// The line of a first word that has a name and an endpoint after it, and the words in `rest`.
 fn read_endpoint(word: &str, rest: &[u8]) -> Result<Line, u8>
     requires { IsOneOf endpoint_words word.now }
-    ensures { ReadsLine word.now (words_of rest.now) result }
+    ensures { ReadsLine every_line word.now (words_of rest.now) result }
 {
     let (name, endpoint) = name_and_endpoint(rest)?;
     match word {
         "detach" => Ok(Line::Detach(name, endpoint)),
-        _ => Ok(Line::Advert(name, endpoint)),
+        "advert" => Ok(Line::Advert(name, endpoint)),
+        "radv" => Ok(Line::Radv(name, endpoint)),
+        _ => Ok(Line::Solicit(name, endpoint)),
     }
 }
 
 /// The line of a first word that has a number after it, and the words in `rest`.
 fn read_number(word: &str, rest: &[u8]) -> Result<Line, u8>
     requires { IsOneOf number_words word.now }
-    ensures { ReadsLine word.now (words_of rest.now) result }
+    ensures { ReadsLine every_line word.now (words_of rest.now) result }
 {
     let number = any_number(rest)?;
     match word {
@@ -66,10 +77,22 @@ fn read_number(word: &str, rest: &[u8]) -> Result<Line, u8>
     }
 }
 
+/// The line of a first word that has two names after it, and the words in `rest`.
+fn read_pair(word: &str, rest: &[u8]) -> Result<Line, u8>
+    requires { IsOneOf pair_words word.now }
+    ensures { ReadsLine every_line word.now (words_of rest.now) result }
+{
+    let (left, right) = two_names(rest)?;
+    match word {
+        "compare" => Ok(Line::Compare(left, right)),
+        _ => Ok(Line::Sync(left, right)),
+    }
+}
+
 /// The line of a first word that has nothing after it, and the words in `rest`.
 fn read_lone(word: &str, rest: &[u8]) -> Result<Line, u8>
     requires { IsOneOf lone_words word.now }
-    ensures { ReadsLine word.now (words_of rest.now) result }
+    ensures { ReadsLine every_line word.now (words_of rest.now) result }
 {
     nothing(rest)?;
     match word {
@@ -78,18 +101,12 @@ fn read_lone(word: &str, rest: &[u8]) -> Result<Line, u8>
     }
 }
 
-/// The line of this first word and the words in `rest`, unless the word is `inject`.
-fn read_line(word: &str, rest: &[u8]) -> Result<Line, u8>
-    requires { word.now ≢ codes "inject" }
-    ensures { ReadsLine word.now (words_of rest.now) result }
+/// The line of a first word that no other line shares its values with, and the words in `rest`.
+fn read_sole(word: &str, rest: &[u8]) -> Result<Line, u8>
+    requires { IsNoneOf shared_words word.now }
+    ensures { ReadsLine every_line word.now (words_of rest.now) result }
 {
     match word {
-        "link" | "stop" | "start" | "tick" | "show" | "hash" | "used" | "prefixes" | "audit" => {
-            read_named(word, rest)
-        }
-        "detach" | "advert" => read_endpoint(word, rest),
-        "seed" | "deliver" | "drop" => read_number(word, rest),
-        "flow" | "mail" => read_lone(word, rest),
         "router" => {
             let (name, id) = name_and_node(rest)?;
             Ok(Line::Router(name, id))
@@ -110,6 +127,10 @@ fn read_line(word: &str, rest: &[u8]) -> Result<Line, u8>
             let (name, caps) = name_and_caps(rest)?;
             Ok(Line::Caps(name, caps))
         }
+        "private" => {
+            let (name, length) = name_and_length(rest)?;
+            Ok(Line::Private(name, length))
+        }
         "loss" => Ok(Line::Loss(one_number(rest, 0, 100)? as u8)),
         "time" => Ok(Line::Time(moment(rest)?)),
         "run" => {
@@ -120,17 +141,41 @@ fn read_line(word: &str, rest: &[u8]) -> Result<Line, u8>
             let (name, endpoint, letter) = candidacy(rest)?;
             Ok(Line::Elect(name, endpoint, letter))
         }
-        "compare" => {
-            let (left, right) = two_names(rest)?;
-            Ok(Line::Compare(left, right))
-        }
         _ => Err(UNKNOWN),
+    }
+}
+
+/// The line of this first word and the words in `rest`, unless the word is `inject`.
+fn read_line(word: &str, rest: &[u8]) -> Result<Line, u8>
+    requires { word.now ≢ codes "inject" }
+    ensures { ReadsLine every_line word.now (words_of rest.now) result }
+{
+    match word {
+        "link"
+        | "stop"
+        | "start"
+        | "tick"
+        | "show"
+        | "hash"
+        | "used"
+        | "prefixes"
+        | "audit"
+        | "address"
+        | "addresses"
+        | "addressed"
+        | "ula"
+        | "ulas" => read_named(word, rest),
+        "detach" | "advert" | "radv" | "solicit" => read_endpoint(word, rest),
+        "seed" | "deliver" | "drop" => read_number(word, rest),
+        "compare" | "sync" => read_pair(word, rest),
+        "flow" | "mail" => read_lone(word, rest),
+        _ => read_sole(word, rest),
     }
 }
 
 /// The draft of the word `inject` and the words in `rest`.
 fn read_injected(rest: &[u8]) -> Result<Draft<'_>, u8>
-    ensures { ReadsDraft (codes "inject") (words_of rest.now) result }
+    ensures { ReadsDraft every_line (codes "inject") (words_of rest.now) result }
 {
     let Some((first, number, how, bytes)) = four_words(rest) else {
         return Err(COUNT);
@@ -138,9 +183,9 @@ fn read_injected(rest: &[u8]) -> Result<Draft<'_>, u8>
     Ok(Draft::Injected(name(first)?, endpoint(number)?, way(how)?, digits(bytes)?))
 }
 
-/// The draft of this first word and the words in `rest`.
-fn read_draft<'a>(word: &[u8], rest: &'a [u8]) -> Result<Draft<'a>, u8>
-    ensures { ReadsDraft word.now (words_of rest.now) result }
+/// The draft of this first word and the words in `rest`, whatever the version.
+fn read_known<'a>(word: &[u8], rest: &'a [u8]) -> Result<Draft<'a>, u8>
+    ensures { ReadsDraft every_line word.now (words_of rest.now) result }
 {
     if word == b"inject".as_slice() {
         return read_injected(rest);
@@ -149,6 +194,16 @@ fn read_draft<'a>(word: &[u8], rest: &'a [u8]) -> Result<Draft<'a>, u8>
         return Err(UNKNOWN);
     };
     Ok(Draft::Whole(read_line(word, rest)?))
+}
+
+/// The draft of this first word and the words in `rest`, in a script of this version.
+fn read_draft<'a>(version: Version, word: &[u8], rest: &'a [u8]) -> Result<Draft<'a>, u8>
+    ensures { ReadsDraft (of_version version) word.now (words_of rest.now) result }
+{
+    if is_of_version(version, word) {
+        return read_known(word, rest);
+    }
+    Err(UNKNOWN)
 }
 
 /// Nothing, unless the line is too long or has a byte that no line may have.
@@ -167,9 +222,9 @@ pub(crate) fn check_text(text: &[u8]) -> Result<(), u8>
     Ok(())
 }
 
-/// What the text of a line gives: a draft, or nothing if the line is skipped.
-pub(crate) fn read_text(text: &[u8]) -> Result<Option<Draft<'_>>, u8>
-    ensures { ReadsText text.now result }
+/// What the text of a line of this version gives: a draft, or nothing if the line is skipped.
+pub(crate) fn read_text(version: Version, text: &[u8]) -> Result<Option<Draft<'_>>, u8>
+    ensures { ReadsText version text.now result }
 {
     check_text(text)?;
     let Some((word, rest)) = next_word(text) else {
@@ -178,16 +233,16 @@ pub(crate) fn read_text(text: &[u8]) -> Result<Option<Draft<'_>>, u8>
     if word[0] == b'#' {
         return Ok(None);
     }
-    let draft = read_draft(word, rest)?;
+    let draft = read_draft(version, word, rest)?;
     Ok(Some(draft))
 }
 
-/// What is wrong with the text of a line after the first; `None` if nothing is.
-pub(crate) fn line_fault(text: &[u8]) -> Option<u8>
-    ensures found { IfSome result (λ code. LineFault text.now code) }
-    ensures none { IfNone result ((entry : Option ALine) × IsEntry entry text.now) }
+/// What is wrong with the text of a line of this version, after the first; `None` if nothing is.
+pub(crate) fn line_fault(version: Version, text: &[u8]) -> Option<u8>
+    ensures found { IfSome result (λ code. LineFault (of_version version) text.now code) }
+    ensures none { IfNone result ((entry : Option ALine) × IsEntry (of_version version) entry text.now) }
 {
-    match read_text(text) {
+    match read_text(version, text) {
         Ok(_) => None,
         Err(code) => Some(code),
     }

@@ -1,6 +1,9 @@
 ghost use Rattle.std.specs.Prelude.{◌≡◌, ◌≤◌, ℕ, List, Option, [], ◌∷◌, ◌++◌, length, IfOk, IfErr, IfSome, IfNone, OnOk, Err};
+ghost use Rattle.hn_script.specs.Entries.{IsEntry, AreLines, numbered, FaultFrom};
 ghost use Rattle.hn_script.specs.Fault.{LineFault};
-ghost use Rattle.hn_script.specs.Script.{IsScript, IsFirstFault, IsEntry, AreLines, numbered, FaultFrom, FirstLineFault, script_text, first_line};
+ghost use Rattle.hn_script.specs.Laws.{HasFaultOrScript};
+ghost use Rattle.hn_script.specs.Line.{of_version};
+ghost use Rattle.hn_script.specs.Script.{IsScript, IsFirstFault, FirstLineFault, script_text, first_line};
 ghost use Rattle.hn_script.specs.Texts.{lines_of};
 ghost use Rattle.hn_script.specs.declared.fault.ScriptFault.{ScriptFault as AScriptFault};
 ghost use Rattle.hn_script.specs.declared.line.Line.{Line as ALine};
@@ -39,7 +42,7 @@ pub fn parse(alloc: Global, bytes: &[u8]) -> Result<Script, ParseFault>
         Ok(found) => found,
         Err(fault) => return Err(ParseFault::Script(fault)),
     };
-    let lines = read_lines(alloc, rest)?;
+    let lines = read_lines(alloc, version, rest)?;
     Ok(Script { version, lines })
 }
 
@@ -47,9 +50,10 @@ pub fn parse(alloc: Global, bytes: &[u8]) -> Result<Script, ParseFault>
 pub fn first_fault(bytes: &[u8]) -> Option<ScriptFault>
     ensures found { IfSome result (λ fault. IsFirstFault fault bytes.now) }
     ensures none { IfNone result ((script : AScript) × IsScript script bytes.now) }
+    ensures decided { HasFaultOrScript bytes.now }
 {
     match opening(bytes) {
-        Ok((_, rest)) => fault_from(rest),
+        Ok((version, rest)) => fault_from(version, rest),
         Err(fault) => Some(fault),
     }
 }
@@ -89,36 +93,41 @@ fn first_line_of(text: &[u8]) -> Result<Version, u8>
 }
 
 /// The lines of these bytes, of which the first has number 2.
-fn read_lines(alloc: Global, bytes: &[u8]) -> Result<Sequence<(u32, Line)>, ParseFault>
+fn read_lines(
+    alloc: Global,
+    version: Version,
+    bytes: &[u8],
+) -> Result<Sequence<(u32, Line)>, ParseFault>
     requires { length bytes.now ≤ SOURCE_LIMIT }
-    ensures lines { IfOk result (λ lines. AreLines 2 (lines_of bytes.now) lines) }
+    ensures lines { IfOk result (λ lines. AreLines (of_version version) 2 (lines_of bytes.now) lines) }
     ensures fault { (fault : AScriptFault) → result ≡ Err (ParseFault.Script fault)
-        → FaultFrom 2 (lines_of bytes.now) fault }
+        → FaultFrom (of_version version) 2 (lines_of bytes.now) fault }
 {
     let mut lines = Sequence::new(alloc);
     let mut number = 2;
     let mut rest = bytes;
     while let Some((text, others)) = next_line(rest) {
-        push_line(alloc, &mut lines, number, text)?;
+        push_line(alloc, &mut lines, version, number, text)?;
         number += 1;
         rest = others;
     }
     Ok(lines)
 }
 
-/// Adds the line of this text and number, unless it is skipped.
+/// Adds the line of this number and text, unless it is skipped.
 fn push_line(
     alloc: Global,
     lines: &mut Sequence<(u32, Line)>,
+    version: Version,
     number: u32,
     text: &[u8],
 ) -> Result<(), ParseFault>
-    ensures added { OnOk result ((entry : Option ALine) × IsEntry entry text.now
+    ensures added { OnOk result ((entry : Option ALine) × IsEntry (of_version version) entry text.now
         × (lines.new ≡ lines.old ++ numbered number (entry ∷ []))) }
     ensures fault { (fault : AScriptFault) → result ≡ Err (ParseFault.Script fault)
-        → LineFault text.now fault.code × (fault.line ≡ number) }
+        → LineFault (of_version version) text.now fault.code × (fault.line ≡ number) }
 {
-    match read_text(text) {
+    match read_text(version, text) {
         Ok(None) => Ok(()),
         Ok(Some(draft)) => {
             let line = draft.into_line(alloc)?;
@@ -130,15 +139,15 @@ fn push_line(
 }
 
 /// The first fault of the lines of these bytes, of which the first has number 2.
-fn fault_from(bytes: &[u8]) -> Option<ScriptFault>
+fn fault_from(version: Version, bytes: &[u8]) -> Option<ScriptFault>
     requires { length bytes.now ≤ SOURCE_LIMIT }
-    ensures found { IfSome result (λ fault. FaultFrom 2 (lines_of bytes.now) fault) }
-    ensures none { IfNone result ((lines : List (ℕ × ALine)) × AreLines 2 (lines_of bytes.now) lines) }
+    ensures found { IfSome result (λ fault. FaultFrom (of_version version) 2 (lines_of bytes.now) fault) }
+    ensures none { IfNone result ((lines : List (ℕ × ALine)) × AreLines (of_version version) 2 (lines_of bytes.now) lines) }
 {
     let mut number = 2;
     let mut rest = bytes;
     while let Some((text, others)) = next_line(rest) {
-        if let Some(code) = line_fault(text) {
+        if let Some(code) = line_fault(version, text) {
             return Some(ScriptFault { line: number, code });
         }
         number += 1;

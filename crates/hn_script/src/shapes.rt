@@ -1,16 +1,16 @@
 //! What follows the first word of a line, for each shape of lines.
 
 ghost use Rattle.std.specs.Prelude.{◌≡◌, ◌-◌, ◌^◌, [], ◌∷◌};
-ghost use Rattle.hn_script.specs.Field.{Named, Node, Endpoint, Number, Prefixed, Capability};
+ghost use Rattle.hn_script.specs.Field.{Named, Node, Endpoint, Number, Prefixed, Capability, Length};
 ghost use Rattle.hn_script.specs.Line.{priority as priority_field, time_from, lifetime as lifetime_field};
 ghost use Rattle.hn_script.specs.Reading.{ReadsFields};
 ghost use Rattle.hn_script.specs.Texts.{words_of};
 
 use crate::code::COUNT;
-use crate::fields::{endpoint, letter, lifetime, name, node, number, prefix, priority};
+use crate::fields::{endpoint, length, letter, lifetime, name, node, number, prefix, priority};
 use crate::texts::next_word;
 use crate::words::{five_words, four_words, one_word, three_words, two_words};
-use hn_base::{Caps, EpId, Letter, Name, NodeId};
+use hn_base::{Caps, EpId, Letter, LinkLength, Name, NodeId};
 use hn_prefix::Prefix;
 
 /// The latest moment, and the longest span, in milliseconds.
@@ -85,6 +85,16 @@ pub(crate) fn name_and_prefix(rest: &[u8]) -> Result<(Name, Prefix), u8>
         return Err(COUNT);
     };
     Ok((name(first)?, prefix(second)?))
+}
+
+/// A name and the length of the prefixes of a private link.
+pub(crate) fn name_and_length(rest: &[u8]) -> Result<(Name, Option<LinkLength>), u8>
+    ensures { ReadsFields 2 (λ found. Named found.0 ∷ Length found.1 ∷ []) (words_of rest.now) result }
+{
+    let Some((first, second)) = two_words(rest) else {
+        return Err(COUNT);
+    };
+    Ok((name(first)?, length(second)?))
 }
 
 /// A name, a prefix and two lifetimes, of which the second is not above the first.

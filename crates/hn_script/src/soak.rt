@@ -3,7 +3,8 @@
 ghost use Rattle.std.specs.Prelude.{◌≡◌, ◌*◌, ◌^◌, ◌<◌, ◌≤◌, ◌∷◌, [], Some, codes, map, length, IfOk, OnOk};
 ghost use Rattle.hn_base.specs.NameText.{IsNameText};
 ghost use Rattle.hn_script.specs.Field.{IsNameWord};
-ghost use Rattle.hn_script.specs.Script.{IsScript, numbered};
+ghost use Rattle.hn_script.specs.Entries.{numbered};
+ghost use Rattle.hn_script.specs.Script.{IsScript};
 ghost use Rattle.hn_script.specs.Soak.{router_name, link_name, up_to, chance_texts, link_texts, upward_texts, router_texts, run_texts, report_texts, soak_text};
 ghost use Rattle.hn_script.specs.SoakLines.{Adds};
 

@@ -1,13 +1,16 @@
-//! The first lines of scripts, which tell their versions.
+//! The versions of scripts: the first line tells which it is, and some words are not of all.
 
-ghost use Rattle.std.specs.Prelude.{◌≡◌, ◌≢◌, IfSome, IfNone};
+ghost use Rattle.std.specs.Prelude.{◌≡◌, ◌≢◌, MatchBool, IfSome, IfNone};
 ghost use Rattle.hn_base.specs.declared.version.Version.{Version};
+ghost use Rattle.hn_script.specs.Fault.{IsUnknown};
+ghost use Rattle.hn_script.specs.Line.{of_version};
+ghost use Rattle.hn_script.specs.Reading.{AreOfVersion};
 ghost use Rattle.hn_script.specs.Script.{first_line};
 
 use hn_base::Version;
 
 /// The first line of the scripts of a version, without its LF. Never allocates.
-fn first_line(version: Version) -> &'static [u8]
+pub(crate) fn first_line(version: Version) -> &'static [u8]
     ensures { result.now ≡ first_line version }
 {
     match version {
@@ -25,4 +28,25 @@ pub(crate) fn version_of(text: &[u8]) -> Option<Version>
         return Some(Version::One);
     }
     (text == first_line(Version::Two)).then_some(Version::Two)
+}
+
+/// Whether the lines that begin with this word are of this version; else none of them is. Never allocates.
+pub(crate) fn is_of_version(version: Version, word: &[u8]) -> bool
+    ensures { MatchBool result (AreOfVersion version word.now) (IsUnknown (of_version version) word.now) }
+{
+    match word {
+        b"private" => match version {
+            Version::One => false,
+            Version::Two => true,
+        },
+        b"sync"
+        | b"address"
+        | b"addresses"
+        | b"addressed"
+        | b"ula"
+        | b"ulas"
+        | b"radv"
+        | b"solicit" => false,
+        _ => true,
+    }
 }

@@ -47,7 +47,8 @@ pub(crate) fn four_words(text: &[u8]) -> Option<(&[u8], &[u8], &[u8], &[u8])>
     Some((word, second, third, fourth))
 }
 
-/// The first word of this text, and the four words after it; `None` if and only if it has another count of words.
+/// The first word of this text, and the four words after it as `four_words` answers them; `None` if and only if the text
+/// has another count of words.
 pub(crate) fn five_words(text: &[u8]) -> Option<(&[u8], (&[u8], &[u8], &[u8], &[u8]))>
     ensures found { IfSome result (λ words.
         words_of text.now ≡ words.0.now ∷ words.1.0.now ∷ words.1.1.now ∷ words.1.2.now ∷ words.1.3.now ∷ []) }

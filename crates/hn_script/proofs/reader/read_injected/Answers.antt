@@ -6,23 +6,22 @@ use Rattle.hn_base.specs.declared.ids.EpId.{EpId}
 use Rattle.hn_base.specs.declared.name.Name.{Name}
 use Rattle.hn_script.specs.declared.line.How.{How}
 use Rattle.hn_script.specs.Fault.{FirstWordFault}
-use Rattle.hn_script.specs.Line.{spelling}
+use Rattle.hn_script.specs.Line.{spelling, every_line}
 use Rattle.hn_script.specs.declared.line.Line.TheVariants.{Inject}
 use Rattle.hn_script.specs.Field.{IsField}
-use Rattle.hn_script.proofs.Families.{family_fault}
-use Rattle.hn_script.proofs.LineWords.{inject_lines}
+use Rattle.hn_script.proofs.LineWords.{word_fault, inject_lines, inject_follows}
 use Rattle.hn_script.proofs.Pieces.{words_some}
 use Rattle.hn_script.proofs.reader.read_injected.Goals as goal
 
 -- four words that spell no such line
 bad_word : (words : List (List ℕ)) (code : ℕ) → length words ≡ 4
     → ((v : Name × EpId × How × List ℕ) → ¬ AllZip IsField (spelling (Inject v.0 v.1 v.2 v.3)).fields words) → code ≡ 4
-    → FirstWordFault (codes "inject") words code
+    → FirstWordFault every_line (codes "inject") words code
 bad_word words code counted none is =
-    family_fault (codes "inject") 4 _ inject_lines words code (inr (λ differ. differ counted, inl (none, is)))
+    word_fault inject_lines 4 _ (λ _. refl) inject_follows (codes "inject") (inl refl) words code (inr (λ differ. differ counted, inl (none, is)))
 
 pub returns-in_default : goal.returns-in_default
-returns-in_default c = family_fault (codes "inject") _ _ inject_lines _ 3 (inl (c.in_default.ensures.none, refl))
+returns-in_default c = word_fault inject_lines 4 _ (λ _. refl) inject_follows (codes "inject") (inl refl) _ 3 (inl (c.in_default.ensures.none, refl))
 
 pub returns-in_err-name : goal.returns-in_err-name
 returns-in_err-name c =
@@ -61,5 +60,5 @@ returns c =
     let how = c.in_ok-way.field-0 in (
       (Inject name e how found.1, (found.1, rw found.0 found.2, refl)),
       λ line drafted. rw (drafted.2, c.in-Some.ensures.found)
-          (refl, (c.in_ok-name.ensures, (c.in_ok-endpoint.ensures, (c.in_ok-way.ensures, (rw found.0 at drafted.1, tt))))),
+          (tt, refl, (c.in_ok-name.ensures, (c.in_ok-endpoint.ensures, (c.in_ok-way.ensures, (rw found.0 at drafted.1, tt))))),
     )

@@ -1,8 +1,9 @@
+use Rattle.std.proofs.Common.{refl}
 use Rattle.std.proofs.lemmas.Result.{err_from_is_err_and}
-use Rattle.hn_script.proofs.FirstWords.{named_fault}
+use Rattle.hn_script.proofs.LineWords.{word_fault, name_lines, name_follows}
 use Rattle.hn_script.proofs.reader.read_named.Goals as goal
 
 pub returns-in_err-name : goal.returns-in_err-name
 returns-in_err-name c =
     let exit = err_from_is_err_and c.from_residual.result c.from_residual.ensures.1 in
-    rw (exit.1, exit.2) (named_fault _ c.requires _ _ c.in_err-name.ensures)
+    rw (exit.1, exit.2) (word_fault name_lines 1 _ (λ _. refl) name_follows _ c.requires _ _ c.in_err-name.ensures)

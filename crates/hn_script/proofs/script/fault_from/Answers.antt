@@ -1,6 +1,7 @@
 -- A line has a fault or gives an entry; with its entry the lines go on.
 use Rattle.std.proofs.Common.{[], ◌∷◌, ◌++◌, inr, arith}
-use Rattle.hn_script.specs.Script.{numbered}
+use Rattle.hn_script.specs.Entries.{numbered}
+use Rattle.hn_script.specs.Line.{of_version}
 use Rattle.hn_script.proofs.Entries.{no_lines, next_line, no_line_fault}
 use Rattle.hn_script.proofs.script.fault_from.Goals as goal
 
@@ -10,10 +11,10 @@ loop-text-preserved c =
     let n = c.loop-text.number in
     let entry = c.in_default-line_fault.ensures.none in record {
       completed = λ more h.
-          c.loop-text.invariant.completed (numbered n (entry.0 ∷ []) ++ more) (rw cut (next_line n _ _ entry.0 more entry.1 h));
-      faulted = λ fault h. c.loop-text.invariant.faulted fault (rw cut (inr (no_line_fault entry.0 _ entry.1, h)));
+          c.loop-text.invariant.completed (numbered n (entry.0 ∷ []) ++ more) (rw cut (next_line (of_version c.args.version) n _ _ entry.0 more entry.1 h));
+      faulted = λ fault h. c.loop-text.invariant.faulted fault (rw cut (inr (no_line_fault (of_version c.args.version) entry.0 _ entry.1, h)));
       bounded = omega (arith, c.in-Some.ensures.shorter);
     }
 
 pub returns-clause-none : goal.returns-clause-none
-returns-clause-none c = c.loop-text.invariant.completed [] (rw c.in_default.ensures.none (no_lines _))
+returns-clause-none c = c.loop-text.invariant.completed [] (rw c.in_default.ensures.none (no_lines (of_version c.args.version) _))

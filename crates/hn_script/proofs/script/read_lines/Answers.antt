@@ -1,7 +1,8 @@
 -- A line gives an entry, and with it the lines go on.
 use Rattle.std.proofs.Common.{ℕ, List, [], ◌∷◌, ◌++◌, inr, ap, sym, ◌∙◌, subst, arith, append_assoc}
 use Rattle.std.proofs.lemmas.List.{append-nil}
-use Rattle.hn_script.specs.Script.{AreLines, numbered}
+use Rattle.hn_script.specs.Entries.{AreLines, numbered}
+use Rattle.hn_script.specs.Line.{of_version}
 use Rattle.hn_script.specs.Texts.{lines_of}
 use Rattle.hn_script.specs.declared.line.Line.{Line}
 use Rattle.hn_script.proofs.Entries.{no_lines, next_line, no_line_fault}
@@ -13,14 +14,14 @@ loop-text-preserved c =
     let n = c.loop-text.number in
     let entry = c.in_ok-push_line.ensures.added in record {
       completed = λ more h.
-          let whole = c.loop-text.invariant.completed (numbered n (entry.0 ∷ []) ++ more) (rw cut (next_line n _ _ entry.0 more entry.1 h)) in
+          let whole = c.loop-text.invariant.completed (numbered n (entry.0 ∷ []) ++ more) (rw cut (next_line (of_version c.args.version) n _ _ entry.0 more entry.1 h)) in
           let grown = ap (λ (lines : List (ℕ × Line)). lines ++ more) entry.2 ∙ append_assoc c.loop-text.lines (numbered n (entry.0 ∷ [])) more in
-          subst (AreLines 2 (lines_of c.args.bytes.now)) (sym grown) whole;
-      faulted = λ fault h. c.loop-text.invariant.faulted fault (rw cut (inr (no_line_fault entry.0 _ entry.1, h)));
+          subst (AreLines (of_version c.args.version) 2 (lines_of c.args.bytes.now)) (sym grown) whole;
+      faulted = λ fault h. c.loop-text.invariant.faulted fault (rw cut (inr (no_line_fault (of_version c.args.version) entry.0 _ entry.1, h)));
       bounded = omega (arith, c.in-Some.ensures.shorter);
     }
 
 pub returns-clause-lines : goal.returns-clause-lines
 returns-clause-lines c =
-    let whole = c.loop-text.invariant.completed [] (rw c.in_default.ensures.none (no_lines _)) in
-    subst (AreLines 2 (lines_of c.args.bytes.now)) (append-nil c.loop-text.lines) whole
+    let whole = c.loop-text.invariant.completed [] (rw c.in_default.ensures.none (no_lines (of_version c.args.version) _)) in
+    subst (AreLines (of_version c.args.version) 2 (lines_of c.args.bytes.now)) (append-nil c.loop-text.lines) whole

@@ -1,6 +1,7 @@
 -- With the lines of the rest after them, the lines so far are those of all bytes; a first fault of the rest is one of all.
 use Rattle.std.proofs.Common.{ℕ, ◌+◌, ◌≤◌, List, ◌++◌, length}
-use Rattle.hn_script.specs.Script.{AreLines, FaultFrom}
+use Rattle.hn_script.specs.Entries.{AreLines, FaultFrom}
+use Rattle.hn_script.specs.Line.{of_version}
 use Rattle.hn_script.specs.Texts.{lines_of}
 use Rattle.hn_script.specs.declared.fault.ScriptFault.{ScriptFault}
 use Rattle.hn_script.specs.declared.line.Line.{Line}
@@ -8,8 +9,8 @@ use Rattle.hn_script.proofs.script.read_lines.Given as goal
 
 abbrev pub invariant-loop-text : goal.invariant-loop-text
 invariant-loop-text l = record {
-  completed : (more : List (ℕ × Line)) → AreLines l.number (lines_of l.rest) more → AreLines 2 (lines_of l.bytes) (l.lines ++ more);
-  faulted : (fault : ScriptFault) → FaultFrom l.number (lines_of l.rest) fault → FaultFrom 2 (lines_of l.bytes) fault;
+  completed : (more : List (ℕ × Line)) → AreLines (of_version l.fn.version) l.number (lines_of l.rest) more → AreLines (of_version l.fn.version) 2 (lines_of l.bytes) (l.lines ++ more);
+  faulted : (fault : ScriptFault) → FaultFrom (of_version l.fn.version) l.number (lines_of l.rest) fault → FaultFrom (of_version l.fn.version) 2 (lines_of l.bytes) fault;
   bounded : l.number + length l.rest ≤ 2 + length l.bytes;
 }
 

@@ -1,0 +1,8 @@
+use Rattle.std.proofs.lemmas.Result.{err_from_is_err_and}
+use Rattle.hn_script.proofs.NodeFiles.{external_fault}
+use Rattle.hn_script.proofs.node_file.read_uplink.Goals as goal
+
+pub returns-in_err-prefix : goal.returns-in_err-prefix
+returns-in_err-prefix c =
+    let exit = err_from_is_err_and c.from_residual.result c.from_residual.ensures.1 in
+    rw (exit.1, exit.2) (external_fault _ _ c.in_err-prefix.ensures)

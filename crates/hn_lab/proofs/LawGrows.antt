@@ -159,3 +159,5 @@ module _ (entered : EachEventIsEntered) where
   grows_line (line.Audit name) code lines p a h = grows_report (unless_runs name p.world) (Tells name p.world (IsAuditLine name p.world)) code lines p a h
   grows_line (line.Compare left right) code lines p a h = grows_report (unless_both_run left right p.world) (Compares left right p.world) code lines p a h
   grows_line line.Mail code lines p a h = grows_report None (λ (l : List ℕ). l ≡ mail_report p.world) code lines p a h
+  grows_line (line.Private name bits) code lines p a h = (grows_event (event.Private name bits)).grows code p a h.0
+  grows_line _ code lines p a h = absurd h.0

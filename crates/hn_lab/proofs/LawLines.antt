@@ -28,7 +28,7 @@ use Rattle.hn_lab.specs.Stage.{Stage}
 use Rattle.hn_lab.specs.Process.{Process}
 use Rattle.hn_lab.specs.Events.{EventEnds, Flow, Runs}
 use Rattle.hn_lab.specs.Reports.{IsCompareLine, compare_line, show_line, hash_line, note_line}
-use Rattle.hn_lab.specs.Line.{LineProcess, Silent, Noted, Reports, ReportsLines, Sets, Tells, IsOf, Compares, LineEnds, receiver, injection, unless_known, unless_runs, unless_both_run, unless_elects, mail_report, seeded}
+use Rattle.hn_lab.specs.Line.{LineProcess, Never, Silent, Noted, Reports, ReportsLines, Sets, Tells, IsOf, Compares, LineEnds, receiver, injection, unless_known, unless_runs, unless_both_run, unless_elects, mail_report, seeded}
 use Rattle.hn_lab.specs.PrefixReports.{AreUsedLines, used_lines, prefixes_lines, IsElectLine, elect_line}
 use Rattle.hn_lab.proofs.LawSole.{IsSole, sole_event, sole_flow, sole_run, happens_once, not_refused, same_code, unlike}
 
@@ -197,3 +197,5 @@ sole_line steps reports (line.Advert name e) = record { one = λ c d s t p a b. 
 sole_line steps reports (line.Audit name) = record { one = λ c d s t p a b. reports_once (unless_runs name p.world) (Tells name p.world (IsAuditLine name p.world)) (one_tells name p.world (IsAuditLine name p.world) (one_audit name p.world)) c d s t p a b }
 sole_line steps reports (line.Compare left right) = record { one = λ c d s t p a b. reports_once (unless_both_run left right p.world) (Compares left right p.world) (one_compare reports.agreements left right p.world) c d s t p a b }
 sole_line steps reports line.Mail = record { one = λ c d s t p a b. reports_once None (λ (l : List ℕ). l ≡ mail_report p.world) (one_mail p.world) c d s t p a b }
+sole_line steps reports (line.Private name bits) = one_event steps (event.Private name bits)
+sole_line steps reports _ = sole_silent Never (record { one = λ c d p a b h k. absurd h })

@@ -1,10 +1,14 @@
 -- Events of a play.
-use Rattle.std.proofs.Common.{◌≡◌, ◌∙◌, ◌+◌, ℕ, List, [], ◌∷◌, ◌++◌, length, Option, Some, sym, ap, subst, length-append}
+use Rattle.std.proofs.Common.{◌≡◌, ◌∙◌, ◌+◌, ℕ, List, [], ◌∷◌, ◌++◌, length, map, Option, None, Some, sym, ap, subst, length-append}
+use Rattle.std.specs.Option.{option_map_or}
 use Rattle.hn_base.specs.declared.name.Name.{Name}
+use Rattle.hn_rules.specs.declared.done.Note.{Note}
 use Rattle.hn_world.specs.declared.event.Traced.{Traced}
 use Rattle.hn_world.specs.declared.event.WEvent.{WEvent}
 use Rattle.hn_world.specs.Refusal.{refusal}
+use Rattle.hn_lab.specs.Events.{Happens}
 use Rattle.hn_lab.specs.Line.{Noted}
+use Rattle.hn_lab.specs.Reports.{note_line}
 use Rattle.hn_lab.specs.Stage.{Stage, stage_of, words_of}
 use Rattle.hn_lab.specs.declared.playing.Playing.{Playing}
 
@@ -25,3 +29,8 @@ pub noted_refused : (event : WEvent) (name : Option Name) (before after : Stage)
     → refusal before.world event ≡ Some number → after ≡ before → Noted event name code lines before after
 noted_refused event name before after number code lines is none refused same =
     subst (λ (o : Option ℕ). Noted event name o lines before after) (sym is) (refused, same, none)
+
+-- and one that happens, with its notes
+pub noted_done : (event : WEvent) (name : Option Name) (before after : Stage) (notes : List Note) (code : Option ℕ) (lines : List (List ℕ)) → code ≡ None
+    → lines ≡ option_map_or (λ n. map (note_line n) notes) name [] → Happens event notes before after → Noted event name code lines before after
+noted_done event name before after notes code lines is told happens = subst (λ (o : Option ℕ). Noted event name o lines before after) (sym is) (notes, happens, told)

@@ -104,11 +104,15 @@ pub record Compares (left right : Name) (w : Parts) (line : List ℕ) : Type 0 w
   pub is_right : member_named (name_text right) w ≡ Some b
   pub is_line : IsCompareLine left right a b line
 
+-- no end
+abbrev pub Never : Process
+Never code before after = ⊥
+
 -- the report on the mail
 abbrev pub mail_report : Parts → List ℕ
 mail_report w = mail_line (length w.copies) (count_by (λ c. c.waiting) w.copies)
 
--- how a line ends
+-- how a line ends; one that no version has yet ends in no way
 abbrev pub LineEnds : Line → LineProcess
 LineEnds (line.Router name id) code lines before after = Silent (EventEnds (event.Router name id)) code lines before after
 LineEnds (line.Link name) code lines before after = Silent (EventEnds (event.Link name)) code lines before after
@@ -137,3 +141,5 @@ LineEnds (line.Advert name e) code lines before after = Reports (unless_elects n
 LineEnds (line.Audit name) code lines before after = Reports (unless_runs name before.world) (Tells name before.world (IsAuditLine name before.world)) code lines before after
 LineEnds (line.Compare left right) code lines before after = Reports (unless_both_run left right before.world) (Compares left right before.world) code lines before after
 LineEnds line.Mail code lines before after = Reports None (λ line. line ≡ mail_report before.world) code lines before after
+LineEnds (line.Private name bits) code lines before after = Silent (EventEnds (event.Private name bits)) code lines before after
+LineEnds _ code lines before after = Silent Never code lines before after

@@ -1,5 +1,7 @@
 ghost use Rattle.std.specs.Prelude.{◌≡◌, ◌<◌, ◌≤◌, ◌^◌, IfOk};
+ghost use Rattle.hn_base.specs.declared.version.Version.{Version};
 ghost use Rattle.hn_script.specs.Laws.{IsLimited};
+ghost use Rattle.hn_script.specs.Line.{IsOfVersion};
 ghost use Rattle.hn_script.specs.declared.line.Line.TheVariants as line;
 ghost use Rattle.hn_world.specs.Step.{IsInRange as IsEventInRange};
 ghost use Rattle.hn_lab.specs.Events.{EventEnds};
@@ -147,9 +149,10 @@ impl Playing {
         self.noted(alloc, event, Some(name))
     }
 
-    /// A line of a script.
+    /// A line of a script of some version.
     pub(crate) fn line(&mut self, alloc: Global, line: Line) -> Result<Treated, NoMemory>
-        requires { IsLimited line }
+        requires limited { IsLimited line }
+        requires known { (version : Version) × IsOfVersion version line }
         ensures { IfOk result (λ t. LineEnds line t.code t.lines (stage_of self.old) (stage_of self.new)) }
     {
         match line {
@@ -184,6 +187,15 @@ impl Playing {
             Line::Audit(name) => self.audit(alloc, &name),
             Line::Compare(left, right) => self.compare(alloc, &left, &right),
             Line::Mail => self.mail(alloc),
+            Line::Private(name, length) => self.silent(alloc, WEvent::Private { name, length }),
+            Line::Sync(..)
+            | Line::Address(_)
+            | Line::Addresses(_)
+            | Line::Addressed(_)
+            | Line::Ula(_)
+            | Line::Ulas(_)
+            | Line::Radv(..)
+            | Line::Solicit(..) => unreachable!(),
         }
     }
 }

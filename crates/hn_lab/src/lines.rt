@@ -2,7 +2,9 @@ ghost use Rattle.std.specs.Prelude.{◌≡◌, ◌++◌, ℕ, List, IfOk, Err};
 ghost use Rattle.std.specs.Io.KnownBytes.{Appends};
 ghost use Rattle.std.specs.List.{AllByRecursion};
 ghost use Rattle.hn_io.specs.Faults.{Counts, IsReliable};
+ghost use Rattle.hn_base.specs.declared.version.Version.{Version};
 ghost use Rattle.hn_script.specs.Laws.{IsLimited};
+ghost use Rattle.hn_script.specs.Line.{IsOfVersion};
 ghost use Rattle.hn_lab.specs.Output.{AppendsFront, IsCutText};
 ghost use Rattle.hn_lab.specs.Play.{IsPlay, IsCutPlay, IsFrontPlay};
 ghost use Rattle.hn_lab.specs.Stage.{stage_of};
@@ -26,7 +28,8 @@ impl Playing {
         lines: Vec<(u32, Line)>,
         out: &mut K,
     ) -> Result<End, IoFault>
-        requires { AllByRecursion (λ line. IsLimited line.1) lines.items }
+        requires limited { AllByRecursion (λ line. IsLimited line.1) lines.items }
+        requires of_version { (version : Version) × AllByRecursion (λ line. IsOfVersion version line.1) lines.items }
         ensures whole { IfOk result (λ end. (text : List Told) × IsPlay lines.items end (stage_of self.old) text (stage_of self.new)
             × Appends (K.held out.old) (K.held out.new) (bytes_of text)) }
         ensures cut { result ≡ Err IoFault.Failed → (text : List Told) × (written : List ℕ)

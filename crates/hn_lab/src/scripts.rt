@@ -3,14 +3,16 @@ ghost use Rattle.std.specs.Io.KnownBytes.{Appends, Consumes};
 ghost use Rattle.std.specs.List.{AllByRecursion};
 ghost use Rattle.hn_io.specs.Faults.{Counts, IsReliable};
 ghost use Rattle.hn_script.specs.Laws.{IsLimited};
+ghost use Rattle.hn_script.specs.Line.{IsOfVersion};
 ghost use Rattle.hn_script.specs.Script.{IsScript, IsFirstFault};
 ghost use Rattle.hn_script.specs.declared.fault.ScriptFault.{ScriptFault as AFault};
 ghost use Rattle.hn_script.specs.declared.script.Script.{Script as AScript};
-ghost use Rattle.hn_world.specs.Replay.{IsReplayed, Always};
+ghost use Rattle.hn_world.specs.Replay.{IsReplayed, Always, Throughout};
 ghost use Rattle.hn_world.specs.Authentic.{AuthenticUnlessInjected};
 ghost use Rattle.hn_world.specs.Leaves.{EqualHashesAgree};
 ghost use Rattle.hn_world.specs.Within.{AreWithinLimits};
 ghost use Rattle.hn_audit.specs.Laws.{SettledAreSound};
+ghost use Rattle.hn_audit.specs.Staying.{QuietStays};
 ghost use Rattle.hn_lab.specs.Lab.{play_status, Plays, IsLineWritten, IsLabOf, HasDonePlay, HasRefusal};
 ghost use Rattle.hn_lab.specs.Reports.{refused_line};
 
@@ -19,10 +21,11 @@ use crate::input::read_all;
 use crate::law::at_most_one_play;
 use crate::output::write_refusal;
 use crate::playing::Playing;
-use hn_audit::settled_are_always_sound;
+use hn_audit::{quiet_homes_always_stay, settled_are_always_sound};
 use hn_io::{IoFault, Sink, Source};
 use hn_script::{
-    ParseFault, Script, ScriptFault, fault_or_script, parse, script_is_limited, script_is_unique,
+    ParseFault, Script, ScriptFault, fault_excludes_script, lines_are_of_version, parse,
+    script_is_limited, script_is_unique,
 };
 use hn_world::{World, always_authentic, always_within_limits, equal_hashes_always_agree};
 use std::alloc::Global;
@@ -92,9 +95,10 @@ fn refuse<K: Sink>(alloc: Global, fault: ScriptFault, out: &mut K) -> Played
     }
 }
 
-/// Plays a script, and writes its transcript.
+/// Plays a script, whose lines are of its version, and writes its transcript.
 pub fn play<K: Sink>(alloc: Global, script: Script, out: &mut K) -> Played
-    requires { AllByRecursion (λ line. IsLimited line.1) script.lines }
+    requires limited { AllByRecursion (λ line. IsLimited line.1) script.lines }
+    requires of_version { AllByRecursion (λ line. IsOfVersion script.version line.1) script.lines }
     ensures plays { (written : List ℕ) × Plays script result.status result.world written × Appends (K.held out.old) (K.held out.new) written }
     ensures done { HasDonePlay script → result.status ≢ REFUSED }
     ensures refused { HasRefusal script → result.status ≢ DONE }
@@ -103,6 +107,7 @@ pub fn play<K: Sink>(alloc: Global, script: Script, out: &mut K) -> Played
     ensures replayed { IfSome result.world IsReplayed }
     ensures headline { IfSome result.world (Always EqualHashesAgree) }
     ensures settled { IfSome result.world (Always SettledAreSound) }
+    ensures stays { IfSome result.world (Throughout QuietStays) }
     ensures within_limits { IfSome result.world (Always AreWithinLimits) }
     ensures authentic { IfSome result.world (Always AuthenticUnlessInjected) }
     ensures statuses { Contains (DONE ∷ REFUSED ∷ SINK_FAILED ∷ NO_MEMORY ∷ []) result.status }
@@ -112,6 +117,7 @@ pub fn play<K: Sink>(alloc: Global, script: Script, out: &mut K) -> Played
     at_most_one_play();
     equal_hashes_always_agree();
     settled_are_always_sound();
+    quiet_homes_always_stay();
     always_within_limits();
     always_authentic();
     let mut playing = Playing::new(alloc, script.version);
@@ -138,6 +144,7 @@ fn play_bytes<K: Sink>(alloc: Global, bytes: &[u8], out: &mut K) -> Played
     ensures replayed { IfSome result.world IsReplayed }
     ensures headline { IfSome result.world (Always EqualHashesAgree) }
     ensures settled { IfSome result.world (Always SettledAreSound) }
+    ensures stays { IfSome result.world (Throughout QuietStays) }
     ensures within_limits { IfSome result.world (Always AreWithinLimits) }
     ensures authentic { IfSome result.world (Always AuthenticUnlessInjected) }
     ensures statuses { Contains (DONE ∷ REFUSED ∷ SINK_FAILED ∷ NO_MEMORY ∷ []) result.status }
@@ -145,8 +152,9 @@ fn play_bytes<K: Sink>(alloc: Global, bytes: &[u8], out: &mut K) -> Played
     ensures reliable { IsReliable (result.status ≡ SINK_FAILED) (K.never_fails out.old) (K.never_fails out.new) }
 {
     script_is_limited();
+    lines_are_of_version();
     script_is_unique();
-    fault_or_script(bytes);
+    fault_excludes_script();
     match parse(alloc, bytes) {
         Ok(script) => play(alloc, script, out),
         Err(ParseFault::Script(fault)) => refuse(alloc, fault, out),
@@ -166,6 +174,7 @@ pub fn lab<S: Source, K: Sink>(alloc: Global, src: &mut S, out: &mut K) -> Playe
     ensures replayed { IfSome result.world IsReplayed }
     ensures headline { IfSome result.world (Always EqualHashesAgree) }
     ensures settled { IfSome result.world (Always SettledAreSound) }
+    ensures stays { IfSome result.world (Throughout QuietStays) }
     ensures within_limits { IfSome result.world (Always AreWithinLimits) }
     ensures authentic { IfSome result.world (Always AuthenticUnlessInjected) }
     ensures statuses { Contains (DONE ∷ REFUSED ∷ SOURCE_FAILED ∷ SINK_FAILED ∷ NO_MEMORY ∷ []) result.status }

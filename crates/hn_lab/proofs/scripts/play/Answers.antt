@@ -1,5 +1,7 @@
 use Rattle.std.proofs.Common.{rules, ◌≡◌, ℕ, List, Some, sym, subst}
 use Rattle.std.specs.Io.KnownBytes.{Appends}
+use Rattle.std.specs.List.{AllByRecursion}
+use Rattle.hn_script.specs.Line.{IsOfVersion}
 use Rattle.hn_script.specs.declared.line.Line.{Line}
 use Rattle.hn_script.specs.declared.script.Script.{Script}
 use Rattle.hn_lab.specs.Lab.{HasDonePlay, HasRefusal, Plays}
@@ -29,3 +31,7 @@ pub returns-clause-refused : goal.returns-clause-refused
 returns-clause-refused g c refused =
     let played : List (ℕ × Line) → Script = λ lines. record { version = c.args.script.version; lines = lines } in
     not_done c.at_most_one_play.ensures (played c.into_vec.result.items) _ c.play-end.result (stage_of c.new-playing.result) (stage_of c.play-end.new.self) _ _ c.play_status-status.ensures.status c.new-playing.ensures c.play-end.ensures.whole (subst (λ (lines : List (ℕ × Line)). HasRefusal (played lines)) (sym c.into_vec.ensures) refused)
+
+pub play-end-requires-clause-of_version : goal.play-end-requires-clause-of_version
+play-end-requires-clause-of_version g c =
+    (c.args.script.version, subst (λ (lines : List (ℕ × Line)). AllByRecursion (λ (line : ℕ × Line). IsOfVersion c.args.script.version line.1) lines) (sym c.into_vec.ensures) c.requires.of_version)

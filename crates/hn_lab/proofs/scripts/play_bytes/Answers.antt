@@ -1,4 +1,5 @@
-use Rattle.std.proofs.Common.{Err, inl, inr, ap, subst}
+use Rattle.std.proofs.Common.{ℕ, List, [], Option, None, Some, Err, inl, inr, refl, sym, ap, subst, append-nil}
+use Rattle.std.specs.Io.KnownBytes.{Appends}
 use Rattle.hn_lab.specs.Lab.{HasDonePlay, HasRefusal}
 use Rattle.hn_lab.proofs.PlayScripts.{among_more}
 use Rattle.hn_lab.proofs.scripts.play_bytes.Goals as goal
@@ -18,7 +19,16 @@ returns-in-Ok-clause-refused g c script is refused =
 
 pub returns-in-Err-Script-clause-done : goal.returns-in-Err-Script-clause-done
 returns-in-Err-Script-clause-done g c script is _ _ =
-    c.fault_or_script.ensures.0 (c.in-Err-Script.fault, c.in-Err-Script.ensures.fault c.in-Err-Script.fault (ap Err c.in-Err-Script.field-0-is)) script is
+    absurd (c.fault_excludes_script.ensures c.args.bytes.now c.in-Err-Script.fault script (c.in-Err-Script.ensures.fault c.in-Err-Script.fault (ap Err c.in-Err-Script.field-0-is)) is)
 
 pub returns-in-Err-Script-clause-statuses : goal.returns-in-Err-Script-clause-statuses
 returns-in-Err-Script-clause-statuses g c = among_more c.refuse.result.status c.refuse.ensures.statuses
+
+-- where nothing is written
+as_before : (held : Option (List ℕ)) → Appends held held []
+as_before None = tt
+as_before (Some bytes) = sym (append-nil bytes)
+
+pub returns-in-Err-NoMemory-clause-lab : goal.returns-in-Err-NoMemory-clause-lab
+returns-in-Err-NoMemory-clause-lab g c =
+    ([], inr (inr (c.without_world.ensures.status, c.without_world.ensures.no_world, refl)), as_before (g.K.Sink.held c.args.out.now))

@@ -1,6 +1,7 @@
 use Rattle.std.proofs.Common.{◌∙◌, ℕ, List, [], ◌∷◌, None, Some, sym, subst, append_assoc}
 use Rattle.std.specs.List.{AllByRecursion}
 use Rattle.hn_script.specs.Laws.{IsLimited}
+use Rattle.hn_script.specs.Line.{IsOfVersion}
 use Rattle.hn_script.specs.declared.line.Line.{Line}
 use Rattle.hn_lab.specs.Stage.{stage_of}
 use Rattle.hn_lab.proofs.PlayLines.{reached, so_far_more, stopped_in_line, stopped_in_refusal, cut_so, starved_so, all_refused}
@@ -15,6 +16,10 @@ loop-number-preserved g c =
       finite = tt;
       all = at.lines_are ∙ sym (append_assoc c.loop-number.yielded ((c.in-Some.number, c.in-Some.line) ∷ []) at.rest);
       limited = (subst (λ (lines : List (ℕ × Line)). AllByRecursion (λ (line : ℕ × Line). IsLimited line.1) lines) c.in-Some.ensures.steps.0 before.limited).1;
+      of_version = (
+        before.of_version.0,
+        (subst (λ (lines : List (ℕ × Line)). AllByRecursion (λ (line : ℕ × Line). IsOfVersion before.of_version.0 line.1) lines) c.in-Some.ensures.steps.0 before.of_version.1).1,
+      );
       so_far = so_far_more _ c.loop-number.yielded c.in-Some.number c.in-Some.line c.in-Ok.treated.lines _ _ _ _ _ at c.in_ok-write_lines.ensures.ok;
       no_fault = c.in_ok-write_lines.ensures.counts.stays (λ failed. cc) ∙ before.no_fault;
       reliable = λ never. (c.in_ok-write_lines.ensures.reliable (before.reliable never)).0;

@@ -1,6 +1,8 @@
 use Rattle.std.proofs.Common.{◌≡◌, ◌++◌}
 use Rattle.std.specs.List.{AllByRecursion}
+use Rattle.hn_base.specs.declared.version.Version.{Version}
 use Rattle.hn_script.specs.Laws.{IsLimited}
+use Rattle.hn_script.specs.Line.{IsOfVersion}
 use Rattle.hn_lab.specs.Stage.{stage_of}
 use Rattle.hn_lab.proofs.PlayLines.{SoFar}
 use Rattle.hn_lab.proofs.playing.Playing.play.Given as goal
@@ -14,6 +16,7 @@ invariant-loop-number g l =
       finite : (goal.iterator-loop-number g).is_finite l.number-iterator;
       all : l.fn.lines.items ≡ l.yielded ++ l.number-iterator.rest.items;
       limited : AllByRecursion (λ line. IsLimited line.1) l.number-iterator.rest.items;
+      of_version : (version : Version) × AllByRecursion (λ line. IsOfVersion version line.1) l.number-iterator.rest.items;
       so_far : SoFar l.yielded (stage_of l.fn.self) (stage_of l.self) (sink.held l.fn.out) (sink.held l.out);
       no_fault : sink.faults l.out ≡ sink.faults l.fn.out;
       reliable : sink.never_fails l.fn.out → sink.never_fails l.out;

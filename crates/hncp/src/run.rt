@@ -6,11 +6,12 @@ ghost use Rattle.hn_script.specs.Script.{IsScript, IsFirstFault};
 ghost use Rattle.hn_script.specs.Soak.{soak_text};
 ghost use Rattle.hn_script.specs.declared.fault.ScriptFault.{ScriptFault};
 ghost use Rattle.hn_script.specs.declared.script.Script.{Script};
-ghost use Rattle.hn_world.specs.Replay.{IsReplayed, Always};
+ghost use Rattle.hn_world.specs.Replay.{IsReplayed, Always, Throughout};
 ghost use Rattle.hn_world.specs.Authentic.{AuthenticUnlessInjected};
 ghost use Rattle.hn_world.specs.Leaves.{EqualHashesAgree};
 ghost use Rattle.hn_world.specs.Within.{AreWithinLimits};
 ghost use Rattle.hn_audit.specs.Laws.{SettledAreSound};
+ghost use Rattle.hn_audit.specs.Staying.{QuietStays};
 ghost use Rattle.hn_lab.specs.Lab.{IsLabOf, HasDonePlay, HasRefusal};
 ghost use Rattle.hncp.specs.Decode.{SpellsTlvs, WritesDecode, CutsDecode};
 ghost use Rattle.hncp.specs.Form.{IsFormOf};
@@ -100,6 +101,9 @@ pub fn run<S: Source, K: Sink>(alloc: Global, words: &[String], src: &mut S, out
 
     // At each moment of the world's past, a running router that is settled and quiet is sound.
     ensures settled { IfSome result.world (Always SettledAreSound) }
+
+    // Over time that passes and ticks that nothing disturbs, a settled and quiet router stays so, with the same assignments.
+    ensures stays { IfSome result.world (Throughout QuietStays) }
 
     // At each moment of the world's past, tables, lists and datagrams are within the limits of the world's version.
     ensures within_limits { IfSome result.world (Always AreWithinLimits) }

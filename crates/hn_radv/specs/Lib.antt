@@ -1,0 +1,4 @@
+pub mod Sender
+pub mod Inside
+pub mod Runs
+pub mod Laws

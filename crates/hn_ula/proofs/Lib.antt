@@ -1,0 +1,4 @@
+mod Walks
+mod Greatests
+mod Founds
+mod Decisions

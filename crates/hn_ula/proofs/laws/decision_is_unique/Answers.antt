@@ -1,0 +1,5 @@
+use Rattle.hn_ula.proofs.Decisions.{one_decision}
+use Rattle.hn_ula.proofs.laws.decision_is_unique.Goals as goal
+
+pub returns : goal.returns
+returns c = one_decision

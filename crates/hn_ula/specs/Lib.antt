@@ -1,0 +1,4 @@
+pub mod Ula
+pub mod Said
+pub mod Found
+pub mod Laws

@@ -1,4 +1,4 @@
-//! Tests of the wires and clocks of `hn_wire` and `hn_udp`.
+//! Tests of the wires and clocks of `hn_wire` and `hn_udp`, and of routers that `hn_node` serves over them.
 #![tactic(auto)]
 
 #[cfg(test)]
@@ -7,3 +7,5 @@ mod clocks;
 mod loopback;
 #[cfg(test)]
 mod memory;
+#[cfg(test)]
+mod nodes;

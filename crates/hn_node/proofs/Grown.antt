@@ -1,0 +1,55 @@
+-- Entries that were added to the log, and what was sent.
+use Rattle.std.proofs.Common.{◌≡◌, ◌∙◌, ℕ, List, [], ◌∷◌, ◌++◌, Option, length, sym, ap, subst, append_assoc, append-nil, arith}
+use Rattle.std.proofs.lemmas.Grind.{flat_map-append}
+use Rattle.std.proofs.lemmas.List.Elements.{All-nil, All-push, All-append}
+use Rattle.hn_base.specs.Words.{IsAt, Took}
+use Rattle.hn_wire.specs.declared.datagram.Datagram.{Datagram}
+use Rattle.hn_node.specs.declared.logged.Logged.{Logged}
+use Rattle.hn_node.specs.declared.node.Node.{Node}
+use Rattle.hn_node.specs.Turns.{PlainSite, handed_of, handed_in, words_of, IsShortArrival}
+use Rattle.hn_node.specs.Steps.{counted, Adds, Grows}
+use Rattle.hn_node.proofs.Sent.{counted_lists}
+
+pub handed_both : (at : PlainSite) (xs ys : List Logged) → handed_in at (xs ++ ys) ≡ handed_in at xs ++ handed_in at ys
+handed_both at xs ys = flat_map-append (λ (l : Logged). handed_of at l.sends) xs ys
+
+words_both : (xs ys : List Logged) → words_of (xs ++ ys) ≡ words_of xs ++ words_of ys
+words_both xs ys = flat_map-append (λ (l : Logged). l.words) xs ys
+
+took_nothing : (told : Option (ℕ → ℕ)) → Took told [] told
+took_nothing told taken stream at = subst (λ (ws : List ℕ). IsAt told stream ws) (sym (append-nil taken)) at
+
+took_both : (told between told_after : Option (ℕ → ℕ)) (xs ys zs : List ℕ) → zs ≡ xs ++ ys → Took told xs between → Took between ys told_after → Took told zs told_after
+took_both told between told_after xs ys zs are h k taken stream at =
+    subst (λ (ws : List ℕ). IsAt told_after stream ws) (append_assoc taken xs ys ∙ ap (λ (ws : List ℕ). taken ++ ws) (sym are)) (k (taken ++ xs) stream (h taken stream at))
+
+pub none_grown : (told : Option (ℕ → ℕ)) (a : Node) → Grows [] [] told told a a
+none_grown told a = record {
+  log = sym (append-nil a.log);
+  words = took_nothing told;
+  sent = omega arith;
+  short = All-nil IsShortArrival;
+}
+
+pub one_grown : (l : Logged) (handed all : List Datagram) (told told_after : Option (ℕ → ℕ)) (a b : Node) → all ≡ handed → Adds l handed told told_after a b → Grows (l ∷ []) all told told_after a b
+one_grown l handed all told told_after a b same h = record {
+  log = h.log;
+  words = subst (λ (ws : List ℕ). Took told ws told_after) (sym (append-nil l.words)) h.words;
+  sent = h.sent ∙ ap (λ (ds : List Datagram). counted a.sent (length ds)) (sym same);
+  short = All-push IsShortArrival [] l (All-nil IsShortArrival) h.short;
+}
+
+pub both_grown : (xs ys : List Logged) (ds es : List Datagram) (told between told_after : Option (ℕ → ℕ)) (a b c : Node)
+    → Grows xs ds told between a b → Grows ys es between told_after b c → Grows (xs ++ ys) (ds ++ es) told told_after a c
+both_grown xs ys ds es told between told_after a b c h k = record {
+  log = k.log ∙ ap (λ (log : List Logged). log ++ ys) h.log ∙ append_assoc a.log xs ys;
+  words = took_both told between told_after (words_of xs) (words_of ys) (words_of (xs ++ ys)) (words_both xs ys) h.words k.words;
+  sent = k.sent ∙ ap (λ (s : ℕ). counted s (length es)) h.sent ∙ counted_lists a.sent ds es;
+  short = All-append IsShortArrival xs ys h.short k.short;
+}
+
+-- where all of both was sent
+pub both_handed : (at : PlainSite) (xs ys : List Logged) (told between told_after : Option (ℕ → ℕ)) (a b c : Node)
+    → Grows xs (handed_in at xs) told between a b → Grows ys (handed_in at ys) between told_after b c → Grows (xs ++ ys) (handed_in at (xs ++ ys)) told told_after a c
+both_handed at xs ys told between told_after a b c h k =
+    subst (λ (ds : List Datagram). Grows (xs ++ ys) ds told told_after a c) (sym (handed_both at xs ys)) (both_grown xs ys (handed_in at xs) (handed_in at ys) told between told_after a b c h k)

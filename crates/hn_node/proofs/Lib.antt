@@ -1,0 +1,6 @@
+mod Sent
+mod Stepped
+mod Grown
+mod Turned
+mod Ticked
+mod Logs

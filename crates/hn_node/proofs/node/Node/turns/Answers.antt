@@ -1,0 +1,20 @@
+use Rattle.std.proofs.Common.{◌∙◌, arith}
+use Rattle.hn_node.specs.Steps.{plain_site}
+use Rattle.hn_node.proofs.Turned.{turn_more, cut_after}
+use Rattle.hn_node.proofs.node.Node.turns.Goals as goal
+
+pub loop-preserved : goal.loop-preserved
+loop-preserved g c =
+    let before = c.loop.invariant in
+    let turned = c.in_default.ensures in
+    record {
+      so_far = turn_more (plain_site c.args.site.now) c.loop.counter _ _ _ c.now-now.result _ _ _ _ _ c.args.self.now c.loop.self _ before.so_far c.now-now.ensures.reading _ turned.ok;
+      past = let moment = turned.moment in let last = c.now-now.ensures.last in omega (arith, moment, last);
+      no_fault = turned.counts.stays (λ failed. cc) ∙ before.no_fault;
+      reliable = λ never. (turned.reliable (before.reliable never)).0;
+    }
+
+pub returns-in-Err-clause-cut : goal.returns-in-Err-clause-cut
+returns-in-Err-clause-cut g c = λ failed.
+    let before = c.loop.invariant in
+    cut_after (plain_site c.args.site.now) c.loop.counter _ _ _ c.now-now.result _ _ _ _ _ c.args.self.now c.loop.self _ before.so_far c.now-now.ensures.reading _ _ (omega arith) (c.in-Err.ensures.cut failed)

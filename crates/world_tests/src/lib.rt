@@ -1,0 +1,16 @@
+//! Tests of routers and of worlds, of what no script shows: a router by its events alone, events that no script writes, what
+//! was published, and the set of a router.
+#![tactic(auto)]
+
+#[cfg(test)]
+mod addresses;
+#[cfg(test)]
+mod idle;
+#[cfg(test)]
+mod published;
+#[cfg(test)]
+mod senders;
+#[cfg(test)]
+mod sets;
+#[cfg(test)]
+mod two_routers;

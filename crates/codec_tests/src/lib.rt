@@ -15,6 +15,8 @@ mod hashes;
 #[cfg(test)]
 mod io;
 #[cfg(test)]
+mod node_files;
+#[cfg(test)]
 mod prefixes;
 #[cfg(test)]
 mod scripts;

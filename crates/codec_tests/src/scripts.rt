@@ -58,6 +58,12 @@ const HOME_OF_TWO: &str = "hncp 1\n\
     prefixes A\n\
     prefixes B\n";
 
+/// Each word that only version 2 has.
+const LATER_WORDS: &str = "hncp 2\n\
+    private A off\n\
+    private A 1\n\
+    private A 64\n";
+
 /// Lines that are printed otherwise.
 const WRITTEN: &str = "hncp 1\n\
     router abcdefghijklmnop FFFFffff\n\
@@ -93,11 +99,16 @@ fn reprinted(alloc: Global, text: &str) -> Result<Bytes, Fail> {
 fn scripts_are_read_and_printed(rt: HostRuntime) -> Result<(), Fail> {
     let flow = "hncp 1\nflow\nmail\nshow A\n";
     assert!(rt; reprinted(rt.alloc(), WORDS)?.as_slice() == WORDS.as_bytes());
+    assert!(rt; reprinted(rt.alloc(), LATER_WORDS)?.as_slice() == LATER_WORDS.as_bytes());
     assert!(rt; reprinted(rt.alloc(), HOME_OF_TWO)?.as_slice() == HOME_OF_TWO.as_bytes());
     assert!(rt; reprinted(rt.alloc(), WRITTEN)?.as_slice() == PRINTED.as_bytes());
     assert!(rt; reprinted(rt.alloc(), NUMBERED)?.as_slice() == flow.as_bytes());
     assert!(rt; reprinted(rt.alloc(), "hncp 1")?.as_slice() == b"hncp 1\n".as_slice());
     assert!(rt; reprinted(rt.alloc(), "hncp 2\n mail")?.as_slice() == b"hncp 2\nmail\n".as_slice());
+    assert!(rt;
+        reprinted(rt.alloc(), "hncp 2\nprivate A  064")?.as_slice()
+            == b"hncp 2\nprivate A 64\n".as_slice()
+    );
     Ok(())
 }
 
@@ -129,6 +140,18 @@ const UNKNOWN: &str =
     "hncp 1\nfly\n|hncp 1\nFlow\n|hncp 1\nflow#\n|hncp 1\nsync A B\n|hncp 1\nhncp 1\n|hncp 1\nfly 1 2 3\n|\
      hncp 2\nfly\n|hncp 2\nhncp 2\n";
 
+/// Words of version 2 in a script of version 1, with any count of words.
+const LATER: &str =
+    "hncp 1\nprivate\n|hncp 1\nprivate A 60\n|hncp 1\nprivate A 60 60\n|hncp 1\nprivate A 65\n|\
+     hncp 1\nprivate A off\n|hncp 1\n private\n";
+
+/// Words that no version has yet.
+const NOT_YET: &str =
+    "hncp 1\nsync\n|hncp 2\nsync A B\n|hncp 2\nsync A B C\n|hncp 1\naddress A\n|hncp 2\naddress A\n|\
+     hncp 1\naddresses A\n|hncp 2\naddresses A\n|hncp 1\naddressed A\n|hncp 2\naddressed A\n|\
+     hncp 1\nula A\n|hncp 2\nula A\n|hncp 1\nulas A\n|hncp 2\nulas A\n|hncp 1\nradv A 1\n|\
+     hncp 2\nradv A 1\n|hncp 2\nradv\n|hncp 1\nsolicit A 1\n|hncp 2\nsolicit A 1\n";
+
 /// Too few and too many words.
 const COUNTED: &str =
     "hncp 1\ntick\n|hncp 1\ntick A B\n|hncp 1\nflow A\n|hncp 1\nmail 1\n|hncp 1\nshow A # a comment\n|\
@@ -137,7 +160,8 @@ const COUNTED: &str =
      hncp 1\nwithdraw A\n|hncp 1\nused\n|hncp 1\nprefixes A B\n|hncp 1\naudit\n|hncp 1\nelect A 1\n|\
      hncp 1\nexternal A ::/0 1 1 1\n|hncp 1\nexternal A ::/129 1\n|hncp 1\nwithdraw A ::/0 1\n|\
      hncp 1\nused A B\n|hncp 1\naudit A B\n|hncp 1\nprefixes\n|hncp 1\nelect A 1 M P\n|\
-     hncp 1\nadvert A\n|hncp 1\nadvert A 1 1\n|hncp 1\ntick 1 2\n";
+     hncp 1\nadvert A\n|hncp 1\nadvert A 1 1\n|hncp 1\ntick 1 2\n|\
+     hncp 2\nprivate\n|hncp 2\nprivate A\n|hncp 2\nprivate A 1 1\n|hncp 2\nprivate 1\n|hncp 2\ntick\n";
 
 /// Malformed words, and numbers out of range.
 const MALFORMED: &str =
@@ -157,11 +181,14 @@ const MALFORMED: &str =
      hncp 1\ntime 281474976710657\n|hncp 1\nrun 0 0\n|hncp 1\nrun 281474976710657 1\n|\
      hncp 1\nrun 0 281474976710657\n|hncp 1\ndeliver x\n|hncp 1\ndrop 18446744073709551616\n|\
      hncp 1\ninject A 1 Uni 00\n|hncp 1\ninject A 1 uni 000\n|hncp 1\ninject A 1 uni 0g\n|\
-     hncp 1\ninject A 1 uni --\n";
+     hncp 1\ninject A 1 uni --\n|hncp 2\nprivate A 0\n|hncp 2\nprivate A 65\n|hncp 2\nprivate A Off\n|\
+     hncp 2\nprivate A o\n|hncp 2\nprivate 1 1\n|hncp 2\nprivate A -1\n|hncp 2\nloss 101\n";
 
 #[test]
 fn lines_are_refused(rt: HostRuntime) {
     are_refused(&rt, rt.alloc(), UNKNOWN, 2, 2);
+    are_refused(&rt, rt.alloc(), LATER, 2, 2);
+    are_refused(&rt, rt.alloc(), NOT_YET, 2, 2);
     are_refused(&rt, rt.alloc(), COUNTED, 2, 3);
     are_refused(&rt, rt.alloc(), MALFORMED, 2, 4);
 }
@@ -189,6 +216,8 @@ fn the_first_fault_decides(rt: HostRuntime) {
     are_refused(&rt, rt.alloc(), "hncp 1\nloss 101\nfly\n", 2, 4);
     are_refused(&rt, rt.alloc(), "hncp 1\nfly\nloss 101\n", 2, 2);
     are_refused(&rt, rt.alloc(), "hncp 1\nmail\n\t\nfly\n", 3, 6);
+    are_refused(&rt, rt.alloc(), "hncp 1\nprivate A\nloss 101\n", 2, 2);
+    are_refused(&rt, rt.alloc(), "hncp 2\nprivate A off\nsync A\n", 3, 2);
 }
 
 /// The fault of a text that is filled up to this length.

@@ -66,6 +66,18 @@ abbrev pub unless_full_of_mail : Parts → Option ℕ
 unless_full_of_mail w =
     code_if 16 (nat_le 1000000 (length w.copies) || nat_le (2 ^ 28) (bytes_of w.copies + injected_of w.trace))
 
+-- of a name: 7, there is no router of that name; and 12 beside it, it is stopped
+abbrev pub unless_known : Name → Parts → Option ℕ
+unless_known name w = of_router (λ _. None) (member_named (name_text name) w)
+
+abbrev pub unless_runs : Name → Parts → Option ℕ
+unless_runs name w = of_router unless_running (member_named (name_text name) w)
+
+-- of two routers: both names are looked at first
+abbrev pub unless_both_run : Name → Name → Parts → Option ℕ
+unless_both_run left right w =
+    option_or (unless_known left w) (option_or (unless_known right w) (option_or (unless_runs left w) (unless_runs right w)))
+
 -- what is asked of a router that is to act: it runs, and there is room for one more event
 abbrev pub unless_acts : Parts → Member → Option ℕ
 unless_acts w m = option_or (unless_running m) (unless_full_of_events w)

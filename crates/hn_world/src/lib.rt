@@ -2,6 +2,7 @@
 #![tactic(auto)]
 
 mod act;
+mod asked;
 mod compare;
 mod copies;
 mod event;

@@ -1,0 +1,44 @@
+//! Why a call on the router of a name is refused.
+
+ghost use Rattle.std.specs.Prelude.{◌≡◌};
+ghost use Rattle.hn_world.specs.Refusal.{unless_known, unless_runs, unless_both_run};
+
+use crate::refusal::{STOPPED, UNKNOWN};
+use crate::world::World;
+use hn_base::Name;
+
+impl World {
+    /// The code where there is no router of that name. Never allocates.
+    pub fn unless_known(&self, name: &Name) -> Option<u8>
+        ensures { result ≡ unless_known name.now self.now }
+    {
+        match self.router(name) {
+            Some(_) => None,
+            None => Some(UNKNOWN),
+        }
+    }
+
+    /// The code where there is no router of that name, or it is stopped. Never allocates.
+    pub fn unless_runs(&self, name: &Name) -> Option<u8>
+        ensures { result ≡ unless_runs name.now self.now }
+    {
+        if self.router(name).is_none() {
+            return Some(UNKNOWN);
+        }
+        if self.running(name) {
+            None
+        } else {
+            Some(STOPPED)
+        }
+    }
+
+    /// The code where one of two routers is unknown or stopped; both names are looked at first. Never allocates.
+    pub fn unless_both_run(&self, left: &Name, right: &Name) -> Option<u8>
+        ensures { result ≡ unless_both_run left.now right.now self.now }
+    {
+        self.unless_known(left).or(
+            self.unless_known(right)
+                .or(self.unless_runs(left).or(self.unless_runs(right))),
+        )
+    }
+}

@@ -1,25 +1,20 @@
 -- Two routers that say the same of their peers and of their own delegated prefixes, at whatever moments they published it,
 -- and that hold the same: they reach the same nodes, and see the same announced.
-use Rattle.std.proofs.Common.{◌≡◌, ◌≢◌, ◌∙◌, ◌⊎◌, ◌-◌, ◌<◌, ℕ, List, [], ◌∷◌, ◌++◌, map, filter, nat_lt, Option, Some, None, inl, inr, refl, sym, ap, subst, arith}
-use Rattle.std.specs.Prelude.{Contains, codes, ◌==◌}
-use Rattle.std.specs.List.{filter_map}
+use Rattle.std.proofs.Common.{◌≡◌, ◌≢◌, ◌∙◌, ◌⊎◌, ◌-◌, ◌<◌, ℕ, List, ◌∷◌, filter, nat_lt, Option, Some, None, inl, inr, refl, sym, ap, subst, arith}
+use Rattle.std.specs.Prelude.{Contains, ◌==◌}
 use Rattle.std.specs.Option.{option_map}
 use Rattle.std.specs.Ordering.{nat_cmp}
 use Rattle.std.proofs.lemmas.Bool.{cases_eq, cases_lt, eq-eqb, eqb-true, lt-ltb}
 use Rattle.std.proofs.lemmas.Cmp.{nat_cmp_total}
-use Rattle.std.proofs.lemmas.List.Elements.{All-contains, Contains-append_left, Contains-append_right, filter_map-append}
+use Rattle.std.proofs.lemmas.List.Elements.{Contains-append_left, Contains-append_right}
 use Rattle.std.proofs.lemmas.Option.{same_Some}
-use Rattle.hn_base.proofs.AscendingLists.{Contains-head, Contains-tail, Contains-map, Contains-one, nothing_in, sorted_parts}
-use Rattle.hn_base.proofs.Elements.{found_passes, in_filter, in_filter_map, from_filter_map, none_given, given_by_parts, none_or_some, passing_found}
+use Rattle.hn_base.proofs.AscendingLists.{Contains-tail, Contains-map, sorted_parts}
+use Rattle.hn_base.proofs.Elements.{found_passes, in_filter, in_filter_map, from_filter_map, passing_found}
 use Rattle.hn_base.proofs.Keys.{same_node}
 use Rattle.hn_base.proofs.Parts.{one_of_ascending}
-use Rattle.hn_base.specs.Caps.{PlainCaps, plain_caps}
 use Rattle.hn_base.specs.Prefix.{PlainPrefix}
 use Rattle.hn_base.specs.declared.ids.NodeId.{NodeId}
-use Rattle.hn_typed.specs.Item.{PlainItem, Version}
-use Rattle.hn_data.specs.Items.{first_of}
 use Rattle.hn_data.specs.Peers.{HasPeer}
-use Rattle.hn_data.specs.Said.{HasVersion, caps_of}
 use Rattle.hn_data.specs.declared.said.Delegation.{Delegation}
 use Rattle.hn_data.specs.declared.said.PeerLink.{PeerLink}
 use Rattle.hn_data.specs.declared.view.Entry.{Entry}
@@ -28,8 +23,6 @@ use Rattle.hn_deleg.specs.Live.{remaining, IsAnnounced, IsCandidate}
 use Rattle.hn_graph.specs.Following.{SaysAsMuch, SayAsMuch, ReachabilityFollows}
 use Rattle.hn_graph.specs.Path.{IsReachable}
 use Rattle.hn_own.specs.Lifetimes.{seconds_left}
-use Rattle.hn_own.specs.Own.{PlainData, IsOwnData, peer_item, external_items, assigned_item, address_item, items_of}
-use Rattle.hn_own.specs.declared.own.OwnItems.{OwnItems}
 use Rattle.hn_own.specs.declared.own_prefixes.OwnPrefix.{OwnPrefix}
 use Rattle.hn_store.specs.Laws.{HeldIsOfAnEntry}
 use Rattle.hn_store.specs.Nodes.{held}
@@ -41,39 +34,9 @@ use Rattle.hn_rules.specs.Router.{IsFresh, IsWell, IsRouter}
 use Rattle.hn_rules.specs.Seen.{seen_by}
 use Rattle.hn_rules.proofs.Entries.{entry_own, entry_other, entry_held}
 use Rattle.hn_rules.proofs.LawDelegated.{DelegationLaws, said_too}
-use Rattle.hn_rules.proofs.LawPublished.{read_is, are_items, peer_from, peer_in, item_read}
+use Rattle.hn_rules.proofs.LawPublished.{peer_from, peer_in}
+use Rattle.hn_rules.proofs.LawSaid.{own_version}
 use Rattle.hn_rules.proofs.Recent.{own_there, own_or_held}
-
--- ---- own node data have an HNCP-Version
-
-one_version : (now : ℕ) (own : OwnItems) → filter_map caps_of (items_of now own) ≡ plain_caps own.caps ∷ []
-one_version now own =
-    let links = none_given caps_of peer_item (λ _. refl) own.links in
-    let external : filter_map caps_of (external_items now own.delegated) ≡ [] =
-    none_or_some (λ (list : List OwnPrefix). filter_map caps_of (external_items now list) ≡ []) refl (λ p ps. refl) own.delegated in
-    let assigned = none_given caps_of assigned_item (λ _. refl) own.assigned in
-    let addresses = none_given caps_of address_item (λ _. refl) own.addresses in
-    let parts = given_by_parts caps_of (map peer_item own.links) (external_items now own.delegated) (map assigned_item own.assigned) in
-    let last = filter_map-append caps_of (map peer_item own.links ++ external_items now own.delegated ++ map assigned_item own.assigned) (map address_item own.addresses) in
-    let others = last ∙ rw (parts, links, external, assigned) addresses in
-    ap (λ (rest : List PlainCaps). plain_caps own.caps ∷ rest) others
-
--- the first of a list whose elements are all one
-first_is : (xs : List PlainCaps) (c : PlainCaps) → Contains xs c → ((y : PlainCaps) → Contains xs y → y ≡ c) → first_of xs ≡ Some c
-first_is [] c there all = absurd (nothing_in c there)
-first_is (x ∷ xs) c there all = ap Some (all x (Contains-head x xs))
-
-own_version : (laws : DelegationLaws) (own : PlainData) → IsOwnData own → HasVersion own.body
-own_version laws own is =
-    let read = read_is laws.read own is in
-    let caps = plain_caps own.items.caps in
-    let version : PlainItem = Version caps (codes "hncp") in
-    let there : Contains (filter_map caps_of read.read) caps = in_filter_map caps_of read.read version caps (item_read laws.read own is version (Contains-head version _)) refl in
-    let other : (y : PlainCaps) → Contains (filter_map caps_of read.read) y → y ≡ caps = λ y h.
-    let from = from_filter_map caps_of read.read y h in
-    let among = All-contains (Contains (items_of own.born own.items)) read.read from.0 read.of_items from.1 in
-    sym (Contains-one caps y (subst (λ (list : List PlainCaps). Contains list y) (one_version own.born own.items) (in_filter_map caps_of (items_of own.born own.items) from.0 y among from.2))) in
-    (caps, (read.read, are_items laws.read own is, first_is (filter_map caps_of read.read) caps there other))
 
 -- ---- what a router knows of a node of its table
 
@@ -227,7 +190,7 @@ module _ (laws : AnnouncingLaws) (a b : State) (twins : AreTwins a b) where
               delegation = record { valid = seconds_left b.own.born too.own.valid_until; preferred = seconds_left b.own.born too.own.preferred_until; prefix = d.prefix };
               announced = record {
                 reachable = subst (Contains (view_of b)) other_is seen.there;
-                version = own_version laws.said b.own twins.other_router.well.own;
+                version = own_version laws.said.read b.own twins.other_router.well.own;
                 said = too.other;
                 live = lives too.own too.there live_a;
               };

@@ -15,6 +15,7 @@ mod LawAssigned
 mod LawDelegated
 mod LawPairs
 mod LawPublished
+mod LawSaid
 mod LawSpelled
 mod LawViews
 pub mod Leads

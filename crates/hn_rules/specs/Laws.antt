@@ -8,7 +8,7 @@ use Rattle.hn_tlv.specs.Grammar.{PlainTlv}
 use Rattle.hn_typed.specs.Item.{PlainItem}
 use Rattle.hn_data.specs.Items.{Reads}
 use Rattle.hn_data.specs.Peers.{HasPeer}
-use Rattle.hn_data.specs.Said.{HasAssigned}
+use Rattle.hn_data.specs.Said.{HasAssigned, HasAddress, HasVersion}
 use Rattle.hn_data.specs.View.{IsNetwork}
 use Rattle.hn_data.specs.declared.said.AssignedPrefix.{AssignedPrefix}
 use Rattle.hn_data.specs.declared.said.PeerLink.{PeerLink}
@@ -61,6 +61,14 @@ abbrev pub ItemsArePublished : Type 0
 ItemsArePublished =
     (s : State) → IsRouter s
     → Reads s.own.body (λ items. (item : PlainItem) → Contains items item ↔ Contains (items_of s.own.born s.own.items) item)
+
+-- A router's node data have an HNCP-Version.
+abbrev pub OwnVersionIsSaid : Type 0
+OwnVersionIsSaid = (s : State) → IsRouter s → HasVersion s.own.body
+
+-- The Node-Addresses of a router's node data are its own addresses.
+abbrev pub OwnAddressesAreSaid : Type 0
+OwnAddressesAreSaid = (s : State) (a : OwnAddress) → IsRouter s → HasAddress s.own.body a ↔ Contains s.addresses a
 
 -- The nodes that a router sees are a network with its own node.
 abbrev pub ViewIsNetwork : Type 0

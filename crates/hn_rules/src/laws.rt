@@ -12,7 +12,7 @@ ghost use Rattle.hn_rules.specs.Arrival.{IsArrival};
 ghost use Rattle.hn_rules.specs.Assigning.{IsAssigning};
 ghost use Rattle.hn_rules.specs.Delegating.{delegating, withdrawing, ending};
 ghost use Rattle.hn_rules.specs.Events.{IsAttaching, detaching, setting_caps, setting_private, setting_addresses, IsRestarting};
-ghost use Rattle.hn_rules.specs.Laws.{HashIsOfLeaves, AssignedIsPublished, ItemsArePublished, ViewIsNetwork, OwnPeersAreOfEndpoints, PrivatePostIsAlone, EntriesAreAsKnown, RouterStaysLater, NextDueIsOne, NextDueStays, UneventfulReaches, StillStays, KeepsRouter, KeepsWell, KeepsEndpoints, RefreshMakesRouter, AssigningKeeps, DelegatingKeeps, AttachingKeeps, AddressingKeeps, MakesChanges, DelegatingMakesChanges, AddressingMakesChanges, ChangesKeepWell, ChangesKeepLimit, ChangesOnlyAdd, StillIsIdle, IdleIsStill, IdleUntilDue, RefreshRests, RouterIsHashed, ChangesKeepHashed, ChangesKeepShort, ChangesKeepGenuine, SilentTickIsStill};
+ghost use Rattle.hn_rules.specs.Laws.{HashIsOfLeaves, AssignedIsPublished, ItemsArePublished, OwnVersionIsSaid, OwnAddressesAreSaid, ViewIsNetwork, OwnPeersAreOfEndpoints, PrivatePostIsAlone, EntriesAreAsKnown, RouterStaysLater, NextDueIsOne, NextDueStays, UneventfulReaches, StillStays, KeepsRouter, KeepsWell, KeepsEndpoints, RefreshMakesRouter, AssigningKeeps, DelegatingKeeps, AttachingKeeps, AddressingKeeps, MakesChanges, DelegatingMakesChanges, AddressingMakesChanges, ChangesKeepWell, ChangesKeepLimit, ChangesOnlyAdd, StillIsIdle, IdleIsStill, IdleUntilDue, RefreshRests, RouterIsHashed, ChangesKeepHashed, ChangesKeepShort, ChangesKeepGenuine, SilentTickIsStill};
 ghost use Rattle.hn_rules.specs.Refresh.{IsRefresh};
 ghost use Rattle.hn_rules.specs.Rested.{KeepsId, RestfulTick, UsedWhereAssigned, ViewOfLater};
 ghost use Rattle.hn_rules.specs.Rules.{IsSole};
@@ -67,6 +67,28 @@ pub fn assigned_is_published()
 /// The items of a router's node data are its own items.
 pub fn items_are_published()
     ensures { ItemsArePublished }
+{
+    list_is_of_bytes();
+    spelling_is_prefix_free();
+    item_is_unique();
+    written_is_read();
+    items_are_unique();
+}
+
+/// The node data of a router have an HNCP-Version.
+pub fn own_version_is_said()
+    ensures { OwnVersionIsSaid }
+{
+    list_is_of_bytes();
+    spelling_is_prefix_free();
+    item_is_unique();
+    written_is_read();
+    items_are_unique();
+}
+
+/// The Node-Addresses of a router's node data are its own addresses.
+pub fn own_addresses_are_said()
+    ensures { OwnAddressesAreSaid }
 {
     list_is_of_bytes();
     spelling_is_prefix_free();

@@ -3,11 +3,11 @@ use Rattle.std.proofs.Common.{◌≡◌, ℕ, List, None, Some}
 use Rattle.hn_base.specs.Name.{name_text}
 use Rattle.hn_base.specs.declared.name.Name.{Name}
 use Rattle.hn_world.specs.Names.{member_named}
-use Rattle.hn_world.specs.Refusal.{unless_running}
+use Rattle.hn_world.specs.Refusal.{unless_running, unless_runs}
 use Rattle.hn_world.specs.declared.member.Member.{Member}
 use Rattle.hn_world.specs.declared.parts.Parts.{Parts}
 use Rattle.hn_lab.specs.AuditReports.{IsAudited, IsAuditLine, audit_line}
-use Rattle.hn_lab.specs.Line.{unless_runs, Tells}
+use Rattle.hn_lab.specs.Line.{Tells}
 use Rattle.hn_base.proofs.Decisions.{some_there}
 
 pub tells_audited : (name : Name) (w : Parts) (told line : List ℕ) → unless_runs name w ≡ None

@@ -1,143 +1,248 @@
--- Lines have at most one play, and a play of some first lines is the front of a play of all.
-use Rattle.std.proofs.Common.{◌≡◌, ◌∙◌, ◌⊎◌, inl, inr, ℕ, List, [], ◌∷◌, ◌++◌, append_assoc, append-nil, None, Some, refl, sym, ap, subst}
-use Rattle.std.proofs.lemmas.Option.{same_Some}
+-- Lines have at most one play, and what of it was cut short has a front of its text.
+use Rattle.std.proofs.Common.{◌≡◌, ◌∙◌, ◌⊎◌, inl, inr, ℕ, List, [], ◌∷◌, ◌++◌, append-nil, length, Option, None, Some, refl, sym, ap, subst}
+use Rattle.std.specs.Prelude.{⊤}
+use Rattle.std.proofs.lemmas.List.{same_from_push}
+use Rattle.hn_base.proofs.Fronts.{same_parts}
+use Rattle.hn_io.specs.declared.fault.IoFault.{IoFault}
+use Rattle.hn_io.specs.declared.fault.IoFault.TheVariants.{Failed}
 use Rattle.hn_script.specs.declared.line.Line.{Line}
-use Rattle.hn_world.specs.declared.parts.Parts.{Parts}
-use Rattle.hn_world.specs.Laws.{StepIsUnique}
 use Rattle.hn_lab.specs.declared.end.End.{End}
-use Rattle.hn_lab.specs.declared.end.End.TheVariants.{Done, Refused}
-use Rattle.hn_lab.specs.Stage.{Stage}
+use Rattle.hn_lab.specs.declared.end.End.TheVariants as end
+use Rattle.hn_lab.specs.declared.end.Stop.{Stop}
+use Rattle.hn_lab.specs.declared.end.Stop.TheVariants.{Refused, WireFailed, Cut}
+use Rattle.hn_lab.specs.Laws.{IsTold, IsUnbroken, ResultsAreUnique, CutTextsAreFronts}
 use Rattle.hn_lab.specs.Line.{LineEnds}
+use Rattle.hn_lab.specs.Play.{LineSaid, LinesDone, StopsAt, IsPlay, IsCut, IsCutPlay}
+use Rattle.hn_lab.specs.Process.{Process, Nothing, Then}
 use Rattle.hn_lab.specs.Reports.{refused_line}
-use Rattle.hn_lab.specs.Told.{Told, told}
-use Rattle.hn_lab.specs.Play.{LinesDone, IsPlay, IsCutPlay}
-use Rattle.hn_lab.proofs.LawSole.{apart}
-use Rattle.hn_lab.proofs.LawLines.{ReportLaws, sole_line}
+use Rattle.hn_lab.specs.Stage.{Stage}
+use Rattle.hn_lab.specs.Tells.{TellsLines}
+use Rattle.hn_lab.specs.Told.{Told}
+use Rattle.hn_lab.proofs.LawAlike.{Grows, grows_none, grows_on, IsCutShort, Agree, AreOne, FirstIsShort, SecondIsShort, turned, both_done, apart, IsSole, sole_nothing, sole_then}
+use Rattle.hn_lab.proofs.LawLines.{sole_line}
+use Rattle.hn_lab.proofs.LawTells.{tells_agree, grows_tells}
 
--- ---- a play by its first line
+-- ---- a line, and the line of text that says that it is refused
 
--- a line is done, and others are played after it
-pub record Goes (l : Line) (Rest : End → Stage → List Told → Stage → Type 0) (end : End) (p : Stage) (text : List Told) (a : Stage) : Type 0 where
-  pub between : Stage
-  pub lines : List (List ℕ)
-  pub rest : List Told
-  pub line : LineEnds l None lines p between
-  pub goes : Rest end between rest a
-  pub text_is : text ≡ told between.world lines ++ rest
+abbrev IsRefusal : Option Stop → Type 0
+IsRefusal (Some (Refused code)) = ⊤
+IsRefusal _ = ⊥
 
--- a line of this number is refused
-pub record Halts (number : ℕ) (l : Line) (end : End) (p : Stage) (text : List Told) (a : Stage) : Type 0 where
-  pub code : ℕ
-  pub refused : LineEnds l (Some code) [] p a
-  pub end_is : end ≡ Refused number code
-  pub text_is : text ≡ told a.world (refused_line number code ∷ [])
+same_code : (c d : ℕ) → Some (Refused c) ≡ Some (Refused d) → c ≡ d
+same_code c d same = cc
 
--- a play, by recursion over its lines
-abbrev pub Plays : List (ℕ × Line) → End → Stage → List Told → Stage → Type 0
-Plays [] end p text a = (end ≡ Done) × (text ≡ []) × (a ≡ p)
-Plays (l ∷ ls) end p text a = Goes l.1 (Plays ls) end p text a ⊎ Halts l.0 l.1 end p text a
+-- how a refused line ends, by how the telling of that line of text ends
+abbrev said_end : ℕ → Option Stop → Option Stop
+said_end code None = Some (Refused code)
+said_end code (Some stop) = Some stop
 
-plays_done : (ls : List (ℕ × Line)) (p a : Stage) (text : List Told) → LinesDone ls p text a → Plays ls Done p text a
-plays_done [] p a text h = (refl, h.0, h.1)
-plays_done (l ∷ ls) p a text h = inl (record { between = h.0; lines = h.1; rest = h.2; line = h.3; goes = plays_done ls h.0 a h.2 h.4; text_is = h.5 })
+short_said : (code : ℕ) (c : Option Stop) → IsCutShort c → IsCutShort (said_end code c)
+short_said code None short = absurd short
+short_said code (Some stop) short = short
 
-plays_refused : (front rest : List (ℕ × Line)) (number code : ℕ) (l : Line) (p m a : Stage) (so_far : List Told) → LinesDone front p so_far m → LineEnds l (Some code) [] m a
-    → Plays (front ++ (number, l) ∷ rest) (Refused number code) p (so_far ++ told a.world (refused_line number code ∷ [])) a
-plays_refused [] rest number code l p m a so_far done refused = inr (record {
-  code = code;
-  refused = subst (λ (x : Stage). LineEnds l (Some code) [] x a) done.1 refused;
-  end_is = refl;
-  text_is = ap (λ (x : List Told). x ++ told a.world (refused_line number code ∷ [])) done.0;
-})
-plays_refused (k ∷ front) rest number code l p m a so_far done refused = inl (record {
-  between = done.0;
-  lines = done.1;
-  rest = done.2 ++ told a.world (refused_line number code ∷ []);
-  line = done.3;
-  goes = plays_refused front rest number code l done.0 m a done.2 done.4 refused;
-  text_is = ap (λ (x : List Told). x ++ told a.world (refused_line number code ∷ [])) done.5 ∙ append_assoc (told done.0.world done.1) done.2 _;
-})
+module _ (number : ℕ) (l : Line) (sole : IsSole (LineEnds l)) where
+  -- it ends in another way than by a refusal; or it is refused, and that is told
+  data Said (c : Option Stop) (p a : Stage) : Type 0 where
+    Plainly : ¬ IsRefusal c → LineEnds l c p a → Said c p a
+    Refusing : (code : ℕ) (told : Option Stop) (refused : Stage) → LineEnds l (Some (Refused code)) p refused
+        → TellsLines (refused_line number code ∷ []) told refused a → c ≡ said_end code told → Said c p a
 
-pub plays : (ls : List (ℕ × Line)) (end : End) (p a : Stage) (text : List Told) → IsPlay ls end p text a → Plays ls end p text a
-plays ls Done p a text h = plays_done ls p a text h
-plays ls (Refused number code) p a text h =
-    let all = plays_refused h.front h.rest number code h.line p h.between a h.so_far h.done h.refused in
-    subst (λ (x : List (ℕ × Line)). Plays x (Refused number code) p text a) (sym h.lines_are) (subst (λ (x : List Told). Plays (h.front ++ (number, h.line) ∷ h.rest) (Refused number code) p x a) (sym h.text_is) all)
+  said : (c : Option Stop) (p a : Stage) → LineSaid number l c p a → Said c p a
+  said None p a h = Plainly (λ refusal. refusal) h
+  said (Some (Refused code)) p a h = Refusing code None h.0 h.1 h.2 refl
+  said (Some WireFailed) p a h = Plainly (λ refusal. refusal) h
+  said (Some (Cut fault)) p a (inl h) = Plainly (λ refusal. refusal) h
+  said (Some (Cut fault)) p a (inr h) = Refusing h.0 (Some (Cut fault)) h.1 h.2 h.3 refl
 
--- ---- two plays, of lines and of some first of them
+  -- one is refused, and the other ends otherwise: that was cut short
+  plain_or_refusing : (c d told : Option Stop) (code : ℕ) (p a x b : Stage) → IsTold p.route → ¬ IsRefusal c → LineEnds l c p a
+      → LineEnds l (Some (Refused code)) p x → TellsLines (refused_line number code ∷ []) told x b → Agree c d a b
+  plain_or_refusing c d told code p a x b known plain h refused tells = by_line (sole.one c (Some (Refused code)) p a x known h refused)
+    where
+      by_line : Agree c (Some (Refused code)) a x → Agree c d a b
+      by_line (AreOne ends stages) = absurd (plain (subst IsRefusal (sym ends) tt))
+      by_line (FirstIsShort short grows) = FirstIsShort short (grows_on a x b grows (grows_tells (refused_line number code ∷ []) told x b tells))
+      by_line (SecondIsShort short grows) = absurd short
 
--- they are one
-pub record AreSame (r q : End) (s t : List Told) (a b : Stage) : Type 0 where
-  pub ends : r ≡ q
-  pub texts : s ≡ t
-  pub stages : a ≡ b
+  -- both are refused
+  both_refusing : (c d t u : Option Stop) (code other : ℕ) (p a x y b : Stage) → IsTold p.route
+      → LineEnds l (Some (Refused code)) p x → LineEnds l (Some (Refused other)) p y
+      → TellsLines (refused_line number code ∷ []) t x a → TellsLines (refused_line number other ∷ []) u y b
+      → c ≡ said_end code t → d ≡ said_end other u → Agree c d a b
+  both_refusing c d t u code other p a x y b known h k tells tells_too c_is d_is = by_line (sole.one (Some (Refused code)) (Some (Refused other)) p x y known h k)
+    where
+      by_text : code ≡ other → Agree t u a b → Agree c d a b
+      by_text codes (AreOne ends stages) = AreOne (c_is ∙ (λ i. said_end (codes i) (ends i)) ∙ sym d_is) stages
+      by_text codes (FirstIsShort short grows) = FirstIsShort (subst IsCutShort (sym c_is) (short_said code t short)) grows
+      by_text codes (SecondIsShort short grows) = SecondIsShort (subst IsCutShort (sym d_is) (short_said other u short)) grows
 
--- the first lines are done, and those that are left are played after them
-pub record GoesOn (rest : List (ℕ × Line)) (r q : End) (s t : List Told) (a b : Stage) : Type 0 where
-  pub done : r ≡ Done
-  pub more : List Told
-  pub text_is : t ≡ s ++ more
-  pub goes : Plays rest q a more b
+      by_line : Agree (Some (Refused code)) (Some (Refused other)) x y → Agree c d a b
+      by_line (AreOne ends stages) =
+          let codes = same_code code other ends in
+          by_text codes (tells_agree (refused_line number code ∷ []) t u x a b tells
+          (subst (λ (s : Stage). TellsLines (refused_line number code ∷ []) u s b) (sym stages)
+          (subst (λ (n : ℕ). TellsLines (refused_line number n ∷ []) u y b) (sym codes) tells_too)))
+      by_line (FirstIsShort short grows) = absurd short
+      by_line (SecondIsShort short grows) = absurd short
 
-module _ (steps : StepIsUnique) (reports : ReportLaws) where
-  same_halt : (number : ℕ) (l : Line) (r q : End) (p a b : Stage) (s t : List Told) → Halts number l r p s a → Halts number l q p t b → AreSame r q s t a b
-  same_halt number l r q p a b s t h k =
-      let same = (sole_line steps reports l).one (Some h.code) (Some k.code) [] [] p a b h.refused k.refused in
-      let codes : h.code ≡ k.code = same_Some h.code k.code same.0 in
-      let lines : told a.world (refused_line number h.code ∷ []) ≡ told b.world (refused_line number k.code ∷ []) = λ i. told (same.2 i).world (refused_line number (codes i) ∷ []) in
-      record { ends = h.end_is ∙ ap (λ (c : ℕ). Refused number c) codes ∙ sym k.end_is; texts = h.text_is ∙ lines ∙ sym k.text_is; stages = same.2 }
+  said_agree : (c d : Option Stop) (p a b : Stage) → IsTold p.route → Said c p a → Said d p b → Agree c d a b
+  said_agree c d p a b known (Plainly plain h) (Plainly plain_too k) = sole.one c d p a b known h k
+  said_agree c d p a b known (Plainly plain h) (Refusing code told x k tells d_is) = plain_or_refusing c d told code p a x b known plain h k tells
+  said_agree c d p a b known (Refusing code told x h tells c_is) (Plainly plain k) = turned d c b a (plain_or_refusing d c told code p b x a known plain k h tells)
+  said_agree c d p a b known (Refusing code t x h tells c_is) (Refusing other u y k tells_too d_is) =
+      both_refusing c d t u code other p a x y b known h k tells tells_too c_is d_is
 
-  not_halted : (number : ℕ) (l : Line) (Rest : End → Stage → List Told → Stage → Type 0) (r q : End) (p a b : Stage) (s t : List Told) → Goes l Rest r p s a → Halts number l q p t b → ⊥
-  not_halted number l Rest r q p a b s t h k = apart k.code (sym ((sole_line steps reports l).one None (Some k.code) h.lines [] p h.between b h.line k.refused).0)
+  said_grows : (c : Option Stop) (p a : Stage) → Said c p a → Grows p a
+  said_grows c p a (Plainly plain h) = sole.grows c p a h
+  said_grows c p a (Refusing code told x h tells c_is) =
+      grows_on p x a (sole.grows (Some (Refused code)) p x h) (grows_tells (refused_line number code ∷ []) told x a tells)
 
-  -- the line that both begin with, and what follows it
-  after_line : (l : Line) (Rest : End → Stage → List Told → Stage → Type 0) (p m b : Stage) (lines : List (List ℕ)) (q : End) (t : List Told) → LineEnds l None lines p m → Goes l Rest q p t b
-      → (u : List Told) × Rest q m u b × (t ≡ told m.world lines ++ u)
-  after_line l Rest p m b lines q t h k =
-      let same = (sole_line steps reports l).one None None lines k.lines p m k.between h k.line in
-      let begins : told k.between.world k.lines ≡ told m.world lines = λ i. told (sym same.2 i).world (sym same.1 i) in
-      (k.rest, subst (λ (x : Stage). Rest q x k.rest b) (sym same.2) k.goes, k.text_is ∙ ap (λ (x : List Told). x ++ k.rest) begins)
+  pub sole_said : IsSole (LineSaid number l)
+  sole_said = record {
+    one = λ c d p a b known h k. said_agree c d p a b known (said c p a h) (said d p b k);
+    keeps = λ p a known h. sole.keeps p a known h;
+    grows = λ c p a h. said_grows c p a (said c p a h);
+  }
 
-  pub compared : (front rest : List (ℕ × Line)) (r q : End) (p a b : Stage) (s t : List Told) → Plays front r p s a → Plays (front ++ rest) q p t b → AreSame r q s t a b ⊎ GoesOn rest r q s t a b
-  compared [] rest r q p a b s t h k = inr (record {
-    done = h.0;
-    more = t;
-    text_is = ap (λ (x : List Told). x ++ t) (sym h.1);
-    goes = subst (λ (x : Stage). Plays rest q x t b) (sym h.2) k;
-  })
-  compared (l ∷ front) rest r q p a b s t (inl h) (inl k) =
-      let second = after_line l.1 (Plays (front ++ rest)) p h.between b h.lines q t h.line k in
-      let begin = told h.between.world h.lines in
-      elim (compared front rest r q h.between a b h.rest second.0 h.goes second.1) [
-        | inl same ↦ inl (record { ends = same.ends; texts = h.text_is ∙ ap (λ (x : List Told). begin ++ x) same.texts ∙ sym second.2; stages = same.stages })
-        | inr on ↦ inr (record {
-          done = on.done;
-          more = on.more;
-          text_is = second.2 ∙ ap (λ (x : List Told). begin ++ x) on.text_is ∙ sym (append_assoc begin h.rest on.more) ∙ ap (λ (x : List Told). x ++ on.more) (sym h.text_is);
-          goes = on.goes;
-        })
-      ]
-  compared (l ∷ front) rest r q p a b s t (inl h) (inr k) = absurd (not_halted l.0 l.1 (Plays front) r q p a b s t h k)
-  compared (l ∷ front) rest r q p a b s t (inr h) (inl k) = absurd (not_halted l.0 l.1 (Plays (front ++ rest)) q r p b a t s k h)
-  compared (l ∷ front) rest r q p a b s t (inr h) (inr k) = inl (same_halt l.0 l.1 r q p a b s t h k)
+-- ---- lines, as a process
+
+-- lines are played, one after another
+abbrev Plays : List (ℕ × Line) → Process
+Plays [] stop p a = Nothing stop p a
+Plays (l ∷ ls) stop p a = Then (LineSaid l.0 l.1) (Plays ls) stop p a
+
+-- they are stopped at the line of this number
+abbrev Halts : ℕ → Stop → List (ℕ × Line) → Stage → Stage → Type 0
+Halts number stop [] p a = ⊥
+Halts number stop (l ∷ ls) p a =
+    ((number ≡ l.0) × LineSaid l.0 l.1 (Some stop) p a)
+    ⊎ ((between : Stage) × LineSaid l.0 l.1 None p between × Halts number stop ls between a)
+
+plays_done : (ls : List (ℕ × Line)) (p a : Stage) → LinesDone ls p a → Plays ls None p a
+plays_done [] p a h = h
+plays_done (l ∷ ls) p a h = (h.0, h.1, plays_done ls h.0 a h.2)
+
+halts_after : (front rest : List (ℕ × Line)) (number : ℕ) (stop : Stop) (l : Line) (p m a : Stage) → LinesDone front p m → LineSaid number l (Some stop) m a
+    → Halts number stop (front ++ (number, l) ∷ rest) p a
+halts_after [] rest number stop l p m a done said = inl (refl, subst (λ (s : Stage). LineSaid number l (Some stop) s a) done said)
+halts_after (k ∷ front) rest number stop l p m a done said = inr (done.0, done.1, halts_after front rest number stop l done.0 m a done.2 said)
+
+halts : (number : ℕ) (stop : Stop) (ls : List (ℕ × Line)) (p a : Stage) → StopsAt number stop ls p a → Halts number stop ls p a
+halts number stop ls p a h =
+    subst (λ (all : List (ℕ × Line)). Halts number stop all p a) (sym h.lines_are) (halts_after h.front h.rest number stop h.line p h.between a h.done h.said)
+
+plays_halted : (number : ℕ) (stop : Stop) (ls : List (ℕ × Line)) (p a : Stage) → Halts number stop ls p a → Plays ls (Some stop) p a
+plays_halted number stop [] p a h = absurd h
+plays_halted number stop (l ∷ ls) p a (inl h) = inl h.1
+plays_halted number stop (l ∷ ls) p a (inr h) = inr (h.0, h.1, plays_halted number stop ls h.0 a h.2)
+
+-- the end of a process in which a play ends
+abbrev stop_of_end : End → Option Stop
+stop_of_end end.Done = None
+stop_of_end (end.Refused number code) = Some (Refused code)
+stop_of_end end.WireFailed = Some WireFailed
+
+plays : (ls : List (ℕ × Line)) (r : End) (p a : Stage) → IsPlay ls r p a → Plays ls (stop_of_end r) p a
+plays ls end.Done p a h = plays_done ls p a h
+plays ls (end.Refused number code) p a h = plays_halted number (Refused code) ls p a (halts number (Refused code) ls p a h)
+plays ls end.WireFailed p a h = plays_halted h.0 WireFailed ls p a (halts h.0 WireFailed ls p a h.1)
+
+plays_cut : (fault : IoFault) (ls : List (ℕ × Line)) (p a : Stage) → IsCut fault ls p a → Plays ls (Some (Cut fault)) p a
+plays_cut fault ls p a h = plays_halted h.0 (Cut fault) ls p a (halts h.0 (Cut fault) ls p a h.1)
+
+-- a play that the wire did not end was not cut short
+not_short : (r : End) → IsUnbroken r → ¬ IsCutShort (stop_of_end r)
+not_short end.Done unbroken = λ short. short
+not_short (end.Refused number code) unbroken = λ short. short
+not_short end.WireFailed unbroken = absurd unbroken
+
+-- ---- two ends that agree
+
+-- where neither was cut short, they are one
+ones : (c d : Option Stop) (a b : Stage) → ¬ IsCutShort c → ¬ IsCutShort d → Agree c d a b → (c ≡ d) × (a ≡ b)
+ones c d a b long long_too (AreOne ends stages) = (ends, stages)
+ones c d a b long long_too (FirstIsShort short grows) = absurd (long short)
+ones c d a b long long_too (SecondIsShort short grows) = absurd (long_too short)
+
+-- where the second was not, the text of the first is a front
+front_of : (c d : Option Stop) (a b : Stage) → ¬ IsCutShort d → Agree c d a b → Grows a b
+front_of c d a b long (AreOne ends stages) = grows_none a b (ap (λ (s : Stage). s.text) (sym stages))
+front_of c d a b long (FirstIsShort short grows) = grows
+front_of c d a b long (SecondIsShort short grows) = absurd (long short)
+
+-- one text is a front of the other
+either_front : (c d : Option Stop) (a b : Stage) → Agree c d a b → Grows a b ⊎ Grows b a
+either_front c d a b (AreOne ends stages) = inl (grows_none a b (ap (λ (s : Stage). s.text) (sym stages)))
+either_front c d a b (FirstIsShort short grows) = inl grows
+either_front c d a b (SecondIsShort short grows) = inr grows
+
+-- texts of one length, of which one is a front of the other, are one
+same_length : (a b : Stage) → length a.text ≡ length b.text → Grows a b → a.text ≡ b.text
+same_length a b lengths grows = (same_parts a.text b.text grows.0 [] lengths (sym grows.1 ∙ sym (append-nil b.text))).0
+
+module _ (unique : ResultsAreUnique) where
+  line_said : (l : ℕ × Line) → IsSole (LineSaid l.0 l.1)
+  line_said l = sole_said l.0 l.1 (sole_line unique l.1)
+
+  sole_plays : (ls : List (ℕ × Line)) → IsSole (Plays ls)
+  sole_plays [] = sole_nothing
+  sole_plays (l ∷ ls) = sole_then (LineSaid l.0 l.1) (Plays ls) (line_said l) (sole_plays ls)
+
+  -- a line is not refused and also done
+  not_both : (l : ℕ × Line) (code : ℕ) (p a b : Stage) → IsTold p.route → LineSaid l.0 l.1 (Some (Refused code)) p a → LineSaid l.0 l.1 None p b → ⊥
+  not_both l code p a b told h k = apart (Refused code) (ones (Some (Refused code)) None a b (λ short. short) (λ short. short) ((line_said l).one (Some (Refused code)) None p a b told h k)).0
+
+  -- lines are refused at one number
+  one_number : (n m c d : ℕ) (ls : List (ℕ × Line)) (p a b : Stage) → IsTold p.route → Halts n (Refused c) ls p a → Halts m (Refused d) ls p b → n ≡ m
+  one_number n m c d [] p a b told h k = absurd h
+  one_number n m c d (l ∷ ls) p a b told (inl h) (inl k) = h.0 ∙ sym k.0
+  one_number n m c d (l ∷ ls) p a b told (inl h) (inr k) = absurd (not_both l c p a k.0 told h.1 k.1)
+  one_number n m c d (l ∷ ls) p a b told (inr h) (inl k) = absurd (not_both l d p b h.0 told k.1 h.1)
+  one_number n m c d (l ∷ ls) p a b told (inr h) (inr k) =
+      let same = both_done h.0 k.0 ((line_said l).one None None p h.0 k.0 told h.1 k.1) in
+      one_number n m c d ls h.0 a b ((line_said l).keeps p h.0 told h.1) h.2 (subst (λ (s : Stage). Halts m (Refused d) ls s b) (sym same) k.2)
+
+  same_end : (ls : List (ℕ × Line)) (r q : End) (p a b : Stage) → IsTold p.route → IsUnbroken r → IsUnbroken q → IsPlay ls r p a → IsPlay ls q p b
+      → stop_of_end r ≡ stop_of_end q → r ≡ q
+  same_end ls end.Done end.Done p a b told u v h k same = refl
+  same_end ls end.Done (end.Refused m d) p a b told u v h k same = absurd (apart (Refused d) (sym same))
+  same_end ls (end.Refused n c) end.Done p a b told u v h k same = absurd (apart (Refused c) same)
+  same_end ls (end.Refused n c) (end.Refused m d) p a b told u v h k same =
+      let numbers = one_number n m c d ls p a b told (halts n (Refused c) ls p a h) (halts m (Refused d) ls p b k) in
+      let codes = same_code c d same in
+      λ i. end.Refused (numbers i) (codes i)
+  same_end ls end.WireFailed q p a b told u v h k same = absurd u
+  same_end ls r end.WireFailed p a b told u v h k same = absurd v
 
   -- ---- the laws
 
-  pub one_play : (ls : List (ℕ × Line)) (r q : End) (p a b : Stage) (s t : List Told) → IsPlay ls r p s a → IsPlay ls q p t b → (r ≡ q) × (s ≡ t) × (a ≡ b)
-  one_play ls r q p a b s t h k =
-      elim (compared ls [] r q p a b s t (plays ls r p a s h) (subst (λ (x : List (ℕ × Line)). Plays x q p t b) (sym (append-nil ls)) (plays ls q p b t k))) [
-        | inl same ↦ (same.ends, same.texts, same.stages)
-        | inr on ↦ (on.done ∙ sym on.goes.0, sym (append-nil s) ∙ ap (λ (x : List Told). s ++ x) (sym on.goes.1) ∙ sym on.text_is, sym on.goes.2)
-      ]
+  pub one_play : (ls : List (ℕ × Line)) (r q : End) (p a b : Stage) → IsTold p.route → IsUnbroken r → IsUnbroken q → IsPlay ls r p a → IsPlay ls q p b → (r ≡ q) × (a ≡ b)
+  one_play ls r q p a b told u v h k =
+      let agree = (sole_plays ls).one (stop_of_end r) (stop_of_end q) p a b told (plays ls r p a h) (plays ls q p b k) in
+      let one = ones (stop_of_end r) (stop_of_end q) a b (not_short r u) (not_short q v) agree in
+      (same_end ls r q p a b told u v h k one.0, one.1)
 
-  -- the text of a play of the first lines is a front
-  pub text_front : (front rest : List (ℕ × Line)) (r q : End) (p a b : Stage) (s t : List Told) → IsPlay front r p s a → Plays (front ++ rest) q p t b → (more : List Told) × (t ≡ s ++ more)
-  text_front front rest r q p a b s t h k = elim (compared front rest r q p a b s t (plays front r p a s h) k) [
-    | inl same ↦ ([], sym same.texts ∙ sym (append-nil s))
-    | inr on ↦ (on.more, on.text_is)
-  ]
+  pub cut_fronts : CutTextsAreFronts
+  cut_fronts = record {
+    of_whole = λ fault ls r p a b told u h k.
+        front_of (Some (Cut fault)) (stop_of_end r) a b (not_short r u)
+        ((sole_plays ls).one (Some (Cut fault)) (stop_of_end r) p a b told (plays_cut fault ls p a h) (plays ls r p b k));
+    of_cut = λ fault other ls p a b told h k.
+        either_front (Some (Cut fault)) (Some (Cut other)) a b
+        ((sole_plays ls).one (Some (Cut fault)) (Some (Cut other)) p a b told (plays_cut fault ls p a h) (plays_cut other ls p b k));
+  }
 
-  pub cut_front : (ls : List (ℕ × Line)) (q : End) (p b : Stage) (a : Parts) (s t : List Told) → IsCutPlay ls p s a → IsPlay ls q p t b → (rest : List Told) × (t ≡ s ++ rest)
-  cut_front ls q p b a s t h k =
-      let all = text_front h.front h.rest h.end q p h.after b h.whole t h.play (subst (λ (x : List (ℕ × Line)). Plays x q p t b) h.lines_are (plays ls q p b t k)) in
-      (h.more ++ all.0, all.1 ∙ ap (λ (x : List Told). x ++ all.0) h.whole_is ∙ append_assoc s h.more all.0)
+  pub broken_front : (ls : List (ℕ × Line)) (r : End) (p a b : Stage) → IsTold p.route → IsUnbroken r → IsPlay ls end.WireFailed p a → IsPlay ls r p b → Grows a b
+  broken_front ls r p a b told u h k =
+      front_of (Some WireFailed) (stop_of_end r) a b (not_short r u)
+      ((sole_plays ls).one (Some WireFailed) (stop_of_end r) p a b told (plays ls end.WireFailed p a h) (plays ls r p b k))
+
+  -- the world of the last line of a text
+  pub one_cut : (ls : List (ℕ × Line)) (p a b : Stage) → IsTold p.route → IsCutPlay ls p a → IsCutPlay ls p b → length a.text ≡ length b.text → (a.text ≡ b.text) × (a.world ≡ b.world)
+  one_cut ls p a b told h k lengths =
+      let texts = elim (cut_fronts.of_cut Failed Failed ls p a b told h.cut k.cut) as (λ _. a.text ≡ b.text) [
+        | inl grows ↦ same_length a b lengths grows
+        | inr grows ↦ sym (same_length b a (sym lengths) grows)
+      ] in
+      let lasts = same_from_push h.so_far k.so_far (record { world = a.world; line = h.line }) (record { world = b.world; line = k.line }) (sym h.text_is ∙ texts ∙ k.text_is) in
+      (texts, ap (λ (t : Told). t.world) lasts.1)

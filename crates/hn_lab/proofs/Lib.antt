@@ -1,6 +1,8 @@
+mod RunStops
 mod RunEvents
 mod RunCopies
 mod RunTimes
+mod RunDeliveries
 mod RunTicks
 mod TextLines
 mod TextReports
@@ -8,10 +10,11 @@ mod TextStreams
 mod PlayLines
 mod PlayScripts
 mod PrefixTexts
-mod AdvertTexts
 mod AuditTexts
-mod LawCuts
-mod LawGrows
+mod LawAlike
+mod LawCarry
+mod LawEvents
 mod LawLines
 mod LawPlays
-mod LawSole
+mod LawTells
+mod LawUntil

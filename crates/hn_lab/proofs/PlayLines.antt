@@ -1,18 +1,21 @@
 -- The lines of a script, one after another, and what is written of their text.
-use Rattle.std.proofs.Common.{◌≡◌, ◌∙◌, ℕ, List, [], ◌∷◌, ◌++◌, Option, None, Some, refl, sym, ap, subst, append-nil, append_assoc}
+use Rattle.std.proofs.Common.{◌≡◌, ◌≢◌, ◌∙◌, ℕ, List, [], ◌∷◌, ◌++◌, Option, None, Some, inl, inr, refl, sym, ap, subst, append-nil, append_assoc}
 use Rattle.std.specs.Io.KnownBytes.{Appends}
 use Rattle.std.proofs.lemmas.List.{map-append}
 use Rattle.std.proofs.lemmas.Grind.{flat_map-append}
+use Rattle.hn_io.specs.declared.fault.IoFault.{IoFault}
+use Rattle.hn_io.specs.declared.fault.IoFault.TheVariants.{Failed, NoMemory}
 use Rattle.hn_script.specs.declared.line.Line.{Line}
-use Rattle.hn_script.specs.declared.line.Line.TheVariants as line
 use Rattle.hn_world.specs.declared.parts.Parts.{Parts}
-use Rattle.hn_lab.specs.declared.end.End.{End}
-use Rattle.hn_lab.specs.declared.end.End.TheVariants.{Done, Refused}
-use Rattle.hn_lab.specs.Stage.{Stage}
+use Rattle.hn_lab.specs.declared.end.End.TheVariants as end
+use Rattle.hn_lab.specs.declared.end.Stop.{Stop}
+use Rattle.hn_lab.specs.declared.end.Stop.TheVariants.{Refused, WireFailed, Cut}
+use Rattle.hn_lab.specs.Ended.{IsStopped, Leaves}
 use Rattle.hn_lab.specs.Line.{LineEnds}
 use Rattle.hn_lab.specs.Output.{IsPart, AppendsPart, AppendsFront, IsCutText, AreCut, joined}
-use Rattle.hn_lab.specs.Play.{LinesDone, IsPlay, IsCutPlay, IsFrontPlay}
+use Rattle.hn_lab.specs.Play.{LineSaid, LinesDone, StopsAt, IsPlay, IsCut, IsCutPlay}
 use Rattle.hn_lab.specs.Reports.{refused_line}
+use Rattle.hn_lab.specs.Stage.{Stage, telling}
 use Rattle.hn_lab.specs.Told.{Told, told, bytes_of}
 use Rattle.hn_lab.proofs.TextStreams.{Appends-more}
 
@@ -26,7 +29,7 @@ bytes_told w [] = refl
 bytes_told w (l ∷ lines) = ap (λ (x : List ℕ). l ++ x) (bytes_told w lines)
 
 told_more : (w : Parts) (s t : List (List ℕ)) → told w (s ++ t) ≡ told w s ++ told w t
-told_more w s t = map-append (λ (l : List ℕ). record { at = _; line = l }) s t
+told_more w s t = map-append (λ (l : List ℕ). record { world = w; line = l }) s t
 
 bytes_then : (s : List Told) (w : Parts) (lines : List (List ℕ)) → bytes_of (s ++ told w lines) ≡ bytes_of s ++ joined lines
 bytes_then s w lines = bytes_more s (told w lines) ∙ ap (λ (x : List ℕ). bytes_of s ++ x) (bytes_told w lines)
@@ -38,187 +41,155 @@ appends_then s w lines h j k p q = subst (Appends h k) (sym (bytes_then s w line
 
 -- lines are done, and their text is written
 pub record SoFar (lines : List (ℕ × Line)) (before after : Stage) (h k : Option (List ℕ)) : Type 0 where
-  pub text : List Told
-  pub done : LinesDone lines before text after
-  pub appends : Appends h k (bytes_of text)
+  pub done : LinesDone lines before after
+  pub appends : Appends h k (bytes_of after.text)
 
-lines_more : (ls : List (ℕ × Line)) (l : ℕ × Line) (p m a : Stage) (s : List Told) (lines : List (List ℕ)) → LinesDone ls p s m → LineEnds l.1 None lines m a → LinesDone (ls ++ l ∷ []) p (s ++ told a.world lines) a
-lines_more [] l p m a s lines is done =
-    (a, lines, [], subst (λ (x : Stage). LineEnds l.1 None lines x a) is.1 done, (refl, refl), ap (λ (x : List Told). x ++ told a.world lines) is.0 ∙ sym (append-nil (told a.world lines)))
-lines_more (k ∷ ls) l p m a s lines h done =
-    (h.0, h.1, h.2 ++ told a.world lines, h.3, lines_more ls l h.0 m a h.2 lines h.4 done, ap (λ (x : List Told). x ++ told a.world lines) h.5 ∙ append_assoc (told h.0.world h.1) h.2 (told a.world lines))
+lines_more : (ls : List (ℕ × Line)) (l : ℕ × Line) (p m a : Stage) → LinesDone ls p m → LineSaid l.0 l.1 None m a → LinesDone (ls ++ l ∷ []) p a
+lines_more [] l p m a is said = (a, subst (λ (x : Stage). LineSaid l.0 l.1 None x a) is said, refl)
+lines_more (k ∷ ls) l p m a h said = (h.0, h.1, lines_more ls l h.0 m a h.2 said)
 
--- nothing comes up at a line that is refused
-pub quiet : (l : Line) (code : ℕ) (lines : List (List ℕ)) (p a : Stage) → LineEnds l (Some code) lines p a → lines ≡ []
-quiet (line.Deliver copy) code lines p a h = h.2
-quiet (line.Inject name endpoint how bytes) code lines p a h = h.2
-quiet _ code lines p a h = h.1
-
--- the lines so far are done and their text is written, and the next line ended
-pub record Reached (all ls : List (ℕ × Line)) (number : ℕ) (l : Line) (code : Option ℕ) (lines : List (List ℕ)) (p a : Stage) (h j : Option (List ℕ)) : Type 0 where
+-- the lines so far are done and their text is written, and there is a next line
+pub record Reached (all ls : List (ℕ × Line)) (number : ℕ) (l : Line) (p m : Stage) (h j : Option (List ℕ)) : Type 0 where
   pub rest : List (ℕ × Line)
-  pub between : Stage
   pub lines_are : all ≡ ls ++ (number, l) ∷ rest
-  pub so_far : SoFar ls p between h j
-  pub ends : LineEnds l code lines between a
+  pub so_far : SoFar ls p m h j
 
-abbrev pub reached : (all ls left rest : List (ℕ × Line)) (number : ℕ) (l : Line) (code other : Option ℕ) (lines : List (List ℕ)) (p m a : Stage) (h j : Option (List ℕ)) → all ≡ ls ++ left → left ≡ (number, l) ∷ rest → SoFar ls p m h j → other ≡ code → LineEnds l other lines m a
-    → Reached all ls number l code lines p a h j
-reached all ls left rest number l code other lines p m a h j is next s same ends = record {
+abbrev pub reached : (all ls left rest : List (ℕ × Line)) (number : ℕ) (l : Line) (p m : Stage) (h j : Option (List ℕ)) → all ≡ ls ++ left → left ≡ (number, l) ∷ rest → SoFar ls p m h j → Reached all ls number l p m h j
+reached all ls left rest number l p m h j is next s = record {
   rest = rest;
-  between = m;
   lines_are = is ∙ ap (λ (x : List (ℕ × Line)). ls ++ x) next;
   so_far = s;
-  ends = subst (λ (x : Option ℕ). LineEnds l x lines m a) same ends;
-}
-
-pub so_far_more : (all ls : List (ℕ × Line)) (number : ℕ) (l : Line) (lines : List (List ℕ)) (p a : Stage) (h j k : Option (List ℕ)) → Reached all ls number l None lines p a h j → Appends j k (joined lines) → SoFar (ls ++ (number, l) ∷ []) p a h k
-so_far_more all ls number l lines p a h j k r written = record {
-  text = r.so_far.text ++ told a.world lines;
-  done = lines_more ls (number, l) p r.between a r.so_far.text lines r.so_far.done r.ends;
-  appends = appends_then r.so_far.text a.world lines h j k r.so_far.appends written;
-}
-
--- a line is refused, and the text says it
-refused_at : (all ls : List (ℕ × Line)) (number code : ℕ) (l : Line) (lines : List (List ℕ)) (p a : Stage) (h j : Option (List ℕ)) → (r : Reached all ls number l (Some code) lines p a h j)
-    → IsPlay all (Refused number code) p (r.so_far.text ++ told a.world (refused_line number code ∷ [])) a
-refused_at all ls number code l lines p a h j r = record {
-  front = ls;
-  line = l;
-  rest = r.rest;
-  so_far = r.so_far.text;
-  between = r.between;
-  lines_are = r.lines_are;
-  done = r.so_far.done;
-  refused = subst (λ (x : List (List ℕ)). LineEnds l (Some code) x r.between a) (quiet l code lines r.between a r.ends) r.ends;
-  text_is = refl;
 }
 
 -- ---- a text that is cut
 
--- A front of the lines is played. Of its text a sink holds what came up before the last stage, some lines that came up
--- there, and a proper part of the next.
-pub record Stopped (all : List (ℕ × Line)) (p a : Stage) (h k : Option (List ℕ)) : Type 0 where
-  pub front : List (ℕ × Line)
-  pub rest : List (ℕ × Line)
-  pub end : End
-  pub so_far : List Told
+-- A play is stopped by this fault while the lines of a stage are told. A sink holds what came up before that stage, some lines
+-- that came up there, and a proper part of the next.
+pub record Broken (fault : IoFault) (all : List (ℕ × Line)) (p m : Stage) (h k : Option (List ℕ)) : Type 0 where
+  pub number : ℕ
   pub before : List (List ℕ)
   pub cut : List ℕ
-  pub more : List (List ℕ)
   pub part : List ℕ
-  pub lines_are : all ≡ front ++ rest
-  pub play : IsPlay front end p (so_far ++ told a.world (before ++ cut ∷ more)) a
+  pub stopped : StopsAt number (Cut fault) all p (telling (before ++ cut ∷ []) m)
   pub in_part : IsPart part cut
-  pub appends : Appends h k (bytes_of so_far ++ (joined before ++ part))
+  pub appends : Appends h k (bytes_of m.text ++ (joined before ++ part))
 
--- the lines of text up to one
-to_the_cut : (s : List Told) (w : Parts) (before : List (List ℕ)) (cut : List ℕ) (more : List (List ℕ)) → s ++ told w (before ++ cut ∷ more) ≡ (s ++ told w before) ++ told w (cut ∷ more)
-to_the_cut s w before cut more = ap (λ (x : List Told). s ++ x) (told_more w before (cut ∷ more)) ∙ sym (append_assoc s (told w before) (told w (cut ∷ more)))
+-- the lines of text up to the last
+up_to_the_cut : (s : List Told) (w : Parts) (before : List (List ℕ)) (cut : List ℕ) → s ++ told w (before ++ cut ∷ []) ≡ (s ++ told w before) ++ told w (cut ∷ [])
+up_to_the_cut s w before cut = ap (λ (x : List Told). s ++ x) (told_more w before (cut ∷ [])) ∙ sym (append_assoc s (told w before) (told w (cut ∷ [])))
 
-after_the_cut : (s : List Told) (w : Parts) (before : List (List ℕ)) (cut : List ℕ) (more : List (List ℕ)) → s ++ told w (before ++ cut ∷ more) ≡ (s ++ told w (before ++ cut ∷ [])) ++ told w more
-after_the_cut s w before cut more =
-    to_the_cut s w before cut more
-    ∙ sym (append_assoc (s ++ told w before) (told w (cut ∷ [])) (told w more))
-    ∙ ap (λ (x : List Told). x ++ told w more) (sym (to_the_cut s w before cut []))
-
-pub cut_so : (all : List (ℕ × Line)) (p a : Stage) (h k : Option (List ℕ)) → Stopped all p a h k → (text : List Told) × (written : List ℕ) × IsCutPlay all p text a.world × IsCutText text written × Appends h k written
-cut_so all p a h k s = (
-  s.so_far ++ told a.world (s.before ++ s.cut ∷ []),
-  bytes_of s.so_far ++ (joined s.before ++ s.part),
+pub cut_so : (all : List (ℕ × Line)) (p m : Stage) (h k : Option (List ℕ)) → Broken Failed all p m h k → (after : Stage) × (written : List ℕ) × IsCutPlay all p after × (after.world ≡ m.world) × IsCutText after.text written × Appends h k written
+cut_so all p m h k b = (
+  telling (b.before ++ b.cut ∷ []) m,
+  bytes_of m.text ++ (joined b.before ++ b.part),
   record {
-    front = s.front;
-    rest = s.rest;
-    end = s.end;
-    whole = s.so_far ++ told a.world (s.before ++ s.cut ∷ s.more);
-    more = told a.world s.more;
-    after = a;
-    so_far = s.so_far ++ told a.world s.before;
-    line = s.cut;
-    lines_are = s.lines_are;
-    play = s.play;
-    whole_is = after_the_cut s.so_far a.world s.before s.cut s.more;
-    text_is = to_the_cut s.so_far a.world s.before s.cut [];
-    last_is = refl;
+    cut = (b.number, b.stopped);
+    so_far = m.text ++ told m.world b.before;
+    line = b.cut;
+    text_is = up_to_the_cut m.text m.world b.before b.cut;
   },
+  refl,
   record {
-    before = s.so_far ++ told a.world s.before;
-    last = record { at = _; line = s.cut };
-    part = s.part;
-    text_is = to_the_cut s.so_far a.world s.before s.cut [];
-    in_part = s.in_part;
-    written_is = sym (append_assoc (bytes_of s.so_far) (joined s.before) s.part) ∙ ap (λ (x : List ℕ). x ++ s.part) (sym (bytes_then s.so_far a.world s.before));
+    before = m.text ++ told m.world b.before;
+    last = record { world = m.world; line = b.cut };
+    part = b.part;
+    text_is = up_to_the_cut m.text m.world b.before b.cut;
+    in_part = b.in_part;
+    written_is = sym (append_assoc (bytes_of m.text) (joined b.before) b.part) ∙ ap (λ (x : List ℕ). x ++ b.part) (sym (bytes_then m.text m.world b.before));
   },
-  s.appends,
+  b.appends,
 )
 
--- lines that are joined go on after a part of one
-split_at : (before : List (List ℕ)) (cut : List ℕ) (more : List (List ℕ)) (part : List ℕ) (in_part : IsPart part cut) → joined (before ++ cut ∷ more) ≡ (joined before ++ part) ++ (in_part.missing ++ joined more)
-split_at before cut more part in_part =
-    flat_map-append (λ (l : List ℕ). l) before (cut ∷ more)
-    ∙ ap (λ (x : List ℕ). joined before ++ (x ++ joined more)) in_part.whole_is
-    ∙ ap (λ (x : List ℕ). joined before ++ x) (append_assoc part in_part.missing (joined more))
-    ∙ sym (append_assoc (joined before) part (in_part.missing ++ joined more))
+-- lines that are joined go on after a part of the last
+split_at : (before : List (List ℕ)) (cut part : List ℕ) (in_part : IsPart part cut) → joined (before ++ cut ∷ []) ≡ (joined before ++ part) ++ (in_part.missing ++ [])
+split_at before cut part in_part =
+    flat_map-append (λ (l : List ℕ). l) before (cut ∷ [])
+    ∙ ap (λ (x : List ℕ). joined before ++ (x ++ [])) in_part.whole_is
+    ∙ ap (λ (x : List ℕ). joined before ++ x) (append_assoc part in_part.missing [])
+    ∙ sym (append_assoc (joined before) part (in_part.missing ++ []))
 
--- what is held is a front of the text of that play
-pub starved_so : (all : List (ℕ × Line)) (p a : Stage) (h k : Option (List ℕ)) → Stopped all p a h k → (text : List Told) × IsFrontPlay all p text × AppendsFront h k (bytes_of text)
-starved_so all p a h k s = (
-  s.so_far ++ told a.world (s.before ++ s.cut ∷ s.more),
-  record { front = s.front; rest = s.rest; end = s.end; after = a; lines_are = s.lines_are; play = s.play },
+pub starved_so : (all : List (ℕ × Line)) (p m : Stage) (h k : Option (List ℕ)) → Broken NoMemory all p m h k → (after : Stage) × IsCut NoMemory all p after × AppendsFront h k (bytes_of after.text)
+starved_so all p m h k b = (
+  telling (b.before ++ b.cut ∷ []) m,
+  (b.number, b.stopped),
   (
-    bytes_of s.so_far ++ (joined s.before ++ s.part),
+    bytes_of m.text ++ (joined b.before ++ b.part),
     (
-      s.in_part.missing ++ joined s.more,
-      bytes_then s.so_far a.world (s.before ++ s.cut ∷ s.more)
-          ∙ ap (λ (x : List ℕ). bytes_of s.so_far ++ x) (split_at s.before s.cut s.more s.part s.in_part)
-          ∙ sym (append_assoc (bytes_of s.so_far) (joined s.before ++ s.part) (s.in_part.missing ++ joined s.more)),
+      b.in_part.missing ++ [],
+      bytes_then m.text m.world (b.before ++ b.cut ∷ [])
+          ∙ ap (λ (x : List ℕ). bytes_of m.text ++ x) (split_at b.before b.cut b.part b.in_part)
+          ∙ sym (append_assoc (bytes_of m.text) (joined b.before ++ b.part) (b.in_part.missing ++ [])),
     ),
-    s.appends,
+    b.appends,
   ),
 )
 
--- the lines of text of a line are cut
-pub stopped_in_line : (all ls : List (ℕ × Line)) (number : ℕ) (l : Line) (lines : List (List ℕ)) (p a : Stage) (h j k : Option (List ℕ)) → Reached all ls number l None lines p a h j
-    → (before : List (List ℕ)) × (cut part : List ℕ) × AreCut lines before cut part × Appends j k (joined before ++ part) → Stopped all p a h k
-stopped_in_line all ls number l lines p a h j k r cut = record {
-  front = ls ++ (number, l) ∷ [];
-  rest = r.rest;
-  end = Done;
-  so_far = r.so_far.text;
-  before = cut.0;
-  cut = cut.1;
-  more = cut.3.rest;
-  part = cut.2;
-  lines_are = r.lines_are ∙ sym (append_assoc ls ((number, l) ∷ []) r.rest);
-  play = subst (λ (x : List (List ℕ)). LinesDone (ls ++ (number, l) ∷ []) p (r.so_far.text ++ told a.world x) a) cut.3.lines_are (lines_more ls (number, l) p r.between a r.so_far.text lines r.so_far.done r.ends);
-  in_part = cut.3.in_part;
-  appends = Appends-more h j k (bytes_of r.so_far.text) (joined cut.0 ++ cut.2) r.so_far.appends cut.4;
-}
+-- ---- the next line
 
--- the line of a refusal is cut
-pub stopped_in_refusal : (all ls : List (ℕ × Line)) (number code : ℕ) (l : Line) (lines : List (List ℕ)) (p a : Stage) (h j k : Option (List ℕ)) → Reached all ls number l (Some code) lines p a h j
-    → AppendsPart j k (refused_line number code) → Stopped all p a h k
-stopped_in_refusal all ls number code l lines p a h j k r part = record {
-  front = all;
-  rest = [];
-  end = Refused number code;
-  so_far = r.so_far.text;
-  before = [];
-  cut = refused_line number code;
-  more = [];
-  part = part.0;
-  lines_are = sym (append-nil all);
-  play = refused_at all ls number code l lines p a h j r;
-  in_part = part.1;
-  appends = Appends-more h j k (bytes_of r.so_far.text) part.0 r.so_far.appends part.2;
-}
+module _ (all ls : List (ℕ × Line)) (number : ℕ) (l : Line) (p m a : Stage) (h j : Option (List ℕ)) (r : Reached all ls number l p m h j) where
+  stops : (stop : Stop) (e : Stage) → LineSaid number l (Some stop) m e → StopsAt number stop all p e
+  stops stop e said = record { front = ls; line = l; rest = r.rest; between = m; lines_are = r.lines_are; done = r.so_far.done; said = said }
 
--- ---- a play that nothing cuts
+  so_far_is : (e : Stage) → e.text ≡ m.text → Appends h j (bytes_of e.text)
+  so_far_is e same = subst (λ (text : List Told). Appends h j (bytes_of text)) (sym same) r.so_far.appends
 
-pub all_refused : (all ls : List (ℕ × Line)) (number code : ℕ) (l : Line) (lines : List (List ℕ)) (p a : Stage) (h j k : Option (List ℕ)) → Reached all ls number l (Some code) lines p a h j
-    → Appends j k (refused_line number code) → (text : List Told) × IsPlay all (Refused number code) p text a × Appends h k (bytes_of text)
-all_refused all ls number code l lines p a h j k r written = (
-  r.so_far.text ++ told a.world (refused_line number code ∷ []),
-  refused_at all ls number code l lines p a h j r,
-  appends_then r.so_far.text a.world (refused_line number code ∷ []) h j k r.so_far.appends (subst (Appends j k) (sym (append-nil (refused_line number code))) written),
-)
+  -- it is done, and its lines of text are written, or cut
+  module _ (k : Option (List ℕ)) (lines : List (List ℕ)) (same : a.text ≡ m.text) (leaves : Leaves (LineEnds l) lines m a) where
+    pub so_far_more : Appends j k (joined lines) → SoFar (ls ++ (number, l) ∷ []) p (telling lines a) h k
+    so_far_more written = record {
+      done = lines_more ls (number, l) p m (telling lines a) r.so_far.done (leaves None (telling lines a) refl);
+      appends = appends_then a.text a.world lines h j k (so_far_is a same) written;
+    }
+
+    pub broken_in_line : (fault : IoFault) → (before : List (List ℕ)) × (cut part : List ℕ) × AreCut lines before cut part × Appends j k (joined before ++ part) → Broken fault all p a h k
+    broken_in_line fault (before, cut, part, are, written) = record {
+      number = number;
+      before = before;
+      cut = cut;
+      part = part;
+      stopped = stops (Cut fault) (telling (before ++ cut ∷ []) a) (inl (leaves (Some (Cut fault)) (telling (before ++ cut ∷ []) a) (before, cut, are.rest, are.lines_are, refl)));
+      in_part = are.in_part;
+      appends = Appends-more h j k (bytes_of a.text) (joined before ++ part) (so_far_is a same) written;
+    }
+
+  -- it is refused, and the text says so, or is cut
+  module _ (k : Option (List ℕ)) (code : ℕ) (refused : IsStopped (LineEnds l) (Refused code) m a) where
+    refused_last : refused.at ≡ a
+    refused_last = refused.is_last (λ e. absurd cc)
+
+    at_last : LineEnds l (Some (Refused code)) m a
+    at_last = subst (λ (e : Stage). LineEnds l (Some (Refused code)) m e) refused_last refused.stopped
+
+    text_last : a.text ≡ m.text
+    text_last = sym (ap (λ (e : Stage). e.text) refused_last) ∙ refused.untold
+
+    pub all_refused : Appends j k (refused_line number code) → (after : Stage) × IsPlay all (end.Refused number code) p after × (after ≡ record a { text = after.text }) × Appends h k (bytes_of after.text)
+    all_refused written = (
+      telling (refused_line number code ∷ []) a,
+      stops (Refused code) (telling (refused_line number code ∷ []) a) (a, at_last, refl),
+      refl,
+      appends_then a.text a.world (refused_line number code ∷ []) h j k (so_far_is a text_last) (subst (Appends j k) (sym (append-nil (refused_line number code))) written),
+    )
+
+    pub broken_in_refusal : (fault : IoFault) → AppendsPart j k (refused_line number code) → Broken fault all p a h k
+    broken_in_refusal fault part = record {
+      number = number;
+      before = [];
+      cut = refused_line number code;
+      part = part.0;
+      stopped = stops (Cut fault) (telling (refused_line number code ∷ []) a) (inr (code, a, at_last, ([], refused_line number code, [], refl, refl)));
+      in_part = part.1;
+      appends = Appends-more h j k (bytes_of a.text) part.0 (so_far_is a text_last) part.2;
+    }
+
+  -- the wire fails in it
+  pub all_broken : IsStopped (LineEnds l) WireFailed m a → (after : Stage) × IsPlay all end.WireFailed p after × (after ≡ record a { text = after.text }) × Appends h j (bytes_of after.text)
+  all_broken broken =
+      let last = broken.is_last (λ e. absurd cc) in
+      (broken.at, (number, stops WireFailed broken.at broken.stopped), last ∙ ap (λ (e : Stage). record a { text = e.text }) (sym last), so_far_is broken.at broken.untold)
+
+  -- memory ends in it
+  pub all_starved : (fault : IoFault) → fault ≡ NoMemory → IsStopped (LineEnds l) (Cut fault) m a → (after : Stage) × IsCut NoMemory all p after × AppendsFront h j (bytes_of after.text)
+  all_starved fault is stopped =
+      let stopped_so = subst (λ (f : IoFault). LineEnds l (Some (Cut f)) m stopped.at) is stopped.stopped in
+      (stopped.at, (number, stops (Cut NoMemory) stopped.at (inl stopped_so)), (bytes_of stopped.at.text, ([], sym (append-nil (bytes_of stopped.at.text))), so_far_is stopped.at stopped.untold))

@@ -1,37 +1,13 @@
--- What the reports on prefixes and elections say of the router of a name.
+-- The text of the reports on prefixes.
 use Rattle.std.proofs.Common.{◌≡◌, ◌∙◌, ℕ, List, [], ◌∷◌, ◌++◌, Option, None, Some, refl, ap, sym, subst, length}
 use Rattle.std.specs.Prelude.{map, codes}
-use Rattle.std.specs.Option.{option_map}
 use Rattle.std.specs.Fmt.{decimal}
 use Rattle.hn_assign.specs.declared.assigned.Assigned.{Assigned}
 use Rattle.hn_base.specs.Name.{name_text}
-use Rattle.hn_base.specs.declared.ids.EpId.{EpId}
-use Rattle.hn_base.specs.declared.ids.NodeId.{NodeId}
-use Rattle.hn_base.specs.declared.letter.Letter.{Letter}
 use Rattle.hn_base.specs.declared.name.Name.{Name}
-use Rattle.hn_deleg.specs.Used.{AreUsable}
-use Rattle.hn_deleg.specs.declared.delegated.Delegated.{Delegated}
 use Rattle.hn_prefix.specs.PrefixText.{prefix_text_of}
-use Rattle.hn_router.specs.declared.router.Router.{Router}
-use Rattle.hn_rules.specs.Seen.{seen_by, IsElectedAt}
-use Rattle.hn_world.specs.Names.{member_named}
-use Rattle.hn_world.specs.declared.parts.Parts.{Parts}
-use Rattle.hn_lab.specs.Line.{Tells, ReportsLines}
-use Rattle.hn_lab.specs.PrefixReports.{used_lines, AreUsedLines, published_text, prefix_line, prefixes_lines, elect_line, IsElectLine}
+use Rattle.hn_lab.specs.PrefixReports.{published_text, prefix_line}
 use Rattle.hn_lab.specs.Reports.{yes_no}
-use Rattle.hn_lab.specs.Stage.{Stage}
-use Rattle.hn_lab.proofs.TextReports.{member_of}
-
--- a report that is the lines of what a line came to
-pub reported_lines : (unless : Option ℕ) (AreReport : List (List ℕ) → Type 0) (p : Stage) (code : Option ℕ) (lines : List (List ℕ)) → code ≡ None → unless ≡ None → AreReport lines → ReportsLines unless AreReport code lines p p
-reported_lines unless AreReport p code lines none is_none are = subst (λ (k : Option ℕ). ReportsLines unless AreReport k lines p p) (sym none) (is_none, are, refl)
-
--- the delegated prefixes that the router of a name uses
-pub tells_used : (name : Name) (w : Parts) (router : Router) (used : List Delegated) (lines : List (List ℕ)) → Some router ≡ option_map (λ m. m.router) (member_named (name_text name) w)
-    → AreUsable (seen_by router) used → lines ≡ used_lines name used → Tells name w (AreUsedLines name) lines
-tells_used name w router used lines found usable lines_are =
-    let m = member_of (member_named (name_text name) w) router found in
-    (m.0, m.1, record { used = used; are_usable = subst (λ (r : Router). AreUsable (seen_by r) used) m.2 usable; lines_are = lines_are })
 
 -- the lines on these assignments, of which the first says how many they are
 abbrev pub assigned_head : Name → List Assigned → List ℕ
@@ -46,20 +22,6 @@ all_assigned name assigned head none one all told none_is one_is all_is told_is 
     ∙ all_is
     ∙ ap (λ (lines : List (List ℕ)). lines ++ map (prefix_line name) assigned) (one_is ∙ ap (λ (lines : List (List ℕ)). lines ++ head ∷ []) none_is)
     ∙ ap (λ (h : List ℕ). h ∷ map (prefix_line name) assigned) head_is
-
--- the prefixes that the router of a name has assigned
-pub tells_prefixes : (name : Name) (w : Parts) (router : Router) (assigned : List Assigned) (lines : List (List ℕ)) → Some router ≡ option_map (λ m. m.router) (member_named (name_text name) w)
-    → assigned ≡ router.held.assigned → lines ≡ assigned_lines name assigned → Tells name w (λ m told. told ≡ prefixes_lines name m) lines
-tells_prefixes name w router assigned lines found assigned_is lines_are =
-    let m = member_of (member_named (name_text name) w) router found in
-    (m.0, m.1, lines_are ∙ ap (assigned_lines name) (assigned_is ∙ ap (λ (r : Router). r.held.assigned) m.2))
-
--- who is elected on an endpoint of the router of a name
-pub tells_elected : (name : Name) (e : EpId) (letter : Letter) (w : Parts) (router : Router) (who : Option NodeId) (line : List ℕ) → Some router ≡ option_map (λ m. m.router) (member_named (name_text name) w)
-    → IsElectedAt router e letter who → line ≡ elect_line name e letter who → Tells name w (IsElectLine name e letter) line
-tells_elected name e letter w router who line found elected line_is =
-    let m = member_of (member_named (name_text name) w) router found in
-    (m.0, m.1, record { who = who; is_elected = subst (λ (r : Router). IsElectedAt r e letter who) m.2 elected; line_is = line_is })
 
 -- the text of a line on an assignment
 abbrev pub assigned_text : Name → ℕ → List ℕ → List ℕ → List ℕ → List ℕ → List ℕ

@@ -6,14 +6,12 @@ use Rattle.std.proofs.Math.Dec.{eqb-suc-zero}
 use Rattle.std.proofs.lemmas.List.Quantifiers.{position-Some}
 use Rattle.std.proofs.lemmas.Option.{same_Some, slice_get-get_or}
 use Rattle.hn_world.specs.declared.copies.MailCopy.{MailCopy}
-use Rattle.hn_world.specs.declared.event.WEvent.{WEvent}
-use Rattle.hn_world.specs.declared.event.WEvent.TheVariants as event
 use Rattle.hn_world.specs.declared.parts.Parts.{Parts}
 use Rattle.hn_world.specs.Receivers.{is_away}
 use Rattle.hn_world.specs.Refusal.{copy_at}
-use Rattle.hn_world.specs.Step.{IsInRange}
 use Rattle.hn_world.specs.Waiting.{first_waiting}
-use Rattle.hn_lab.specs.Events.{CopyEnds, EventEnds, drawn, treatment}
+use Rattle.hn_lab.specs.declared.end.Stop.{Stop}
+use Rattle.hn_lab.specs.Events.{CopyEnds, TreatmentEnds, drawn, is_lost}
 use Rattle.hn_lab.specs.Stage.{Stage}
 use Rattle.hn_lab.proofs.RunEvents.{same_stage}
 
@@ -26,21 +24,18 @@ words_drawn (suc n) words next above drew = rw (eqb-suc-zero n) (same_Some next 
 pub away_of : (w : Parts) (copy place : ℕ) (c : MailCopy) → copy ≡ suc place → slice_get w.copies place ≡ Some c → option_map_or (is_away w) (copy_at w copy) true ≡ is_away w c
 away_of w copy place c same at = rw (same, eqb-suc-zero place, sub-one, at) refl
 
-moved : (b : Bool) (p q : Stage) (next : ℕ → ℕ) → q.world ≡ p.world → q.loss ≡ p.loss → q.words ≡ (if b then p.words else next) → q ≡ (if b then p else record p { words = next })
-moved true p q next world loss words = same_stage p q world loss words
-moved false p q next world loss words = same_stage (record p { words = next }) q world loss words
+moved : (b : Bool) (p q : Stage) (next : ℕ → ℕ) → q.world ≡ p.world → q.loss ≡ p.loss → q.words ≡ (if b then p.words else next) → q.route ≡ p.route → q.text ≡ p.text → q ≡ (if b then p else record p { words = next })
+moved true p q next world loss words route text = same_stage p q world loss words route text
+moved false p q next world loss words route text = same_stage (record p { words = next }) q world loss words route text
 
-module _ (p q : Stage) (copy place : ℕ) (c : MailCopy) (same : copy ≡ suc place) where
-  pub when_away : is_away p.world c ≡ true → q ≡ p → (event.Drop copy ≡ treatment p place c) × (q ≡ drawn p c)
-  when_away away stays = (rw away (ap event.Drop same), rw away stays)
+-- whether a copy is lost, and what is drawn for it
+module _ (p q : Stage) (c : MailCopy) (lost : Bool) where
+  pub when_away : is_away p.world c ≡ true → lost ≡ true → q ≡ p → (lost ≡ is_lost p c) × (q ≡ drawn p c)
+  when_away away so stays = (rw away so, rw away stays)
 
-  module _ (lost : Bool) (near : is_away p.world c ≡ false) (world : q.world ≡ p.world) (loss : q.loss ≡ p.loss)
-      (words : q.words ≡ (if p.loss == 0 then p.words else (λ place. p.words (suc place)))) (is : lost ≡ nat_lt (p.words 0 % 100) p.loss) where
-    pub when_lost : lost ≡ true → (event.Drop copy ≡ treatment p place c) × (q ≡ drawn p c)
-    when_lost so = (rw (near, sym is ∙ so) (ap event.Drop same), rw near (moved (p.loss == 0) p q (λ place. p.words (suc place)) world loss words))
-
-    pub when_kept : lost ≡ false → (event.Deliver copy ≡ treatment p place c) × (q ≡ drawn p c)
-    when_kept so = (rw (near, sym is ∙ so) (ap event.Deliver same), rw near (moved (p.loss == 0) p q (λ place. p.words (suc place)) world loss words))
+  pub when_near : is_away p.world c ≡ false → q.world ≡ p.world → q.loss ≡ p.loss → q.words ≡ (if p.loss == 0 then p.words else (λ place. p.words (suc place))) → q.route ≡ p.route → q.text ≡ p.text
+      → lost ≡ nat_lt (p.words 0 % 100) p.loss → (lost ≡ is_lost p c) × (q ≡ drawn p c)
+  when_near near world loss words route text is = (rw near is, rw near (moved (p.loss == 0) p q (λ place. p.words (suc place)) world loss words route text))
 
 -- the first copy that waits is one
 pub some_copy : (copies : List MailCopy) (place : ℕ) → first_waiting copies ≡ Some place → (c : MailCopy) × (slice_get copies place ≡ Some c)
@@ -54,20 +49,18 @@ pub some_waits : (o : Option ℕ) (copy : ℕ) → option_map suc o ≡ Some cop
 some_waits None copy is none = cc
 some_waits (Some place) copy is none = cc
 
--- its treatment is an event in range
-pub treatment_in_range : (p : Stage) (place : ℕ) (c : MailCopy) → IsInRange (treatment p place c)
-treatment_in_range p place c = by_test (is_away p.world c || nat_lt (p.words 0 % 100) p.loss)
-  where
-    by_test : (b : Bool) → IsInRange (if b then event.Drop (suc place) else event.Deliver (suc place))
-    by_test true = tt
-    by_test false = tt
+-- and none where no number is answered
+pub none_waits : (o : Option ℕ) → option_map suc o ≡ None → o ≡ None
+none_waits None is = refl
+none_waits (Some place) is = absurd cc
 
-pub copy_ends : (p q after : Stage) (done : WEvent) (place : ℕ) (c : MailCopy) (code : Option ℕ) → first_waiting p.world.copies ≡ Some place → slice_get p.world.copies place ≡ Some c
-    → done ≡ treatment p place c → q ≡ drawn p c → EventEnds done code q after → CopyEnds code p after
-copy_ends p q after done place c code first at treated drew ends = record {
+-- what the treatment of the first copy that waits comes to
+pub copy_ends : (p q : Stage) (place : ℕ) (c : MailCopy) (copy : ℕ) (lost : Bool) → first_waiting p.world.copies ≡ Some place → slice_get p.world.copies place ≡ Some c → copy ≡ suc place → (lost ≡ is_lost p c) × (q ≡ drawn p c)
+    → (stop : Option Stop) (at : Stage) → TreatmentEnds lost copy stop q at → CopyEnds stop p at
+copy_ends p q place c copy lost first is_copy same (lost_is, drew) stop at ends = record {
   place = place;
   copy = c;
   first = first;
-  is_copy = at;
-  ends = subst (λ (e : WEvent). EventEnds e code (drawn p c) after) treated (subst (λ (s : Stage). EventEnds done code s after) drew ends);
+  is_copy = is_copy;
+  ends = subst (λ (k : ℕ). TreatmentEnds (is_lost p c) k stop (drawn p c) at) same (subst (λ (b : Bool). TreatmentEnds b copy stop (drawn p c) at) lost_is (subst (λ (s : Stage). TreatmentEnds lost copy stop s at) drew ends));
 }

@@ -1,7 +1,7 @@
 -- What a report says of the routers of its names.
-use Rattle.std.proofs.Common.{◌≡◌, ◌∙◌, ℕ, Bool, List, [], ◌∷◌, ◌++◌, Option, None, Some, Result, Ok, Err, IfOk, refl, ap, sym, subst, length}
-use Rattle.std.specs.Prelude.{◌↔◌, IsTrue, Decides, codes, false}
-use Rattle.std.specs.Option.{option_map, option_map_or, option_or}
+use Rattle.std.proofs.Common.{◌≡◌, ◌∙◌, ℕ, Bool, List, [], ◌∷◌, ◌++◌, Option, None, Some, inl, refl, ap, sym, subst, length}
+use Rattle.std.specs.Prelude.{◌↔◌, IsTrue, Decides, codes}
+use Rattle.std.specs.Option.{option_map, option_or}
 use Rattle.std.specs.Fmt.{decimal}
 use Rattle.hn_base.specs.HexText.{id_text, hex_text}
 use Rattle.hn_base.specs.Name.{name_text}
@@ -13,19 +13,36 @@ use Rattle.hn_router.specs.declared.router.Router.{Router}
 use Rattle.hn_world.specs.Leaves.{Agrees}
 use Rattle.hn_store.specs.declared.table.Table.{Table}
 use Rattle.hn_world.specs.Names.{member_named}
-use Rattle.hn_world.specs.Refusal.{of_router}
 use Rattle.hn_world.specs.declared.member.Member.{Member}
 use Rattle.hn_world.specs.declared.parts.Parts.{Parts}
-use Rattle.hn_lab.specs.Line.{unless_known, unless_runs, unless_both_run, IsOf, Compares, Reports}
+use Rattle.hn_world.specs.Refusal.{unless_known, unless_runs, unless_both_run}
+use Rattle.hn_io.specs.declared.fault.IoFault.TheVariants.{NoMemory}
+use Rattle.hn_lab.specs.declared.end.Stop.{Stop}
+use Rattle.hn_lab.specs.declared.end.Stop.TheVariants.{Refused, Cut}
+use Rattle.hn_lab.specs.Ended.{IsStopped, Leaves}
+use Rattle.hn_lab.specs.Line.{IsOf, Compares}
+use Rattle.hn_lab.specs.Process.{Unless}
+use Rattle.hn_lab.specs.Tells.{ReportsLines, Reports, IsOneLine, TellsSome}
 use Rattle.hn_lab.specs.Reports.{yes_no, show_line, hash_line, compare_line}
 use Rattle.hn_lab.specs.Stage.{Stage}
-use Rattle.hn_lab.specs.declared.treated.Treated.{Treated}
 use Rattle.hn_base.proofs.Decisions.{neither_given, some_there}
+use Rattle.hn_lab.proofs.RunStops.{then_on, starved, stopped_last}
 
--- a report that is the one line of what a line came to
-pub reported : {E : Type 0} (unless : Option ℕ) (IsReport : List ℕ → Type 0) (line : List ℕ) (p : Stage) (r : Result Treated E) → IfOk r (λ t. t.code ≡ None) → IfOk r (λ t. t.lines ≡ line ∷ []) → unless ≡ None → IsReport line → IfOk r (λ t. Reports unless IsReport t.code t.lines p p)
-reported unless IsReport line p (Err e) code lines none is = tt
-reported unless IsReport line p (Ok t) code lines none is = subst (λ (k : Option ℕ). Reports unless IsReport k t.lines p p) (sym code) (none, line, is, lines, refl)
+-- a report, with its lines
+pub reported : (unless : Option ℕ) (AreReport : List (List ℕ) → Type 0) (lines : List (List ℕ)) (p : Stage) → unless ≡ None → AreReport lines → Leaves (ReportsLines unless AreReport) lines p p
+reported unless AreReport lines p none are stop end tells = then_on (Unless unless) (TellsSome AreReport) stop p p end (none, refl) (lines, are, tells)
+
+pub line_reported : (unless : Option ℕ) (IsReport : List ℕ → Type 0) (line : List ℕ) (lines : List (List ℕ)) (p : Stage) → unless ≡ None → IsReport line → lines ≡ line ∷ [] → Leaves (Reports unless IsReport) lines p p
+line_reported unless IsReport line lines p none is are = reported unless (IsOneLine IsReport) lines p none (line, is, are)
+
+-- one that is refused, and one for which memory ended
+pub report_refused : (unless : Option ℕ) (AreReport : List (List ℕ) → Type 0) (why : Stop) (p : Stage) → (code : ℕ) × (why ≡ Refused code) × (unless ≡ Some code) → IsStopped (ReportsLines unless AreReport) why p p
+report_refused unless AreReport why p (code, why_is, is) =
+    subst (λ (w : Stop). IsStopped (ReportsLines unless AreReport) w p p) (sym why_is)
+    (stopped_last (ReportsLines unless AreReport) (Refused code) p p (inl (is, refl)) refl (λ e. absurd cc))
+
+pub report_starved : (unless : Option ℕ) (AreReport : List (List ℕ) → Type 0) (p : Stage) → IsStopped (ReportsLines unless AreReport) (Cut NoMemory) p p
+report_starved unless AreReport p = starved (ReportsLines unless AreReport) p p (inl refl)
 
 -- the router of a name
 pub member_of : (found : Option Member) (router : Router) → Some router ≡ option_map (λ m. m.router) found → (m : Member) × (found ≡ Some m) × (router ≡ m.router)
@@ -39,34 +56,19 @@ shown name id number reach held running =
     ++ codes " reach=" ++ decimal reach ++ codes " held=" ++ decimal held
     ++ codes " running=" ++ running ++ 10 ∷ []
 
-pub shows : (name : Name) (router : Router) (id : NodeId) (number : ℕ) (reach : List NodeId) (table : Table) (held : ℕ) (runs : Bool) (running line : List ℕ) → id ≡ router.id → number ≡ router.number → reach ≡ router.reach → table ≡ router.table → held ≡ length table.entries
-    → running ≡ yes_no runs → line ≡ shown name id number (length reach) held running → (m : Member) → m.router ≡ router → m.running ≡ runs → line ≡ show_line name m
-shows name router id number reach table held runs running line id_is number_is reach_is table_is held_is running_is line_is m router_is runs_is =
-    let is : router ≡ m.router = sym router_is in
+pub shows : (name : Name) (m : Member) (id : NodeId) (number : ℕ) (reach : List NodeId) (table : Table) (held : ℕ) (running line : List ℕ) → id ≡ m.router.id → number ≡ m.router.number → reach ≡ m.router.reach → table ≡ m.router.table → held ≡ length table.entries
+    → running ≡ yes_no m.running → line ≡ shown name id number (length reach) held running → line ≡ show_line name m
+shows name m id number reach table held running line id_is number_is reach_is table_is held_is running_is line_is =
     line_is
-    ∙ ap (λ (x : NodeId). shown name x number (length reach) held running) (id_is ∙ ap (λ (r : Router). r.id) is)
-    ∙ ap (λ x. shown name m.router.id x (length reach) held running) (number_is ∙ ap (λ (r : Router). r.number) is)
-    ∙ ap (λ x. shown name m.router.id m.router.number (length x) held running) (reach_is ∙ ap (λ (r : Router). r.reach) is)
-    ∙ ap (λ x. shown name m.router.id m.router.number (length m.router.reach) x running) (held_is ∙ ap (λ (t : Table). length t.entries) (table_is ∙ ap (λ (r : Router). r.table) is))
-    ∙ ap (λ x. shown name m.router.id m.router.number (length m.router.reach) (length m.router.table.entries) x) (running_is ∙ ap yes_no (sym runs_is))
-
--- there is a report on the router of a name
-pub shows_known : (name : Name) (w : Parts) (router : Router) (runs : Bool) (line : List ℕ) → Some router ≡ option_map (λ m. m.router) (member_named (name_text name) w)
-    → runs ≡ option_map_or (λ m. m.running) (member_named (name_text name) w) false → ((m : Member) → m.router ≡ router → m.running ≡ runs → line ≡ show_line name m)
-    → (unless_known name w ≡ None) × IsOf name w (show_line name) line
-shows_known name w router runs line found runs_is line_is =
-    let m = member_of (member_named (name_text name) w) router found in
-    let runs_so : runs ≡ m.0.running = runs_is ∙ ap (λ (o : Option Member). option_map_or (λ m. m.running) o false) m.1 in
-    (ap (of_router (λ _. None)) m.1, (m.0, m.1, line_is m.0 (sym m.2) (sym runs_so)))
+    ∙ ap (λ (x : NodeId). shown name x number (length reach) held running) id_is
+    ∙ ap (λ x. shown name m.router.id x (length reach) held running) number_is
+    ∙ ap (λ (x : List NodeId). shown name m.router.id m.router.number (length x) held running) reach_is
+    ∙ ap (λ x. shown name m.router.id m.router.number (length m.router.reach) x running) (held_is ∙ ap (λ (t : Table). length t.entries) table_is)
+    ∙ ap (λ x. shown name m.router.id m.router.number (length m.router.reach) (length m.router.table.entries) x) running_is
 
 -- the text of a report on a network state hash
 abbrev pub hashed : Name → List ℕ → List ℕ
 hashed name net = codes "hash " ++ name_text name ++ codes " " ++ hex_text net ++ 10 ∷ []
-
-pub hashes : (name : Name) (w : Parts) (router : Router) (net line : List ℕ) → Some router ≡ option_map (λ m. m.router) (member_named (name_text name) w) → net ≡ router.net → line ≡ hashed name net → IsOf name w (hash_line name) line
-hashes name w router net line found net_is line_is =
-    let m = member_of (member_named (name_text name) w) router found in
-    (m.0, m.1, line_is ∙ ap (hashed name) (net_is ∙ ap (λ (r : Router). r.net) m.2))
 
 pub compares : (left right : Name) (w : Parts) (agreement : Agreement) (same_ids : Bool) (line : List ℕ) → None ≡ unless_both_run left right w
     → ((a b : Member) → member_named (name_text left) w ≡ Some a → member_named (name_text right) w ≡ Some b → Agrees (leaves_of a.router) (leaves_of b.router) agreement)

@@ -1,5 +1,7 @@
 -- What `play` and `lab` come to: a status, a world, and what they wrote.
-use Rattle.std.specs.Prelude.{◌≡◌, ◌⊎◌, ℕ, List, [], Option, None, Some, Result, Ok, Err}
+use Rattle.std.specs.Prelude.{◌≡◌, ◌≢◌, ◌⊎◌, ℕ, List, [], Option, None, Some, Result, Ok, Err}
+use Rattle.std.specs.Io.KnownBytes.{Appends}
+use Rattle.hn_base.specs.Input.{IsWhole}
 use Rattle.hn_io.specs.declared.fault.IoFault.{IoFault}
 use Rattle.hn_io.specs.declared.fault.IoFault.TheVariants.{Failed, NoMemory}
 use Rattle.hn_script.specs.declared.fault.ScriptFault.{ScriptFault}
@@ -7,17 +9,19 @@ use Rattle.hn_script.specs.declared.script.Script.{Script}
 use Rattle.hn_script.specs.Script.{IsScript, IsFirstFault}
 use Rattle.hn_world.specs.declared.parts.Parts.{Parts}
 use Rattle.hn_lab.specs.declared.end.End.{End}
-use Rattle.hn_lab.specs.declared.end.End.TheVariants.{Done, Refused}
-use Rattle.hn_lab.specs.Stage.{Stage}
+use Rattle.hn_lab.specs.declared.end.End.TheVariants.{Done, Refused, WireFailed}
+use Rattle.hn_lab.specs.Laws.{IsTold}
 use Rattle.hn_lab.specs.Output.{IsPart, IsFront, IsCutText}
-use Rattle.hn_lab.specs.Play.{begun, IsPlay, IsCutPlay, IsFrontPlay}
+use Rattle.hn_lab.specs.Play.{begun, IsPlay, IsCut, IsCutPlay}
 use Rattle.hn_lab.specs.Reports.{refused_line}
-use Rattle.hn_lab.specs.Told.{Told, bytes_of}
+use Rattle.hn_lab.specs.Stage.{Stage, Route}
+use Rattle.hn_lab.specs.Told.{bytes_of}
 
--- the status of an end: 0 for done, 2 for refused
+-- the status of an end: 0 for done, 2 for refused, 5 where the wire failed
 abbrev pub status_of : End → ℕ
 status_of Done = 0
 status_of (Refused line code) = 2
+status_of WireFailed = 5
 
 -- the status of a play, which the sink or out of memory may cut
 abbrev pub play_status : Result End IoFault → ℕ
@@ -25,45 +29,50 @@ play_status (Ok end) = status_of end
 play_status (Err Failed) = 4
 play_status (Err NoMemory) = 6
 
--- the lines of a script can be played to their end; one of them is refused
-abbrev pub HasDonePlay : Script → Type 0
-HasDonePlay script = (text : List Told) × (after : Stage) × IsPlay script.lines Done (begun script.version) text after
-
-abbrev pub HasRefusal : Script → Type 0
-HasRefusal script =
-    (number code : ℕ) × (text : List Told) × (after : Stage) × IsPlay script.lines (Refused number code) (begun script.version) text after
-
--- a play that nothing cut: the whole text is written
-pub record IsWholePlay (script : Script) (status : ℕ) (world : Option Parts) (written : List ℕ) : Type 0 where
-  pub end : End
-  pub text : List Told
+-- by mail, or over a wire that tells what waits: the lines of a script can be played to their end; one is refused
+pub record HasDonePlay (route : Route) (script : Script) : Type 0 where
+  pub told : IsTold route
   pub after : Stage
-  pub play : IsPlay script.lines end (begun script.version) text after
+  pub play : IsPlay script.lines Done (begun route script.version) after
+
+pub record HasRefusal (route : Route) (script : Script) : Type 0 where
+  pub told : IsTold route
+  pub line : ℕ
+  pub code : ℕ
+  pub after : Stage
+  pub play : IsPlay script.lines (Refused line code) (begun route script.version) after
+
+-- a play that nothing cut, from one route to another: the whole text is written
+pub record IsWholePlay (first last : Route) (script : Script) (status : ℕ) (world : Option Parts) (written : List ℕ) : Type 0 where
+  pub end : End
+  pub after : Stage
+  pub play : IsPlay script.lines end (begun first script.version) after
   pub status_is : status ≡ status_of end
   pub world_is : world ≡ Some after.world
-  pub written_is : written ≡ bytes_of text
+  pub route_is : last ≡ after.route
+  pub written_is : written ≡ bytes_of after.text
 
 -- a play that a failed sink cut: all lines before some one are written, and a proper part of that
-pub record IsBrokenPlay (script : Script) (status : ℕ) (world : Option Parts) (written : List ℕ) : Type 0 where
-  pub text : List Told
-  pub last : Parts
-  pub play : IsCutPlay script.lines (begun script.version) text last
+pub record IsBrokenPlay (first : Route) (script : Script) (status : ℕ) (world : Option Parts) (written : List ℕ) : Type 0 where
+  pub after : Stage
+  pub play : IsCutPlay script.lines (begun first script.version) after
   pub status_is : status ≡ 4
-  pub world_is : world ≡ Some last
-  pub written_is : IsCutText text written
+  pub world_is : world ≡ Some after.world
+  pub written_is : IsCutText after.text written
 
 -- a play that ran out of memory: a front of the text is written
-pub record IsStarvedPlay (script : Script) (status : ℕ) (world : Option Parts) (written : List ℕ) : Type 0 where
-  pub text : List Told
-  pub play : IsFrontPlay script.lines (begun script.version) text
+pub record IsStarvedPlay (first : Route) (script : Script) (status : ℕ) (world : Option Parts) (written : List ℕ) : Type 0 where
+  pub after : Stage
+  pub play : IsCut NoMemory script.lines (begun first script.version) after
   pub status_is : status ≡ 6
   pub world_is : world ≡ None
-  pub written_is : IsFront written (bytes_of text)
+  pub written_is : IsFront written (bytes_of after.text)
 
 -- what `play` comes to
-abbrev pub Plays : Script → ℕ → Option Parts → List ℕ → Type 0
-Plays script status world written =
-    IsWholePlay script status world written ⊎ (IsBrokenPlay script status world written ⊎ IsStarvedPlay script status world written)
+abbrev pub Plays : Route → Route → Script → ℕ → Option Parts → List ℕ → Type 0
+Plays first last script status world written =
+    IsWholePlay first last script status world written
+    ⊎ (IsBrokenPlay first script status world written ⊎ IsStarvedPlay first script status world written)
 
 -- what is written of a line, by the status: the whole line, a proper part of it, or a front
 abbrev pub IsLineWritten : List ℕ → ℕ → List ℕ → Type 0
@@ -78,16 +87,32 @@ pub record IsNoPlay (bytes : List ℕ) (status : ℕ) (world : Option Parts) (wr
   pub written_is : IsLineWritten (refused_line fault.line fault.code) status written
 
 -- bytes that are a script, and its play
-pub record IsScriptPlay (bytes : List ℕ) (status : ℕ) (world : Option Parts) (written : List ℕ) : Type 0 where
+pub record IsScriptPlay (first last : Route) (bytes : List ℕ) (status : ℕ) (world : Option Parts) (written : List ℕ) : Type 0 where
   pub script : Script
   pub is_script : IsScript script bytes
-  pub plays : Plays script status world written
+  pub plays : Plays first last script status world written
 
 -- out of memory before anything is written
 abbrev pub IsUnread : ℕ → Option Parts → List ℕ → Type 0
 IsUnread status world written = (status ≡ 6) × (world ≡ None) × (written ≡ [])
 
 -- what `lab` makes of the bytes of its source
-abbrev pub IsLabOf : List ℕ → ℕ → Option Parts → List ℕ → Type 0
-IsLabOf bytes status world written =
-    IsNoPlay bytes status world written ⊎ (IsScriptPlay bytes status world written ⊎ IsUnread status world written)
+abbrev pub IsLabOf : Route → Route → List ℕ → ℕ → Option Parts → List ℕ → Type 0
+IsLabOf first last bytes status world written =
+    IsNoPlay bytes status world written
+    ⊎ (IsScriptPlay first last bytes status world written ⊎ IsUnread status world written)
+
+-- what excludes a status
+pub record StatusOfScript (route : Route) (bytes : List ℕ) (status : ℕ) : Type 0 where
+  pub done : (script : Script) → IsScript script bytes → HasDonePlay route script → status ≢ 2
+  pub refused : (script : Script) → IsScript script bytes → HasRefusal route script → status ≢ 0
+  pub no_script : (fault : ScriptFault) → IsFirstFault fault bytes → status ≢ 0
+
+-- what `lab` comes to, by the bytes that its source has left, where it tells them
+pub record IsLabRun (first last : Route) (left : Option (List ℕ)) (status : ℕ) (world : Option Parts) (before after : Option (List ℕ)) : Type 0 where
+  pub bytes : List ℕ
+  pub are_whole : IsWhole left bytes
+  pub written : List ℕ
+  pub comes : IsLabOf first last bytes status world written
+  pub only : StatusOfScript first bytes status
+  pub appends : Appends before after written

@@ -5,9 +5,13 @@ pub mod AdvertReports
 pub mod AuditReports
 pub mod Stage
 pub mod Process
+pub mod Tells
+pub mod Carrying
+pub mod Delivery
 pub mod Events
+pub mod Ended
 pub mod Line
 pub mod Play
 pub mod Output
-pub mod Lab
 pub mod Laws
+pub mod Lab

@@ -1,6 +1,6 @@
--- How each line of a script ends, and which lines of text come up.
-use Rattle.std.specs.Prelude.{◌≡◌, ℕ, ◌+◌, ◌*◌, ◌^◌, true, false, count_by, List, [], ◌∷◌, map, length, Option, None, Some}
-use Rattle.std.specs.Option.{option_map, option_and_then, option_map_or, option_or}
+-- How each line of a script ends.
+use Rattle.std.specs.Prelude.{◌≡◌, ℕ, ◌+◌, ◌*◌, ◌^◌, true, false, count_by, List, [], ◌∷◌, length, Option, None, Some}
+use Rattle.std.specs.Option.{option_map, option_and_then, option_or}
 use Rattle.std.specs.List.{slice_get}
 use Rattle.rand_core.specs.Pcg32Seed.{pcg32_seed}
 use Rattle.rand_pcg.specs.Pcg.{pcg32_of_seed}
@@ -19,42 +19,30 @@ use Rattle.hn_world.specs.declared.event.WEvent.TheVariants as event
 use Rattle.hn_world.specs.declared.member.Member.{Member}
 use Rattle.hn_world.specs.declared.parts.Parts.{Parts}
 use Rattle.hn_world.specs.Names.{member_named}
-use Rattle.hn_world.specs.Refusal.{refusal, of_router, unless_running, unless_attached, copy_at}
+use Rattle.hn_world.specs.Refusal.{of_router, unless_running, unless_attached, unless_known, unless_runs, unless_both_run, copy_at}
 use Rattle.hn_lab.specs.Stage.{Stage}
-use Rattle.hn_lab.specs.Process.{Process}
+use Rattle.hn_lab.specs.Process.{Process, Then}
 use Rattle.hn_lab.specs.AdvertReports.{IsAdvertLine}
 use Rattle.hn_lab.specs.AuditReports.{IsAuditLine}
-use Rattle.hn_lab.specs.Events.{Happens, EventEnds, Flow, Runs}
+use Rattle.hn_lab.specs.Delivery.{EventNotes, EventEnds, DeliveryEnds}
+use Rattle.hn_lab.specs.Events.{Flow, Runs}
 use Rattle.hn_lab.specs.PrefixReports.{AreUsedLines, prefixes_lines, IsElectLine}
-use Rattle.hn_lab.specs.Reports.{show_line, hash_line, IsCompareLine, mail_line, note_line}
-
--- a line ends, and these lines of text come up at its end
-abbrev pub LineProcess : Type 1
-LineProcess = Option ℕ → List (List ℕ) → Stage → Stage → Type 0
-
--- nothing comes up
-abbrev pub Silent : Process → LineProcess
-Silent process code lines before after = process code before after × (lines ≡ [])
+use Rattle.hn_lab.specs.Reports.{show_line, hash_line, IsCompareLine, mail_line}
+use Rattle.hn_lab.specs.Tells.{TellsLines, ReportsLines, Reports, note_lines}
 
 -- an event, and a line for each of its notes
-abbrev pub Noted : WEvent → Option Name → LineProcess
-Noted event name None lines before after =
-    (notes : List Note) × Happens event notes before after × (lines ≡ option_map_or (λ n. map (note_line n) notes) name [])
-Noted event name (Some code) lines before after = (refusal before.world event ≡ Some code) × (after ≡ before) × (lines ≡ [])
+abbrev pub Noted : WEvent → Option Name → Process
+Noted event name stop before after =
+    (notes : List Note) × Then (EventNotes event notes) (TellsLines (note_lines name notes)) stop before after
 
--- one line of a report, unless it is refused
-abbrev pub Reports : Option ℕ → (List ℕ → Type 0) → LineProcess
-Reports unless IsReport None lines before after = (unless ≡ None) × (line : List ℕ) × IsReport line × (lines ≡ line ∷ []) × (after ≡ before)
-Reports unless IsReport (Some code) lines before after = (unless ≡ Some code) × (lines ≡ []) × (after ≡ before)
-
--- the lines of a report, unless it is refused
-abbrev pub ReportsLines : Option ℕ → (List (List ℕ) → Type 0) → LineProcess
-ReportsLines unless AreReport None lines before after = (unless ≡ None) × AreReport lines × (after ≡ before)
-ReportsLines unless AreReport (Some code) lines before after = (unless ≡ Some code) × (lines ≡ []) × (after ≡ before)
+-- a delivery, and a line for each of its notes
+abbrev pub Delivered : ℕ → Option Name → Process
+Delivered copy name stop before after =
+    (notes : List Note) × Then (DeliveryEnds copy notes) (TellsLines (note_lines name notes)) stop before after
 
 -- something else than the world is set
-abbrev pub Sets : (Stage → Stage) → LineProcess
-Sets change code lines before after = (code ≡ None) × (lines ≡ []) × (after ≡ change before)
+abbrev pub Sets : (Stage → Stage) → Process
+Sets change stop before after = (stop ≡ None) × (after ≡ change before)
 
 -- a seed begins the words anew
 abbrev pub seeded : ℕ → Stage → Stage
@@ -73,21 +61,9 @@ abbrev pub injection : Name → EpId → How → List ℕ → WEvent
 injection name endpoint Uni bytes = event.Inject name endpoint (source_of Uni) false bytes
 injection name endpoint how bytes = event.Inject name endpoint (source_of how) true bytes
 
--- 7: there is no router of that name; 12: it is stopped
-abbrev pub unless_known : Name → Parts → Option ℕ
-unless_known name w = of_router (λ _. None) (member_named (name_text name) w)
-
-abbrev pub unless_runs : Name → Parts → Option ℕ
-unless_runs name w = of_router unless_running (member_named (name_text name) w)
-
 -- 11, beside these: its endpoint is not attached
 abbrev pub unless_elects : Name → EpId → Parts → Option ℕ
 unless_elects name e w = of_router (λ m. option_or (unless_running m) (unless_attached e m)) (member_named (name_text name) w)
-
--- of two routers: both names are looked at first
-abbrev pub unless_both_run : Name → Name → Parts → Option ℕ
-unless_both_run left right w =
-    option_or (unless_known left w) (option_or (unless_known right w) (option_or (unless_runs left w) (unless_runs right w)))
 
 -- what a report tells of the router of a name
 abbrev pub Tells : {A : Type 0} → Name → Parts → (Member → A → Type 0) → A → Type 0
@@ -104,42 +80,50 @@ pub record Compares (left right : Name) (w : Parts) (line : List ℕ) : Type 0 w
   pub is_right : member_named (name_text right) w ≡ Some b
   pub is_line : IsCompareLine left right a b line
 
--- no end
-abbrev pub Never : Process
-Never code before after = ⊥
-
 -- the report on the mail
 abbrev pub mail_report : Parts → List ℕ
 mail_report w = mail_line (length w.copies) (count_by (λ c. c.waiting) w.copies)
 
--- how a line ends; one that no version has yet ends in no way
-abbrev pub LineEnds : Line → LineProcess
-LineEnds (line.Router name id) code lines before after = Silent (EventEnds (event.Router name id)) code lines before after
-LineEnds (line.Link name) code lines before after = Silent (EventEnds (event.Link name)) code lines before after
-LineEnds (line.Attach name endpoint link) code lines before after = Silent (EventEnds (event.Attach name endpoint link)) code lines before after
-LineEnds (line.Detach name endpoint) code lines before after = Silent (EventEnds (event.Detach name endpoint)) code lines before after
-LineEnds (line.External name prefix valid preferred) code lines before after = Silent (EventEnds (event.External name prefix valid preferred)) code lines before after
-LineEnds (line.Withdraw name prefix) code lines before after = Silent (EventEnds (event.Withdraw name prefix)) code lines before after
-LineEnds (line.Caps name caps) code lines before after = Silent (EventEnds (event.Caps name caps)) code lines before after
-LineEnds (line.Stop name) code lines before after = Silent (EventEnds (event.Stop name)) code lines before after
-LineEnds (line.Start name) code lines before after = Silent (EventEnds (event.Start name)) code lines before after
-LineEnds (line.Seed seed) code lines before after = Sets (seeded seed) code lines before after
-LineEnds (line.Loss percent) code lines before after = Sets (λ p. record p { loss = percent }) code lines before after
-LineEnds (line.Time moment) code lines before after = Silent (EventEnds (event.Time moment)) code lines before after
-LineEnds (line.Tick name) code lines before after = Silent (EventEnds (event.Tick name)) code lines before after
-LineEnds (line.Run end step) code lines before after = Silent (Runs end step) code lines before after
-LineEnds (line.Deliver copy) code lines before after = Noted (event.Deliver copy) (receiver before.world copy) code lines before after
-LineEnds (line.Drop copy) code lines before after = Silent (EventEnds (event.Drop copy)) code lines before after
-LineEnds line.Flow code lines before after = Silent Flow code lines before after
-LineEnds (line.Inject name endpoint how bytes) code lines before after = Noted (injection name endpoint how bytes) (Some name) code lines before after
-LineEnds (line.Show name) code lines before after = Reports (unless_known name before.world) (IsOf name before.world (show_line name)) code lines before after
-LineEnds (line.Hash name) code lines before after = Reports (unless_runs name before.world) (IsOf name before.world (hash_line name)) code lines before after
-LineEnds (line.Used name) code lines before after = ReportsLines (unless_runs name before.world) (Tells name before.world (AreUsedLines name)) code lines before after
-LineEnds (line.Prefixes name) code lines before after = ReportsLines (unless_runs name before.world) (Tells name before.world (λ m told. told ≡ prefixes_lines name m)) code lines before after
-LineEnds (line.Elect name e letter) code lines before after = Reports (unless_elects name e before.world) (Tells name before.world (IsElectLine name e letter)) code lines before after
-LineEnds (line.Advert name e) code lines before after = Reports (unless_elects name e before.world) (Tells name before.world (IsAdvertLine name e)) code lines before after
-LineEnds (line.Audit name) code lines before after = Reports (unless_runs name before.world) (Tells name before.world (IsAuditLine name before.world)) code lines before after
-LineEnds (line.Compare left right) code lines before after = Reports (unless_both_run left right before.world) (Compares left right before.world) code lines before after
-LineEnds line.Mail code lines before after = Reports None (λ line. line ≡ mail_report before.world) code lines before after
-LineEnds (line.Private name bits) code lines before after = Silent (EventEnds (event.Private name bits)) code lines before after
-LineEnds _ code lines before after = Silent Never code lines before after
+-- the event that a line is, if it is one that writes nothing
+abbrev pub event_of : Line → Option WEvent
+event_of (line.Router name id) = Some (event.Router name id)
+event_of (line.Link name) = Some (event.Link name)
+event_of (line.Attach name endpoint link) = Some (event.Attach name endpoint link)
+event_of (line.Detach name endpoint) = Some (event.Detach name endpoint)
+event_of (line.External name prefix valid preferred) = Some (event.External name prefix valid preferred)
+event_of (line.Withdraw name prefix) = Some (event.Withdraw name prefix)
+event_of (line.Caps name caps) = Some (event.Caps name caps)
+event_of (line.Private name bits) = Some (event.Private name bits)
+event_of (line.Stop name) = Some (event.Stop name)
+event_of (line.Start name) = Some (event.Start name)
+event_of (line.Time moment) = Some (event.Time moment)
+event_of (line.Tick name) = Some (event.Tick name)
+event_of (line.Drop copy) = Some (event.Drop copy)
+event_of _ = None
+
+-- how each other line ends; one that no version has yet ends in no way
+abbrev pub OtherEnds : Line → Process
+OtherEnds (line.Seed seed) stop before after = Sets (seeded seed) stop before after
+OtherEnds (line.Loss percent) stop before after = Sets (λ p. record p { loss = percent }) stop before after
+OtherEnds (line.Run end step) stop before after = Runs end step stop before after
+OtherEnds (line.Deliver copy) stop before after = Delivered copy (receiver before.world copy) stop before after
+OtherEnds line.Flow stop before after = Flow stop before after
+OtherEnds (line.Inject name endpoint how bytes) stop before after = Noted (injection name endpoint how bytes) (Some name) stop before after
+OtherEnds (line.Show name) stop before after = Reports (unless_known name before.world) (IsOf name before.world (show_line name)) stop before after
+OtherEnds (line.Hash name) stop before after = Reports (unless_runs name before.world) (IsOf name before.world (hash_line name)) stop before after
+OtherEnds (line.Used name) stop before after = ReportsLines (unless_runs name before.world) (Tells name before.world (AreUsedLines name)) stop before after
+OtherEnds (line.Prefixes name) stop before after = ReportsLines (unless_runs name before.world) (Tells name before.world (λ m lines. lines ≡ prefixes_lines name m)) stop before after
+OtherEnds (line.Elect name e letter) stop before after = Reports (unless_elects name e before.world) (Tells name before.world (IsElectLine name e letter)) stop before after
+OtherEnds (line.Advert name e) stop before after = Reports (unless_elects name e before.world) (Tells name before.world (IsAdvertLine name e)) stop before after
+OtherEnds (line.Audit name) stop before after = Reports (unless_runs name before.world) (Tells name before.world (IsAuditLine name before.world)) stop before after
+OtherEnds (line.Compare left right) stop before after = Reports (unless_both_run left right before.world) (Compares left right before.world) stop before after
+OtherEnds line.Mail stop before after = Reports None (λ line. line ≡ mail_report before.world) stop before after
+OtherEnds _ stop before after = ⊥
+
+abbrev pub EndsBy : Line → Option WEvent → Process
+EndsBy line (Some event) stop before after = EventEnds event stop before after
+EndsBy line None stop before after = OtherEnds line stop before after
+
+-- how a line ends
+abbrev pub LineEnds : Line → Process
+LineEnds line stop before after = EndsBy line (event_of line) stop before after

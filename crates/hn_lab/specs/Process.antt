@@ -1,16 +1,32 @@
--- What goes on in a play, and how it ends: done, or refused with a code.
+-- What goes on in a play, and how it ends: done, or stopped.
 use Rattle.std.specs.Prelude.{◌≡◌, ◌⊎◌, ℕ, zero, suc, Option, None, Some}
+use Rattle.hn_lab.specs.declared.end.Stop.{Stop}
+use Rattle.hn_lab.specs.declared.end.Stop.TheVariants.{Refused, WireFailed, Cut}
 use Rattle.hn_lab.specs.Stage.{Stage}
 
 -- a process with this end leads from one state of a play to another
 abbrev pub Process : Type 1
-Process = Option ℕ → Stage → Stage → Type 0
+Process = Option Stop → Stage → Stage → Type 0
 
--- one, and then another unless the first is refused
+-- nothing goes on; as at each place of a play, all may be cut there
+abbrev pub Nothing : Process
+Nothing None before after = after ≡ before
+Nothing (Some (Refused code)) before after = ⊥
+Nothing (Some WireFailed) before after = ⊥
+Nothing (Some (Cut fault)) before after = after ≡ before
+
+-- a code refuses what follows, if there is one
+abbrev pub Unless : Option ℕ → Process
+Unless unless None before after = (unless ≡ None) × (after ≡ before)
+Unless unless (Some (Refused code)) before after = (unless ≡ Some code) × (after ≡ before)
+Unless unless (Some WireFailed) before after = ⊥
+Unless unless (Some (Cut fault)) before after = after ≡ before
+
+-- one, and then another unless the first is stopped
 abbrev pub Then : Process → Process → Process
 Then first second None before after = (between : Stage) × first None before between × second None between after
-Then first second (Some code) before after =
-    first (Some code) before after ⊎ ((between : Stage) × first None before between × second (Some code) between after)
+Then first second (Some stop) before after =
+    first (Some stop) before after ⊎ ((between : Stage) × first None before between × second (Some stop) between after)
 
 -- so many times, each time where there is more to do
 abbrev pub Times : (Stage → Type 0) → Process → ℕ → Stage → Stage → Type 0
@@ -18,8 +34,8 @@ Times HasMore round zero before after = after ≡ before
 Times HasMore round (suc n) before after =
     (between : Stage) × Times HasMore round n before between × HasMore between × round None between after
 
--- again and again, until there is no more to do, or a round is refused
+-- again and again, until there is no more to do, or a round is stopped
 abbrev pub Until : (Stage → Type 0) → Process → Process
 Until HasMore round None before after = (n : ℕ) × Times HasMore round n before after × ¬ HasMore after
-Until HasMore round (Some code) before after =
-    (n : ℕ) × (between : Stage) × Times HasMore round n before between × HasMore between × round (Some code) between after
+Until HasMore round (Some stop) before after =
+    (n : ℕ) × (between : Stage) × Times HasMore round n before between × HasMore between × round (Some stop) between after

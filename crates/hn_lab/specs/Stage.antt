@@ -1,20 +1,47 @@
 -- Where a play has come to.
-use Rattle.std.specs.Prelude.{ℕ}
+use Rattle.std.specs.Prelude.{ℕ, List, ◌++◌, Option, None, Some}
 use Rattle.std.specs.Option.{option_map_or}
 use Rattle.hn_io.specs.Pcg.{pcg_word}
+use Rattle.hn_wire.specs.declared.datagram.Datagram.{Datagram}
 use Rattle.hn_world.specs.declared.parts.Parts.{Parts}
 use Rattle.hn_lab.specs.declared.stream.Stream.{Stream}
 use Rattle.hn_lab.specs.declared.playing.Playing.{Playing}
+use Rattle.hn_lab.specs.Told.{Told, told}
 
--- its world, of a hundred copies how many `flow` loses, and the random words that are to come, from place 0
+-- How copies go: by mail in memory; or over a wire, from a base to the port after it, with the datagrams that wait on
+-- the wire, where it tells them.
+pub data Route : Type 0 where
+  Mail : Route
+  Ports : (base : ℕ) (waiting : Option (List Datagram)) → Route
+
+-- its world, of a hundred copies how many `flow` loses, the random words that are to come, from place 0, how copies go,
+-- and the text so far
 pub record Stage : Type 0 where
   pub world : Parts
   pub loss : ℕ
   pub words : ℕ → ℕ
+  pub route : Route
+  pub text : List Told
+
+-- lines come up, one after another
+abbrev pub telling : List (List ℕ) → Stage → Stage
+telling lines p = record p { text = p.text ++ told p.world lines }
 
 -- the words to come: zeros, or those of a generator
 abbrev pub words_of : Stream → ℕ → ℕ
 words_of s = option_map_or pcg_word s.seeded (λ _. 0)
 
-abbrev pub stage_of : Playing → Stage
-stage_of p = record { world = p.world; loss = p.loss; words = words_of p.words }
+-- the route from a base, if there is one, over a wire on which these datagrams wait
+abbrev pub route_of : Option ℕ → Option (List Datagram) → Route
+route_of None waiting = Mail
+route_of (Some base) waiting = Ports base waiting
+
+-- a play over such a wire, with this text so far
+abbrev pub stage_of : Playing → Option (List Datagram) → List Told → Stage
+stage_of p waiting text = record {
+  world = p.world;
+  loss = p.loss;
+  words = words_of p.words;
+  route = route_of p.base waiting;
+  text = text;
+}

@@ -1,13 +1,19 @@
 //! The report on a Router Advertisement.
 
-ghost use Rattle.std.specs.Prelude.{◌≡◌, IfOk, string_bytes};
+ghost use Rattle.std.specs.Prelude.{◌≡◌, List, Option, IfOk, string_bytes, ◌≢◌, Err};
 ghost use Rattle.hn_lab.specs.AdvertReports.{advert_line, IsAdvertLine};
-ghost use Rattle.hn_lab.specs.Line.{unless_elects, Tells, Reports};
+ghost use Rattle.hn_lab.specs.declared.end.Stop.{Stop};
+ghost use Rattle.hn_lab.specs.Ended.{EndsLeaving};
+ghost use Rattle.hn_lab.specs.Line.{unless_elects, Tells};
 ghost use Rattle.hn_lab.specs.Stage.{stage_of};
+ghost use Rattle.hn_lab.specs.Tells.{Reports};
+ghost use Rattle.hn_lab.specs.Told.{Told};
+ghost use Rattle.hn_wire.specs.declared.datagram.Datagram.{Datagram};
 
+use crate::end::Stop;
 use crate::playing::Playing;
-use crate::treated::Treated;
-use hn_base::{EpId, Hex, Name, NoMemory};
+use crate::text::Lines;
+use hn_base::{EpId, Hex, Name};
 use std::alloc::{AllocError, Global};
 
 /// The line on a Router Advertisement of these bytes.
@@ -26,22 +32,13 @@ fn advert_line(
 
 impl Playing {
     /// The report on what a router advertises on an endpoint.
-    pub(crate) fn advert(
-        &self,
-        alloc: Global,
-        name: &Name,
-        endpoint: EpId,
-    ) -> Result<Treated, NoMemory>
-        ensures { IfOk result (λ t. Reports (unless_elects name.now endpoint self.now.world) (Tells name.now self.now.world (IsAdvertLine name.now endpoint)) t.code t.lines (stage_of self.now) (stage_of self.now)) }
+    pub(crate) fn advert(&self, alloc: Global, name: &Name, endpoint: EpId) -> Result<Lines, Stop>
+        ensures ends { (waiting : Option (List Datagram)) (text : List Told) → EndsLeaving (Reports (unless_elects name.now endpoint self.now.world) (Tells name.now self.now.world (IsAdvertLine name.now endpoint))) result (stage_of self.now waiting text) (stage_of self.now waiting text) }
+        ensures unbroken { result ≢ Err Stop.WireFailed }
     {
-        if let Some(code) = self.unless_elects(name, endpoint) {
-            return Ok(Treated::refused(alloc, code));
-        }
-        let Some(router) = self.world.router(name) else {
-            unreachable!()
-        };
-        let bytes = router.advert(alloc, endpoint)?;
+        let member = self.of_attached(name, endpoint)?;
+        let bytes = member.router.advert(alloc, endpoint)?;
         let line = advert_line(alloc, name, endpoint, bytes.as_slice())?;
-        Treated::reported(alloc, line)
+        Ok(Lines::of(alloc, line)?)
     }
 }

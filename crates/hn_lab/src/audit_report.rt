@@ -1,16 +1,23 @@
 //! The report on whether a router is settled and quiet.
 
-ghost use Rattle.std.specs.Prelude.{◌≡◌, IfOk, IsTrue, Some};
+ghost use Rattle.std.specs.Prelude.{◌≡◌, List, Option, IfOk, IsTrue, Some, ◌≢◌, Err};
 ghost use Rattle.hn_base.specs.Name.{name_text};
 ghost use Rattle.hn_world.specs.declared.member.Member.{Member};
 ghost use Rattle.hn_world.specs.Names.{member_named};
 ghost use Rattle.hn_audit.specs.Reached.{runs};
 ghost use Rattle.hn_lab.specs.AuditReports.{IsAudited, IsAuditLine};
-ghost use Rattle.hn_lab.specs.Line.{unless_runs, Tells, Reports};
+ghost use Rattle.hn_lab.specs.declared.end.Stop.{Stop};
+ghost use Rattle.hn_lab.specs.Ended.{EndsLeaving};
+ghost use Rattle.hn_lab.specs.Line.{Tells};
 ghost use Rattle.hn_lab.specs.Stage.{stage_of};
+ghost use Rattle.hn_lab.specs.Tells.{Reports};
+ghost use Rattle.hn_lab.specs.Told.{Told};
+ghost use Rattle.hn_wire.specs.declared.datagram.Datagram.{Datagram};
+ghost use Rattle.hn_world.specs.Refusal.{unless_runs};
 
+use crate::end::Stop;
 use crate::playing::Playing;
-use crate::treated::Treated;
+use crate::text::Lines;
 use hn_audit::Audit;
 use hn_base::{Name, NoMemory};
 use std::alloc::Global;
@@ -32,14 +39,13 @@ impl Playing {
     }
 
     /// The report on whether a router is settled and quiet.
-    pub(crate) fn audit(&self, alloc: Global, name: &Name) -> Result<Treated, NoMemory>
-        ensures { IfOk result (λ t. Reports (unless_runs name.now self.now.world) (Tells name.now self.now.world (IsAuditLine name.now self.now.world)) t.code t.lines (stage_of self.now) (stage_of self.now)) }
+    pub(crate) fn audit(&self, alloc: Global, name: &Name) -> Result<Lines, Stop>
+        ensures ends { (waiting : Option (List Datagram)) (text : List Told) → EndsLeaving (Reports (unless_runs name.now self.now.world) (Tells name.now self.now.world (IsAuditLine name.now self.now.world))) result (stage_of self.now waiting text) (stage_of self.now waiting text) }
+        ensures unbroken { result ≢ Err Stop.WireFailed }
     {
-        if let Some(code) = self.unless_runs(name) {
-            return Ok(Treated::refused(alloc, code));
-        }
+        let _member = self.of_running(name)?;
         let told = self.audited(alloc, name)?;
         let line = format!(in alloc; "audit {name} {told}\n")?;
-        Treated::reported(alloc, line)
+        Ok(Lines::of(alloc, line)?)
     }
 }

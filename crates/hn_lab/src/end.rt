@@ -1,3 +1,8 @@
+use hn_base::NoMemory;
+use hn_io::IoFault;
+use hn_world::WorldFault;
+use std::alloc::AllocError;
+
 /// How the play of a script ends.
 #[derive(Clone, Copy)]
 pub enum End {
@@ -5,4 +10,55 @@ pub enum End {
     Done,
     /// The line of this number is refused with this code; lines are numbered from 1.
     Refused { line: u32, code: u8 },
+    /// The wire failed, right before a delivery that is not refused.
+    WireFailed,
+}
+
+/// Why a line goes no further.
+#[derive(Clone, Copy)]
+pub enum Stop {
+    /// It is refused with this code.
+    Refused(u8),
+    /// The wire failed.
+    WireFailed,
+    /// Nothing goes on: the sink failed, or memory ended.
+    Cut(IoFault),
+}
+
+impl From<NoMemory> for Stop {
+    ghost use Rattle.std.specs.Prelude.{◌≡◌};
+    ghost use Rattle.hn_io.specs.declared.fault.IoFault.TheVariants as fault;
+    ghost use Rattle.hn_lab.specs.declared.end.Stop.TheVariants as stop;
+
+    ghost from_gives = { λ _ e. e ≡ stop.Cut fault.NoMemory };
+
+    fn from(_error: NoMemory) -> Stop {
+        Stop::Cut(IoFault::NoMemory)
+    }
+}
+
+impl From<AllocError> for Stop {
+    ghost use Rattle.std.specs.Prelude.{◌≡◌};
+    ghost use Rattle.hn_io.specs.declared.fault.IoFault.TheVariants as fault;
+    ghost use Rattle.hn_lab.specs.declared.end.Stop.TheVariants as stop;
+
+    ghost from_gives = { λ _ e. e ≡ stop.Cut fault.NoMemory };
+
+    fn from(_error: AllocError) -> Stop {
+        Stop::Cut(IoFault::NoMemory)
+    }
+}
+
+impl From<WorldFault> for Stop {
+    ghost use Rattle.std.specs.Prelude.{◌≡◌};
+    ghost use Rattle.hn_lab.specs.Ended.{stop_of};
+
+    ghost from_gives = { λ fault e. e ≡ stop_of fault };
+
+    fn from(fault: WorldFault) -> Stop {
+        match fault {
+            WorldFault::Refused(code) => Stop::Refused(code),
+            WorldFault::NoMemory => Stop::Cut(IoFault::NoMemory),
+        }
+    }
 }

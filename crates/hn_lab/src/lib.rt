@@ -3,6 +3,8 @@
 
 mod advert_report;
 mod audit_report;
+mod carrying;
+mod delivery;
 mod end;
 mod flow;
 mod input;
@@ -10,6 +12,7 @@ mod law;
 mod line;
 mod lines;
 mod notes;
+mod of_line;
 mod output;
 mod playing;
 mod prefix_reports;
@@ -17,10 +20,15 @@ mod reports;
 mod rounds;
 mod scripts;
 mod stream;
-mod treated;
+mod text;
 
 pub use end::End;
 pub use input::read_all;
-pub use law::{at_most_one_cut_play, at_most_one_play, cut_text_is_a_front, pieces_append};
+pub use law::{
+    at_most_one_cut_play, at_most_one_play, broken_text_is_a_front, cut_text_is_a_front,
+    mail_delivers, pieces_append,
+};
 pub use output::{write_piece, write_refusal};
-pub use scripts::{DONE, NO_MEMORY, Played, REFUSED, SINK_FAILED, SOURCE_FAILED, lab, play};
+pub use scripts::{
+    DONE, NO_MEMORY, Played, REFUSED, SINK_FAILED, SOURCE_FAILED, WIRE_FAILED, lab, play,
+};

@@ -1,137 +1,98 @@
-ghost use Rattle.std.specs.Prelude.{◌≡◌, ◌<◌, ◌≤◌, ◌^◌, IfOk};
+ghost use Rattle.std.specs.Prelude.{◌≡◌, ◌≢◌, ◌≤◌, ◌^◌, List, Option, None, Err};
 ghost use Rattle.hn_base.specs.declared.version.Version.{Version};
+ghost use Rattle.hn_io.specs.Faults.{Counts, IsReliable};
 ghost use Rattle.hn_script.specs.Laws.{IsLimited};
 ghost use Rattle.hn_script.specs.Line.{IsOfVersion};
 ghost use Rattle.hn_script.specs.declared.line.Line.TheVariants as line;
-ghost use Rattle.hn_world.specs.Step.{IsInRange as IsEventInRange};
-ghost use Rattle.hn_lab.specs.Events.{EventEnds};
+ghost use Rattle.hn_wire.specs.declared.datagram.Datagram.{Datagram};
+ghost use Rattle.hn_lab.specs.declared.end.Stop.{Stop};
+ghost use Rattle.hn_lab.specs.Ended.{EndsLeaving, Leaves};
+ghost use Rattle.hn_lab.specs.Line.{LineEnds, OtherEnds, event_of};
 ghost use Rattle.hn_lab.specs.Stage.{stage_of};
-ghost use Rattle.hn_lab.specs.Line.{LineEnds, Silent, injection, source_of};
+ghost use Rattle.hn_lab.specs.Told.{Told};
+ghost use Rattle.hn_world.specs.Step.{IsInRange as IsEventInRange};
+ghost use Rattle.hn_lab.specs.Delivery.{EventEnds};
 
+use crate::end::Stop;
+use crate::of_line::{event_of, injection};
 use crate::playing::Playing;
 use crate::stream::Stream;
-use crate::treated::Treated;
-use hn_base::{Addr, Bytes, EpId, Moment, Name, NoMemory};
-use hn_prefix::Prefix;
+use crate::text::{Lines, note_lines};
+use hn_base::{Bytes, EpId, Moment, Name};
 use hn_script::{How, Line};
-use hn_world::{HNCP_PORT, WEvent};
+use hn_wire::Wire;
+use hn_world::WEvent;
 use std::alloc::Global;
-
-/// The source of an injected datagram.
-fn source_of(how: How) -> Addr
-    ensures { result ≡ source_of how }
-{
-    let ip = match how {
-        How::Uni | How::Multi => 0xfe80 << 112,
-        How::Far => (0x2001_0db8 << 96) + 1,
-    };
-    Addr {
-        ip,
-        port: HNCP_PORT,
-    }
-}
-
-/// A datagram that is injected.
-fn injection(name: Name, endpoint: EpId, how: How, bytes: Bytes) -> WEvent
-    ensures { result ≡ injection name endpoint how bytes }
-{
-    let multicast = match how {
-        How::Uni => false,
-        How::Multi | How::Far => true,
-    };
-    WEvent::Inject {
-        name,
-        endpoint,
-        from: source_of(how),
-        multicast,
-        bytes,
-    }
-}
 
 impl Playing {
     /// An event that writes nothing.
-    fn silent(&mut self, alloc: Global, event: WEvent) -> Result<Treated, NoMemory>
+    fn silent(&mut self, alloc: Global, event: WEvent) -> Result<Lines, Stop>
         requires { IsEventInRange event }
-        ensures { IfOk result (λ t. Silent (EventEnds event) t.code t.lines (stage_of self.old) (stage_of self.new)) }
+        ensures ends { (waiting : Option (List Datagram)) (text : List Told) → EndsLeaving (EventEnds event) result (stage_of self.old waiting text) (stage_of self.new waiting text) }
+        ensures unbroken { result ≢ Err Stop.WireFailed }
+        ensures base { self.new.base ≡ self.old.base }
     {
-        let code = self.event(alloc, event)?;
-        Ok(Treated::silent(alloc, code))
+        self.event(alloc, event)?;
+        Ok(Lines::new(alloc))
     }
 
-    fn attach(
-        &mut self,
-        alloc: Global,
-        name: Name,
-        endpoint: EpId,
-        link: Name,
-    ) -> Result<Treated, NoMemory>
-        requires { 0 < endpoint.0 }
-        ensures { IfOk result (λ t. LineEnds (line.Attach name endpoint link) t.code t.lines (stage_of self.old) (stage_of self.new)) }
-    {
-        let event = WEvent::Attach {
-            name,
-            endpoint,
-            link,
-        };
-        self.silent(alloc, event)
-    }
-
-    /// The router gets a delegated prefix, with its valid and its preferred lifetime in seconds.
-    fn delegate(
-        &mut self,
-        alloc: Global,
-        name: Name,
-        prefix: Prefix,
-        lifetimes: (u32, u32),
-    ) -> Result<Treated, NoMemory>
-        ensures { IfOk result (λ t. LineEnds (line.External name prefix lifetimes.0 lifetimes.1) t.code t.lines (stage_of self.old) (stage_of self.new)) }
-    {
-        let (valid, preferred) = lifetimes;
-        let event = WEvent::External {
-            name,
-            prefix,
-            valid,
-            preferred,
-        };
-        self.silent(alloc, event)
-    }
-
-    fn seed(&mut self, alloc: Global, seed: u64) -> Treated
-        ensures { LineEnds (line.Seed seed) result.code result.lines (stage_of self.old) (stage_of self.new) }
+    fn seed(&mut self, alloc: Global, seed: u64) -> Lines
+        ensures ends { (waiting : Option (List Datagram)) (text : List Told) → Leaves (OtherEnds (line.Seed seed)) result (stage_of self.old waiting text) (stage_of self.new waiting text) }
+        ensures base { self.new.base ≡ self.old.base }
     {
         self.words = Stream::of_seed(seed);
-        Treated::silent(alloc, None)
+        Lines::new(alloc)
     }
 
-    fn lose(&mut self, alloc: Global, percent: u8) -> Treated
-        ensures { LineEnds (line.Loss percent) result.code result.lines (stage_of self.old) (stage_of self.new) }
+    fn lose(&mut self, alloc: Global, percent: u8) -> Lines
+        ensures ends { (waiting : Option (List Datagram)) (text : List Told) → Leaves (OtherEnds (line.Loss percent)) result (stage_of self.old waiting text) (stage_of self.new waiting text) }
+        ensures base { self.new.base ≡ self.old.base }
     {
         self.loss = percent;
-        Treated::silent(alloc, None)
+        Lines::new(alloc)
     }
 
-    fn run_until(&mut self, alloc: Global, end: Moment, step: u64) -> Result<Treated, NoMemory>
+    fn run_until<W: Wire>(
+        &mut self,
+        alloc: Global,
+        wire: &mut W,
+        end: Moment,
+        step: u64,
+    ) -> Result<Lines, Stop>
         requires end { end ≤ 2 ^ 48 }
         requires step { step ≤ 2 ^ 48 }
-        ensures { IfOk result (λ t. LineEnds (line.Run end step) t.code t.lines (stage_of self.old) (stage_of self.new)) }
+        ensures ends { (text : List Told) → EndsLeaving (OtherEnds (line.Run end step)) result (stage_of self.old (W.waiting wire.old) text) (stage_of self.new (W.waiting wire.new) text) }
+        ensures base { self.new.base ≡ self.old.base }
+        ensures unwired { self.old.base ≡ None → (wire.new ≡ wire.old) × (result ≢ Err Stop.WireFailed) }
+        ensures counts { Counts (result ≡ Err Stop.WireFailed) (W.faults wire.old) (W.faults wire.new) }
+        ensures reliable { IsReliable (result ≡ Err Stop.WireFailed) (W.never_fails wire.old) (W.never_fails wire.new) }
     {
-        let code = self.run(alloc, end, step)?;
-        Ok(Treated::silent(alloc, code))
+        self.run(alloc, wire, end, step)?;
+        Ok(Lines::new(alloc))
     }
 
-    fn flow_all(&mut self, alloc: Global) -> Result<Treated, NoMemory>
-        ensures { IfOk result (λ t. LineEnds line.Flow t.code t.lines (stage_of self.old) (stage_of self.new)) }
+    fn flow_all<W: Wire>(&mut self, alloc: Global, wire: &mut W) -> Result<Lines, Stop>
+        ensures ends { (text : List Told) → EndsLeaving (OtherEnds line.Flow) result (stage_of self.old (W.waiting wire.old) text) (stage_of self.new (W.waiting wire.new) text) }
+        ensures base { self.new.base ≡ self.old.base }
+        ensures unwired { self.old.base ≡ None → (wire.new ≡ wire.old) × (result ≢ Err Stop.WireFailed) }
+        ensures counts { Counts (result ≡ Err Stop.WireFailed) (W.faults wire.old) (W.faults wire.new) }
+        ensures reliable { IsReliable (result ≡ Err Stop.WireFailed) (W.never_fails wire.old) (W.never_fails wire.new) }
     {
-        let code = self.flow(alloc)?;
-        Ok(Treated::silent(alloc, code))
+        self.flow(alloc, wire)?;
+        Ok(Lines::new(alloc))
     }
 
     /// A copy is delivered, and what its router notes comes up.
-    fn deliver(&mut self, alloc: Global, copy: u64) -> Result<Treated, NoMemory>
-        ensures { IfOk result (λ t. LineEnds (line.Deliver copy) t.code t.lines (stage_of self.old) (stage_of self.new)) }
+    fn delivered<W: Wire>(&mut self, alloc: Global, wire: &mut W, copy: u64) -> Result<Lines, Stop>
+        ensures ends { (text : List Told) → EndsLeaving (OtherEnds (line.Deliver copy)) result (stage_of self.old (W.waiting wire.old) text) (stage_of self.new (W.waiting wire.new) text) }
+        ensures base { self.new.base ≡ self.old.base }
+        ensures unwired { self.old.base ≡ None → (wire.new ≡ wire.old) × (result ≢ Err Stop.WireFailed) }
+        ensures counts { Counts (result ≡ Err Stop.WireFailed) (W.faults wire.old) (W.faults wire.new) }
+        ensures reliable { IsReliable (result ≡ Err Stop.WireFailed) (W.never_fails wire.old) (W.never_fails wire.new) }
     {
         let name = self.world.copy_info(copy).map(|info| info.to);
-        self.noted(alloc, WEvent::Deliver { copy }, name)
+        let notes = self.deliver(alloc, wire, copy)?;
+        Ok(note_lines(alloc, name, notes.as_slice())?)
     }
 
     /// A datagram is injected, and what its router notes comes up.
@@ -142,39 +103,33 @@ impl Playing {
         endpoint: EpId,
         how: How,
         bytes: Bytes,
-    ) -> Result<Treated, NoMemory>
-        ensures { IfOk result (λ t. LineEnds (line.Inject name endpoint how bytes) t.code t.lines (stage_of self.old) (stage_of self.new)) }
+    ) -> Result<Lines, Stop>
+        ensures ends { (waiting : Option (List Datagram)) (text : List Told) → EndsLeaving (OtherEnds (line.Inject name endpoint how bytes)) result (stage_of self.old waiting text) (stage_of self.new waiting text) }
+        ensures unbroken { result ≢ Err Stop.WireFailed }
+        ensures base { self.new.base ≡ self.old.base }
     {
         let event = injection(name, endpoint, how, bytes);
-        self.noted(alloc, event, Some(name))
+        let notes = self.noted(alloc, event)?;
+        Ok(note_lines(alloc, Some(name), notes.as_slice())?)
     }
 
-    /// A line of a script of some version.
-    pub(crate) fn line(&mut self, alloc: Global, line: Line) -> Result<Treated, NoMemory>
+    /// A line that is no event that writes nothing.
+    fn other<W: Wire>(&mut self, alloc: Global, wire: &mut W, line: Line) -> Result<Lines, Stop>
+        requires other { event_of line ≡ None }
         requires limited { IsLimited line }
         requires known { (version : Version) × IsOfVersion version line }
-        ensures { IfOk result (λ t. LineEnds line t.code t.lines (stage_of self.old) (stage_of self.new)) }
+        ensures ends { (text : List Told) → EndsLeaving (OtherEnds line) result (stage_of self.old (W.waiting wire.old) text) (stage_of self.new (W.waiting wire.new) text) }
+        ensures base { self.new.base ≡ self.old.base }
+        ensures unwired { self.old.base ≡ None → (wire.new ≡ wire.old) × (result ≢ Err Stop.WireFailed) }
+        ensures counts { Counts (result ≡ Err Stop.WireFailed) (W.faults wire.old) (W.faults wire.new) }
+        ensures reliable { IsReliable (result ≡ Err Stop.WireFailed) (W.never_fails wire.old) (W.never_fails wire.new) }
     {
         match line {
-            Line::Router(name, id) => self.silent(alloc, WEvent::Router { name, id }),
-            Line::Link(name) => self.silent(alloc, WEvent::Link { name }),
-            Line::Attach(name, endpoint, link) => self.attach(alloc, name, endpoint, link),
-            Line::Detach(name, endpoint) => self.silent(alloc, WEvent::Detach { name, endpoint }),
-            Line::External(name, prefix, valid, preferred) => {
-                self.delegate(alloc, name, prefix, (valid, preferred))
-            }
-            Line::Withdraw(name, prefix) => self.silent(alloc, WEvent::Withdraw { name, prefix }),
-            Line::Caps(name, caps) => self.silent(alloc, WEvent::Caps { name, caps }),
-            Line::Stop(name) => self.silent(alloc, WEvent::Stop { name }),
-            Line::Start(name) => self.silent(alloc, WEvent::Start { name }),
             Line::Seed(seed) => Ok(self.seed(alloc, seed)),
             Line::Loss(percent) => Ok(self.lose(alloc, percent)),
-            Line::Time(moment) => self.silent(alloc, WEvent::Time { moment }),
-            Line::Tick(name) => self.silent(alloc, WEvent::Tick { name }),
-            Line::Run(end, step) => self.run_until(alloc, end, step),
-            Line::Deliver(copy) => self.deliver(alloc, copy),
-            Line::Drop(copy) => self.silent(alloc, WEvent::Drop { copy }),
-            Line::Flow => self.flow_all(alloc),
+            Line::Run(end, step) => self.run_until(alloc, wire, end, step),
+            Line::Deliver(copy) => self.delivered(alloc, wire, copy),
+            Line::Flow => self.flow_all(alloc, wire),
             Line::Inject(name, endpoint, how, bytes) => {
                 self.inject(alloc, name, endpoint, how, bytes)
             }
@@ -187,15 +142,32 @@ impl Playing {
             Line::Audit(name) => self.audit(alloc, &name),
             Line::Compare(left, right) => self.compare(alloc, &left, &right),
             Line::Mail => self.mail(alloc),
-            Line::Private(name, length) => self.silent(alloc, WEvent::Private { name, length }),
-            Line::Sync(..)
-            | Line::Address(_)
-            | Line::Addresses(_)
-            | Line::Addressed(_)
-            | Line::Ula(_)
-            | Line::Ulas(_)
-            | Line::Radv(..)
-            | Line::Solicit(..) => unreachable!(),
+            _ => unreachable!(),
+        }
+    }
+
+    /// A line of a script of some version. Answers the lines of text that are left to write.
+    ///
+    /// # Errors
+    ///
+    /// The line is refused, the wire failed, or memory ended.
+    pub(crate) fn line<W: Wire>(
+        &mut self,
+        alloc: Global,
+        wire: &mut W,
+        line: Line,
+    ) -> Result<Lines, Stop>
+        requires limited { IsLimited line }
+        requires known { (version : Version) × IsOfVersion version line }
+        ensures ends { (text : List Told) → EndsLeaving (LineEnds line) result (stage_of self.old (W.waiting wire.old) text) (stage_of self.new (W.waiting wire.new) text) }
+        ensures base { self.new.base ≡ self.old.base }
+        ensures unwired { self.old.base ≡ None → (wire.new ≡ wire.old) × (result ≢ Err Stop.WireFailed) }
+        ensures counts { Counts (result ≡ Err Stop.WireFailed) (W.faults wire.old) (W.faults wire.new) }
+        ensures reliable { IsReliable (result ≡ Err Stop.WireFailed) (W.never_fails wire.old) (W.never_fails wire.new) }
+    {
+        match event_of(line) {
+            Ok(event) => self.silent(alloc, event),
+            Err(line) => self.other(alloc, wire, line),
         }
     }
 }

@@ -5,7 +5,7 @@ ghost use Rattle.hn_lab.specs.Output.{AppendsPart, AreCut, joined};
 ghost use Rattle.hn_lab.specs.Reports.{refused_line};
 
 use crate::reports::refused_line;
-use crate::treated::Lines;
+use crate::text::Lines;
 use hn_io::{IoFault, Sink};
 use std::alloc::Global;
 

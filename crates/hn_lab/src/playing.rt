@@ -1,65 +1,76 @@
-ghost use Rattle.std.specs.Prelude.{◌≡◌, ◌<◌, ◌≤◌, ◌+◌, IfOk, OnOk, None, length};
+ghost use Rattle.std.specs.Prelude.{◌≡◌, ◌≢◌, ◌<◌, ◌+◌, List, [], Option, Err, OnOk, length};
+ghost use Rattle.hn_wire.specs.declared.datagram.Datagram.{Datagram};
 ghost use Rattle.hn_world.specs.Step.{IsInRange};
-ghost use Rattle.hn_lab.specs.Events.{EventEnds};
-ghost use Rattle.hn_lab.specs.Line.{Noted};
+ghost use Rattle.hn_lab.specs.declared.end.Stop.{Stop};
+ghost use Rattle.hn_lab.specs.Delivery.{EventNotes, EventEnds};
+ghost use Rattle.hn_lab.specs.Ended.{EndsWith, Ended};
 ghost use Rattle.hn_lab.specs.Play.{begun};
-ghost use Rattle.hn_lab.specs.Stage.{stage_of};
+ghost use Rattle.hn_lab.specs.Stage.{route_of, stage_of};
+ghost use Rattle.hn_lab.specs.Told.{Told};
 
+use crate::carrying::Base;
+use crate::end::Stop;
 use crate::stream::Stream;
-use crate::treated::Treated;
-use hn_base::{Name, NoMemory, Version};
-use hn_world::{WEvent, World, WorldFault, each_event_is_entered};
+use hn_base::{Sequence, Version};
+use hn_rules::Note;
+use hn_world::{WEvent, World, each_event_is_entered};
 use std::alloc::Global;
 
-/// A play so far: its world, of a hundred copies how many `flow` loses, and the random words that are to come.
+/// A play so far: its world, of a hundred copies how many `flow` loses, the random words that are to come, and the port
+/// that copies are sent from, if they go over a wire.
 #[derive(Drop)]
 pub struct Playing {
     pub world: World,
     pub loss: u8,
     pub words: Stream,
+    pub base: Option<Base>,
 }
 
 impl Playing {
     /// The play of a script of a version, as it begins. Never allocates.
-    pub(crate) fn new(alloc: Global, version: Version) -> Playing
-        ensures { stage_of result ≡ begun version }
+    pub(crate) fn new(alloc: Global, version: Version, base: Option<Base>) -> Playing
+        ensures begins { (waiting : Option (List Datagram)) → stage_of result waiting [] ≡ begun (route_of base waiting) version }
+        ensures base { result.base ≡ base }
     {
         Playing {
             world: World::of(alloc, version),
             loss: 0,
             words: Stream::zeros(),
+            base,
         }
     }
 
-    /// An event. Answers the code with which it is refused.
-    pub(crate) fn event(&mut self, alloc: Global, event: WEvent) -> Result<Option<u8>, NoMemory>
+    /// An event. Answers what routers noted.
+    ///
+    /// # Errors
+    ///
+    /// It is refused, or memory ended.
+    pub(crate) fn noted(&mut self, alloc: Global, event: WEvent) -> Result<Sequence<Note>, Stop>
         requires { IsInRange event }
-        ensures ends { IfOk result (λ code. EventEnds event code (stage_of self.old) (stage_of self.new)) }
-        ensures entered { IfOk result (λ code. code ≡ None → (length self.old.world.trace < 1000000) × (length self.new.world.trace ≡ length self.old.world.trace + 1)) }
-        ensures kept { OnOk result (length self.old.world.trace ≤ length self.new.world.trace) }
+        ensures ends { (waiting : Option (List Datagram)) (text : List Told)
+            → EndsWith (EventNotes event) (EventEnds event) result (stage_of self.old waiting text) (stage_of self.new waiting text) }
+        ensures unbroken { result ≢ Err Stop.WireFailed }
+        ensures base { self.new.base ≡ self.old.base }
+        ensures entered { OnOk result ((length self.old.world.trace < 1000000) × (length self.new.world.trace ≡ length self.old.world.trace + 1)) }
     {
         each_event_is_entered();
-        match self.world.apply(alloc, event, &mut self.words) {
-            Ok(_notes) => return Ok(None),
-            Err(WorldFault::Refused(code)) => return Ok(Some(code)),
-            Err(WorldFault::NoMemory) => return Err(NoMemory),
-        }
+        Ok(self.world.apply(alloc, event, &mut self.words)?)
     }
 
-    /// An event whose notes come up, as those of the router of this name.
-    pub(crate) fn noted(
-        &mut self,
-        alloc: Global,
-        event: WEvent,
-        name: Option<Name>,
-    ) -> Result<Treated, NoMemory>
+    /// An event of which nothing comes up.
+    ///
+    /// # Errors
+    ///
+    /// It is refused, or memory ended.
+    pub(crate) fn event(&mut self, alloc: Global, event: WEvent) -> Result<(), Stop>
         requires { IsInRange event }
-        ensures { IfOk result (λ treated. Noted event name treated.code treated.lines (stage_of self.old) (stage_of self.new)) }
+        ensures ends { (waiting : Option (List Datagram)) (text : List Told)
+            → Ended (EventEnds event) result (stage_of self.old waiting text) (stage_of self.new waiting text) }
+        ensures unbroken { result ≢ Err Stop.WireFailed }
+        ensures base { self.new.base ≡ self.old.base }
+        ensures entered { OnOk result ((length self.old.world.trace < 1000000) × (length self.new.world.trace ≡ length self.old.world.trace + 1)) }
     {
-        match self.world.apply(alloc, event, &mut self.words) {
-            Ok(notes) => return Treated::noted(alloc, name, notes.as_slice()),
-            Err(WorldFault::Refused(code)) => return Ok(Treated::refused(alloc, code)),
-            Err(WorldFault::NoMemory) => return Err(NoMemory),
-        }
+        let _notes = self.noted(alloc, event)?;
+        Ok(())
     }
 }

@@ -1,18 +1,28 @@
 //! The reports on delegated prefixes, assigned prefixes and elections.
 
-ghost use Rattle.std.specs.Prelude.{◌≡◌, ◌++◌, map, IfOk, OnOk, string_bytes};
-ghost use Rattle.hn_lab.specs.Line.{unless_runs, unless_elects, Tells, Reports, ReportsLines};
+ghost use Rattle.std.specs.Prelude.{◌≡◌, ◌++◌, ℕ, List, Option, None, Some, Err, map, IfOk, OnOk, string_bytes, ◌≢◌};
+ghost use Rattle.hn_base.specs.Name.{name_text};
+ghost use Rattle.hn_wire.specs.declared.datagram.Datagram.{Datagram};
+ghost use Rattle.hn_world.specs.Names.{member_named};
+ghost use Rattle.hn_world.specs.Refusal.{unless_runs};
+ghost use Rattle.hn_lab.specs.declared.end.Stop.{Stop as AStop};
+ghost use Rattle.hn_lab.specs.declared.end.Stop.TheVariants as stop;
+ghost use Rattle.hn_lab.specs.Ended.{EndsLeaving};
+ghost use Rattle.hn_lab.specs.Line.{unless_elects, Tells};
+ghost use Rattle.hn_lab.specs.Tells.{Reports, ReportsLines};
+ghost use Rattle.hn_lab.specs.Told.{Told};
 ghost use Rattle.hn_lab.specs.PrefixReports.{use_line, used_lines, AreUsedLines, published_text, prefix_line, prefixes_lines, elected_text, elect_line, IsElectLine};
 ghost use Rattle.hn_lab.specs.Stage.{stage_of};
 
+use crate::end::Stop;
 use crate::playing::Playing;
 use crate::reports::yes_no;
-use crate::treated::{Lines, Treated};
+use crate::text::Lines;
 use hn_assign::Assigned;
 use hn_base::{EpId, Letter, Name, NoMemory, NodeId};
 use hn_deleg::{Delegated, whole_seconds};
 use hn_script::letter_text;
-use hn_world::NOT_ATTACHED;
+use hn_world::{Member, NOT_ATTACHED};
 use std::alloc::{AllocError, Global};
 
 /// The line on a delegated prefix that a router uses.
@@ -105,48 +115,39 @@ fn elect_line(
 
 impl Playing {
     /// The report on the delegated prefixes that a router uses.
-    pub(crate) fn used(&self, alloc: Global, name: &Name) -> Result<Treated, NoMemory>
-        ensures { IfOk result (λ t. ReportsLines (unless_runs name.now self.now.world) (Tells name.now self.now.world (AreUsedLines name.now)) t.code t.lines (stage_of self.now) (stage_of self.now)) }
+    pub(crate) fn used(&self, alloc: Global, name: &Name) -> Result<Lines, Stop>
+        ensures ends { (waiting : Option (List Datagram)) (text : List Told) → EndsLeaving (ReportsLines (unless_runs name.now self.now.world) (Tells name.now self.now.world (AreUsedLines name.now))) result (stage_of self.now waiting text) (stage_of self.now waiting text) }
+        ensures unbroken { result ≢ Err Stop.WireFailed }
     {
-        if let Some(code) = self.unless_runs(name) {
-            return Ok(Treated::refused(alloc, code));
-        }
-        let Some(router) = self.world.router(name) else {
-            unreachable!()
-        };
-        let used = router.used(alloc)?;
-        Ok(Treated::told(used_lines(alloc, name, used.as_slice())?))
+        let member = self.of_running(name)?;
+        let used = member.router.used(alloc)?;
+        Ok(used_lines(alloc, name, used.as_slice())?)
     }
 
     /// The report on the prefixes that a router has assigned.
-    pub(crate) fn prefixes(&self, alloc: Global, name: &Name) -> Result<Treated, NoMemory>
-        ensures { IfOk result (λ t. ReportsLines (unless_runs name.now self.now.world) (Tells name.now self.now.world (λ m lines. lines ≡ prefixes_lines name.now m)) t.code t.lines (stage_of self.now) (stage_of self.now)) }
+    pub(crate) fn prefixes(&self, alloc: Global, name: &Name) -> Result<Lines, Stop>
+        ensures ends { (waiting : Option (List Datagram)) (text : List Told) → EndsLeaving (ReportsLines (unless_runs name.now self.now.world) (Tells name.now self.now.world (λ m lines. lines ≡ prefixes_lines name.now m))) result (stage_of self.now waiting text) (stage_of self.now waiting text) }
+        ensures unbroken { result ≢ Err Stop.WireFailed }
     {
-        if let Some(code) = self.unless_runs(name) {
-            return Ok(Treated::refused(alloc, code));
-        }
-        let Some(router) = self.world.router(name) else {
-            unreachable!()
-        };
-        let assigned = router.held().assigned.as_slice();
+        let member = self.of_running(name)?;
+        let assigned = member.router.held().assigned.as_slice();
         let mut lines = Lines::new(alloc);
         let count = assigned.len();
         lines.push(format!(in alloc; "prefixes {name} {count}\n")?)?;
         add_prefix_lines(alloc, &mut lines, name, assigned)?;
-        Ok(Treated::told(lines))
+        Ok(lines)
     }
 
-    /// Why there is no report on an endpoint: the router is unknown or stopped, or the endpoint is not attached.
-    pub(crate) fn unless_elects(&self, name: &Name, endpoint: EpId) -> Option<u8>
-        ensures { result ≡ unless_elects name.now endpoint self.now.world }
+    /// The running router of a name that has this endpoint attached.
+    pub(crate) fn of_attached(&self, name: &Name, endpoint: EpId) -> Result<&Member, Stop>
+        ensures found { IfOk result (λ m. (member_named (name_text name.now) self.now.world ≡ Some m.now) × (unless_elects name.now endpoint self.now.world ≡ None)) }
+        ensures refused { (why : AStop) → result ≡ Err why → (code : ℕ) × (why ≡ stop.Refused code) × (unless_elects name.now endpoint self.now.world ≡ Some code) }
     {
-        if let Some(code) = self.unless_runs(name) {
-            return Some(code);
+        let member = self.of_running(name)?;
+        if !member.router.attached(endpoint) {
+            return Err(Stop::Refused(NOT_ATTACHED));
         }
-        match self.world.router(name) {
-            Some(router) if router.attached(endpoint) => None,
-            _ => Some(NOT_ATTACHED),
-        }
+        Ok(member)
     }
 
     /// The report on an election.
@@ -156,17 +157,13 @@ impl Playing {
         name: &Name,
         endpoint: EpId,
         letter: Letter,
-    ) -> Result<Treated, NoMemory>
-        ensures { IfOk result (λ t. Reports (unless_elects name.now endpoint self.now.world) (Tells name.now self.now.world (IsElectLine name.now endpoint letter)) t.code t.lines (stage_of self.now) (stage_of self.now)) }
+    ) -> Result<Lines, Stop>
+        ensures ends { (waiting : Option (List Datagram)) (text : List Told) → EndsLeaving (Reports (unless_elects name.now endpoint self.now.world) (Tells name.now self.now.world (IsElectLine name.now endpoint letter))) result (stage_of self.now waiting text) (stage_of self.now waiting text) }
+        ensures unbroken { result ≢ Err Stop.WireFailed }
     {
-        if let Some(code) = self.unless_elects(name, endpoint) {
-            return Ok(Treated::refused(alloc, code));
-        }
-        let Some(router) = self.world.router(name) else {
-            unreachable!()
-        };
-        let who = router.elected(alloc, endpoint, letter)?;
+        let member = self.of_attached(name, endpoint)?;
+        let who = member.router.elected(alloc, endpoint, letter)?;
         let line = elect_line(alloc, name, endpoint, letter, who)?;
-        Treated::reported(alloc, line)
+        Ok(Lines::of(alloc, line)?)
     }
 }

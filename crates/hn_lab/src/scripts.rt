@@ -1,21 +1,21 @@
-ghost use Rattle.std.specs.Prelude.{◌≡◌, ◌≢◌, ◌↔◌, ◌+◌, ◌^◌, ◌≤◌, ◌⊎◌, ℕ, List, [], ◌∷◌, None, Some, Err, length, Contains, IsSome, IfSome, IfOk};
+ghost use Rattle.std.specs.Prelude.{◌≡◌, ◌≢◌, ◌↔◌, ◌+◌, ◌^◌, ◌≤◌, ◌⊎◌, ℕ, List, [], ◌∷◌, None, Some, Ok, Err, length, Contains, IsSome, IfSome};
 ghost use Rattle.std.specs.Io.KnownBytes.{Appends, Consumes};
 ghost use Rattle.std.specs.List.{AllByRecursion};
 ghost use Rattle.hn_io.specs.Faults.{Counts, IsReliable};
 ghost use Rattle.hn_script.specs.Laws.{IsLimited};
 ghost use Rattle.hn_script.specs.Line.{IsOfVersion};
-ghost use Rattle.hn_script.specs.Script.{IsScript, IsFirstFault};
-ghost use Rattle.hn_script.specs.declared.fault.ScriptFault.{ScriptFault as AFault};
-ghost use Rattle.hn_script.specs.declared.script.Script.{Script as AScript};
 ghost use Rattle.hn_world.specs.Replay.{IsReplayed, Always, Throughout};
 ghost use Rattle.hn_world.specs.Authentic.{AuthenticUnlessInjected};
 ghost use Rattle.hn_world.specs.Leaves.{EqualHashesAgree};
 ghost use Rattle.hn_world.specs.Within.{AreWithinLimits};
 ghost use Rattle.hn_audit.specs.Laws.{SettledAreSound};
 ghost use Rattle.hn_audit.specs.Staying.{QuietStays};
-ghost use Rattle.hn_lab.specs.Lab.{play_status, Plays, IsLineWritten, IsLabOf, HasDonePlay, HasRefusal};
+ghost use Rattle.hn_lab.specs.declared.end.End.TheVariants as ends;
+ghost use Rattle.hn_lab.specs.Lab.{play_status, Plays, IsLineWritten, IsLabOf, IsLabRun, StatusOfScript, HasDonePlay, HasRefusal};
 ghost use Rattle.hn_lab.specs.Reports.{refused_line};
+ghost use Rattle.hn_lab.specs.Stage.{route_of};
 
+use crate::carrying::Base;
 use crate::end::End;
 use crate::input::read_all;
 use crate::law::at_most_one_play;
@@ -27,6 +27,7 @@ use hn_script::{
     ParseFault, Script, ScriptFault, fault_excludes_script, lines_are_of_version, parse,
     script_is_limited, script_is_unique,
 };
+use hn_wire::Wire;
 use hn_world::{World, always_authentic, always_within_limits, equal_hashes_always_agree};
 use std::alloc::Global;
 
@@ -38,15 +39,17 @@ pub const REFUSED: u8 = 2;
 pub const SOURCE_FAILED: u8 = 3;
 /// The sink failed.
 pub const SINK_FAILED: u8 = 4;
+/// The wire failed, right before a delivery.
+pub const WIRE_FAILED: u8 = 5;
 /// Out of memory.
 pub const NO_MEMORY: u8 = 6;
 
 /// What a call came to: its status, and the world of the script that was played, if one was.
 #[derive(Drop)]
 pub struct Played {
-    /// `DONE`, `REFUSED`, `SOURCE_FAILED`, `SINK_FAILED`, `NO_MEMORY`, or a status of the caller's own.
+    /// `DONE`, `REFUSED`, `SOURCE_FAILED`, `SINK_FAILED`, `WIRE_FAILED`, `NO_MEMORY`, or a status of the caller's own.
     pub status: u8,
-    /// The world that the script led to, also where a line was refused or the sink failed.
+    /// The world that the script led to, also where a line was refused, or the sink or the wire failed.
     pub world: Option<World>,
 }
 
@@ -67,12 +70,14 @@ impl Played {
 fn play_status(end: &Result<End, IoFault>) -> u8
     ensures status { result ≡ play_status end.now }
     ensures failed { result ≡ SINK_FAILED ↔ end.now ≡ Err IoFault.Failed }
+    ensures broken { result ≡ WIRE_FAILED ↔ end.now ≡ Ok ends.WireFailed }
     ensures starved { result ≡ NO_MEMORY → end.now ≡ Err IoFault.NoMemory }
-    ensures all { Contains (DONE ∷ REFUSED ∷ SINK_FAILED ∷ NO_MEMORY ∷ []) result }
+    ensures all { Contains (DONE ∷ REFUSED ∷ SINK_FAILED ∷ WIRE_FAILED ∷ NO_MEMORY ∷ []) result }
 {
     match end {
         Ok(End::Done) => DONE,
         Ok(End::Refused { .. }) => REFUSED,
+        Ok(End::WireFailed) => WIRE_FAILED,
         Err(IoFault::Failed) => SINK_FAILED,
         Err(IoFault::NoMemory) => NO_MEMORY,
     }
@@ -95,13 +100,33 @@ fn refuse<K: Sink>(alloc: Global, fault: ScriptFault, out: &mut K) -> Played
     }
 }
 
-/// Plays a script, whose lines are of its version, and writes its transcript.
-pub fn play<K: Sink>(alloc: Global, script: Script, out: &mut K) -> Played
+/// The base of a play.
+fn base_of(base: Option<u16>) -> Option<Base>
+    requires { IfSome base (λ port. port ≤ 65534) }
+    ensures { result ≡ base }
+{
+    match base {
+        Some(port) => Some(Base::new(port)),
+        None => None,
+    }
+}
+
+/// Plays a script, whose lines are of its version, and writes its transcript. With a base, at most 65,534, copies that are
+/// delivered go over the wire from this port to the port after it.
+pub fn play<K: Sink, W: Wire>(
+    alloc: Global,
+    script: Script,
+    out: &mut K,
+    wire: &mut W,
+    base: Option<u16>,
+) -> Played
     requires limited { AllByRecursion (λ line. IsLimited line.1) script.lines }
     requires of_version { AllByRecursion (λ line. IsOfVersion script.version line.1) script.lines }
-    ensures plays { (written : List ℕ) × Plays script result.status result.world written × Appends (K.held out.old) (K.held out.new) written }
-    ensures done { HasDonePlay script → result.status ≢ REFUSED }
-    ensures refused { HasRefusal script → result.status ≢ DONE }
+    requires base { IfSome base (λ port. port ≤ 65534) }
+    ensures plays { (written : List ℕ) × Plays (route_of base (W.waiting wire.old)) (route_of base (W.waiting wire.new)) script result.status result.world written
+        × Appends (K.held out.old) (K.held out.new) written }
+    ensures done { HasDonePlay (route_of base (W.waiting wire.old)) script → result.status ≢ REFUSED }
+    ensures refused { HasRefusal (route_of base (W.waiting wire.old)) script → result.status ≢ DONE }
     ensures no_world { result.status ≡ NO_MEMORY → result.world ≡ None }
     ensures world { result.status ≢ NO_MEMORY → IsSome result.world }
     ensures replayed { IfSome result.world IsReplayed }
@@ -110,9 +135,12 @@ pub fn play<K: Sink>(alloc: Global, script: Script, out: &mut K) -> Played
     ensures stays { IfSome result.world (Throughout QuietStays) }
     ensures within_limits { IfSome result.world (Always AreWithinLimits) }
     ensures authentic { IfSome result.world (Always AuthenticUnlessInjected) }
-    ensures statuses { Contains (DONE ∷ REFUSED ∷ SINK_FAILED ∷ NO_MEMORY ∷ []) result.status }
+    ensures statuses { Contains (DONE ∷ REFUSED ∷ SINK_FAILED ∷ WIRE_FAILED ∷ NO_MEMORY ∷ []) result.status }
     ensures counts { Counts (result.status ≡ SINK_FAILED) (K.faults out.old) (K.faults out.new) }
     ensures reliable { IsReliable (result.status ≡ SINK_FAILED) (K.never_fails out.old) (K.never_fails out.new) }
+    ensures wire_counts { Counts (result.status ≡ WIRE_FAILED) (W.faults wire.old) (W.faults wire.new) }
+    ensures wire_reliable { IsReliable (result.status ≡ WIRE_FAILED) (W.never_fails wire.old) (W.never_fails wire.new) }
+    ensures unwired { base ≡ None → (wire.new ≡ wire.old) × (result.status ≢ WIRE_FAILED) }
 {
     at_most_one_play();
     equal_hashes_always_agree();
@@ -120,8 +148,8 @@ pub fn play<K: Sink>(alloc: Global, script: Script, out: &mut K) -> Played
     quiet_homes_always_stay();
     always_within_limits();
     always_authentic();
-    let mut playing = Playing::new(alloc, script.version);
-    let end = playing.play(alloc, script.lines.into_vec(), out);
+    let mut playing = Playing::new(alloc, script.version, base_of(base));
+    let end = playing.play(alloc, script.lines.into_vec(), out, wire);
     let status = play_status(&end);
     if status == NO_MEMORY {
         return Played::without_world(status);
@@ -134,11 +162,17 @@ pub fn play<K: Sink>(alloc: Global, script: Script, out: &mut K) -> Played
 }
 
 /// Plays the script that bytes are, or writes the line of their first fault.
-fn play_bytes<K: Sink>(alloc: Global, bytes: &[u8], out: &mut K) -> Played
-    ensures lab { (written : List ℕ) × IsLabOf bytes.now result.status result.world written × Appends (K.held out.old) (K.held out.new) written }
-    ensures done { (script : AScript) → IsScript script bytes.now → HasDonePlay script → result.status ≢ REFUSED }
-    ensures refused { (script : AScript) → IsScript script bytes.now → HasRefusal script → result.status ≢ DONE }
-    ensures no_script { (fault : AFault) → IsFirstFault fault bytes.now → result.status ≢ DONE }
+fn play_bytes<K: Sink, W: Wire>(
+    alloc: Global,
+    bytes: &[u8],
+    out: &mut K,
+    wire: &mut W,
+    base: Option<u16>,
+) -> Played
+    requires base { IfSome base (λ port. port ≤ 65534) }
+    ensures lab { (written : List ℕ) × IsLabOf (route_of base (W.waiting wire.old)) (route_of base (W.waiting wire.new)) bytes.now result.status result.world written
+        × Appends (K.held out.old) (K.held out.new) written }
+    ensures only { StatusOfScript (route_of base (W.waiting wire.old)) bytes.now result.status }
     ensures no_world { result.status ≡ NO_MEMORY → result.world ≡ None }
     ensures done_world { result.status ≡ DONE → IsSome result.world }
     ensures replayed { IfSome result.world IsReplayed }
@@ -147,28 +181,36 @@ fn play_bytes<K: Sink>(alloc: Global, bytes: &[u8], out: &mut K) -> Played
     ensures stays { IfSome result.world (Throughout QuietStays) }
     ensures within_limits { IfSome result.world (Always AreWithinLimits) }
     ensures authentic { IfSome result.world (Always AuthenticUnlessInjected) }
-    ensures statuses { Contains (DONE ∷ REFUSED ∷ SINK_FAILED ∷ NO_MEMORY ∷ []) result.status }
+    ensures statuses { Contains (DONE ∷ REFUSED ∷ SINK_FAILED ∷ WIRE_FAILED ∷ NO_MEMORY ∷ []) result.status }
     ensures counts { Counts (result.status ≡ SINK_FAILED) (K.faults out.old) (K.faults out.new) }
     ensures reliable { IsReliable (result.status ≡ SINK_FAILED) (K.never_fails out.old) (K.never_fails out.new) }
+    ensures wire_counts { Counts (result.status ≡ WIRE_FAILED) (W.faults wire.old) (W.faults wire.new) }
+    ensures wire_reliable { IsReliable (result.status ≡ WIRE_FAILED) (W.never_fails wire.old) (W.never_fails wire.new) }
+    ensures unwired { base ≡ None → (wire.new ≡ wire.old) × (result.status ≢ WIRE_FAILED) }
 {
     script_is_limited();
     lines_are_of_version();
     script_is_unique();
     fault_excludes_script();
     match parse(alloc, bytes) {
-        Ok(script) => play(alloc, script, out),
+        Ok(script) => play(alloc, script, out, wire, base),
         Err(ParseFault::Script(fault)) => refuse(alloc, fault, out),
         Err(ParseFault::NoMemory) => Played::without_world(NO_MEMORY),
     }
 }
 
-/// Reads a script, plays it, and writes its transcript.
-pub fn lab<S: Source, K: Sink>(alloc: Global, src: &mut S, out: &mut K) -> Played
-    ensures lab { result.status ≢ SOURCE_FAILED → IfSome (S.left src.old) (λ bytes. (written : List ℕ)
-        × IsLabOf bytes result.status result.world written × Appends (K.held out.old) (K.held out.new) written) }
-    ensures done { IfSome (S.left src.old) (λ bytes. (script : AScript) → IsScript script bytes → HasDonePlay script → result.status ≢ REFUSED) }
-    ensures refused { IfSome (S.left src.old) (λ bytes. (script : AScript) → IsScript script bytes → HasRefusal script → result.status ≢ DONE) }
-    ensures no_script { IfSome (S.left src.old) (λ bytes. (fault : AFault) → IsFirstFault fault bytes → result.status ≢ DONE) }
+/// Reads a script, plays it, and writes its transcript. With a base, at most 65,534, copies that are delivered go over the
+/// wire from this port to the port after it.
+pub fn lab<S: Source, K: Sink, W: Wire>(
+    alloc: Global,
+    src: &mut S,
+    out: &mut K,
+    wire: &mut W,
+    base: Option<u16>,
+) -> Played
+    requires base { IfSome base (λ port. port ≤ 65534) }
+    ensures lab { result.status ≢ SOURCE_FAILED → IsLabRun (route_of base (W.waiting wire.old)) (route_of base (W.waiting wire.new)) (S.left src.old)
+        result.status result.world (K.held out.old) (K.held out.new) }
     ensures no_world { (result.status ≡ SOURCE_FAILED) ⊎ (result.status ≡ NO_MEMORY) → result.world ≡ None }
     ensures done_world { result.status ≡ DONE → IsSome result.world }
     ensures replayed { IfSome result.world IsReplayed }
@@ -177,16 +219,19 @@ pub fn lab<S: Source, K: Sink>(alloc: Global, src: &mut S, out: &mut K) -> Playe
     ensures stays { IfSome result.world (Throughout QuietStays) }
     ensures within_limits { IfSome result.world (Always AreWithinLimits) }
     ensures authentic { IfSome result.world (Always AuthenticUnlessInjected) }
-    ensures statuses { Contains (DONE ∷ REFUSED ∷ SOURCE_FAILED ∷ SINK_FAILED ∷ NO_MEMORY ∷ []) result.status }
+    ensures statuses { Contains (DONE ∷ REFUSED ∷ SOURCE_FAILED ∷ SINK_FAILED ∷ WIRE_FAILED ∷ NO_MEMORY ∷ []) result.status }
     ensures unwritten { result.status ≡ SOURCE_FAILED → out.new ≡ out.old }
     ensures source_counts { Counts (result.status ≡ SOURCE_FAILED) (S.faults src.old) (S.faults src.new) }
     ensures source_reliable { IsReliable (result.status ≡ SOURCE_FAILED) (S.never_fails src.old) (S.never_fails src.new) }
     ensures sink_counts { Counts (result.status ≡ SINK_FAILED) (K.faults out.old) (K.faults out.new) }
     ensures sink_reliable { IsReliable (result.status ≡ SINK_FAILED) (K.never_fails out.old) (K.never_fails out.new) }
+    ensures wire_counts { Counts (result.status ≡ WIRE_FAILED) (W.faults wire.old) (W.faults wire.new) }
+    ensures wire_reliable { IsReliable (result.status ≡ WIRE_FAILED) (W.never_fails wire.old) (W.never_fails wire.new) }
+    ensures unwired { base ≡ None → (wire.new ≡ wire.old) × (result.status ≢ WIRE_FAILED) }
     ensures bounded { (read : List ℕ) × (length read ≤ 2 ^ 24 + 1) × Consumes (S.left src.old) (S.left src.new) read }
 {
     match read_all(alloc, src) {
-        Ok(bytes) => play_bytes(alloc, &bytes, out),
+        Ok(bytes) => play_bytes(alloc, &bytes, out, wire, base),
         Err(IoFault::Failed) => Played::without_world(SOURCE_FAILED),
         Err(IoFault::NoMemory) => Played::without_world(NO_MEMORY),
     }

@@ -1,14 +1,5 @@
-use Rattle.hn_lab.proofs.LawCuts.{one_cut}
-use Rattle.hn_lab.proofs.LawLines.{ReportLaws}
+use Rattle.hn_lab.proofs.LawPlays.{one_cut}
 use Rattle.hn_lab.proofs.law.at_most_one_cut_play.Goals as goal
 
 pub returns : goal.returns
-returns c =
-    let reports : ReportLaws = record {
-      agreements = c.agreement_is_unique.ensures;
-      usable = c.usable_is_unique.ensures;
-      common = c.common_link_is_unique.ensures;
-      answer = c.elected_is_unique.ensures.answer;
-      adverts = c.router_has_one_advert.ensures;
-    } in
-    one_cut c.step_is_unique.ensures reports c.each_event_is_entered.ensures.entered
+returns c = one_cut c.results_are_unique.ensures

@@ -1,7 +1,7 @@
-use Rattle.std.proofs.Common.{ℕ, List, [], Option, None, Some, Err, inl, inr, refl, sym, ap, subst, append-nil}
-use Rattle.std.specs.Io.KnownBytes.{Appends}
+use Rattle.std.proofs.Common.{ℕ, List, [], Option, None, Some, Err, inl, inr, refl, sym, ap, subst, arith}
 use Rattle.hn_lab.specs.Lab.{HasDonePlay, HasRefusal}
-use Rattle.hn_lab.proofs.PlayScripts.{among_more}
+use Rattle.hn_lab.specs.Stage.{route_of}
+use Rattle.hn_lab.proofs.PlayScripts.{among_more, appends_nothing}
 use Rattle.hn_lab.proofs.scripts.play_bytes.Goals as goal
 
 pub returns-in-Ok-clause-lab : goal.returns-in-Ok-clause-lab
@@ -9,26 +9,36 @@ returns-in-Ok-clause-lab g c =
     let plays = c.play.ensures.plays in
     (plays.0, inr (inl (record { script = c.in-Ok.script; is_script = c.in-Ok.ensures.script; plays = plays.1 })), plays.2)
 
-pub returns-in-Ok-clause-done : goal.returns-in-Ok-clause-done
-returns-in-Ok-clause-done g c script is done =
-    c.play.ensures.done (subst HasDonePlay (c.script_is_unique.ensures c.args.bytes.now script c.in-Ok.script is c.in-Ok.ensures.script) done)
+pub returns-in-Ok-clause-only : goal.returns-in-Ok-clause-only
+returns-in-Ok-clause-only g c =
+    let route = route_of c.args.base (g.W.Wire.waiting c.args.wire.now) in
+    record {
+      done = λ script is has. c.play.ensures.done (subst (HasDonePlay route) (c.script_is_unique.ensures c.args.bytes.now script c.in-Ok.script is c.in-Ok.ensures.script) has);
+      refused = λ script is has. c.play.ensures.refused (subst (HasRefusal route) (c.script_is_unique.ensures c.args.bytes.now script c.in-Ok.script is c.in-Ok.ensures.script) has);
+      no_script = λ fault is _. absurd (c.fault_excludes_script.ensures c.args.bytes.now fault c.in-Ok.script is c.in-Ok.ensures.script);
+    }
 
-pub returns-in-Ok-clause-refused : goal.returns-in-Ok-clause-refused
-returns-in-Ok-clause-refused g c script is refused =
-    c.play.ensures.refused (subst HasRefusal (c.script_is_unique.ensures c.args.bytes.now script c.in-Ok.script is c.in-Ok.ensures.script) refused)
-
-pub returns-in-Err-Script-clause-done : goal.returns-in-Err-Script-clause-done
-returns-in-Err-Script-clause-done g c script is _ _ =
-    absurd (c.fault_excludes_script.ensures c.args.bytes.now c.in-Err-Script.fault script (c.in-Err-Script.ensures.fault c.in-Err-Script.fault (ap Err c.in-Err-Script.field-0-is)) is)
+pub returns-in-Err-Script-clause-only : goal.returns-in-Err-Script-clause-only
+returns-in-Err-Script-clause-only g c =
+    let is_fault = c.in-Err-Script.ensures.fault c.in-Err-Script.fault (ap Err c.in-Err-Script.field-0-is) in
+    record {
+      done = λ script is _ _. absurd (c.fault_excludes_script.ensures c.args.bytes.now c.in-Err-Script.fault script is_fault is);
+      refused = λ script is _ _. absurd (c.fault_excludes_script.ensures c.args.bytes.now c.in-Err-Script.fault script is_fault is);
+      no_script = λ fault is. c.refuse.ensures.not_done;
+    }
 
 pub returns-in-Err-Script-clause-statuses : goal.returns-in-Err-Script-clause-statuses
 returns-in-Err-Script-clause-statuses g c = among_more c.refuse.result.status c.refuse.ensures.statuses
 
--- where nothing is written
-as_before : (held : Option (List ℕ)) → Appends held held []
-as_before None = tt
-as_before (Some bytes) = sym (append-nil bytes)
-
 pub returns-in-Err-NoMemory-clause-lab : goal.returns-in-Err-NoMemory-clause-lab
 returns-in-Err-NoMemory-clause-lab g c =
-    ([], inr (inr (c.without_world.ensures.status, c.without_world.ensures.no_world, refl)), as_before (g.K.Sink.held c.args.out.now))
+    ([], inr (inr (c.without_world.ensures.status, c.without_world.ensures.no_world, refl)), appends_nothing (g.K.Sink.held c.args.out.now))
+
+pub returns-in-Err-NoMemory-clause-only : goal.returns-in-Err-NoMemory-clause-only
+returns-in-Err-NoMemory-clause-only g c =
+    let six = c.without_world.ensures.status in
+    record {
+      done = λ script is has two. absurd (omega (arith, six, two));
+      refused = λ script is has zero. absurd (omega (arith, six, zero));
+      no_script = λ fault is zero. absurd (omega (arith, six, zero));
+    }

@@ -1,18 +1,55 @@
-use Rattle.std.proofs.Common.{◌≡◌, sym, ap, ◌∙◌}
+use Rattle.std.proofs.Common.{◌∙◌, refl, ap}
+use Rattle.hn_io.specs.declared.fault.IoFault.TheVariants.{NoMemory}
+use Rattle.hn_lab.specs.declared.end.Stop.TheVariants.{Cut}
 use Rattle.std.specs.Prelude.{string_bytes}
 use Rattle.hn_lab.specs.AdvertReports.{IsAdvertLine, advert_line}
 use Rattle.hn_lab.specs.Line.{unless_elects, Tells}
+use Rattle.hn_lab.proofs.TextReports.{line_reported, report_refused, report_starved}
 use Rattle.hn_lab.specs.Stage.{stage_of}
-use Rattle.hn_lab.proofs.AdvertTexts.{tells_advert}
-use Rattle.hn_lab.proofs.TextReports.{reported}
+use Rattle.hn_lab.specs.Tells.{Reports, IsOneLine}
+use Rattle.hn_lab.proofs.RunStops.{leaving_on}
 use Rattle.hn_lab.proofs.playing.Playing.advert.Goals as goal
 
-pub returns : goal.returns
-returns c =
+pub returns-in_err-member-clause-ends : goal.returns-in_err-member-clause-ends
+returns-in_err-member-clause-ends c waiting text =
     let name = c.args.name.now in
     let e = c.args.endpoint in
-    let p = c.args.self.now in
+    let w = c.args.self.now.world in
+    let p = stage_of c.args.self.now waiting text in
+    let why = c.in_err-member.field-0.0 in
+    leaving_on (Reports (unless_elects name e w) (Tells name w (IsAdvertLine name e))) why c.from_residual.result p p c.from_residual.ensures.1 (report_refused (unless_elects name e w) (IsOneLine (Tells name w (IsAdvertLine name e))) why p (c.in_err-member.ensures.refused why refl))
+
+pub returns-in_err-bytes-clause-ends : goal.returns-in_err-bytes-clause-ends
+returns-in_err-bytes-clause-ends c waiting text =
+    let name = c.args.name.now in
+    let e = c.args.endpoint in
+    let w = c.args.self.now.world in
+    let p = stage_of c.args.self.now waiting text in
+    leaving_on (Reports (unless_elects name e w) (Tells name w (IsAdvertLine name e))) (Cut NoMemory) c.from_residual-in_err-bytes.result p p c.from_residual-in_err-bytes.ensures.1 (report_starved (unless_elects name e w) (IsOneLine (Tells name w (IsAdvertLine name e))) p)
+
+pub returns-in_err-line-clause-ends : goal.returns-in_err-line-clause-ends
+returns-in_err-line-clause-ends c waiting text =
+    let name = c.args.name.now in
+    let e = c.args.endpoint in
+    let w = c.args.self.now.world in
+    let p = stage_of c.args.self.now waiting text in
+    leaving_on (Reports (unless_elects name e w) (Tells name w (IsAdvertLine name e))) (Cut NoMemory) c.from_residual-in_err-line.result p p c.from_residual-in_err-line.ensures.1 (report_starved (unless_elects name e w) (IsOneLine (Tells name w (IsAdvertLine name e))) p)
+
+pub returns-in_err-of-clause-ends : goal.returns-in_err-of-clause-ends
+returns-in_err-of-clause-ends c waiting text =
+    let name = c.args.name.now in
+    let e = c.args.endpoint in
+    let w = c.args.self.now.world in
+    let p = stage_of c.args.self.now waiting text in
+    leaving_on (Reports (unless_elects name e w) (Tells name w (IsAdvertLine name e))) (Cut NoMemory) c.from_residual-in_err-of.result p p c.from_residual-in_err-of.ensures.1 (report_starved (unless_elects name e w) (IsOneLine (Tells name w (IsAdvertLine name e))) p)
+
+pub returns-clause-ends : goal.returns-clause-ends
+returns-clause-ends c waiting text =
+    let name = c.args.name.now in
+    let e = c.args.endpoint in
+    let w = c.args.self.now.world in
+    let p = stage_of c.args.self.now waiting text in
+    let found = c.in_ok-member.ensures.found in
     let line = string_bytes c.in_ok-line.line in
-    let line_is : line ≡ advert_line name e c.in_ok-bytes.bytes = c.in_ok-line.ensures ∙ ap (advert_line name e) c.as_slice.ensures in
-    let told = tells_advert name e p.world c.in-Some-router.router.now c.in_ok-bytes.bytes line c.in-Some-router.ensures c.in_ok-bytes.ensures line_is in
-    reported (unless_elects name e p.world) (Tells name p.world (IsAdvertLine name e)) line (stage_of p) c.reported.result c.reported.ensures.code c.reported.ensures.lines (sym c.in_default.ensures) told
+    let told : IsAdvertLine name e c.in_ok-member.member.now line = record { bytes = c.in_ok-bytes.bytes; are_bytes = c.in_ok-bytes.ensures; line_is = c.in_ok-line.ensures ∙ ap (advert_line name e) c.as_slice.ensures } in
+    line_reported (unless_elects name e w) (Tells name w (IsAdvertLine name e)) line c.in_ok-of.field-0 p found.1 (c.in_ok-member.member.now, found.0, told) c.in_ok-of.ensures

@@ -1,25 +1,17 @@
-use Rattle.std.proofs.Common.{ℕ, Option, sym, subst}
-use Rattle.std.proofs.lemmas.Result.{IfOk-weaker}
-use Rattle.hn_world.specs.Step.{IsInRange}
-use Rattle.hn_lab.specs.Events.{CopyEnds, EventEnds}
+use Rattle.std.proofs.Common.{refl}
+use Rattle.hn_lab.specs.Events.{TreatmentEnds, CopyEnds}
 use Rattle.hn_lab.specs.Stage.{stage_of}
-use Rattle.hn_lab.proofs.RunCopies.{some_copy, treatment_in_range, copy_ends}
+use Rattle.hn_lab.proofs.RunCopies.{some_copy, copy_ends}
+use Rattle.hn_lab.proofs.RunStops.{ended_within}
 use Rattle.hn_lab.proofs.playing.Playing.copy.Goals as goal
 
-pub event-requires : goal.event-requires
-event-requires c =
-    let place = c.requires.0 in
-    let some = some_copy c.args.self.now.world.copies place c.requires.1 in
-    let is = c.treatment-event.ensures.treatment place some.0 c.requires.2 some.1 in
-    subst IsInRange (sym is.0) (treatment_in_range (stage_of c.args.self.now) place some.0)
-
 pub returns-clause-ends : goal.returns-clause-ends
-returns-clause-ends c =
+returns-clause-ends g c text =
+    let w = g.W.Wire.waiting c.args.wire.now in
+    let p = stage_of c.args.self.now w text in
+    let q = stage_of c.is_lost-lost.new.self w text in
+    let a = stage_of c.treat.new.self (g.W.Wire.waiting c.treat.new.wire) text in
     let place = c.requires.0 in
     let some = some_copy c.args.self.now.world.copies place c.requires.1 in
-    let is = c.treatment-event.ensures.treatment place some.0 c.requires.2 some.1 in
-    let before = stage_of c.args.self.now in
-    let after = stage_of c.event.new.self in
-    let between = stage_of c.treatment-event.new.self in
-    IfOk-weaker c.event.result (λ (code : Option ℕ). EventEnds c.treatment-event.result code between after) (λ (code : Option ℕ). CopyEnds code before after)
-    (λ code ends. copy_ends before between after c.treatment-event.result place some.0 code c.requires.1 some.1 is.0 is.1 ends) c.event.ensures.ends
+    let lost = c.is_lost-lost.ensures.lost w text place some.0 c.requires.2 some.1 in
+    ended_within (TreatmentEnds c.is_lost-lost.result c.args.copy) CopyEnds c.treat.result p q a (copy_ends p q place some.0 c.args.copy c.is_lost-lost.result c.requires.1 some.1 c.requires.2 lost) refl (c.treat.ensures.ends text)

@@ -1,18 +1,39 @@
-use Rattle.std.proofs.Common.{◌∙◌, ℕ, Option, sym, subst, arith}
+use Rattle.std.proofs.Common.{◌∙◌, sym, refl, arith}
 use Rattle.hn_world.specs.Waiting.{first_waiting}
-use Rattle.hn_lab.specs.Events.{CopyEnds, HasWaiting}
+use Rattle.hn_lab.specs.Events.{CopyEnds, HasWaiting, Flow}
 use Rattle.hn_lab.specs.Stage.{stage_of}
-use Rattle.hn_lab.proofs.RunCopies.{some_waits}
+use Rattle.hn_lab.proofs.RunCopies.{some_waits, none_waits}
 use Rattle.hn_lab.proofs.RunTimes.{once_more}
+use Rattle.hn_lab.proofs.RunStops.{handed_on, stopped_within}
 use Rattle.hn_lab.proofs.playing.Playing.flow.Goals as goal
 
 pub loop-copy-preserved : goal.loop-copy-preserved
-loop-copy-preserved c =
-    let between = stage_of c.loop-copy.self in
-    let after = stage_of c.copy.new.self in
-    let waits = some_waits (first_waiting between.world.copies) c.in-Some.copy (sym c.next_waiting.ensures ∙ c.in-Some.is) in
-    let done = subst (λ (code : Option ℕ). CopyEnds code between after) c.in_default-2.is c.in_ok-code.ensures.ends in
+loop-copy-preserved g c =
+    let before = c.loop-copy.invariant in
+    let waits = some_waits (first_waiting c.loop-copy.self.world.copies) c.in-Some.copy (sym c.next_waiting.ensures ∙ c.in-Some.is) in
     record {
-      treated = once_more HasWaiting CopyEnds (stage_of c.args.self.now) between after c.loop-copy.invariant.treated waits done;
-      kept = let more = (c.in_ok-code.ensures.entered c.in_default-2.is).1 in let kept = c.loop-copy.invariant.kept in omega arith;
+      treated = λ text.
+          once_more HasWaiting CopyEnds (stage_of c.args.self.now (g.W.Wire.waiting c.args.wire.now) text) (stage_of c.loop-copy.self (g.W.Wire.waiting c.loop-copy.wire) text)
+          (stage_of c.copy.new.self (g.W.Wire.waiting c.copy.new.wire) text) (before.treated text) waits (c.in_ok-copy.ensures.ends text);
+      base = c.in_ok-copy.ensures.base ∙ before.base;
+      kept = let more = c.in_ok-copy.ensures.entered.1 in let kept = before.kept in omega arith;
+      unwired = λ none. (c.in_ok-copy.ensures.unwired (before.base ∙ none)).0 ∙ before.unwired none;
+      no_fault = c.in_ok-copy.ensures.counts.stays (λ failed. cc) ∙ before.no_fault;
+      reliable = λ never. (c.in_ok-copy.ensures.reliable (before.reliable never)).0;
     }
+
+pub returns-in_err-copy-clause-ends : goal.returns-in_err-copy-clause-ends
+returns-in_err-copy-clause-ends g c text =
+    let p = stage_of c.args.self.now (g.W.Wire.waiting c.args.wire.now) text in
+    let b = stage_of c.loop-copy.self (g.W.Wire.waiting c.loop-copy.wire) text in
+    let a = stage_of c.copy.new.self (g.W.Wire.waiting c.copy.new.wire) text in
+    let so_far = c.loop-copy.invariant.treated text in
+    let waits = some_waits (first_waiting c.loop-copy.self.world.copies) c.in-Some.copy (sym c.next_waiting.ensures ∙ c.in-Some.is) in
+    let why = c.in_err-copy.field-0.0 in
+    handed_on (λ _. Flow) Flow why c.from_residual.result p a c.from_residual.ensures.1
+    (stopped_within CopyEnds Flow why p b a (λ at h. (so_far.0, b, so_far.1, waits, h)) refl (c.in_err-copy.ensures.ends text))
+
+pub returns-clause-ends : goal.returns-clause-ends
+returns-clause-ends g c text =
+    let so_far = c.loop-copy.invariant.treated text in
+    (so_far.0, so_far.1, λ waits. waits (none_waits (first_waiting c.loop-copy.self.world.copies) (sym c.next_waiting.ensures ∙ c.in_default.is)))

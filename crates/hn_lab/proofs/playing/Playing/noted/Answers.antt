@@ -1,26 +1,27 @@
-use Rattle.std.proofs.Common.{◌∙◌, List, [], map, Some, Err, refl, ap}
-use Rattle.std.specs.Option.{option_map_or}
-use Rattle.hn_base.proofs.Results.{ok_both}
-use Rattle.hn_rules.specs.declared.done.Note.{Note}
-use Rattle.hn_lab.specs.Reports.{note_line}
-use Rattle.hn_lab.specs.Stage.{stage_of}
-use Rattle.hn_lab.specs.declared.playing.Playing.{Playing}
-use Rattle.hn_lab.proofs.RunEvents.{unmoved, noted_refused, noted_done}
+use Rattle.std.proofs.Common.{Err, refl, ap}
+use Rattle.hn_lab.specs.Delivery.{EventNotes, EventEnds}
+use Rattle.hn_lab.specs.Ended.{stop_of}
+use Rattle.hn_lab.specs.declared.end.Stop.TheVariants.{WireFailed}
+use Rattle.hn_lab.specs.Stage.{stage_of, words_of}
+use Rattle.hn_lab.proofs.RunEvents.{same_stage, not_applied, one_more, world_not_broken}
+use Rattle.hn_lab.proofs.RunStops.{handed_on, no_other_error}
 use Rattle.hn_lab.proofs.playing.Playing.noted.Goals as goal
 
-pub returns-in-Err-Refused : goal.returns-in-Err-Refused
-returns-in-Err-Refused c =
-    let code = c.in-Err-Refused.code in
-    let after : Playing = record { world = c.apply.new.self; loss = c.args.self.now.loss; words = c.apply.new.draw } in
-    noted_refused c.args.event c.args.name (stage_of c.args.self.now) (stage_of after) code c.refused.result.code c.refused.result.lines (c.refused.ensures.code ∙ ap Some c.in-Err-Refused.code-is) c.refused.ensures.lines
-    ((c.in-Err-Refused.ensures.refused code).0 (ap Err c.in-Err-Refused.field-0-is))
-    (unmoved c.args.self.now after c.in-Err-Refused.ensures.err refl (c.in-Err-Refused.ensures.undrawn code (ap Err c.in-Err-Refused.field-0-is)))
+pub returns-in_err-apply-clause-ends : goal.returns-in_err-apply-clause-ends
+returns-in_err-apply-clause-ends c waiting text =
+    let p = stage_of c.args.self.now waiting text in
+    let a = stage_of (record { world = c.apply.new.self; loss = c.args.self.now.loss; words = c.apply.new.draw; base = c.args.self.now.base }) waiting text in
+    let why = c.in_err-apply.field-0.0 in
+    handed_on (EventNotes c.args.event) (EventEnds c.args.event) (stop_of why) c.from_residual.result p a c.from_residual.ensures.1
+    (not_applied c.args.event why p a (λ code is. (
+      (c.in_err-apply.ensures.refused code).0 (ap Err is),
+      same_stage p a c.in_err-apply.ensures.err refl (ap words_of (c.in_err-apply.ensures.undrawn code (ap Err is))) refl refl,
+    )))
 
-pub returns-in-Ok : goal.returns-in-Ok
-returns-in-Ok c =
-    let after : Playing = record { world = c.apply.new.self; loss = c.args.self.now.loss; words = c.apply.new.draw } in
-    ok_both c.noted.result _ _ _
-    (λ treated code lines.
-    noted_done c.args.event c.args.name (stage_of c.args.self.now) (stage_of after) c.in-Ok.notes treated.code treated.lines code
-    (lines ∙ ap (λ (notes : List Note). option_map_or (λ n. map (note_line n) notes) c.args.name []) c.as_slice.ensures) (record { step = c.in-Ok.ensures.ok; loss = refl }))
-    c.noted.ensures.code c.noted.ensures.lines
+pub returns-clause-entered : goal.returns-clause-entered
+returns-clause-entered c =
+    let step = c.in_ok-apply.ensures.ok.step in
+    (c.each_event_is_entered.ensures.room _ _ _ _ step, one_more _ _ _ (c.each_event_is_entered.ensures.entered _ _ _ _ step))
+
+pub returns-in_err-apply-clause-unbroken : goal.returns-in_err-apply-clause-unbroken
+returns-in_err-apply-clause-unbroken c = no_other_error (stop_of c.in_err-apply.field-0.0) WireFailed c.from_residual.result c.from_residual.ensures.1 (world_not_broken c.in_err-apply.field-0.0)

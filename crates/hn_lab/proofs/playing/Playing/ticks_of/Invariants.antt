@@ -1,10 +1,14 @@
-use Rattle.std.proofs.Common.{◌≤◌, length, take, None}
+use Rattle.std.proofs.Common.{◌≡◌, ◌≤◌, List, Option, None, length, take}
+use Rattle.hn_wire.specs.declared.datagram.Datagram.{Datagram}
 use Rattle.hn_lab.specs.Events.{TicksOf}
 use Rattle.hn_lab.specs.Stage.{stage_of}
+use Rattle.hn_lab.specs.Told.{Told}
 use Rattle.hn_lab.proofs.playing.Playing.ticks_of.Given as goal
 
+-- the routers so far have ticked
 abbrev pub invariant-loop-name : goal.invariant-loop-name
 invariant-loop-name l = record {
-  ticked : TicksOf (take l.name-index l.names) None (stage_of l.fn.self) (stage_of l.self);
+  ticked : (waiting : Option (List Datagram)) (text : List Told) → TicksOf (take l.name-index l.names) None (stage_of l.fn.self waiting text) (stage_of l.self waiting text);
+  base : l.self.base ≡ l.fn.self.base;
   kept : length l.fn.self.world.trace ≤ length l.self.world.trace;
 }

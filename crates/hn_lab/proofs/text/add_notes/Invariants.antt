@@ -1,7 +1,7 @@
 use Rattle.std.proofs.Common.{◌≡◌, ◌++◌, take}
 use Rattle.std.specs.Prelude.{map}
 use Rattle.hn_lab.specs.Reports.{note_line}
-use Rattle.hn_lab.proofs.treated.add_notes.Given as goal
+use Rattle.hn_lab.proofs.text.add_notes.Given as goal
 
 -- the notes so far have a line each
 abbrev pub invariant-loop-note : goal.invariant-loop-note

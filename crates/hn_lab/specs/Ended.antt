@@ -1,0 +1,40 @@
+-- How a call of a play ended.
+use Rattle.std.specs.Prelude.{◌≡◌, ◌≢◌, ℕ, List, Option, None, Some, Result, Ok, Err}
+use Rattle.hn_io.specs.declared.fault.IoFault.TheVariants.{Failed, NoMemory}
+use Rattle.hn_world.specs.declared.event.WorldFault.{WorldFault}
+use Rattle.hn_world.specs.declared.event.WorldFault.TheVariants as fault
+use Rattle.hn_lab.specs.declared.end.Stop.{Stop}
+use Rattle.hn_lab.specs.declared.end.Stop.TheVariants.{Refused, Cut}
+use Rattle.hn_lab.specs.Process.{Process}
+use Rattle.hn_lab.specs.Stage.{Stage}
+use Rattle.hn_lab.specs.Tells.{TellsLines}
+
+-- A process is stopped at some stage. No line came up so far. It is the last stage of the play, but where memory ended:
+-- what is left of the play then is not known.
+pub record IsStopped (process : Process) (stop : Stop) (before after : Stage) : Type 0 where
+  pub at : Stage
+  pub stopped : process (Some stop) before at
+  pub untold : at.text ≡ before.text
+  pub is_last : stop ≢ Cut NoMemory → at ≡ after
+  pub unwritten : stop ≢ Cut Failed
+
+-- it is done with an answer, or stopped
+abbrev pub EndsWith : {A : Type 0} → (A → Process) → Process → Result A Stop → Stage → Stage → Type 0
+EndsWith done process (Ok answer) before after = done answer None before after
+EndsWith done process (Err stop) before after = IsStopped process stop before after
+
+abbrev pub Ended : {A : Type 0} → Process → Result A Stop → Stage → Stage → Type 0
+Ended process result before after = EndsWith (λ _. process) process result before after
+
+-- it is done but for lines that are left to tell, however the telling of these ends, or stopped
+abbrev pub Leaves : Process → List (List ℕ) → Stage → Stage → Type 0
+Leaves process lines before after = (stop : Option Stop) (end : Stage) → TellsLines lines stop after end → process stop before end
+
+abbrev pub EndsLeaving : Process → Result (List (List ℕ)) Stop → Stage → Stage → Type 0
+EndsLeaving process (Ok lines) before after = Leaves process lines before after
+EndsLeaving process (Err stop) before after = IsStopped process stop before after
+
+-- why a line goes no further, by what a world answers
+abbrev pub stop_of : WorldFault → Stop
+stop_of (fault.Refused code) = Refused code
+stop_of fault.NoMemory = Cut NoMemory

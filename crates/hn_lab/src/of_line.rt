@@ -1,0 +1,76 @@
+//! The events that lines are.
+
+ghost use Rattle.std.specs.Prelude.{◌≡◌, Err, None, Some, IfOk};
+ghost use Rattle.hn_script.specs.Laws.{IsLimited};
+ghost use Rattle.hn_script.specs.declared.line.Line.{Line};
+ghost use Rattle.hn_world.specs.Step.{IsInRange};
+ghost use Rattle.hn_lab.specs.Line.{event_of, injection, source_of};
+
+use hn_base::{Addr, Bytes, EpId, Name};
+use hn_script::{How, Line};
+use hn_world::{HNCP_PORT, WEvent};
+
+/// The source of an injected datagram.
+fn source_of(how: How) -> Addr
+    ensures { result ≡ source_of how }
+{
+    let ip = match how {
+        How::Uni | How::Multi => 0xfe80 << 112,
+        How::Far => (0x2001_0db8 << 96) + 1,
+    };
+    Addr {
+        ip,
+        port: HNCP_PORT,
+    }
+}
+
+/// A datagram that is injected.
+pub(crate) fn injection(name: Name, endpoint: EpId, how: How, bytes: Bytes) -> WEvent
+    ensures { result ≡ injection name endpoint how bytes }
+{
+    let multicast = match how {
+        How::Uni => false,
+        How::Multi | How::Far => true,
+    };
+    WEvent::Inject {
+        name,
+        endpoint,
+        from: source_of(how),
+        multicast,
+        bytes,
+    }
+}
+
+/// The event that a line is, if it is one that writes nothing; else the line.
+pub(crate) fn event_of(line: Line) -> Result<WEvent, Line>
+    requires limited { IsLimited line }
+    ensures in_range { IfOk result IsInRange }
+    ensures event { IfOk result (λ event. event_of line ≡ Some event) }
+    ensures other { (same : Line) → result ≡ Err same → (same ≡ line) × (event_of line ≡ None) }
+{
+    Ok(match line {
+        Line::Router(name, id) => WEvent::Router { name, id },
+        Line::Link(name) => WEvent::Link { name },
+        Line::Attach(name, endpoint, link) => WEvent::Attach {
+            name,
+            endpoint,
+            link,
+        },
+        Line::Detach(name, endpoint) => WEvent::Detach { name, endpoint },
+        Line::External(name, prefix, valid, preferred) => WEvent::External {
+            name,
+            prefix,
+            valid,
+            preferred,
+        },
+        Line::Withdraw(name, prefix) => WEvent::Withdraw { name, prefix },
+        Line::Caps(name, caps) => WEvent::Caps { name, caps },
+        Line::Private(name, length) => WEvent::Private { name, length },
+        Line::Stop(name) => WEvent::Stop { name },
+        Line::Start(name) => WEvent::Start { name },
+        Line::Time(moment) => WEvent::Time { moment },
+        Line::Tick(name) => WEvent::Tick { name },
+        Line::Drop(copy) => WEvent::Drop { copy },
+        other => return Err(other),
+    })
+}

@@ -1,0 +1,83 @@
+ghost use Rattle.std.specs.Prelude.{◌≡◌, [], ◌∷◌, ◌++◌, IfOk, OnOk, map, string_bytes};
+ghost use Rattle.hn_lab.specs.Reports.{note_line};
+ghost use Rattle.hn_lab.specs.Tells.{note_lines};
+
+use crate::notes::note_line;
+use hn_base::{Name, NoMemory};
+use hn_rules::Note;
+use std::alloc::Global;
+use std::marker::Model;
+
+/// Lines of text, each with its LF.
+#[derive(Drop)]
+pub struct Lines {
+    items: Vec<String>,
+}
+
+impl Model for Lines {
+    ghost use Rattle.std.specs.Prelude.{ℕ, List, map, string_bytes};
+
+    ghost Value = { List (List ℕ) };
+
+    ghost view = { λ l. map string_bytes l.items.items };
+}
+
+impl Lines {
+    /// No lines. Never allocates.
+    pub(crate) fn new(alloc: Global) -> Lines
+        ensures { result ≡ [] }
+    {
+        Lines {
+            items: Vec::new(alloc),
+        }
+    }
+
+    /// One line.
+    pub(crate) fn of(alloc: Global, line: String) -> Result<Lines, NoMemory>
+        ensures { IfOk result (λ lines. lines ≡ string_bytes line ∷ []) }
+    {
+        let mut lines = Lines::new(alloc);
+        lines.push(line)?;
+        Ok(lines)
+    }
+
+    /// The lines. Never allocates.
+    pub(crate) fn as_slice(&self) -> &[String]
+        ensures { map string_bytes result.now ≡ self.now }
+    {
+        self.items.as_slice()
+    }
+
+    /// Adds a line.
+    pub(crate) fn push(&mut self, line: String) -> Result<(), NoMemory>
+        ensures { OnOk result (self.new ≡ self.old ++ string_bytes line ∷ []) }
+    {
+        self.items.push(line)?;
+        Ok(())
+    }
+}
+
+/// A line of text for each note of the router of a name, if there is one.
+pub(crate) fn note_lines(
+    alloc: Global,
+    name: Option<Name>,
+    notes: &[Note],
+) -> Result<Lines, NoMemory>
+    ensures { IfOk result (λ lines. lines ≡ note_lines name notes.now) }
+{
+    let mut lines = Lines::new(alloc);
+    if let Some(name) = name {
+        add_notes(alloc, &mut lines, &name, notes)?;
+    }
+    Ok(lines)
+}
+
+/// Adds a line for each note.
+fn add_notes(alloc: Global, lines: &mut Lines, name: &Name, notes: &[Note]) -> Result<(), NoMemory>
+    ensures { OnOk result (lines.new ≡ lines.old ++ map (note_line name.now) notes.now) }
+{
+    for note in notes {
+        lines.push(note_line(alloc, name, note)?)?;
+    }
+    Ok(())
+}

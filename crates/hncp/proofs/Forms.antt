@@ -3,9 +3,9 @@ use Rattle.std.proofs.Common.{◌≡◌, ℕ, ◌-◌, ◌^◌, ◌<◌, ◌≤�
 use Rattle.std.specs.Prelude.{IfNone}
 use Rattle.std.proofs.lemmas.List.{get_or-map}
 use Rattle.hn_script.specs.Field.{IsNumberText}
-use Rattle.hncp.specs.Form.{IsPlainWord, AreCountedWords, IsFormOf}
+use Rattle.hncp.specs.Form.{IsPlainWord, IsBasedWord, AreCountedWords, IsFormOf}
 use Rattle.hncp.specs.declared.words.Form.{Form}
-use Rattle.hncp.specs.declared.words.Form.TheVariants.{Lab, Decode, Watch, Soak}
+use Rattle.hncp.specs.declared.words.Form.TheVariants.{Lab, Udp, Decode, Watch, Soak}
 
 -- the text of the word at a place
 pub word_at : {A : Type 0} (text : A → List ℕ) (words : List A) (i : ℕ) (word : A) (found : List ℕ) → i < length words → word ≡ get_or words i word → found ≡ text word → get_or (map text words) i [] ≡ found
@@ -13,12 +13,23 @@ word_at text words i word found within is found_is = get_or-map text words i wor
 
 plain_word : (form : Form) (words : List (List ℕ)) → length words < 3 → IsFormOf form words → IsPlainWord form (get_or words 1 [])
 plain_word Lab words few h = ap (λ (found : List (List ℕ)). get_or found 1 []) h.1
+plain_word (Udp base) words few h = absurd (omega (arith, ap length h.2))
 plain_word Decode words few h = ap (λ (found : List (List ℕ)). get_or found 1 []) h.1
 plain_word Watch words few h = ap (λ (found : List (List ℕ)). get_or found 1 []) h.1
 plain_word (Soak n seed) words few h = absurd (omega (arith, ap length h.3))
 
+based_words : (form : Form) (words : List (List ℕ)) → length words ≡ 3 → IsFormOf form words → IsBasedWord form (get_or words 1 []) (get_or words 2 [])
+based_words Lab words three h = absurd (omega (arith, ap length h.1))
+based_words (Udp base) words three h =
+    let at : (i : ℕ) → get_or words i [] ≡ get_or (h.0 ∷ codes "udp" ∷ h.1 ∷ []) i [] = λ i. ap (λ (found : List (List ℕ)). get_or found i []) h.2 in
+    (at 1, subst (λ (word : List ℕ). IsNumberText 1024 65534 word base) (sym (at 2)) h.3)
+based_words Decode words three h = absurd (omega (arith, ap length h.1))
+based_words Watch words three h = absurd (omega (arith, ap length h.1))
+based_words (Soak n seed) words three h = absurd (omega (arith, ap length h.3))
+
 counted_words : (form : Form) (words : List (List ℕ)) → 4 ≤ length words → IsFormOf form words → AreCountedWords form (get_or words 1 []) (get_or words 2 []) (get_or words 3 [])
 counted_words Lab words many h = absurd (omega (arith, ap length h.1))
+counted_words (Udp base) words many h = absurd (omega (arith, ap length h.2))
 counted_words Decode words many h = absurd (omega (arith, ap length h.1))
 counted_words Watch words many h = absurd (omega (arith, ap length h.1))
 counted_words (Soak n seed) words many h =
@@ -28,11 +39,18 @@ counted_words (Soak n seed) words many h =
       subst (λ (word : List ℕ). IsNumberText 0 (2 ^ 64 - 1) word seed) (sym (at 3)) h.5,
     )
 
--- two words are bad usage if the second is no form's, and four if the further ones are none's
+-- two words are bad usage if the second is no form's, and three and four if the further ones are none's
 pub no_plain_form : (r : Option Form) (word : List ℕ) (words : List (List ℕ)) → length words < 3 → get_or words 1 [] ≡ word
     → IfNone r ((form : Form) → IsPlainWord form word → ⊥) → IfNone r ((form : Form) → IsFormOf form words → ⊥)
 no_plain_form None word words few is none = λ form h. none form (subst (IsPlainWord form) is (plain_word form words few h))
 no_plain_form (Some found) word words few is none = tt
+
+pub no_based_form : (r : Option Form) (word base : List ℕ) (words : List (List ℕ)) → length words ≡ 3 → get_or words 1 [] ≡ word → get_or words 2 [] ≡ base
+    → IfNone r ((form : Form) → IsBasedWord form word base → ⊥) → IfNone r ((form : Form) → IsFormOf form words → ⊥)
+no_based_form None word base words three first second none = λ form h.
+    let asks = based_words form words three h in
+    none form (subst (λ (w : List ℕ). IsBasedWord form word w) second (subst (λ (w : List ℕ). IsBasedWord form w (get_or words 2 [])) first asks))
+no_based_form (Some found) word base words three first second none = tt
 
 pub no_counted_form : (r : Option Form) (word count chance : List ℕ) (words : List (List ℕ)) → 4 ≤ length words → get_or words 1 [] ≡ word → get_or words 2 [] ≡ count → get_or words 3 [] ≡ chance
     → IfNone r ((form : Form) → AreCountedWords form word count chance → ⊥) → IfNone r ((form : Form) → IsFormOf form words → ⊥)

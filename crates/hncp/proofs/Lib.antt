@@ -8,3 +8,4 @@ mod Spelled
 mod Captures
 mod WatchTexts
 mod WatchSources
+mod Outcomes

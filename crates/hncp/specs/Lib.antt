@@ -1,6 +1,6 @@
-pub mod Form
 pub mod HexText
 pub mod Decode
-pub mod Soak
-pub mod Watch
 pub mod Capture
+pub mod Watch
+pub mod Form
+pub mod Outcome

@@ -1,10 +1,11 @@
-//! The program `hncp`: a laboratory of home routers, which runs a script, or that of a soak, and writes its transcript,
-//! a reader of datagrams, and a watch of what was claimed on a link.
+//! The program `hncp`: a laboratory of home routers, which runs a script, or that of a soak, and writes its transcript, in
+//! memory or over loopback sockets; a reader of datagrams; and a watch of what was claimed on a link.
 #![tactic(auto)]
 
 mod capture;
 mod decode;
 mod hex_text;
+mod outcome;
 mod output;
 mod report;
 mod run;
@@ -14,11 +15,15 @@ mod status;
 #[cfg(test)]
 mod tests;
 mod watch;
+#[cfg(test)]
+mod wire_tests;
 mod words;
 
 use hn_io::{ReaderSource, WriterSink};
+use hn_udp::UdpWire;
+use hn_wire::MachineClock;
 use run::run;
-use status::{BAD_USAGE, NO_MEMORY, REFUSED, SINK_FAILED, SOURCE_FAILED};
+use status::{BAD_USAGE, NO_MEMORY, REFUSED, SINK_FAILED, SOURCE_FAILED, WIRE_FAILED};
 use std::alloc::Global;
 use std::io::{BufWriter, ErrorKind, Write};
 use std::process::ExitCode;
@@ -38,10 +43,13 @@ fn words_of(rt: &(impl Env + AllocGlobal), alloc: Global) -> io::Result<Vec<Stri
 fn reason(status: u8) -> &'static str {
     match status {
         BAD_USAGE =>
-            "usage: hncp lab < SCRIPT, hncp decode < HEXTEXT, hncp watch < CAPTURE, or hncp soak ROUTERS SEED",
-        REFUSED => "hncp: the input was refused; the last line of the output says why",
+            "usage: hncp lab < SCRIPT, hncp udp BASE < SCRIPT, hncp decode < HEXTEXT, hncp watch < CAPTURE, or hncp soak ROUTERS SEED\n\
+             BASE: 1024 to 65534; ROUTERS: 2 to 32; SEED: 0 to 18446744073709551615",
+        REFUSED =>
+            "hncp: the input was refused; the last line of the output has its line and code (docs/FORMATS.md, \"Codes\")",
         SOURCE_FAILED => "hncp: standard input failed",
         SINK_FAILED => "hncp: standard output failed",
+        WIRE_FAILED => "hncp: a loopback socket failed",
         NO_MEMORY => "hncp: out of memory",
         _ => "",
     }
@@ -61,9 +69,11 @@ fn status_of(rt: &HostRuntime) -> u8 {
     };
     let mut source = ReaderSource::new(rt.reader());
     let mut sink = WriterSink::new(&mut writer);
-    let played = run(alloc, &words, &mut source, &mut sink);
+    let mut wire = UdpWire::new(alloc, rt);
+    let mut clock = MachineClock::new(rt);
+    let outcome = run(alloc, &words, &mut source, &mut sink, &mut wire, &mut clock);
     match writer.flush() {
-        Ok(()) => played.status,
+        Ok(()) => outcome.status,
         Err(_) => SINK_FAILED,
     }
 }

@@ -2,6 +2,7 @@ use crate::run::run;
 use crate::status::{BAD_USAGE, DONE, REFUSED, SINK_FAILED, SOURCE_FAILED};
 use crate::words::Form;
 use hn_io::{IoFault, MemSink, MemSource, Sink, Source};
+use hn_wire::{MemClock, MemWire, Wire};
 use std::alloc::{AllocError, Global};
 use std::test::Fail;
 
@@ -47,17 +48,31 @@ fn words(alloc: Global, texts: &[&str]) -> Result<Vec<String>, AllocError> {
     Ok(words)
 }
 
-/// Runs the program with these words: its status, and how many events the world has that it came to, if it has one.
+/// Runs the program with these words over a wire: its status, and how many events the world has that it came to, if it has
+/// one.
+pub fn play_over<S: Source, K: Sink, W: Wire>(
+    alloc: Global,
+    texts: &[&str],
+    source: &mut S,
+    sink: &mut K,
+    wire: &mut W,
+) -> Result<(u8, Option<usize>), AllocError> {
+    let words = words(alloc, texts)?;
+    let mut clock = MemClock::new(vec![in alloc; 0]?);
+    let outcome = run(alloc, &words, source, sink, wire, &mut clock);
+    let events = outcome.world.map(|world| world.trace().len());
+    Ok((outcome.status, events))
+}
+
+/// The same over a wire on which nothing waits.
 fn play<S: Source, K: Sink>(
     alloc: Global,
     texts: &[&str],
     source: &mut S,
     sink: &mut K,
 ) -> Result<(u8, Option<usize>), AllocError> {
-    let words = words(alloc, texts)?;
-    let played = run(alloc, &words, source, sink);
-    let events = played.world.map(|world| world.trace().len());
-    Ok((played.status, events))
+    let mut wire = MemWire::new(alloc, Vec::new(alloc));
+    play_over(alloc, texts, source, sink, &mut wire)
 }
 
 #[test]
@@ -90,7 +105,7 @@ fn a_source_that_is_too_long(rt: HostRuntime) -> Result<(), Fail> {
 #[test]
 fn words_that_are_bad_usage(rt: HostRuntime) -> Result<(), Fail> {
     let alloc = rt.alloc();
-    let lists: [&[&str]; 17] = [
+    let lists: [&[&str]; 23] = [
         &[],
         &["hncp"],
         &["lab"],
@@ -108,6 +123,12 @@ fn words_that_are_bad_usage(rt: HostRuntime) -> Result<(), Fail> {
         &["hncp", "soak", "", "1"],
         &["hncp", "soak", "6", "1", "1"],
         &["hncp", "lab", "6", "1"],
+        &["hncp", "lab", "9000"],
+        &["hncp", "udp"],
+        &["hncp", "udp", "1023"],
+        &["hncp", "udp", "65535"],
+        &["hncp", "udp", "9000", "9001"],
+        &["udp", "9000"],
     ];
     for texts in lists {
         let mut source = MemSource::new(b"hncp 1\n".to_vec(alloc)?, Vec::new(alloc));

@@ -7,6 +7,8 @@ use hn_script::number_in;
 pub enum Form {
     /// `lab`: the transcript of a script.
     Lab,
+    /// `udp BASE`: the same, where each copy that is delivered goes from this port, 1,024 to 65,534, to the port after it.
+    Udp { base: u16 },
     /// `decode`: the contents of a datagram.
     Decode,
     /// `watch`: what was claimed by the datagrams of a capture.
@@ -16,7 +18,7 @@ pub enum Form {
 }
 
 impl Form {
-    ghost use Rattle.hncp.specs.Form.{IsFormOf, IsPlainWord, AreCountedWords};
+    ghost use Rattle.hncp.specs.Form.{IsFormOf, IsPlainWord, IsBasedWord, AreCountedWords};
 
     /// The form without numbers of this word.
     fn named(word: &str) -> Option<Form>
@@ -31,7 +33,19 @@ impl Form {
         }
     }
 
-    /// The form with numbers of these words.
+    /// The form with one number of these words.
+    fn based(word: &str, base: &str) -> Option<Form>
+        ensures found { IfSome result (λ form. IsBasedWord form word.now base.now) }
+        ensures none { IfNone result ((form : Form) → IsBasedWord form word.now base.now → ⊥) }
+    {
+        if word != "udp" {
+            return None;
+        }
+        let base = number_in(base.as_bytes(), 1024, 65_534)?;
+        Some(Form::Udp { base: base as u16 })
+    }
+
+    /// The form with two numbers of these words.
     fn counted(word: &str, count: &str, seed: &str) -> Option<Form>
         ensures found { IfSome result (λ form. AreCountedWords form word.now count.now seed.now) }
         ensures none { IfNone result ((form : Form) → AreCountedWords form word.now count.now seed.now → ⊥) }
@@ -52,6 +66,7 @@ impl Form {
     {
         match words {
             [_, form] => Form::named(form.as_str()),
+            [_, form, base] => Form::based(form.as_str(), base.as_str()),
             [_, form, count, seed] => Form::counted(form.as_str(), count.as_str(), seed.as_str()),
             _ => None,
         }

@@ -6,6 +6,7 @@ use hn_decode::decode;
 use hn_io::{MemSink, MemSource};
 use hn_lab::{DONE, REFUSED, lab};
 use hn_tlv::ListFault;
+use hn_wire::MemWire;
 use std::alloc::{AllocError, Global};
 use std::io::{Error, ErrorKind};
 use std::{fs, io};
@@ -21,7 +22,8 @@ struct Outcome {
 fn played(alloc: Global, script: Vec<u8>) -> Result<Outcome, AllocError> {
     let mut source = MemSource::new(script, Vec::new(alloc));
     let mut sink = MemSink::new(alloc, Vec::new(alloc));
-    let played = lab(alloc, &mut source, &mut sink);
+    let mut wire = MemWire::new(alloc, Vec::new(alloc));
+    let played = lab(alloc, &mut source, &mut sink, &mut wire, None);
     Ok(Outcome {
         status: played.status,
         text: sink.held().to_vec(alloc)?,

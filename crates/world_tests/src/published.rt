@@ -2,6 +2,7 @@ use hn_io::{MemSink, MemSource};
 use hn_lab::lab;
 use hn_rules::Publication;
 use hn_store::HeldNode;
+use hn_wire::MemWire;
 use hn_world::World;
 use std::alloc::{AllocError, Global};
 use std::test::Fail;
@@ -50,7 +51,8 @@ pub(crate) fn world_of(alloc: Global, script: &str) -> Result<Option<World>, All
     let text = script.as_bytes().to_vec(alloc)?;
     let mut source = MemSource::new(text, Vec::new(alloc));
     let mut sink = MemSink::new(alloc, Vec::new(alloc));
-    Ok(lab(alloc, &mut source, &mut sink).world)
+    let mut wire = MemWire::new(alloc, Vec::new(alloc));
+    Ok(lab(alloc, &mut source, &mut sink, &mut wire, None).world)
 }
 
 #[test]

@@ -1,0 +1,29 @@
+use Rattle.std.proofs.Common.{◌∙◌, ℕ, List, refl, ap, subst, inr}
+use Rattle.std.proofs.lemmas.List.{append-nil}
+use Rattle.std.proofs.lemmas.Result.{on_ok_weaker}
+use Rattle.hn_own.specs.Addresses.{OwnAddress}
+use Rattle.hn_rules.specs.Seen.{seen_by}
+use Rattle.hn_addr.specs.Addresses.{Stays}
+use Rattle.hn_addr.specs.Numbers.{HasNoneFrom}
+use Rattle.hn_addr.specs.declared.choosing.Choosing.{Choosing}
+use Rattle.hn_addr.proofs.Choosings.{draws_none}
+use Rattle.hn_addr.proofs.Numbers.{none_fits}
+use Rattle.hn_addr.proofs.choosing.Choosing.step.Goals as goal
+
+pub returns-in-Some-clause-drew : goal.returns-in-Some-clause-drew
+returns-in-Some-clause-drew g c =
+    let before = c.args.self.now in
+    on_ok_weaker c.add.result
+    (λ is. draws_none (g.D.Draw.words c.args.draw.now) before.words c.add.new.self.words (ap (λ (p : Choosing). p.words) is ∙ append-nil before.words))
+    c.add.ensures
+
+pub returns-in-None-clause-chosen : goal.returns-in-None-clause-chosen
+returns-in-None-clause-chosen g c =
+    let view = seen_by c.args.router.now in
+    let own = c.args.router.now.addresses in
+    let others = c.args.others.now in
+    let this = c.args.c.now in
+    let list = c.args.self.now.list in
+    let nobody : (x : ℕ) → ¬ Stays view own this list x = subst (λ (l : List OwnAddress). (x : ℕ) → ¬ Stays view own this l x) c.as_slice.ensures c.in_default.ensures in
+    let none : HasNoneFrom others list this.prefix 1 = subst (λ (l : List OwnAddress). HasNoneFrom others l this.prefix 1) c.as_slice-2.ensures c.in-None.ensures in
+    inr (nobody, inr (none_fits view others c.requires this list none, refl))

@@ -1,0 +1,5 @@
+use Rattle.hn_addr.proofs.Choosings.{one_choosing}
+use Rattle.hn_addr.proofs.laws.choosing_is_unique.Goals as goal
+
+pub returns : goal.returns
+returns c = one_choosing

@@ -1,0 +1,5 @@
+use Rattle.hn_addr.proofs.Stills.{still_stay}
+use Rattle.hn_addr.proofs.laws.still_addresses_stay.Goals as goal
+
+pub returns : goal.returns
+returns c = still_stay

@@ -1,0 +1,6 @@
+use Rattle.std.proofs.Common.{take}
+use Rattle.hn_addr.specs.Own.{IsLeastFound}
+use Rattle.hn_addr.proofs.stays.least_own.Given as goal
+
+abbrev pub invariant-loop-a : goal.invariant-loop-a
+invariant-loop-a l = IsLeastFound (take l.a-index l.own) l.c l.least

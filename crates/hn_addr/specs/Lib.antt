@@ -1,0 +1,6 @@
+pub mod Addresses
+pub mod Others
+pub mod Own
+pub mod Numbers
+pub mod Choosings
+pub mod Laws

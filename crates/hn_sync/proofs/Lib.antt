@@ -1,0 +1,9 @@
+mod Lists
+mod Pairs
+mod Joints
+mod Asked
+mod Streams
+mod Delivered
+mod Uniques
+mod Answering
+mod Between

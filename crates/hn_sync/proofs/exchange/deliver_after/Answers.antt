@@ -1,0 +1,27 @@
+use Rattle.std.proofs.Common.{◌≡◌, ◌∙◌, Err, ap, sym, arith}
+use Rattle.std.proofs.lemmas.Result.{err_from_is_err_and}
+use Rattle.hn_base.proofs.Results.{same_error}
+use Rattle.hn_world.specs.declared.event.WorldFault.TheVariants as fault
+use Rattle.hn_sync.proofs.Delivered.{came_more, refused_then, cut_then}
+use Rattle.hn_sync.proofs.exchange.deliver_after.Goals as goal
+
+pub loop-delivered-preserved : goal.loop-delivered-preserved
+loop-delivered-preserved g c =
+    let told = g.D.Draw.words in
+    let at = c.loop-delivered in
+    came_more c.words_join.ensures c.args.copies at.delivered (told c.args.draw.now) (told at.draw) (told c.apply.new.draw) c.args.world.now at.world c.apply.new.self c.in_ok-apply.field-0 at.invariant c.in_ok-apply.ensures.ok
+
+pub returns-in_err-apply-clause-refused : goal.returns-in_err-apply-clause-refused
+returns-in_err-apply-clause-refused g c = λ code failed.
+    let told = g.D.Draw.words in
+    let at = c.loop-delivered in
+    let exit = err_from_is_err_and c.from_residual.result c.from_residual.ensures.1 in
+    let is : c.in_err-apply.field-0.0 ≡ fault.Refused code = sym exit.2 ∙ same_error _ _ (sym exit.1 ∙ failed) in
+    refused_then c.args.copies at.delivered (told c.args.draw.now) (told at.draw) c.args.world.now at.world c.apply.new.self c.in_err-apply.ensures.err at.invariant (omega arith)
+    (told c.apply.new.draw) (ap told (c.in_err-apply.ensures.undrawn code (ap Err is))) code ((c.in_err-apply.ensures.refused code).0 (ap Err is))
+
+pub returns-in_err-apply-clause-starved : goal.returns-in_err-apply-clause-starved
+returns-in_err-apply-clause-starved g c = λ failed.
+    let told = g.D.Draw.words in
+    let at = c.loop-delivered in
+    cut_then c.args.copies at.delivered (told c.args.draw.now) (told at.draw) c.args.world.now at.world c.apply.new.self c.in_err-apply.ensures.err at.invariant (omega arith)

@@ -1,0 +1,3 @@
+pub mod Joined
+pub mod Exchange
+pub mod Laws

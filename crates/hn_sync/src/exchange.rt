@@ -1,0 +1,103 @@
+//! One exchange: a router asks another one for the network state, and each datagram of this is delivered at once.
+
+ghost use Rattle.std.specs.Prelude.{◌≡◌, ◌⊎◌, ◌+◌, ℕ, List, None, Some, Err, OnOk};
+ghost use Rattle.hn_base.specs.Words.{Took};
+ghost use Rattle.hn_world.specs.declared.event.Traced.{Traced};
+ghost use Rattle.hn_world.specs.declared.event.WEvent.{WEvent};
+ghost use Rattle.hn_world.specs.declared.parts.Parts.{Parts};
+ghost use Rattle.hn_world.specs.Refusal.{refusal};
+ghost use Rattle.hn_world.specs.Replay.{words_of};
+ghost use Rattle.hn_sync.specs.Exchange.{AreDelivered, Exchanges, IsCutOff, StopsAt, unless_exchange};
+
+use crate::joint::unless_exchange;
+use crate::laws::{refused_or_asked, stops_for_room_alone};
+use crate::question::question;
+use hn_base::Name;
+use hn_io::{Draw, words_join};
+use hn_world::{WEvent, World, WorldFault, each_event_is_entered};
+use std::alloc::Global;
+
+/// An exchange between two routers of a world.
+pub trait Exchange {
+    ghost parts: { Self → Parts };
+
+    /// B asks a for the network state (RFC 7787, section 4.2): a Request Network State arrives at the least endpoint of a
+    /// that is joined with one of b, by unicast, from the address of the least one of b for it. Endpoints are joined that
+    /// are peers of each other and are attached to one link. Then each copy that was made since is delivered, in ascending
+    /// number, new ones included, until every one was. All this is one moment.
+    ///
+    /// # Errors
+    ///
+    /// `Refused`, and then the world is as before: 7, a name is unknown, which is asked of both first; 12, one of the two is
+    /// stopped; 18, no endpoints of the two are joined. `Refused` where the next of the events is refused: 9, it would be the
+    /// 1,000,001st event; 16, there is too much mail. Out of memory. What happened before stands then.
+    fn sync<D: Draw>(
+        &mut self,
+        alloc: Global,
+        a: &Name,
+        b: &Name,
+        draw: &mut D,
+    ) -> Result<(), WorldFault>
+        ensures ok { OnOk result (Exchanges a.now b.now None (D.words draw.old) (D.words draw.new) (parts self.old) (parts self.new)) }
+        ensures first { (code : ℕ) → unless_exchange a.now b.now (parts self.old) ≡ Some code
+            → (result ≡ Err (WorldFault.Refused code)) × (self.new ≡ self.old) × (draw.new ≡ draw.old) }
+        ensures later { (code : ℕ) → unless_exchange a.now b.now (parts self.old) ≡ None → result ≡ Err (WorldFault.Refused code)
+            → StopsAt a.now b.now code (D.words draw.old) (D.words draw.new) (parts self.old) (parts self.new) }
+        ensures room { (code : ℕ) → unless_exchange a.now b.now (parts self.old) ≡ None → result ≡ Err (WorldFault.Refused code)
+            → (code ≡ 9) ⊎ (code ≡ 16) }
+        ensures starved { result ≡ Err WorldFault.NoMemory
+            → IsCutOff a.now b.now (parts self.old) (parts self.new) };
+}
+
+/// The copies after so many are delivered, in ascending number, new ones included, until every one was.
+///
+/// # Errors
+///
+/// `Refused` with the code with which the next of the deliveries is refused, and out of memory. Those before it stand then.
+fn deliver_after<D: Draw>(
+    world: &mut World,
+    alloc: Global,
+    copies: u64,
+    draw: &mut D,
+) -> Result<(), WorldFault>
+    ensures ok { OnOk result ((ts : List Traced) × AreDelivered (copies + 1) ts None world.old world.new × Took (D.words draw.old) (words_of ts) (D.words draw.new)) }
+    ensures refused { (code : ℕ) → result ≡ Err (WorldFault.Refused code)
+        → (ts : List Traced) × (next : WEvent) × AreDelivered (copies + 1) ts (Some next) world.old world.new
+        × (refusal world.new next ≡ Some code) × Took (D.words draw.old) (words_of ts) (D.words draw.new) }
+    ensures starved { result ≡ Err WorldFault.NoMemory
+        → (ts : List Traced) × (next : WEvent) × AreDelivered (copies + 1) ts (Some next) world.old world.new }
+{
+    words_join();
+    each_event_is_entered();
+    let mut delivered = copies;
+    while delivered < world.copies() {
+        let copy = delivered + 1;
+        world.apply(alloc, WEvent::Deliver { copy }, draw)?;
+        delivered = copy;
+    }
+    Ok(())
+}
+
+impl Exchange for World {
+    ghost parts = { λ w. w };
+
+    fn sync<D: Draw>(
+        &mut self,
+        alloc: Global,
+        a: &Name,
+        b: &Name,
+        draw: &mut D,
+    ) -> Result<(), WorldFault> {
+        if let Some(code) = unless_exchange(self, a, b) {
+            return Err(WorldFault::Refused(code));
+        }
+        words_join();
+        refused_or_asked();
+        stops_for_room_alone();
+        self.is_replayed();
+        let question = question(alloc, self, a, b)?;
+        let copies = self.copies();
+        self.apply(alloc, question, draw)?;
+        deliver_after(self, alloc, copies, draw)
+    }
+}

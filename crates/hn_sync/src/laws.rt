@@ -1,0 +1,59 @@
+//! Laws of exchanges. Each is the contract of a function that does nothing.
+
+ghost use Rattle.hn_sync.specs.Laws.{JointIsLeast, NoJointWhereNoneJoined, QuestionIsPacked, AsksOrIsRefused, QuestionIsUnique, ExchangeIsEntered, ExchangeIsUnique, StopsForRoomAlone};
+
+use hn_dncp::packing_is_unique;
+use hn_router::endpoints_follow;
+use hn_world::{always_sound, at_most_one_world, each_event_is_entered, step_is_unique};
+
+/// What is computed are the least endpoints by which two routers are joined, and there are none exactly where no endpoints
+/// of the two are.
+pub fn joint_is_least()
+    ensures least { JointIsLeast }
+    ensures none { NoJointWhereNoneJoined }
+{}
+
+/// The datagram of a question is what a Request Network State is packed into, and nothing else is.
+pub fn question_is_packed()
+    ensures { QuestionIsPacked }
+{
+    packing_is_unique();
+}
+
+/// An exchange is refused before anything happens if and only if there is no question.
+pub fn refused_or_asked()
+    ensures { AsksOrIsRefused }
+{
+    always_sound();
+}
+
+/// There is at most one question.
+pub fn question_is_unique()
+    ensures { QuestionIsUnique }
+{}
+
+/// An exchange adds exactly its events to the trace.
+pub fn exchange_is_entered()
+    ensures { ExchangeIsEntered }
+{
+    each_event_is_entered();
+}
+
+/// From one world, over one stream of words that a draw tells, an exchange ends in at most one way.
+pub fn exchange_is_unique()
+    ensures { ExchangeIsUnique }
+{
+    step_is_unique();
+    each_event_is_entered();
+    question_is_unique();
+}
+
+/// An exchange stops for lack of room alone. Its copies go to and fro between the two endpoints, which stay attached to
+/// routers that run.
+pub fn stops_for_room_alone()
+    ensures { StopsForRoomAlone }
+{
+    always_sound();
+    at_most_one_world();
+    endpoints_follow();
+}

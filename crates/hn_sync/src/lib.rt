@@ -1,0 +1,14 @@
+//! One exchange between two routers of a world.
+#![tactic(auto)]
+
+mod exchange;
+mod joint;
+mod laws;
+mod question;
+
+pub use exchange::Exchange;
+pub use joint::NOT_JOINED;
+pub use laws::{
+    exchange_is_entered, exchange_is_unique, joint_is_least, question_is_packed,
+    question_is_unique, refused_or_asked, stops_for_room_alone,
+};

@@ -6,7 +6,7 @@ use Rattle.hn_base.specs.Input.{IsWhole}
 use Rattle.hn_base.proofs.WholeSources.{of_source}
 use Rattle.hn_io.specs.declared.fault.IoFault.{IoFault}
 use Rattle.hn_io.specs.declared.fault.IoFault.TheVariants.{Failed, NoMemory}
-use Rattle.hn_script.specs.Script.{IsScript, IsFirstFault}
+use Rattle.hn_script.specs.Script.{IsFirstFault}
 use Rattle.hn_script.specs.declared.fault.ScriptFault.{ScriptFault}
 use Rattle.hn_script.specs.declared.line.Line.{Line}
 use Rattle.hn_script.specs.declared.script.Script.{Script}
@@ -18,7 +18,7 @@ use Rattle.hn_lab.specs.Laws.{AtMostOnePlay}
 use Rattle.hn_lab.specs.Output.{AppendsFront, IsCutText}
 use Rattle.hn_lab.specs.Play.{begun, IsPlay, IsCut, IsCutPlay}
 use Rattle.hn_lab.specs.Stage.{Stage, Route}
-use Rattle.hn_lab.specs.Told.{Told, bytes_of}
+use Rattle.hn_lab.specs.Told.{bytes_of}
 
 -- ---- the status of a play
 

@@ -1,12 +1,12 @@
 -- Deliveries: by mail, and over a wire.
-use Rattle.std.proofs.Common.{◌≡◌, ◌≢◌, ◌∙◌, ◌≤◌, ◌-◌, ◌==◌, Bool, true, false, cond, ℕ, List, [], length, Option, None, Some, Result, Ok, Err, inl, inr, refl, sym, ap, subst}
+use Rattle.std.proofs.Common.{◌≡◌, ◌∙◌, ◌≤◌, ◌-◌, ◌==◌, Bool, true, false, cond, ℕ, List, [], length, Option, None, Some, Result, Ok, Err, inl, inr, refl, sym, ap, subst}
 use Rattle.std.specs.Option.{option_map, option_and_then}
 use Rattle.std.specs.List.{slice_get}
 use Rattle.std.proofs.lemmas.Option.{same_Some}
 use Rattle.std.proofs.lemmas.List.Elements.{All-contains}
 use Rattle.hn_base.proofs.Decisions.{some_there}
 use Rattle.hn_base.proofs.Parts.{contains_at}
-use Rattle.hn_io.specs.declared.fault.IoFault.TheVariants.{Failed, NoMemory}
+use Rattle.hn_io.specs.declared.fault.IoFault.TheVariants.{NoMemory}
 use Rattle.hn_rules.specs.declared.done.Note.{Note}
 use Rattle.hn_wire.specs.declared.datagram.Datagram.{Datagram}
 use Rattle.hn_world.specs.declared.copies.CopyInfo.{CopyInfo}
@@ -19,13 +19,12 @@ use Rattle.hn_world.specs.Leaves.{info_of}
 use Rattle.hn_world.specs.Within.{AreWithinLimits}
 use Rattle.hn_world.specs.Refusal.{refusal, copy_at, of_router, unless_received}
 use Rattle.hn_lab.specs.declared.carrying.Carried.{Carried}
-use Rattle.hn_lab.specs.declared.carrying.Carried.TheVariants.{Same, Lost, Other}
+use Rattle.hn_lab.specs.declared.carrying.Carried.TheVariants.{Same}
 use Rattle.hn_lab.specs.declared.end.Stop.{Stop}
 use Rattle.hn_lab.specs.declared.end.Stop.TheVariants.{Refused, WireFailed, Cut}
 use Rattle.hn_lab.specs.Carrying.{CarriesOver, Carries}
-use Rattle.hn_lab.specs.Delivery.{EventNotes, EventEnds, injection_for, Replaces, IsReplaced, ComesTo, IsConveyed, Conveys, DeliveryEnds, Delivers}
+use Rattle.hn_lab.specs.Delivery.{EventNotes, EventEnds, injection_for, Replaces, IsReplaced, ComesTo, Conveys, DeliveryEnds, Delivers}
 use Rattle.hn_lab.specs.Ended.{IsStopped, EndsWith}
-use Rattle.hn_lab.specs.Line.{receiver}
 use Rattle.hn_lab.specs.Process.{Process}
 use Rattle.hn_lab.specs.Stage.{Stage, Route, Mail, Ports, route_of}
 use Rattle.hn_lab.proofs.RunStops.{stopped_within, stopped_last, starved}

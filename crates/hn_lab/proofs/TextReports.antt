@@ -20,10 +20,10 @@ use Rattle.hn_io.specs.declared.fault.IoFault.TheVariants.{NoMemory}
 use Rattle.hn_lab.specs.declared.end.Stop.{Stop}
 use Rattle.hn_lab.specs.declared.end.Stop.TheVariants.{Refused, Cut}
 use Rattle.hn_lab.specs.Ended.{IsStopped, Leaves}
-use Rattle.hn_lab.specs.Line.{IsOf, Compares}
+use Rattle.hn_lab.specs.Line.{Compares}
 use Rattle.hn_lab.specs.Process.{Unless}
 use Rattle.hn_lab.specs.Tells.{ReportsLines, Reports, IsOneLine, TellsSome}
-use Rattle.hn_lab.specs.Reports.{yes_no, show_line, hash_line, compare_line}
+use Rattle.hn_lab.specs.Reports.{yes_no, show_line, compare_line}
 use Rattle.hn_lab.specs.Stage.{Stage}
 use Rattle.hn_base.proofs.Decisions.{neither_given, some_there}
 use Rattle.hn_lab.proofs.RunStops.{then_on, starved, stopped_last}

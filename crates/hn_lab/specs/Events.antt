@@ -3,14 +3,11 @@ use Rattle.std.specs.Prelude.{◌≡◌, ◌≢◌, ◌⊎◌, ◌≤◌, ◌<�
 use Rattle.std.specs.List.{slice_get}
 use Rattle.hn_base.specs.declared.name.Name.{Name}
 use Rattle.hn_world.specs.declared.copies.MailCopy.{MailCopy}
-use Rattle.hn_world.specs.declared.event.WEvent.{WEvent}
 use Rattle.hn_world.specs.declared.event.WEvent.TheVariants as event
 use Rattle.hn_world.specs.Receivers.{is_away, running_names}
-use Rattle.hn_world.specs.Refusal.{refusal}
-use Rattle.hn_world.specs.Step.{IsStep}
 use Rattle.hn_world.specs.Waiting.{first_waiting}
 use Rattle.hn_lab.specs.declared.end.Stop.{Stop}
-use Rattle.hn_lab.specs.declared.end.Stop.TheVariants.{Refused, WireFailed, Cut}
+use Rattle.hn_lab.specs.declared.end.Stop.TheVariants.{Refused}
 use Rattle.hn_lab.specs.Stage.{Stage}
 use Rattle.hn_lab.specs.Process.{Process, Nothing, Then, Until}
 use Rattle.hn_lab.specs.Delivery.{EventEnds, Delivers}

@@ -1,5 +1,5 @@
 -- Laws of plays.
-use Rattle.std.specs.Prelude.{◌≡◌, ◌⊎◌, ⊤, ℕ, List, ◌++◌, Option, None, Some, length}
+use Rattle.std.specs.Prelude.{◌≡◌, ◌⊎◌, ⊤, ℕ, List, ◌++◌, Option, Some, length}
 use Rattle.std.specs.Io.KnownBytes.{Appends}
 use Rattle.hn_deleg.specs.Laws.{UsableIsUnique}
 use Rattle.hn_io.specs.declared.fault.IoFault.{IoFault}

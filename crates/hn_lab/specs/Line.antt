@@ -1,5 +1,5 @@
 -- How each line of a script ends.
-use Rattle.std.specs.Prelude.{◌≡◌, ℕ, ◌+◌, ◌*◌, ◌^◌, true, false, count_by, List, [], ◌∷◌, length, Option, None, Some}
+use Rattle.std.specs.Prelude.{◌≡◌, ℕ, ◌+◌, ◌*◌, ◌^◌, true, false, count_by, List, length, Option, None, Some}
 use Rattle.std.specs.Option.{option_map, option_and_then, option_or}
 use Rattle.std.specs.List.{slice_get}
 use Rattle.rand_core.specs.Pcg32Seed.{pcg32_seed}

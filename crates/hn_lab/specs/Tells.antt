@@ -3,10 +3,9 @@ use Rattle.std.specs.Prelude.{◌≡◌, ℕ, List, [], ◌∷◌, ◌++◌, map
 use Rattle.std.specs.Option.{option_map_or}
 use Rattle.hn_base.specs.declared.name.Name.{Name}
 use Rattle.hn_rules.specs.declared.done.Note.{Note}
-use Rattle.hn_lab.specs.declared.end.Stop.{Stop}
 use Rattle.hn_lab.specs.declared.end.Stop.TheVariants.{Refused, WireFailed, Cut}
 use Rattle.hn_lab.specs.Reports.{note_line}
-use Rattle.hn_lab.specs.Stage.{Stage, telling}
+use Rattle.hn_lab.specs.Stage.{telling}
 use Rattle.hn_lab.specs.Process.{Process, Unless, Then}
 
 -- these lines come up, one after another; all may be cut right after one of them

@@ -1,4 +1,4 @@
-use Rattle.std.proofs.Common.{ℕ, List, [], Option, None, Some, Err, inl, inr, refl, sym, ap, subst, arith}
+use Rattle.std.proofs.Common.{[], Err, inl, inr, refl, ap, subst, arith}
 use Rattle.hn_lab.specs.Lab.{HasDonePlay, HasRefusal}
 use Rattle.hn_lab.specs.Stage.{route_of}
 use Rattle.hn_lab.proofs.PlayScripts.{among_more, appends_nothing}

@@ -1,4 +1,4 @@
-use Rattle.std.proofs.Common.{◌≡◌, ℕ, List, None, Ok, sym, refl, subst}
+use Rattle.std.proofs.Common.{◌≡◌, None, sym, subst}
 use Rattle.hn_script.specs.declared.line.Line.{Line}
 use Rattle.hn_script.specs.declared.line.Line.TheVariants as line
 use Rattle.hn_world.specs.Refusal.{unless_known, unless_runs, unless_both_run}

@@ -1,4 +1,3 @@
-use Rattle.std.proofs.Common.{refl}
 use Rattle.hn_lab.specs.Delivery.{EventEnds}
 use Rattle.hn_lab.specs.Stage.{stage_of}
 use Rattle.hn_lab.proofs.RunStops.{leaving_on, nothing_left}

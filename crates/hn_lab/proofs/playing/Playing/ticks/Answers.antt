@@ -1,6 +1,5 @@
-use Rattle.std.proofs.Common.{◌∙◌, List, sym, subst, refl}
+use Rattle.std.proofs.Common.{◌∙◌, List, subst, refl}
 use Rattle.hn_base.specs.declared.name.Name.{Name}
-use Rattle.hn_lab.specs.Ended.{Ended}
 use Rattle.hn_lab.specs.Events.{TicksOf, Ticks}
 use Rattle.hn_lab.specs.Stage.{stage_of}
 use Rattle.hn_lab.specs.declared.end.Stop.TheVariants.{Cut}

@@ -1,4 +1,4 @@
-use Rattle.std.proofs.Common.{◌∙◌, ℕ, List, None, Some, sym, subst, refl, arith}
+use Rattle.std.proofs.Common.{◌∙◌, None, Some, subst, refl, arith}
 use Rattle.hn_base.specs.declared.name.Name.{Name}
 use Rattle.hn_world.specs.declared.event.WEvent.TheVariants.{Tick}
 use Rattle.hn_lab.specs.Delivery.{EventEnds}

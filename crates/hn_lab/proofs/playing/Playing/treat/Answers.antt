@@ -1,4 +1,4 @@
-use Rattle.std.proofs.Common.{◌≡◌, Bool, true, false, None, sym, refl, subst}
+use Rattle.std.proofs.Common.{Bool, true, false, None, sym, refl, subst}
 use Rattle.hn_world.specs.declared.event.WEvent.TheVariants as event
 use Rattle.hn_lab.specs.Delivery.{EventEnds, Delivers}
 use Rattle.hn_lab.specs.Ended.{Ended}

@@ -9,3 +9,7 @@ mod Captures
 mod WatchTexts
 mod WatchSources
 mod Outcomes
+mod Setups
+mod Nodes
+mod Ported
+mod NodeSources

@@ -4,3 +4,4 @@ pub mod Capture
 pub mod Watch
 pub mod Form
 pub mod Outcome
+pub mod Node

@@ -5,11 +5,13 @@
 mod capture;
 mod decode;
 mod hex_text;
+mod node;
 mod outcome;
 mod output;
 mod report;
 mod run;
 mod seen_text;
+mod setup;
 mod soak;
 mod status;
 #[cfg(test)]
@@ -43,7 +45,7 @@ fn words_of(rt: &(impl Env + AllocGlobal), alloc: Global) -> io::Result<Vec<Stri
 fn reason(status: u8) -> &'static str {
     match status {
         BAD_USAGE =>
-            "usage: hncp lab < SCRIPT, hncp udp BASE < SCRIPT, hncp decode < HEXTEXT, hncp watch < CAPTURE, or hncp soak ROUTERS SEED\n\
+            "usage: hncp lab < SCRIPT, hncp udp BASE < SCRIPT, hncp node ID PORT TURNS SEED PEER .. < NODEFILE, hncp decode < HEXTEXT, hncp watch < CAPTURE, or hncp soak ROUTERS SEED\n\
              BASE: 1024 to 65534; ROUTERS: 2 to 32; SEED: 0 to 18446744073709551615",
         REFUSED =>
             "hncp: the input was refused; the last line of the output has its line and code (docs/FORMATS.md, \"Codes\")",

@@ -9,11 +9,14 @@ ghost use Rattle.hn_audit.specs.Laws.{SettledAreSound};
 ghost use Rattle.hn_audit.specs.Staying.{QuietStays};
 ghost use Rattle.hn_lab.specs.Lab.{IsLabRun};
 ghost use Rattle.hn_lab.specs.Stage.{Mail, Ports};
-ghost use Rattle.hncp.specs.Form.{IsFormOf, HasSource, IsPlayed, IsWired, IsServed};
+ghost use Rattle.hncp.specs.Form.{IsFormOf, HasSource, IsPlayed, IsWired, IsTimed};
 ghost use Rattle.hncp.specs.Outcome.{IsCaused, IsDecodeRun, IsWatchRun, IsSoakRun};
+ghost use Rattle.hncp.specs.Node.{IsNodeRun, plain_call};
 ghost use Rattle.hncp.specs.declared.words.Form.{Form};
+ghost use Rattle.hncp.specs.declared.words.NodeCall.{NodeCall};
 
 use crate::decode::{each_source_decodes, run_decode};
+use crate::node::node;
 use crate::outcome::Outcome;
 use crate::soak::soak;
 use crate::status::{BAD_USAGE, DONE, NO_MEMORY, REFUSED, SINK_FAILED, SOURCE_FAILED, WIRE_FAILED};
@@ -63,9 +66,9 @@ fn watch<S: Source, K: Sink>(alloc: Global, src: &mut S, out: &mut K) -> u8
 
 /// Runs the program: `words` are those of the command line, the program's name first. The forms are `lab`, which reads
 /// a script, plays it and writes its transcript; `udp`, which does the same and delivers each copy over the wire, from a
-/// base to the port after it; `decode`, which reads hexadecimal text and writes what the datagram has; `watch`, which reads
-/// a capture and writes what was claimed by its datagrams; and `soak`, which plays the script of a soak and writes its
-/// transcript.
+/// base to the port after it; `node`, which reads the file of a node and serves it over the wire; `decode`, which reads
+/// hexadecimal text and writes what the datagram has; `watch`, which reads a capture and writes what was claimed by its
+/// datagrams; and `soak`, which plays the script of a soak and writes its transcript.
 pub fn run<S: Source, K: Sink, W: Wire, C: Clock>(
     alloc: Global,
     words: &[String],
@@ -85,6 +88,9 @@ pub fn run<S: Source, K: Sink, W: Wire, C: Clock>(
         → IsLabRun Mail Mail (S.left src.old) result.status result.world (K.held out.old) (K.held out.new) }
     ensures udp { (base : ℕ) → IsFormOf (Form.Udp base) (map string_bytes words.now) → result.status ≢ SOURCE_FAILED
         → IsLabRun (Ports base (W.waiting wire.old)) (Ports base (W.waiting wire.new)) (S.left src.old) result.status result.world (K.held out.old) (K.held out.new) }
+    ensures node { (call : NodeCall) → IsFormOf (Form.Node call) (map string_bytes words.now) → result.status ≢ SOURCE_FAILED
+        → IsNodeRun (plain_call call) (S.left src.old) result.status result.served (record { waiting = W.waiting wire.old; readings = C.readings clock.old })
+        (record { waiting = W.waiting wire.new; readings = C.readings clock.new }) (K.held out.old) (K.held out.new) }
     ensures decode { IsFormOf Form.Decode (map string_bytes words.now) → result.status ≢ SOURCE_FAILED
         → IsDecodeRun (S.left src.old) result.status (K.held out.old) (K.held out.new) }
     ensures watch { IsFormOf Form.Watch (map string_bytes words.now) → result.status ≢ SOURCE_FAILED
@@ -95,9 +101,9 @@ pub fn run<S: Source, K: Sink, W: Wire, C: Clock>(
     // What a form does not use stays as it is, and what it does not make is not there.
     ensures unread { (form : Form) → IsFormOf form (map string_bytes words.now) → ¬ HasSource form → src.new ≡ src.old }
     ensures unwired { (form : Form) → IsFormOf form (map string_bytes words.now) → ¬ IsWired form → wire.new ≡ wire.old }
-    ensures untimed { (form : Form) → IsFormOf form (map string_bytes words.now) → ¬ IsServed form → clock.new ≡ clock.old }
+    ensures untimed { (form : Form) → IsFormOf form (map string_bytes words.now) → ¬ IsTimed form → clock.new ≡ clock.old }
     ensures no_world { (form : Form) → IsFormOf form (map string_bytes words.now) → ¬ IsPlayed form → result.world ≡ None }
-    ensures not_served { (form : Form) → IsFormOf form (map string_bytes words.now) → ¬ IsServed form → result.served ≡ None }
+    ensures not_served { (form : Form) → IsFormOf form (map string_bytes words.now) → ¬ IsTimed form → result.served ≡ None }
 
     // The world is the replay of its trace. At each moment of its past two routers with equal hashes have equal leaves, or
     // a collision exists; and a running router that is settled and quiet is sound.
@@ -127,6 +133,7 @@ pub fn run<S: Source, K: Sink, W: Wire, C: Clock>(
     match Form::of(words) {
         Some(Form::Lab) => Outcome::of_play(lab(alloc, src, out, wire, None)),
         Some(Form::Udp { base }) => Outcome::of_play(lab(alloc, src, out, wire, Some(base))),
+        Some(Form::Node(call)) => node(alloc, &call, src, out, wire, clock),
         Some(Form::Decode) => Outcome::of(decode(alloc, src, out)),
         Some(Form::Watch) => Outcome::of(watch(alloc, src, out)),
         Some(Form::Soak { n, seed }) => Outcome::of_play(soak(alloc, n, seed, out, wire)),

@@ -1,5 +1,7 @@
 use Rattle.std.proofs.Common.{ℕ, [], ◌∷◌}
-use Rattle.hncp.specs.declared.words.Form.TheVariants.{Lab, Udp, Decode, Watch, Soak}
+use Rattle.hncp.specs.declared.words.Form.TheVariants.{Lab, Udp, Node, Decode, Watch, Soak}
+use Rattle.hncp.specs.Node.{IsNodeRun, PlainCall}
+use Rattle.hncp.proofs.Nodes.{as_called, call_in_range}
 use Rattle.hncp.proofs.Sources.{Contains-more}
 use Rattle.hncp.proofs.run.run.Goals as goal
 
@@ -32,3 +34,22 @@ returns-in-None-clause-watch g c asked _ = absurd (c.in-None.ensures.none Watch 
 
 pub returns-in-None-clause-soak : goal.returns-in-None-clause-soak
 returns-in-None-clause-soak g c n seed asked = absurd (c.in-None.ensures.none (Soak n seed) asked)
+
+pub node-requires : goal.node-requires
+node-requires g c =
+    let read = rw c.in-Some-Node.field-0-is at c.in-Some-Node.ensures.found in
+    record { call = call_in_range c.in-Some-Node.call read.1 read.2 read.3 read.4 read.5 read.7 }
+
+pub returns-in-Some-Node-clause-node : goal.returns-in-Some-Node-clause-node
+returns-in-Some-Node-clause-node g c call asked good =
+    let read = rw c.in-Some-Node.field-0-is at c.in-Some-Node.ensures.found in
+    let P : PlainCall → Type 0 = λ x. IsNodeRun x (g.S.Source.left c.args.src.now) c.node.result.status c.node.result.served (record { waiting = g.W.Wire.waiting c.args.wire.now; readings = g.C.Clock.readings c.args.clock.now })
+    (record { waiting = g.W.Wire.waiting c.node.new.wire; readings = g.C.Clock.readings c.node.new.clock }) (g.K.Sink.held c.args.out.now) (g.K.Sink.held c.node.new.out) in
+    as_called P c.in-Some-Node.call call _ read asked (c.node.ensures.node good)
+
+pub returns-in-Some-Node-clause-statuses : goal.returns-in-Some-Node-clause-statuses
+returns-in-Some-Node-clause-statuses g c =
+    Contains-more (0 ∷ []) (2 ∷ 3 ∷ 4 ∷ 5 ∷ 6 ∷ []) 1 c.node.result.status c.node.ensures.statuses
+
+pub returns-in-None-clause-node : goal.returns-in-None-clause-node
+returns-in-None-clause-node g c call asked _ = absurd (c.in-None.ensures.none (Node call) asked)

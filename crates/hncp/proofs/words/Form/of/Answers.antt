@@ -1,8 +1,10 @@
-use Rattle.std.proofs.Common.{arith}
+use Rattle.std.proofs.Common.{inl, inr, arith}
+use Rattle.std.proofs.lemmas.Bool.{ltb-true, ltb-false}
 use Rattle.std.proofs.lemmas.List.{length-map}
 use Rattle.std.specs.Prelude.{string_bytes}
-use Rattle.hncp.proofs.Forms.{word_at, no_plain_form, no_based_form, no_counted_form}
+use Rattle.hncp.proofs.Forms.{word_at, no_plain_form, no_based_form, no_counted_form, no_other_form}
 use Rattle.hncp.proofs.words.Form.of.Goals as goal
+use Rattle.hncp.proofs.words.Form.of.Goals.{in_default-via-then-words-lt2, in_default-via-else-words-lt2+else-words-lt3+else-words-lt4+else-words-lt5}
 
 pub returns-in-len2-clause-none : goal.returns-in-len2-clause-none
 returns-in-len2-clause-none c =
@@ -28,3 +30,12 @@ returns-in-len4-clause-none c =
     (word_at string_bytes words 2 _ _ (omega arith) c.count-item.is c.as_str-in-len4-2.ensures.value)
     (word_at string_bytes words 3 _ _ (omega arith) c.seed-item.is c.as_str-in-len4-3.ensures.value)
     c.counted.ensures.none
+
+pub returns-in_default-clause-none : goal.returns-in_default-clause-none
+returns-in_default-clause-none c =
+    let words = c.args.words.now in
+    let long = length-map words string_bytes in
+    elim c.in_default.branch [
+      | in_default-via-then-words-lt2 w ↦ no_other_form c.of_node.result _ (inl (omega (arith, ltb-true))) c.of_node.ensures.none
+      | in_default-via-else-words-lt2+else-words-lt3+else-words-lt4+else-words-lt5 w ↦ no_other_form c.of_node.result _ (inr (omega (arith, ltb-false))) c.of_node.ensures.none
+    ]

@@ -34,7 +34,7 @@ pub fn at_most_one_cut_play()
     results_are_unique();
 }
 
-/// The text of a play that is cut, by the sink or by want of memory, is a front of the text of the whole play, also
+/// The text of a play that is cut, by the sink or out of memory, is a front of the text of the whole play, also
 /// where it is cut in the middle of a line.
 pub fn cut_text_is_a_front()
     ensures { CutTextsAreFronts }

@@ -26,7 +26,7 @@ use Rattle.hn_lab.proofs.LawUntil.{sole_until}
 
 -- ---- an event
 
-same_stage : (a b : Stage) → a.world ≡ b.world → a.loss ≡ b.loss → a.words ≡ b.words → a.route ≡ b.route → a.text ≡ b.text → a ≡ b
+pub same_stage : (a b : Stage) → a.world ≡ b.world → a.loss ≡ b.loss → a.words ≡ b.words → a.route ≡ b.route → a.text ≡ b.text → a ≡ b
 same_stage a b world loss words route text = λ i. record { world = world i; loss = loss i; words = words i; route = route i; text = text i }
 
 still_event : (event : WEvent) (notes : List Note) → IsStill (λ p. refusal p.world event) (EventNotes event notes)

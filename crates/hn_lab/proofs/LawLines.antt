@@ -1,7 +1,8 @@
 -- A line of a script ends in one way.
-use Rattle.std.proofs.Common.{◌≡◌, ◌∙◌, ◌↔◌, inl, inr, ℕ, Bool, true, false, List, Option, None, Some, refl, sym, ap, subst}
-use Rattle.std.specs.Prelude.{IsTrue, MatchOption}
+use Rattle.std.proofs.Common.{◌≡◌, ◌∙◌, inl, inr, ℕ, List, [], ◌∷◌, Option, None, Some, refl, sym, ap, subst}
+use Rattle.std.specs.Prelude.{MatchOption}
 use Rattle.std.proofs.lemmas.Option.{same_Some}
+use Rattle.hn_addr.specs.Addresses.{IsChoice}
 use Rattle.hn_base.specs.declared.ids.EpId.{EpId}
 use Rattle.hn_base.specs.declared.ids.NodeId.{NodeId}
 use Rattle.hn_base.specs.declared.letter.Letter.{Letter}
@@ -11,13 +12,16 @@ use Rattle.hn_rules.specs.Seen.{seen_by}
 use Rattle.hn_rules.specs.Nodes.{leaves_of}
 use Rattle.hn_script.specs.declared.line.Line.{Line}
 use Rattle.hn_script.specs.declared.line.Line.TheVariants as line
+use Rattle.hn_ula.specs.Ula.{Decides}
 use Rattle.hn_world.specs.declared.event.WEvent.{WEvent}
 use Rattle.hn_world.specs.declared.member.Member.{Member}
 use Rattle.hn_world.specs.declared.parts.Parts.{Parts}
 use Rattle.hn_world.specs.Laws.{StepIsUnique, AgreementIsUnique}
 use Rattle.hn_world.specs.Refusal.{unless_known, unless_runs, unless_both_run}
+use Rattle.hn_lab.specs.AddressReports.{addresses_lines, IsAddressedLine}
 use Rattle.hn_lab.specs.AdvertReports.{IsAdvertLine, advert_line}
 use Rattle.hn_lab.specs.AuditReports.{IsAudited, IsAuditLine, audit_line}
+use Rattle.hn_lab.specs.Choosing.{chosen_event, decided_event}
 use Rattle.hn_lab.specs.Delivery.{EventNotes, DeliveryEnds}
 use Rattle.hn_lab.specs.Laws.{IsTold, ResultsAreUnique}
 use Rattle.hn_lab.specs.Line.{Noted, Delivered, Sets, Tells, IsOf, Compares, OtherEnds, EndsBy, LineEnds, event_of, receiver, injection, unless_elects, mail_report, seeded}
@@ -25,8 +29,11 @@ use Rattle.hn_lab.specs.PrefixReports.{AreUsedLines, used_lines, prefixes_lines,
 use Rattle.hn_lab.specs.Reports.{IsCompareLine, compare_line, show_line, hash_line}
 use Rattle.hn_lab.specs.Stage.{Stage}
 use Rattle.hn_lab.specs.Tells.{TellsLines, ReportsLines, Reports, IsOneLine, note_lines}
+use Rattle.hn_lab.specs.UlaReports.{ula_line, IsUlasLine}
 use Rattle.hn_lab.proofs.LawAlike.{grows_none, AreOne, IsSole, sole_at, noting_then}
+use Rattle.hn_lab.proofs.LawChoosings.{same_answer, sole_choice, one_addresses, one_addressed, one_ulas}
 use Rattle.hn_lab.proofs.LawEvents.{noting_event, sole_event, noting_delivery, sole_flow, sole_run}
+use Rattle.hn_lab.proofs.LawSyncs.{sole_sync}
 use Rattle.hn_lab.proofs.LawTells.{sole_tells, IsOneReport, one_line, sole_report}
 
 -- ---- what a report tells
@@ -86,13 +93,6 @@ one_audit name w m = record {
 
 one_of : (name : Name) (w : Parts) (report : Member → List ℕ) → IsOneReport (IsOf name w report)
 one_of name w report = record { one = λ l m h k. h.2 ∙ ap report (same_Some h.0 k.0 (sym h.1 ∙ k.1)) ∙ sym k.2 }
-
--- two answers to one question
-same_answer : (a b : Bool) (P : Type 0) → IsTrue a ↔ P → IsTrue b ↔ P → a ≡ b
-same_answer true true P h k = refl
-same_answer true false P h k = sym (k.1 (h.0 refl))
-same_answer false true P h k = h.1 (k.0 refl)
-same_answer false false P h k = refl
 
 one_comparison : AgreementIsUnique → (left right : Name) (a b : Member) (l m : List ℕ) → IsCompareLine left right a b l → IsCompareLine left right a b m → l ≡ m
 one_comparison agreements left right a b l m h k =
@@ -180,6 +180,16 @@ sole_other unique (line.Audit name) =
     reports_at (unless_runs name) (λ w. Tells name w (IsAuditLine name w)) (λ w. one_tells name w (IsAuditLine name w) (one_audit name w))
 sole_other unique (line.Compare left right) = reports_at (unless_both_run left right) (Compares left right) (one_compare unique.agreements left right)
 sole_other unique line.Mail = reports_at (λ w. None) (λ w line. line ≡ mail_report w) one_mail
+sole_other unique (line.Address name) = sole_choice unique.steps name IsChoice (chosen_event name) (λ made. []) unique.choices
+sole_other unique (line.Addresses name) =
+    reports_lines_at (unless_runs name) (λ w. Tells name w (λ m lines. lines ≡ addresses_lines name m))
+    (λ w. one_tells name w (λ m lines. lines ≡ addresses_lines name m) (one_addresses name))
+sole_other unique (line.Addressed name) =
+    reports_at (unless_runs name) (λ w. Tells name w (IsAddressedLine name w)) (λ w. one_tells name w (IsAddressedLine name w) (one_addressed name w))
+sole_other unique (line.Ula name) = sole_choice unique.steps name Decides (decided_event name) (λ made. ula_line name made ∷ []) unique.decisions
+sole_other unique (line.Ulas name) =
+    reports_at (unless_runs name) (λ w. Tells name w (IsUlasLine name w)) (λ w. one_tells name w (IsUlasLine name w) (one_ulas name w))
+sole_other unique (line.Sync left right) = sole_sync unique.exchanges left right
 sole_other unique _ = sole_never
 
 sole_by : ResultsAreUnique → (l : Line) (event : Option WEvent) → IsSole (EndsBy l event)

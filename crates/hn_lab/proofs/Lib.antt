@@ -4,6 +4,8 @@ mod RunCopies
 mod RunTimes
 mod RunDeliveries
 mod RunTicks
+mod Choosings
+mod RunSyncs
 mod TextLines
 mod TextReports
 mod TextStreams
@@ -13,8 +15,16 @@ mod PrefixTexts
 mod AuditTexts
 mod LawAlike
 mod LawCarry
+mod LawChoosings
 mod LawEvents
 mod LawLines
 mod LawPlays
+mod LawSyncs
 mod LawTells
 mod LawUntil
+mod Sets
+mod AddressSets
+mod AddressTexts
+mod UlaCounts
+mod UlaSets
+mod UlaTexts

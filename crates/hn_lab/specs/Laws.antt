@@ -1,6 +1,7 @@
 -- Laws of plays.
 use Rattle.std.specs.Prelude.{◌≡◌, ◌⊎◌, ⊤, ℕ, List, ◌++◌, Option, Some, length}
 use Rattle.std.specs.Io.KnownBytes.{Appends}
+use Rattle.hn_addr.specs.Laws.{ChoiceIsUnique}
 use Rattle.hn_deleg.specs.Laws.{UsableIsUnique}
 use Rattle.hn_io.specs.declared.fault.IoFault.{IoFault}
 use Rattle.hn_link.specs.Election.{HasOneAnswer}
@@ -8,6 +9,8 @@ use Rattle.hn_link.specs.Laws.{CommonLinkIsUnique}
 use Rattle.hn_router.specs.Laws.{RouterHasOneAdvert}
 use Rattle.hn_rules.specs.declared.done.Note.{Note}
 use Rattle.hn_script.specs.declared.line.Line.{Line}
+use Rattle.hn_ula.specs.Laws.{DecisionIsUnique}
+use Rattle.hn_sync.specs.Laws.{ExchangeIsUnique}
 use Rattle.hn_wire.specs.declared.datagram.Datagram.{Datagram}
 use Rattle.hn_world.specs.declared.event.WEvent.TheVariants as event
 use Rattle.hn_world.specs.Laws.{StepIsUnique, AgreementIsUnique}
@@ -19,7 +22,7 @@ use Rattle.hn_lab.specs.Play.{IsPlay, IsCut, IsCutPlay}
 use Rattle.hn_lab.specs.Stage.{Stage, Route, Mail, Ports}
 use Rattle.hn_lab.specs.Told.{Told}
 
--- What an event does, and what a report tells of, is one thing. These are laws of the crates below.
+-- What an event does, what a report tells of, and what a router chooses, is one thing. These are laws of the crates below.
 pub record ResultsAreUnique : Type 0 where
   pub steps : StepIsUnique
   pub agreements : AgreementIsUnique
@@ -27,6 +30,9 @@ pub record ResultsAreUnique : Type 0 where
   pub common : CommonLinkIsUnique
   pub answer : HasOneAnswer
   pub adverts : RouterHasOneAdvert
+  pub choices : ChoiceIsUnique
+  pub decisions : DecisionIsUnique
+  pub exchanges : ExchangeIsUnique
 
 -- what copies come to is known: by mail, and over a wire that tells what waits
 abbrev pub IsTold : Route → Type 0

@@ -10,6 +10,10 @@ pub mod Carrying
 pub mod Delivery
 pub mod Events
 pub mod Ended
+pub mod Choosing
+pub mod AddressReports
+pub mod UlaReports
+pub mod Syncing
 pub mod Line
 pub mod Play
 pub mod Output

@@ -1,5 +1,5 @@
 -- How each line of a script ends.
-use Rattle.std.specs.Prelude.{◌≡◌, ℕ, ◌+◌, ◌*◌, ◌^◌, true, false, count_by, List, length, Option, None, Some}
+use Rattle.std.specs.Prelude.{◌≡◌, ℕ, ◌+◌, ◌*◌, ◌^◌, true, false, count_by, List, [], ◌∷◌, length, Option, None, Some}
 use Rattle.std.specs.Option.{option_map, option_and_then, option_or}
 use Rattle.std.specs.List.{slice_get}
 use Rattle.rand_core.specs.Pcg32Seed.{pcg32_seed}
@@ -22,13 +22,19 @@ use Rattle.hn_world.specs.Names.{member_named}
 use Rattle.hn_world.specs.Refusal.{of_router, unless_running, unless_attached, unless_known, unless_runs, unless_both_run, copy_at}
 use Rattle.hn_lab.specs.Stage.{Stage}
 use Rattle.hn_lab.specs.Process.{Process, Then}
+use Rattle.hn_addr.specs.Addresses.{IsChoice}
+use Rattle.hn_ula.specs.Ula.{Decides}
+use Rattle.hn_lab.specs.AddressReports.{addresses_lines, IsAddressedLine}
 use Rattle.hn_lab.specs.AdvertReports.{IsAdvertLine}
 use Rattle.hn_lab.specs.AuditReports.{IsAuditLine}
+use Rattle.hn_lab.specs.Choosing.{chosen_event, decided_event, Chooses}
 use Rattle.hn_lab.specs.Delivery.{EventNotes, EventEnds, DeliveryEnds}
 use Rattle.hn_lab.specs.Events.{Flow, Runs}
 use Rattle.hn_lab.specs.PrefixReports.{AreUsedLines, prefixes_lines, IsElectLine}
 use Rattle.hn_lab.specs.Reports.{show_line, hash_line, IsCompareLine, mail_line}
+use Rattle.hn_lab.specs.Syncing.{SyncEnds}
 use Rattle.hn_lab.specs.Tells.{TellsLines, ReportsLines, Reports, note_lines}
+use Rattle.hn_lab.specs.UlaReports.{ula_line, IsUlasLine}
 
 -- an event, and a line for each of its notes
 abbrev pub Noted : WEvent → Option Name → Process
@@ -118,6 +124,12 @@ OtherEnds (line.Advert name e) stop before after = Reports (unless_elects name e
 OtherEnds (line.Audit name) stop before after = Reports (unless_runs name before.world) (Tells name before.world (IsAuditLine name before.world)) stop before after
 OtherEnds (line.Compare left right) stop before after = Reports (unless_both_run left right before.world) (Compares left right before.world) stop before after
 OtherEnds line.Mail stop before after = Reports None (λ line. line ≡ mail_report before.world) stop before after
+OtherEnds (line.Address name) stop before after = Chooses name IsChoice (chosen_event name) (λ made. []) stop before after
+OtherEnds (line.Addresses name) stop before after = ReportsLines (unless_runs name before.world) (Tells name before.world (λ m lines. lines ≡ addresses_lines name m)) stop before after
+OtherEnds (line.Addressed name) stop before after = Reports (unless_runs name before.world) (Tells name before.world (IsAddressedLine name before.world)) stop before after
+OtherEnds (line.Ula name) stop before after = Chooses name Decides (decided_event name) (λ made. ula_line name made ∷ []) stop before after
+OtherEnds (line.Ulas name) stop before after = Reports (unless_runs name before.world) (Tells name before.world (IsUlasLine name before.world)) stop before after
+OtherEnds (line.Sync left right) stop before after = SyncEnds left right stop before after
 OtherEnds _ stop before after = ⊥
 
 abbrev pub EndsBy : Line → Option WEvent → Process

@@ -2,12 +2,15 @@
 
 ghost use Rattle.hn_lab.specs.Laws.{AtMostOnePlay, AtMostOneCutPlay, CutTextsAreFronts, BrokenTextsAreFronts, MailDelivers, PiecesAppend, ResultsAreUnique};
 
+use hn_addr::choice_is_unique;
 use hn_deleg::usable_is_unique;
 use hn_link::{common_link_is_unique, elected_is_unique};
 use hn_router::router_has_one_advert;
+use hn_sync::exchange_is_unique;
+use hn_ula::decision_is_unique;
 use hn_world::{agreement_is_unique, step_is_unique};
 
-/// What an event does, and what a report tells of, is one thing.
+/// What an event does, what a report tells of, and what a router chooses, is one thing.
 fn results_are_unique()
     ensures { ResultsAreUnique }
 {
@@ -17,6 +20,9 @@ fn results_are_unique()
     common_link_is_unique();
     elected_is_unique();
     router_has_one_advert();
+    choice_is_unique();
+    decision_is_unique();
+    exchange_is_unique();
 }
 
 /// By mail, and over a wire that tells what waits, lines have at most one play that the wire does not end: one end, one

@@ -1,9 +1,11 @@
 //! The laboratory: a script is played in a world of routers, and its transcript is written line by line.
 #![tactic(auto)]
 
+mod address_reports;
 mod advert_report;
 mod audit_report;
 mod carrying;
+mod choosing;
 mod delivery;
 mod end;
 mod flow;
@@ -19,8 +21,11 @@ mod prefix_reports;
 mod reports;
 mod rounds;
 mod scripts;
+mod set;
 mod stream;
+mod syncing;
 mod text;
+mod ula_report;
 
 pub use end::End;
 pub use input::read_all;

@@ -142,6 +142,12 @@ impl Playing {
             Line::Audit(name) => self.audit(alloc, &name),
             Line::Compare(left, right) => self.compare(alloc, &left, &right),
             Line::Mail => self.mail(alloc),
+            Line::Address(name) => self.address(alloc, name),
+            Line::Addresses(name) => self.addresses(alloc, &name),
+            Line::Addressed(name) => self.addressed(alloc, &name),
+            Line::Ula(name) => self.ula(alloc, name),
+            Line::Ulas(name) => self.ulas(alloc, &name),
+            Line::Sync(a, b) => self.sync(alloc, &a, &b),
             _ => unreachable!(),
         }
     }

@@ -67,12 +67,12 @@ spelling (Solicit name e) = spelled (codes "solicit") (Named name ∷ Endpoint e
 -- whether a line is of a version; some are of none, since no version knows their words yet
 abbrev pub IsOfVersion : Version → Line → Type 0
 IsOfVersion One (Private name bits) = ⊥
-IsOfVersion _ (Sync left right) = ⊥
-IsOfVersion _ (Address name) = ⊥
-IsOfVersion _ (Addresses name) = ⊥
-IsOfVersion _ (Addressed name) = ⊥
-IsOfVersion _ (Ula name) = ⊥
-IsOfVersion _ (Ulas name) = ⊥
+IsOfVersion One (Address name) = ⊥
+IsOfVersion One (Addresses name) = ⊥
+IsOfVersion One (Addressed name) = ⊥
+IsOfVersion One (Ula name) = ⊥
+IsOfVersion One (Ulas name) = ⊥
+IsOfVersion One (Sync left right) = ⊥
 IsOfVersion _ (Radv name e) = ⊥
 IsOfVersion _ (Solicit name e) = ⊥
 IsOfVersion _ _ = Unit {0}

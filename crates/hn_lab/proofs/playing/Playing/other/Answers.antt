@@ -2,6 +2,7 @@ use Rattle.std.proofs.Common.{◌≡◌, None, sym, subst}
 use Rattle.hn_script.specs.declared.line.Line.{Line}
 use Rattle.hn_script.specs.declared.line.Line.TheVariants as line
 use Rattle.hn_world.specs.Refusal.{unless_known, unless_runs, unless_both_run}
+use Rattle.hn_lab.specs.AddressReports.{addresses_lines, IsAddressedLine}
 use Rattle.hn_lab.specs.AdvertReports.{IsAdvertLine}
 use Rattle.hn_lab.specs.AuditReports.{IsAuditLine}
 use Rattle.hn_lab.specs.Ended.{Leaves, EndsLeaving}
@@ -10,6 +11,7 @@ use Rattle.hn_lab.specs.PrefixReports.{AreUsedLines, prefixes_lines, IsElectLine
 use Rattle.hn_lab.specs.Reports.{show_line, hash_line}
 use Rattle.hn_lab.specs.Stage.{stage_of}
 use Rattle.hn_lab.specs.Tells.{Reports, ReportsLines}
+use Rattle.hn_lab.specs.UlaReports.{IsUlasLine}
 use Rattle.hn_lab.proofs.RunStops.{leaving_within}
 use Rattle.hn_lab.proofs.playing.Playing.other.Goals as goal
 
@@ -111,3 +113,30 @@ returns-in-Mail-clause-ends g c text =
     let p = stage_of c.args.self.now v text in
     let w = c.args.self.now.world in
     subst (λ (l : Line). EndsLeaving (OtherEnds l) c.mail.result p p) (sym c.in-Mail.is) (leaving_within (Reports None (λ l. l ≡ mail_report w)) (OtherEnds line.Mail) c.mail.result p p (λ stop at h. h) (c.mail.ensures.ends v text))
+
+pub returns-in-Sync-clause-ends : goal.returns-in-Sync-clause-ends
+returns-in-Sync-clause-ends g c text =
+    let v = g.W.Wire.waiting c.args.wire.now in
+    let p = stage_of c.args.self.now v text in
+    subst (λ (l : Line). EndsLeaving (OtherEnds l) c.sync.result p (stage_of c.sync.new.self v text)) (sym c.in-Sync.is) (c.sync.ensures.ends v text)
+
+pub returns-in-Addresses-clause-ends : goal.returns-in-Addresses-clause-ends
+returns-in-Addresses-clause-ends g c text =
+    let v = g.W.Wire.waiting c.args.wire.now in
+    let p = stage_of c.args.self.now v text in
+    let w = c.args.self.now.world in
+    subst (λ (l : Line). EndsLeaving (OtherEnds l) c.addresses.result p p) (sym c.in-Addresses.is) (leaving_within (ReportsLines (unless_runs c.in-Addresses.name w) (Tells c.in-Addresses.name w (λ m lines. lines ≡ addresses_lines c.in-Addresses.name m))) (OtherEnds (line.Addresses c.in-Addresses.name)) c.addresses.result p p (λ stop at h. h) (c.addresses.ensures.ends v text))
+
+pub returns-in-Addressed-clause-ends : goal.returns-in-Addressed-clause-ends
+returns-in-Addressed-clause-ends g c text =
+    let v = g.W.Wire.waiting c.args.wire.now in
+    let p = stage_of c.args.self.now v text in
+    let w = c.args.self.now.world in
+    subst (λ (l : Line). EndsLeaving (OtherEnds l) c.addressed.result p p) (sym c.in-Addressed.is) (leaving_within (Reports (unless_runs c.in-Addressed.name w) (Tells c.in-Addressed.name w (IsAddressedLine c.in-Addressed.name w))) (OtherEnds (line.Addressed c.in-Addressed.name)) c.addressed.result p p (λ stop at h. h) (c.addressed.ensures.ends v text))
+
+pub returns-in-Ulas-clause-ends : goal.returns-in-Ulas-clause-ends
+returns-in-Ulas-clause-ends g c text =
+    let v = g.W.Wire.waiting c.args.wire.now in
+    let p = stage_of c.args.self.now v text in
+    let w = c.args.self.now.world in
+    subst (λ (l : Line). EndsLeaving (OtherEnds l) c.ulas.result p p) (sym c.in-Ulas.is) (leaving_within (Reports (unless_runs c.in-Ulas.name w) (Tells c.in-Ulas.name w (IsUlasLine c.in-Ulas.name w))) (OtherEnds (line.Ulas c.in-Ulas.name)) c.ulas.result p p (λ stop at h. h) (c.ulas.ensures.ends v text))

@@ -1,0 +1,5 @@
+use Rattle.std.proofs.Common.{append_assoc}
+use Rattle.hn_lab.proofs.address_reports.address_line.Goals as goal
+
+pub returns : goal.returns
+returns c = simp append_assoc (rw (← c.address_text-address.ensures.exact) c.format.ensures.ok)

@@ -1,0 +1,46 @@
+use Rattle.std.proofs.Common.{rules, ◌≡◌, ◌∙◌, IsTrue, true, false, List, filter, inl, inr}
+use Rattle.std.proofs.lemmas.Option.{same_Some}
+use Rattle.hn_base.specs.Name.{name_text}
+use Rattle.hn_audit.specs.Set.{is_in_set}
+use Rattle.hn_audit.specs.Settled.{IsSettled}
+use Rattle.hn_ula.specs.Ula.{IsStill}
+use Rattle.hn_world.specs.declared.member.Member.{Member}
+use Rattle.hn_lab.specs.UlaReports.{ArePrefixesStill, HaveGenerated}
+use Rattle.hn_lab.proofs.UlaSets.{ula_count}
+use Rattle.hn_lab.proofs.Sets.{IsKnown, answers_of, list_of, named_runs}
+use Rattle.hn_lab.proofs.playing.Playing.ulas_text.Goals as goal
+
+pub returns-then-not-branch-2 : goal.returns-then-not-branch-2
+returns-then-not-branch-2 c m at =
+    let w = c.args.self.now.world in
+    let same : c.in-Some.r.now ≡ m = same_Some c.in-Some.r.now m (c.in-Some.ensures ∙ at) in
+    let yes : c.in_ok-settled.field-0 ≡ true = search rules in
+    let no : c.in_ok-all_still.field-0 ≡ false = search rules in
+    let settled : IsSettled w m = (c.in_ok-settled.ensures m at).0 yes in
+    let law = answers_of (λ (s : Member). IsStill s.router) w c.in-Some.r.now m c.in_ok-all_still.field-0 c.reach-reach.result.now c.members-members.result.now c.reach-reach.ensures c.members-members.ensures same c.in_ok-all_still.ensures in
+    let busy : ¬ ArePrefixesStill w m = λ still. let rests : IsTrue c.in_ok-all_still.field-0 = law.1 still.1 in absurd cc in
+    inr (inl (settled, busy, c.in_ok-from_str-2.ensures.ok))
+
+pub returns : goal.returns
+returns c m at =
+    let w = c.args.self.now.world in
+    let r = c.in-Some.r.now in
+    let reach = c.reach-reach.result.now in
+    let members = c.members-members.result.now in
+    let same : r ≡ m = same_Some r m (c.in-Some.ensures ∙ at) in
+    let yes : c.in_ok-settled.field-0 ≡ true = search rules in
+    let rests : c.in_ok-all_still.field-0 ≡ true = search rules in
+    let settled : IsSettled w m = (c.in_ok-settled.ensures m at).0 yes in
+    let law = answers_of (λ (s : Member). IsStill s.router) w r m c.in_ok-all_still.field-0 reach members c.reach-reach.ensures c.members-members.ensures same c.in_ok-all_still.ensures in
+    let still : ArePrefixesStill w m = (settled, law.0 rests) in
+    let known : IsKnown w m = record {
+      sound = c.always_sound.ensures.sound;
+      see = c.settled_see_each_other.ensures;
+      replayed = c.is_replayed.ensures;
+      runs = named_runs (name_text c.args.name.now) w m c.requires at;
+      settled = settled;
+    } in
+    let count = c.in_ok-count.count in
+    let have : HaveGenerated (filter (is_in_set m.router.reach) w.members) count =
+    list_of (λ (ms : List Member). HaveGenerated ms count) w r m reach members c.reach-reach.ensures c.members-members.ensures same c.in_ok-count.ensures in
+    inr (inr (still, (count, ula_count c.view_is_a_network.ensures c.entries_are_as_known.ensures w m known still count have, c.in_ok-format.ensures.ok)))

@@ -1,0 +1,11 @@
+use Rattle.std.proofs.Common.{◌≤◌, filter, take}
+use Rattle.hn_audit.specs.Set.{is_in_set}
+use Rattle.hn_lab.specs.UlaReports.{HaveGenerated}
+use Rattle.hn_lab.proofs.ula_report.generated_by.Given as goal
+
+-- of those of the set so far, that many have one
+abbrev pub invariant-loop-member : goal.invariant-loop-member
+invariant-loop-member l = record {
+  have : HaveGenerated (filter (is_in_set l.reach) (take l.member-index l.members)) l.count;
+  few : l.count ≤ l.member-index;
+}

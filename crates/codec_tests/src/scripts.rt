@@ -62,7 +62,13 @@ const HOME_OF_TWO: &str = "hncp 1\n\
 const LATER_WORDS: &str = "hncp 2\n\
     private A off\n\
     private A 1\n\
-    private A 64\n";
+    private A 64\n\
+    address A\n\
+    addresses A\n\
+    addressed A\n\
+    ula A\n\
+    ulas A\n\
+    sync A B\n";
 
 /// Lines that are printed otherwise.
 const WRITTEN: &str = "hncp 1\n\
@@ -143,13 +149,13 @@ const UNKNOWN: &str =
 /// Words of version 2 in a script of version 1, with any count of words.
 const LATER: &str =
     "hncp 1\nprivate\n|hncp 1\nprivate A 60\n|hncp 1\nprivate A 60 60\n|hncp 1\nprivate A 65\n|\
-     hncp 1\nprivate A off\n|hncp 1\n private\n";
+     hncp 1\nprivate A off\n|hncp 1\n private\n|hncp 1\naddress A\n|hncp 1\naddress\n|\
+     hncp 1\naddresses A\n|hncp 1\naddresses A B\n|hncp 1\naddressed A\n|hncp 1\naddressed 1\n|\
+     hncp 1\nula A\n|hncp 1\nula\n|hncp 1\nulas A\n|hncp 1\nulas A B\n|\
+     hncp 1\nsync\n|hncp 1\nsync A\n|hncp 1\nsync A B\n|hncp 1\nsync A B C\n";
 
 /// Words that no version has yet.
-const NOT_YET: &str =
-    "hncp 1\nsync\n|hncp 2\nsync A B\n|hncp 2\nsync A B C\n|hncp 1\naddress A\n|hncp 2\naddress A\n|\
-     hncp 1\naddresses A\n|hncp 2\naddresses A\n|hncp 1\naddressed A\n|hncp 2\naddressed A\n|\
-     hncp 1\nula A\n|hncp 2\nula A\n|hncp 1\nulas A\n|hncp 2\nulas A\n|hncp 1\nradv A 1\n|\
+const NOT_YET: &str = "hncp 1\nradv A 1\n|\
      hncp 2\nradv A 1\n|hncp 2\nradv\n|hncp 1\nsolicit A 1\n|hncp 2\nsolicit A 1\n";
 
 /// Too few and too many words.
@@ -161,7 +167,11 @@ const COUNTED: &str =
      hncp 1\nexternal A ::/0 1 1 1\n|hncp 1\nexternal A ::/129 1\n|hncp 1\nwithdraw A ::/0 1\n|\
      hncp 1\nused A B\n|hncp 1\naudit A B\n|hncp 1\nprefixes\n|hncp 1\nelect A 1 M P\n|\
      hncp 1\nadvert A\n|hncp 1\nadvert A 1 1\n|hncp 1\ntick 1 2\n|\
-     hncp 2\nprivate\n|hncp 2\nprivate A\n|hncp 2\nprivate A 1 1\n|hncp 2\nprivate 1\n|hncp 2\ntick\n";
+     hncp 2\nprivate\n|hncp 2\nprivate A\n|hncp 2\nprivate A 1 1\n|hncp 2\nprivate 1\n|hncp 2\ntick\n|\
+     hncp 2\naddress\n|hncp 2\naddress A B\n|hncp 2\naddresses\n|hncp 2\naddresses A 1\n|\
+     hncp 2\naddressed\n|hncp 2\naddressed A B\n|hncp 2\nula\n|hncp 2\nula A fd00::/48\n|\
+     hncp 2\nulas\n|hncp 2\nulas A B\n|hncp 2\nulas 1 2\n|hncp 2\nsync\n|hncp 2\nsync A\n|\
+     hncp 2\nsync A B C\n";
 
 /// Malformed words, and numbers out of range.
 const MALFORMED: &str =
@@ -182,7 +192,9 @@ const MALFORMED: &str =
      hncp 1\nrun 0 281474976710657\n|hncp 1\ndeliver x\n|hncp 1\ndrop 18446744073709551616\n|\
      hncp 1\ninject A 1 Uni 00\n|hncp 1\ninject A 1 uni 000\n|hncp 1\ninject A 1 uni 0g\n|\
      hncp 1\ninject A 1 uni --\n|hncp 2\nprivate A 0\n|hncp 2\nprivate A 65\n|hncp 2\nprivate A Off\n|\
-     hncp 2\nprivate A o\n|hncp 2\nprivate 1 1\n|hncp 2\nprivate A -1\n|hncp 2\nloss 101\n";
+     hncp 2\nprivate A o\n|hncp 2\nprivate 1 1\n|hncp 2\nprivate A -1\n|hncp 2\nloss 101\n|\
+     hncp 2\naddress 1\n|hncp 2\naddresses a.b\n|hncp 2\naddressed abcdefghijklmnopq\n|\
+     hncp 2\nula -\n|hncp 2\nulas _A\n|hncp 2\nsync A -\n|hncp 2\nsync 1 B\n";
 
 #[test]
 fn lines_are_refused(rt: HostRuntime) {
@@ -217,7 +229,7 @@ fn the_first_fault_decides(rt: HostRuntime) {
     are_refused(&rt, rt.alloc(), "hncp 1\nfly\nloss 101\n", 2, 2);
     are_refused(&rt, rt.alloc(), "hncp 1\nmail\n\t\nfly\n", 3, 6);
     are_refused(&rt, rt.alloc(), "hncp 1\nprivate A\nloss 101\n", 2, 2);
-    are_refused(&rt, rt.alloc(), "hncp 2\nprivate A off\nsync A\n", 3, 2);
+    are_refused(&rt, rt.alloc(), "hncp 2\nprivate A off\nradv\n", 3, 2);
 }
 
 /// The fault of a text that is filled up to this length.

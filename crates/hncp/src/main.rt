@@ -6,6 +6,8 @@ mod capture;
 mod decode;
 mod hex_text;
 mod node;
+#[cfg(test)]
+mod node_tests;
 mod outcome;
 mod output;
 mod report;

@@ -1,0 +1,233 @@
+"""The checks of what reads scripts and transcripts: trace, annotate, picture, seeds and explain."""
+import collections
+import os
+import random
+import re
+import shutil
+import subprocess
+
+import common
+from checks import samples
+from checks.helpers import SEED, is_static, lines_of, must, must_be, need, run, short
+
+
+# trace
+
+def is_suited(path, transcript):
+    """A script that is played, without a loss, and not refused in the midst of a line."""
+    if is_static(transcript):
+        return False
+    lines, refused = common.read_script(path), common.refusal(transcript)
+    if refused and lines[refused[0] - 1].word in ('run', 'flow') and refused[1] in (9, 16):
+        return False
+    return not any(line.word == 'loss' and int(line.words[1]) > 0 for line in lines[1:])
+
+
+def reports(texts, transcript):
+    """A transcript without its notes; a refusal has the text of the line that was refused in place of its number."""
+    refused = common.refusal(transcript)
+    if refused:
+        transcript = transcript[:-1] + [f'refused "{texts[refused[0] - 1]}" {refused[1]}']
+    return [line for line in transcript if not line.startswith('note ')]
+
+
+def is_among(some, many):
+    """Whether all of some are among many, in this order."""
+    rest = iter(many)
+    return all(each in rest for each in some)
+
+
+def compare_trace(texts, transcript, path):
+    """Compares a script's transcript with that of the unrolled one. The answer: how many lines treat a copy."""
+    unrolled = lines_of('trace', path)
+    again = common.play(unrolled)
+    must_be(reports(unrolled, again), reports(texts, transcript), f'{short(path)}: reports')
+    must(is_among([line for line in transcript if line.startswith('note ')], again), f'{short(path)}: a note is missing')
+    played = unrolled[:common.refusal(again)[0] - 1] if common.refusal(again) else unrolled
+    left = [text for text in played if text.split()[:1] in (['run'], ['flow'])]
+    must(not left, f'{short(path)}: {left[:1]} is not unrolled')
+    return sum(text.startswith(('deliver ', 'drop ')) for text in unrolled)
+
+
+def check_trace(folder):
+    suited = treated = 0
+    for path in samples.scripts():
+        transcript = samples.transcript_of(path)
+        if not is_suited(path, transcript):
+            status, _, messages = run('trace', path)
+            must(status == 1 and messages.count('\n') == 1, f'{short(path)}: not suited, and status {status}')
+            continue
+        suited += 1
+        treated += compare_trace(common.read(path), transcript, path)
+    must(suited >= 50 and treated >= 1000, f'too few: {suited} scripts are suited, with {treated} copies')
+    chance, path, refused, more = random.Random(SEED), os.path.join(folder, 'random.script'), 0, 40
+    for _ in range(more):
+        texts = samples.random_script(chance)
+        transcript = common.play(texts)
+        refused += common.refusal(transcript) is not None
+        with open(path, 'w') as file:
+            file.write('\n'.join(texts) + '\n')
+        treated += compare_trace(texts, transcript, path)
+    must(refused < more / 2, f'too many of the random scripts are refused: {refused}')
+    return f'{suited} scripts of the data and {more} random ones, {treated} copies treated'
+
+
+# annotate
+
+def growth(lines):
+    """How many lines of the transcript each line of a script wrote, by playing each front of it."""
+    counts, before = {}, 0
+    for line in lines:
+        transcript = common.play(each.text for each in lines[:line.number])
+        counts[line.number], before = len(transcript) - before, len(transcript)
+        if common.refusal(transcript):
+            break
+    return counts
+
+
+def check_moment(lines, place, moment):
+    """The moment after a line is this one: `time` to it is played, and `time` to the one before is refused."""
+    front = [line.text for line in lines[:place]]
+    must(not common.refusal(common.play(front + [f'time {moment}'])), f'the moment is above {moment}')
+    if moment > 0:
+        refused = common.refusal(common.play(front + [f'time {moment - 1}']))
+        must(refused == (place + 1, 10), f'the moment is below {moment}')
+
+
+def check_annotate(folder):
+    written = 0
+    for path in samples.scripts():
+        transcript, lines = samples.transcript_of(path), common.read_script(path)
+        columns = [line.split('\t', 3) for line in lines_of('annotate', path, os.path.splitext(path)[0] + '.transcript')]
+        must_be([each[3] for each in columns], transcript, f'{short(path)}: transcript')
+        for each in columns:
+            line = lines[int(each[0]) - 1].text
+            shown = ' '.join(line.split())
+            must(each[2] == shown or each[2].endswith('..') and shown.startswith(each[2][:-2]), f'{short(path)}: line {each[0]} is not {each[2]}')
+        if is_static(transcript) or len(lines) > 90:
+            continue
+        found = collections.Counter(int(each[0]) for each in columns)
+        expected = {number: count for number, count in growth(lines).items() if count}
+        must(found == expected, f'{short(path)}: lines {dict(found)}, and not {expected}')
+        written += len(columns)
+        for each in {each[0]: each for each in columns if not each[3].startswith('refused ')}.values():
+            check_moment(lines, int(each[0]), int(each[1]))
+    path = os.path.join(folder, 'other.transcript')
+    with open(path, 'w') as file:
+        file.write('show A\n')
+    lines_of('annotate', samples.scripts()[0], path, status=1)
+    return f'{written} lines with their script lines and moments'
+
+
+# picture
+
+def expected_edges(path, transcript):
+    """The attached endpoints less the detached ones, and the uplinks, after the lines that were played."""
+    refused = common.refusal(transcript)
+    end = 1 if is_static(transcript) else refused[0] - 1 if refused else None
+    endpoints, uplinks = {}, set()
+    for line in common.read_script(path)[1:end]:
+        words = line.words
+        if line.word == 'attach':
+            endpoints[words[1], words[2]] = words[3]
+        elif line.word == 'detach':
+            del endpoints[words[1], words[2]]
+        elif line.word == 'external':
+            uplinks.add((words[1], f'{words[1]} {words[2]}'))
+        elif line.word == 'withdraw':
+            uplinks.discard((words[1], f'{words[1]} {words[2]}'))
+    return sorted((name, link, endpoint) for (name, endpoint), link in endpoints.items()), sorted(uplinks)
+
+
+def last_prefixes(transcript):
+    """The assigned prefixes that the last `prefixes` of each router tell."""
+    blocks = {}
+    for line in transcript:
+        words = line.split()
+        if words[0] == 'prefixes':
+            blocks[words[1]] = set()
+        elif words[0] == 'prefix':
+            blocks[words[1]].add(words[4][3:])
+    return set().union(*blocks.values())
+
+
+def edges_of(text):
+    """The edges that graphviz reads: tail, head, and label or nothing."""
+    done = subprocess.run(['dot', '-Tcanon'], input=text.encode(), stdout=subprocess.PIPE, stderr=subprocess.PIPE)
+    must(done.returncode == 0 and not done.stderr, f'dot: {done.stderr.decode()[-200:]}')
+    word = r'("[^"]*"|[^\s";]+)'
+    for line in done.stdout.decode().replace('\n\t\t', ' ').split('\n'):
+        if ' -- ' in line:
+            found = re.match(rf'\s*{word} -- {word}\s*\[(.*)\];$', line)
+            must(found, f'an edge that cannot be read: {line}')
+            label = re.search(r'label="?(\d+)"?', found.group(3))
+            yield found.group(1).strip('"'), found.group(2).strip('"'), label and label.group(1)
+
+
+def check_picture(folder):
+    need('dot')
+    edges = pictured = 0
+    for path in samples.scripts():
+        transcript = samples.transcript_of(path)
+        endpoints, uplinks = expected_edges(path, transcript)
+        text = '\n'.join(lines_of('picture', path, os.path.splitext(path)[0] + '.transcript'))
+        found = list(edges_of(text))
+        must_be(sorted(each for each in found if each[2]), endpoints, f'{short(path)}: endpoints')
+        must_be(sorted(each[:2] for each in found if not each[2]), uplinks, f'{short(path)}: uplinks')
+        told = {each for each in last_prefixes(transcript) if f'{each}' in re.findall(r'\\n([0-9a-f:]+/\d+)', text)}
+        if not any(line.word == 'detach' for line in common.read_script(path)):
+            must(told == last_prefixes(transcript), f'{short(path)}: prefixes {last_prefixes(transcript) - told} are not shown')
+            pictured += len(told)
+        edges += len(found)
+        must_be(list(edges_of('\n'.join(lines_of('picture', path)))) if not common.refusal(transcript) else found, found,
+                f'{short(path)}: without the transcript')
+    must(edges >= 100 and pictured >= 10, f'too few: {edges} edges, {pictured} prefixes')
+    return f'{len(samples.scripts())} scripts, {edges} edges, {pictured} prefixes'
+
+
+# seeds
+
+def check_seeds(folder):
+    path = next(path for path in samples.scripts() if short(path) == 'a_vanishing_router.script')
+    texts, expected = common.read(path), []
+    for seed in range(1, 101):
+        transcript = common.play(re.sub('^seed .*', f'seed {seed}', text) for text in texts)
+        expected += [f'seed {seed}: {line}' for line in transcript if re.search('kitchen .*number=4', line)][:1]
+    must(0 < len(expected) < 100, f'{len(expected)} seeds tell nothing')
+    must_be(lines_of('seeds', path, 'kitchen .*number=4'), expected + [f'{len(expected)} of 100 seeds'], 'seeds')
+    # A script without a seed: the refused line keeps its number.
+    plain = next(path for path in samples.scripts() if short(path) == 'taken_name.script')
+    must_be(lines_of('seeds', '-n', '2', plain, '^refused 5 8$'), ['seed 1: refused 5 8', 'seed 2: refused 5 8', '2 of 2 seeds'], 'seeds')
+    must_be(lines_of('seeds', '-n', '3', plain, 'no such text', status=1), ['0 of 3 seeds'], 'seeds')
+    return f'100 seeds, of which {len(expected)} show the pattern'
+
+
+# explain
+
+def check_explain(folder):
+    page = common.read(os.path.join(common.HERE, '..', 'docs', 'FORMATS.md'))
+    explained = set()
+    for path in samples.scripts() + samples.captures():
+        refused, flags = common.refusal(samples.transcript_of(path)), ['--watch'] if path.endswith('.capture') else []
+        if not refused:
+            continue
+        start = page.index('## Captures' if flags else '## Scripts')
+        row = next(text for text in page[start:] if re.match(rf'\| {refused[1]} \| ', text))
+        lines = lines_of('explain', *flags, *map(str, refused), path)
+        meaning = row.split('|')[2].strip().replace('`', '').encode('latin-1').decode()
+        shown = common.read_script(path)[refused[0] - 1].text if refused[0] else 'the whole'
+        must(lines[0] == f'refused {refused[0]} {refused[1]}: {meaning}', f'{short(path)}: {lines[0]}')
+        must(shown[:60] in lines[1] or not shown.isascii(), f'{short(path)}: {lines[1]} and not {shown[:60]}')
+        explained.add((refused[1], bool(flags)))
+    must(len(explained) >= 10, f'too few codes: {explained}')
+    # The page is read each time: a copy of the tool beside another page says what that page says.
+    for name in ['tools', 'docs']:
+        os.mkdir(os.path.join(folder, name))
+    for name in ['common.py', 'explain']:
+        shutil.copy(os.path.join(common.HERE, name), os.path.join(folder, 'tools'))
+    with open(os.path.join(folder, 'docs', 'FORMATS.md'), 'w') as file:
+        file.write('## Scripts\n\n| Code | Refused if |\n|---|---|\n| 77 | the `page` is another |\n')
+    done = subprocess.run([os.path.join(folder, 'tools', 'explain'), '3', '77'], stdout=subprocess.PIPE, stderr=subprocess.PIPE)
+    must(done.stdout == b'refused 3 77: the page is another\n', f'of another page: {done.stdout} {done.stderr}')
+    lines_of('explain', '1', '99', status=1)
+    return f'{len(explained)} codes'

@@ -1,0 +1,125 @@
+"""What the tools share: the program, scripts and transcripts, and how a tool ends.
+
+A tool ends with status 0 when it is done, 1 when its input or the program is not as it has to be, 2 on bad arguments.
+"""
+import argparse
+import os
+import shutil
+import subprocess
+import sys
+
+HERE = os.path.dirname(os.path.realpath(__file__))
+
+# The codes that are looked for in a whole script before anything happens (docs/FORMATS.md, "Scripts").
+CODES_BEFORE_PLAY = {1, 2, 3, 4, 5, 6, 15}
+
+
+class Problem(Exception):
+    """What is wrong with the input, as one line for a reader."""
+
+
+def parser(about, arguments):
+    """A parser of a tool's words: its name or flag, and the text that says what it is."""
+    made = argparse.ArgumentParser(description=about, formatter_class=argparse.RawDescriptionHelpFormatter)
+    for names, settings in arguments:
+        made.add_argument(*names.split(), **settings)
+    return made
+
+
+def end(main):
+    """Runs a tool, and ends with its status. Bad input gives one line, and no traceback."""
+    try:
+        status = main() or 0
+        sys.stdout.flush()
+    except Problem as problem:
+        status = complain(str(problem))
+    except BrokenPipeError:
+        # Nobody reads any more; what Python would still write at its end goes nowhere.
+        os.dup2(os.open(os.devnull, os.O_WRONLY), sys.stdout.fileno())
+        status = 1
+    except OSError as error:
+        status = complain(f'{error.filename or "input"}: {error.strerror}')
+    except KeyboardInterrupt:
+        status = 130
+    sys.exit(status)
+
+
+def complain(text):
+    sys.stdout.flush()
+    print(f'{os.path.basename(sys.argv[0])}: {text}', file=sys.stderr)
+    return 1
+
+
+def program():
+    """The path of the program hncp: HNCP of the environment, or the one built in this repository."""
+    path = os.environ.get('HNCP') or os.path.join(HERE, '..', 'crates', 'hncp', 'out', 'hncp')
+    found = shutil.which(path)
+    if not found:
+        raise Problem(f'there is no program {path}; set HNCP to the path of hncp')
+    return found
+
+
+def call(form, data):
+    """What the program writes for these bytes, as lines, with its status. Other statuses than 0 and 2 are a problem."""
+    done = subprocess.run([program(), form], input=data, stdout=subprocess.PIPE, stderr=subprocess.PIPE)
+    if done.returncode not in (0, 2):
+        raise Problem(f'hncp {form} ended with status {done.returncode}: {done.stderr.decode("ascii", "replace").strip()}')
+    return done.stdout.decode('ascii', 'replace').splitlines(), done.returncode
+
+
+def decode(text):
+    """The lines that `hncp decode` writes for hexadecimal text."""
+    return call('decode', text.encode('ascii', 'replace'))[0]
+
+
+class Line:
+    """A line of a script: its number, its text, and its words, of which a skipped line has none."""
+
+    def __init__(self, number, text):
+        self.number = number
+        self.text = text
+        words = [word for word in text.split(' ') if word]
+        self.words = [] if not words or words[0].startswith('#') else words
+
+    @property
+    def word(self):
+        return self.words[0] if self.words else ''
+
+
+def read(path):
+    """The lines of a file, each byte as one character."""
+    with open(path, 'rb') as file:
+        lines = file.read().decode('latin-1').split('\n')
+    return lines[:-1] if lines[-1] == '' else lines
+
+
+def read_script(path):
+    """The lines of a script, numbered from 1; the first one has the version. No bytes are one empty line here."""
+    return [Line(place + 1, text) for place, text in enumerate(read(path) or [''])]
+
+
+def play(texts):
+    """The transcript of a script of these lines, as lines."""
+    return call('lab', ''.join(text + '\n' for text in texts).encode('latin-1'))[0]
+
+
+def refusal(transcript):
+    """The line and the code of the refusal that ends a transcript, or None."""
+    words = transcript[-1].split() if transcript else []
+    if len(words) == 3 and words[0] == 'refused' and words[1].isdigit() and words[2].isdigit():
+        return int(words[1]), int(words[2])
+    return None
+
+
+def must_be_played(transcript):
+    """A script that is refused before anything happens is a problem."""
+    refused = refusal(transcript)
+    if refused and refused[1] in CODES_BEFORE_PLAY:
+        raise Problem(f'the program refuses the script: line {refused[0]}, code {refused[1]}; see tools/explain')
+
+
+def number(text, most=2 ** 64 - 1):
+    """A number of a script, or None."""
+    if text.isascii() and text.isdigit() and len(text) <= 20 and int(text) <= most:
+        return int(text)
+    return None

@@ -52,7 +52,7 @@ def complain(text):
 
 def program():
     """The path of the program hncp: HNCP of the environment, or the one built in this repository."""
-    path = os.environ.get('HNCP') or os.path.join(HERE, '..', 'crates', 'hncp', 'out', 'hncp')
+    path = os.environ.get('HNCP') or os.path.normpath(os.path.join(HERE, '..', 'crates', 'hncp', 'out', 'hncp'))
     found = shutil.which(path)
     if not found:
         raise Problem(f'there is no program {path}; set HNCP to the path of hncp')

@@ -154,7 +154,7 @@ def last_prefixes(transcript):
 def edges_of(text):
     """The edges that graphviz reads: tail, head, and label or nothing."""
     done = subprocess.run(['dot', '-Tcanon'], input=text.encode(), stdout=subprocess.PIPE, stderr=subprocess.PIPE)
-    must(done.returncode == 0 and not done.stderr, f'dot: {done.stderr.decode()[-200:]}')
+    must(done.returncode == 0 and not done.stderr, f'dot: {done.stderr.decode()[-200:].strip()}')
     word = r'("[^"]*"|[^\s";]+)'
     for line in done.stdout.decode().replace('\n\t\t', ' ').split('\n'):
         if ' -- ' in line:

@@ -6,3 +6,4 @@ mod Progress
 mod Staying
 mod Laters
 mod Following
+mod Gaps

@@ -1,5 +1,5 @@
 -- What the parts of the search for reachable nodes do. A node is named by its place among all nodes.
-use Rattle.std.specs.Prelude.{◌≡◌, ℕ, ◌+◌, ◌⊎◌, Bool, true, false, not, List, Some, length, slice_get, slice_index_or}
+use Rattle.std.specs.Prelude.{◌≡◌, ℕ, ◌+◌, ◌<◌, ◌≤◌, ◌⊎◌, Bool, true, false, not, List, Some, length, slice_get, slice_index_or}
 use Rattle.std.specs.List.{Contains, count_by}
 use Rattle.hn_base.specs.declared.ids.NodeId.{NodeId}
 use Rattle.hn_data.specs.declared.view.Entry.{Entry}
@@ -11,6 +11,14 @@ pub record IsNext (nodes : List Entry) (x : Entry) (place : ℕ) : Type 0 where
   pub at : slice_get nodes place ≡ Some y
   pub recent : IsRecent x
   pub adjacent : AreAdjacent x y
+
+-- the numbers before this place are below a number
+abbrev pub AreBelow : List ℕ → ℕ → ℕ → Type 0
+AreBelow numbers place number = (k : ℕ) → k < place → slice_index_or numbers k 0 < number
+
+-- the numbers from this place on are above a number
+abbrev pub AreAbove : List ℕ → ℕ → ℕ → Type 0
+AreAbove numbers place number = (k : ℕ) → place ≤ k → k < length numbers → number < slice_index_or numbers k 0
 
 -- the place is marked
 abbrev pub IsFound : List Bool → ℕ → Type 0

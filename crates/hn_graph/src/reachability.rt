@@ -19,13 +19,14 @@ pub fn reach(alloc: Global, own: NodeId, nodes: &[Entry]) -> Result<NodeIds, NoM
     ensures exact { IfOk result (λ reached. (y : NodeId) → Contains reached y ↔ IsReachable own.0 nodes.now y.0) }
 {
     let mut found = vec![in alloc; false; nodes.len()]?;
-    let mut visits = Vec::new(alloc);
+    let mut visits = Vec::with_capacity(alloc, nodes.len())?;
     let Some(start) = place_of(nodes, own) else {
         unreachable!()
     };
     mark(&[start], &mut found, &mut visits)?;
+    let mut places = Vec::new(alloc);
     while let Some(place) = visits.pop() {
-        let places = next_places(alloc, nodes, &nodes[place], &found)?;
+        next_places(nodes, &nodes[place], &found, &mut places)?;
         mark(&places, &mut found, &mut visits)?;
     }
     found_ids(alloc, nodes, &found)

@@ -10,7 +10,7 @@ mod network_state;
 mod part;
 
 pub use agreement::{Agreement, agree};
-pub use hash::h;
+pub use hash::{h, same_hash};
 pub use law::{equal_hashes_agree_or_collide, hash_has_eight_bytes};
 pub use leaf::Leaf;
 pub use network_state::{network, network_of};

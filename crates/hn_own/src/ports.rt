@@ -1,4 +1,4 @@
-ghost use Rattle.std.specs.Prelude.{◌≡◌, ◌≢◌, ◌<◌, ◌≤◌, ◌^◌, [], false, nat_lt, length, position, IfOk, OnOk, OnErr, option_copied};
+ghost use Rattle.std.specs.Prelude.{◌≡◌, ◌≢◌, ◌<◌, ◌≤◌, ◌^◌, ◌++◌, [], false, nat_lt, length, position, IfOk, OnOk, OnErr, option_copied};
 ghost use Rattle.hn_own.specs.Ports.{ArePorts, is_port, port_at, is_attached, put_port, attached, detached, endpoints_of};
 
 use hn_base::{EpId, Exact, NoMemory};
@@ -46,6 +46,16 @@ fn place_of(ports: &[Port], at: EpId) -> Option<usize>
     ensures { result ≡ position (is_port at) ports.now }
 {
     ports.iter().position(|port| port.id == at)
+}
+
+/// Adds copies of endpoints.
+fn add_copies(items: &mut Vec<Port>, ports: &[Port]) -> Result<(), NoMemory>
+    ensures { OnOk result (items.new.items ≡ items.old.items ++ ports.now) }
+{
+    for port in ports {
+        items.push(port.clone()?)?;
+    }
+    Ok(())
 }
 
 /// The number of an endpoint has 4 bytes.
@@ -106,6 +116,24 @@ impl Ports {
         if let Some(place) = place_of(&self.items, port.id) {
             self.items[place] = port;
         }
+    }
+
+    /// The endpoints, with this one in place of the one with its number, if there is one. The others are copied.
+    ///
+    /// # Errors
+    ///
+    /// Out of memory.
+    pub fn with(&self, alloc: Global, port: Port) -> Result<Ports, NoMemory>
+        ensures { IfOk result (λ ports. ports ≡ put_port port self.now) }
+    {
+        let Some(place) = place_of(&self.items, port.id) else {
+            return Ok(self.clone()?);
+        };
+        let mut items = Vec::with_capacity(alloc, self.items.len())?;
+        add_copies(&mut items, &self.items[..place])?;
+        items.push(port)?;
+        add_copies(&mut items, &self.items[place + 1..])?;
+        Ok(Ports { items })
     }
 
     /// Adds an endpoint at its place in the order.

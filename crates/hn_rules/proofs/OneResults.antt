@@ -21,7 +21,6 @@ use Rattle.hn_typed.specs.Table.{IsItem}
 use Rattle.hn_typed.specs.Fault.{IsItemFault}
 use Rattle.hn_typed.specs.Laws.{ItemIsUnique, ItemHasNoFault, ItemFaultIsUnique}
 use Rattle.hn_timers.specs.Interval.{started}
-use Rattle.hn_data.specs.View.{PlainView}
 use Rattle.hn_deleg.specs.declared.delegated.Delegated.{Delegated}
 use Rattle.hn_deleg.specs.Laws.{UsableIsUnique}
 use Rattle.hn_assign.specs.declared.assigned.Wish.{Wish}

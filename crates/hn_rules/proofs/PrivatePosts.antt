@@ -17,7 +17,7 @@ use Rattle.hn_assign.specs.declared.held.Ran.{Ran}
 use Rattle.hn_assign.specs.declared.pair.Pair.{Pair}
 use Rattle.hn_assign.specs.Facts.{IsOfLengthAt, IsAloneAt}
 use Rattle.hn_assign.specs.Laws.{SubroutineKeepsLengths, AssignedAreWished}
-use Rattle.hn_assign.specs.Pair.{IsWished, assigned_pair, wish_pair}
+use Rattle.hn_assign.specs.Pair.{IsWished, assigned_pair}
 use Rattle.hn_dncp.specs.declared.port.Port.{Port}
 use Rattle.hn_own.specs.Own.{IsOwnData, link_at, links_at, links_of}
 use Rattle.hn_own.specs.Ports.{ArePorts, endpoints_of}
@@ -26,7 +26,6 @@ use Rattle.hn_rules.specs.declared.state.State.{State}
 use Rattle.hn_rules.specs.Assigning.{IsAssigned}
 use Rattle.hn_rules.specs.Laws.{OwnPeersAreOfEndpoints, PrivatePostIsAlone}
 use Rattle.hn_rules.specs.Nodes.{own_entry, entry_of, view_of}
-use Rattle.hn_rules.specs.Router.{IsRouter}
 use Rattle.hn_rules.specs.Seen.{seen_by}
 use Rattle.hn_rules.proofs.Entries.{entry_own, entry_named}
 use Rattle.hn_rules.proofs.LawPublished.{ReadLaws, peer_from}

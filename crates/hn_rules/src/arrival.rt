@@ -150,7 +150,7 @@ impl Running {
     fn answer_tlvs(&self, alloc: Global) -> Result<Vec<Bytes>, NoMemory>
         ensures { IfOk result (λ tlvs. tlvs.items ≡ map (λ a. a.tlv) self.now.answers) }
     {
-        let mut tlvs = Vec::new(alloc);
+        let mut tlvs = Vec::with_capacity(alloc, self.answers.len())?;
         for answer in self.answers.as_slice() {
             tlvs.push(Bytes::copy_of(alloc, answer.tlv.as_slice())?)?;
         }
@@ -161,6 +161,9 @@ impl Running {
     fn send_answers(&mut self, alloc: Global, from: &Origin) -> Result<(), NoMemory>
         ensures { OnOk result (IsAnswering from.now self.old self.new) }
     {
+        if self.answers.is_empty() {
+            return Ok(());
+        }
         let tlvs = self.answer_tlvs(alloc)?;
         let datagrams = pack(alloc, self.state.id, from.endpoint, tlvs.as_slice())?;
         self.send(from.endpoint, Some(from.from), datagrams)

@@ -103,7 +103,7 @@ impl Running {
         }
         let word = self.take(draw)?;
         let port = Port::start(alloc, at, self.state.moment.get(), word);
-        self.put_port(port)
+        self.put_port(alloc, port)
     }
 
     /// The nodes that were held, the assignments, the backoffs, the claims and the addresses are forgotten.

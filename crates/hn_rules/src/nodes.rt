@@ -77,7 +77,7 @@ impl State {
         ensures network { IfOk result (λ nodes. IsNetwork self.now.id.0 nodes.items) }
     {
         let _held = self.table.get().entries();
-        let mut nodes = Vec::new(alloc);
+        let mut nodes = Vec::with_capacity(alloc, self.table.get().len() + 1)?;
         self.add_lower(&mut nodes)?;
         nodes.push(self.own_entry()?)?;
         self.add_greater(&mut nodes)?;
@@ -103,21 +103,31 @@ impl State {
         }
     }
 
-    /// A node's part of the network state.
-    fn part(&self, id: NodeId) -> Option<Part>
+    /// A node's part of the network state. A held node is looked for from this place of the table on, which moves past it
+    /// then.
+    fn part(&self, id: NodeId, place: &mut usize) -> Option<Part>
         ensures { result ≡ part_of self.now id }
     {
-        let own = self.own_leaf();
-        self.table.get().known_of(&own, id)
+        if id == self.id {
+            return Some(Part {
+                number: self.number,
+                hash: self.own.get().hash(),
+            });
+        }
+        match self.table.get().next_to(place, id) {
+            Some(stored) => Some(stored.part()),
+            None => None,
+        }
     }
 
     /// The parts of the reachable nodes.
     pub(crate) fn parts(&self, alloc: Global) -> Result<Vec<Part>, NoMemory>
         ensures { IfOk result (λ parts. parts.items ≡ parts_of self.now) }
     {
-        let mut parts = Vec::new(alloc);
+        let mut parts = Vec::with_capacity(alloc, self.reach.get().as_slice().len())?;
+        let mut place = 0;
         for id in self.reach.get().as_slice() {
-            if let Some(part) = self.part(*id) {
+            if let Some(part) = self.part(*id, &mut place) {
                 parts.push(part)?;
             }
         }

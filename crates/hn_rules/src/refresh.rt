@@ -14,7 +14,7 @@ use crate::running::Running;
 use crate::state::State;
 use hn_base::{EpId, NoMemory, Shared};
 use hn_graph::{AGE_LIMIT, reachability_stays};
-use hn_hash::network_of;
+use hn_hash::{network_of, same_hash};
 use hn_io::Draw;
 use hn_own::{OwnData, OwnItems};
 use hn_timers::{SHORTEST_INTERVAL, Trickle};
@@ -48,11 +48,15 @@ impl State {
         items.is(self.own.get().items()) && self.own_age() < OLDEST_OWN_DATA
     }
 
-    /// Whether each held node without a moment of loss is one from which paths lead on. Never allocates.
+    /// Whether each held node without a moment of loss is one from which paths lead on. Each node is looked at only where
+    /// one of them may be old. Never allocates.
     fn leads_on(&self) -> bool
         ensures { IsTrue result → All (λ node. node.stored.lost ≡ None → age_at self.now.moment node.stored < 2 ^ 32 - 2 ^ 15) self.now.table.entries }
     {
         let now = self.moment.get();
+        if self.table.get().is_young(now) {
+            return true;
+        }
         for node in self.table.get().entries() {
             if node.stored.lost.is_none() && age_at(now, &node.stored) >= AGE_LIMIT {
                 return false;
@@ -130,7 +134,7 @@ impl Running {
     }
 
     /// Resets Trickle of an endpoint.
-    fn reset_port<D: Draw>(&mut self, at: EpId, draw: &mut D) -> Result<(), NoMemory>
+    fn reset_port<D: Draw>(&mut self, alloc: Global, at: EpId, draw: &mut D) -> Result<(), NoMemory>
         ensures { OnOk result (Ran (AtPort at IsPortReset) (D.words draw.old) (D.words draw.new) self.old self.new) }
     {
         let now = self.state.moment.get();
@@ -143,7 +147,7 @@ impl Running {
         let mut port = port.clone()?;
         let word = self.take(draw)?;
         port.trickle = Trickle::start(now, SHORTEST_INTERVAL, word);
-        self.put_port(port)
+        self.put_port(alloc, port)
     }
 
     /// Resets Trickle of each endpoint.
@@ -152,7 +156,7 @@ impl Running {
     {
         let endpoints = self.state.ports.get().endpoints(alloc)?;
         for at in &endpoints {
-            self.reset_port(*at, draw)?;
+            self.reset_port(alloc, *at, draw)?;
         }
         Ok(())
     }
@@ -162,7 +166,7 @@ impl Running {
         ensures { OnOk result (Ran IsHashing (D.words draw.old) (D.words draw.new) self.old self.new) }
     {
         let hash = self.state.network_state_hash(alloc)?;
-        if hash == self.state.net {
+        if same_hash(hash, self.state.net) {
             return Ok(());
         }
         self.state.net = hash;

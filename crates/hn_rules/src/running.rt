@@ -5,7 +5,7 @@ use crate::answers::Answer;
 use crate::done::{Done, Note, Outgoing};
 use crate::present::Present;
 use crate::state::State;
-use hn_base::{Addr, EpId, Moment, NoMemory, NodeId, Sequence};
+use hn_base::{Addr, EpId, Moment, NoMemory, NodeId, Sequence, Shared};
 use hn_dncp::{Datagrams, Port};
 use std::alloc::Global;
 
@@ -51,10 +51,11 @@ impl Running {
     }
 
     /// Changes an endpoint.
-    pub(crate) fn put_port(&mut self, port: Port) -> Result<(), NoMemory>
+    pub(crate) fn put_port(&mut self, alloc: Global, port: Port) -> Result<(), NoMemory>
         ensures { OnOk result (self.new ≡ with_port port self.old) }
     {
-        self.state.ports.edit()?.put(port);
+        let ports = self.state.ports.get().with(alloc, port)?;
+        self.state.ports = Shared::new(alloc, ports)?;
         Ok(())
     }
 

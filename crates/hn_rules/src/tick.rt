@@ -107,7 +107,7 @@ impl State {
 
 impl Running {
     /// The expired peers of an endpoint go: whether there are some.
-    fn expire_port(&mut self, at: EpId) -> Result<bool, NoMemory>
+    fn expire_port(&mut self, alloc: Global, at: EpId) -> Result<bool, NoMemory>
         ensures rule { OnOk result (AtPort at IsPortExpiry self.old self.new) }
         ensures untouched { IfOk result (λ touched. touched ≡ false → self.new ≡ self.old) }
     {
@@ -120,7 +120,7 @@ impl Running {
         };
         let mut port = port.clone()?;
         self.state.expire(&mut port.peers);
-        self.put_port(port)?;
+        self.put_port(alloc, port)?;
         Ok(true)
     }
 
@@ -136,7 +136,7 @@ impl Running {
         let endpoints = self.state.ports.get().endpoints(alloc)?;
         let mut touched = false;
         for at in &endpoints {
-            touched |= self.expire_port(*at)?;
+            touched |= self.expire_port(alloc, *at)?;
         }
         Ok(touched)
     }
@@ -168,14 +168,19 @@ impl Running {
     }
 
     /// Trickle of an endpoint moves on: whether a Network State is to be sent.
-    fn move_port<D: Draw>(&mut self, mut port: Port, draw: &mut D) -> Result<bool, NoMemory>
+    fn move_port<D: Draw>(
+        &mut self,
+        alloc: Global,
+        mut port: Port,
+        draw: &mut D,
+    ) -> Result<bool, NoMemory>
         ensures ran { OnOk result (Ran (IsPortMoving port) (D.words draw.old) (D.words draw.new) self.old self.new) }
         ensures sends { IfOk result (λ sends. sends ≡ tick_sends self.old.state.moment port) }
         ensures moment { OnOk result (self.new.state.moment ≡ self.old.state.moment) }
     {
         let renewed = port.tick(self.state.moment.get(), draw);
         self.took_words(renewed.taken())?;
-        self.put_port(port)?;
+        self.put_port(alloc, port)?;
         Ok(renewed.sends)
     }
 
@@ -193,7 +198,7 @@ impl Running {
             return Ok(());
         }
         let port = port.clone()?;
-        if self.move_port(port, draw)? {
+        if self.move_port(alloc, port, draw)? {
             self.send_state(alloc, at)?;
         }
         Ok(())

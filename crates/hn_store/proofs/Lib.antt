@@ -8,3 +8,4 @@ mod Listed
 mod Tables
 mod Broughts
 mod Forgettings
+mod YoungNodes

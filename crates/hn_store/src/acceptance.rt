@@ -10,9 +10,10 @@ use crate::place::place_of;
 use crate::state::{OwnLeaf, State, Took};
 use crate::stored::{HeldNode, Stored};
 use crate::table::Table;
+use crate::young::young_until;
 use hn_base::{Moment, NoMemory, NodeId, older};
 use hn_data::NodeData;
-use hn_hash::{Part, h};
+use hn_hash::{Part, h, same_hash};
 use hn_tlv::{ListFault, first_fault_is_unique};
 use std::alloc::Global;
 
@@ -26,7 +27,7 @@ fn is_stale(known: Option<Part>, state: &State<'_>) -> bool
     match known {
         Some(known) => {
             !older(known.number, state.number)
-                && !(known.number == state.number && known.hash != state.hash)
+                && !(known.number == state.number && !same_hash(known.hash, state.hash))
         }
         None => false,
     }
@@ -37,7 +38,7 @@ fn carries_data(state: &State<'_>, hash: [u8; 8]) -> bool
     requires { hash ≡ hash_of state.now.body.now }
     ensures { IsTrue result ↔ CarriesData (plain_state state.now) }
 {
-    !state.body.is_empty() || state.hash == hash
+    !state.body.is_empty() || same_hash(state.hash, hash)
 }
 
 /// Whether a state carries data that have another hash than it says, where this is the hash of its bytes.
@@ -46,7 +47,7 @@ fn has_wrong_hash(state: &State<'_>, hash: [u8; 8]) -> bool
     ensures wrong { OnTrue result (HasWrongHash (plain_state state.now)) }
     ensures right { OnFalse result (HasRightHash (plain_state state.now)) }
 {
-    carries_data(state, hash) && state.hash != hash
+    carries_data(state, hash) && !same_hash(state.hash, hash)
 }
 
 impl Table {
@@ -111,6 +112,7 @@ impl Table {
             body,
             lost: None,
         };
+        self.young = self.young.min(young_until(state.age, now));
         match place_of(&self.nodes, state.node) {
             Ok(place) => {
                 let node = &mut self.nodes[place];
@@ -156,8 +158,9 @@ impl Table {
         let Ok(place) = place_of(&self.nodes, state.node) else {
             return Took::Ask;
         };
+        self.young = self.young.min(young_until(state.age, now));
         let node = &mut self.nodes[place];
-        if node.stored.hash != state.hash {
+        if !same_hash(node.stored.hash, state.hash) {
             return Took::Ask;
         }
         node.stored.renumber(state, now);

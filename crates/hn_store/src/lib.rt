@@ -9,6 +9,7 @@ mod place;
 mod state;
 mod stored;
 mod table;
+mod young;
 
 pub use acceptance::BODY_LIMIT;
 pub use laws::{

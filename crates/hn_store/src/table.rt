@@ -6,7 +6,7 @@ ghost use Rattle.hn_store.specs.Nodes.{held, IsTable, IsIntact};
 
 use crate::place::{near, place_of};
 use crate::stored::{HeldNode, Stored};
-use hn_base::{Exact, NoMemory, NodeId, NodeIds};
+use hn_base::{Exact, Moment, NoMemory, NodeId, NodeIds};
 use std::alloc::{AllocError, Global};
 use std::marker::Model;
 
@@ -23,17 +23,20 @@ pub const LARGE_LIMIT: usize = 1024;
 #[derive(Drop)]
 pub struct Table {
     limit: usize,
+    /// Before this moment the data of each node are young.
+    pub(crate) young: Moment,
     pub(crate) nodes: Vec<HeldNode>,
 }
 
 impl Model for Table {
     ghost use Rattle.hn_store.specs.Nodes.{Nodes, IsTable};
+    ghost use Rattle.hn_store.specs.Young.{AreYoungBefore};
 
     ghost Value = { Nodes };
 
     ghost view = { λ t. record { limit = t.limit; entries = t.nodes.items } };
 
-    ghost invariant = { λ t. IsTable (record { limit = t.limit; entries = t.nodes.items }) };
+    ghost invariant = { λ t. IsTable (record { limit = t.limit; entries = t.nodes.items }) × AreYoungBefore t.young t.nodes.items };
 }
 
 /// The identifiers of nodes.
@@ -58,6 +61,7 @@ impl Table {
     {
         Table {
             limit,
+            young: Moment::MAX,
             nodes: Vec::new(alloc),
         }
     }
@@ -133,6 +137,7 @@ impl Clone for Table {
     fn clone(&self) -> Result<Table, AllocError> {
         Ok(Table {
             limit: self.limit,
+            young: self.young,
             nodes: self.nodes.clone()?,
         })
     }

@@ -185,6 +185,9 @@ fn put(out: &mut Vec<u8>, bytes: &[u8])
     ensures len { vec_len out.new ≡ vec_len out.old + length bytes.now }
     ensures capacity { vec_capacity out.old ≤ vec_capacity out.new }
 {
+    if bytes.is_empty() {
+        return;
+    }
     // It fails only if there is no room.
     let _ = out.extend_from_slice(bytes);
 }
@@ -238,8 +241,9 @@ pub fn write(item: &Item<'_>, out: &mut Vec<u8>) -> Result<(), NoMemory>
     let (fixed, zeros, after) = (parts.fixed.as_slice(), parts.zeros, parts.after);
     let len = fixed.len() + zeros + after.len();
     out.reserve(size(len))?;
-    put(out, &kind.to_be_bytes());
-    put(out, &(len as u16).to_be_bytes());
+    let [first, second] = kind.to_be_bytes();
+    let [third, fourth] = (len as u16).to_be_bytes();
+    put(out, &[first, second, third, fourth]);
     put(out, fixed);
     put_zeros(out, zeros);
     put(out, after);

@@ -5,6 +5,7 @@ ghost use Rattle.hn_rules.specs.NetworkState.{compared, network_state};
 use crate::running::{Origin, Running};
 use hn_base::NoMemory;
 use hn_dncp::Port;
+use hn_hash::same_hash;
 use std::alloc::Global;
 
 impl Running {
@@ -13,7 +14,7 @@ impl Running {
         ensures { OnOk result (self.new ≡ compared same port self.old) }
     {
         let asks = port.hash(same, self.sender, self.state.moment.get());
-        self.put_port(port)?;
+        self.put_port(alloc, port)?;
         if asks {
             self.request_state(alloc)?;
         }
@@ -34,7 +35,7 @@ impl Running {
         let Some(port) = ports.find(from.endpoint) else {
             return Ok(());
         };
-        let same = hash == self.state.net;
+        let same = same_hash(hash, self.state.net);
         if !same && !port.may_ask(self.state.moment.get()) {
             return Ok(());
         }

@@ -63,7 +63,7 @@ impl Running {
         ensures { OnOk result (self.new ≡ asking port self.old) }
     {
         if port.ask(self.state.moment.get()) {
-            self.put_port(port)?;
+            self.put_port(alloc, port)?;
             self.request_state(alloc)?;
         }
         Ok(())
@@ -75,14 +75,14 @@ impl Running {
     {
         match greet {
             Greet::Full => {
-                self.put_port(port)?;
+                self.put_port(alloc, port)?;
                 self.note(Note::PeersFull)
             }
             Greet::Unknown => {
-                self.put_port(port.clone()?)?;
+                self.put_port(alloc, port.clone()?)?;
                 self.ask(alloc, port)
             }
-            Greet::Known | Greet::Added => self.put_port(port),
+            Greet::Known | Greet::Added => self.put_port(alloc, port),
         }
     }
 

@@ -13,7 +13,7 @@ loop-place-init c =
     let m = c.in_ok-mark.ensures in
     let unmarked : c.in_ok-found.found.items ≡ replicate (length nodes) false = search rules in
     let marked : HasMarked (c.in-Some.start ∷ []) (replicate (length nodes) false) [] c.mark.new.found.items c.mark.new.visits.items =
-    subst (λ (v : List ℕ). HasMarked (c.in-Some.start ∷ []) (replicate (length nodes) false) v c.mark.new.found.items c.mark.new.visits.items) c.new-visits.ensures.items (rw (← unmarked) m) in
+    subst (λ (v : List ℕ). HasMarked (c.in-Some.start ∷ []) (replicate (length nodes) false) v c.mark.new.found.items c.mark.new.visits.items) c.in_ok-visits.ensures.items (rw (← unmarked) m) in
     begin c.args.own.0 nodes c.in-Some.start c.mark.new.found.items c.mark.new.visits.items c.requires.ascending c.in-Some.ensures.within c.in-Some.ensures.found marked
 
 pub bounds-nodes-place : goal.bounds-nodes-place
@@ -26,8 +26,8 @@ offset_bounds-nodes-place c =
 
 pub mark-requires-in-Some-pop : goal.mark-requires-in-Some-pop
 mark-requires-in-Some-pop c k d lt =
-    let there : Contains c.in_ok-places.places.items (get_or c.deref-in-Some-pop.result.now k d) = rw (← c.deref-in-Some-pop.ensures.value) (Contains-get_or c.deref-in-Some-pop.result.now k d lt) in
-    let next = c.in_ok-places.ensures.only (get_or c.deref-in-Some-pop.result.now k d) there in
+    let there : Contains c.next_places.new.places.items (get_or c.deref-in-Some-pop.result.now k d) = rw (← c.deref-in-Some-pop.ensures.value) (Contains-get_or c.deref-in-Some-pop.result.now k d lt) in
+    let next = c.in_ok-next_places.ensures.only (get_or c.deref-in-Some-pop.result.now k d) there in
     let within = slice_get_within c.args.nodes.now (get_or c.deref-in-Some-pop.result.now k d) next.y next.at in
     let same = c.loop-place.invariant.same_length in
     omega arith
@@ -41,9 +41,9 @@ loop-place-preserved c =
     let within = c.loop-place.invariant.visits_nodes place (rw popped (Contains-push c.pop.new.self.items place)) in
     let at : slice_get nodes place ≡ Some x = slice_get_read nodes (length nodes) place x refl within c.index-nodes-place.is in
     let u : IsUnderway c.args.own.0 nodes c.loop-place.found.items (c.pop.new.self.items ++ place ∷ []) = rw (← popped) c.loop-place.invariant in
-    let m : HasMarked c.in_ok-places.places.items c.loop-place.found.items c.pop.new.self.items c.mark-in-Some-pop.new.found.items c.mark-in-Some-pop.new.visits.items = rw (← c.deref-in-Some-pop.ensures.value) c.in_ok-mark-2.ensures in
-    let next : AreNext nodes x c.loop-place.found.items c.in_ok-places.places.items = rw (← c.deref.ensures.value) c.in_ok-places.ensures in
-    visit c.args.own.0 nodes x place c.in_ok-places.places.items c.loop-place.found.items c.pop.new.self.items c.mark-in-Some-pop.new.found.items c.mark-in-Some-pop.new.visits.items u at next m
+    let m : HasMarked c.next_places.new.places.items c.loop-place.found.items c.pop.new.self.items c.mark-in-Some-pop.new.found.items c.mark-in-Some-pop.new.visits.items = rw (← c.deref-in-Some-pop.ensures.value) c.in_ok-mark-2.ensures in
+    let next : AreNext nodes x c.loop-place.found.items c.next_places.new.places.items = rw (← c.deref.ensures.value) c.in_ok-next_places.ensures in
+    visit c.args.own.0 nodes x place c.next_places.new.places.items c.loop-place.found.items c.pop.new.self.items c.mark-in-Some-pop.new.found.items c.mark-in-Some-pop.new.visits.items u at next m
 
 pub returns-clause-exact : goal.returns-clause-exact
 returns-clause-exact c =

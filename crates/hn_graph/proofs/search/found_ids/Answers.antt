@@ -5,7 +5,7 @@ use Rattle.hn_graph.proofs.search.found_ids.Goals as goal
 use Rattle.hn_graph.proofs.search.found_ids.Goals.{then-is_found+in_ok-push, else-is_found}
 
 pub loop-place-init : goal.loop-place-init
-loop-place-init c = rw c.new-ids.ensures.items (none_found c.args.nodes.now c.args.found.now)
+loop-place-init c = rw c.in_ok-ids.ensures.items (none_found c.args.nodes.now c.args.found.now)
 
 pub loop-place-preserved : goal.loop-place-preserved
 loop-place-preserved c =

@@ -1,4 +1,5 @@
 use Rattle.std.proofs.Common.{ℕ}
+use Rattle.std.proofs.lemmas.List.Elements.{Contains-get_or}
 use Rattle.std.proofs.lemmas.Option.{slice_get-get_or}
 use Rattle.hn_graph.proofs.Leads.{across_more, across_same, next_across}
 use Rattle.hn_graph.proofs.search.next_places.Goals as goal
@@ -14,6 +15,12 @@ loop-link-preserved c =
       | in-Some+in_ok-push w ↦ rw (w.places-is, w.in_ok-push.ensures.items) (across_more nodes node links c.args.found.now n c.loop-link.places.items _ w.in-Some.place c.requires.ascending c.loop-link.invariant (slice_get-get_or links n _ c.loop-link-test.true) w.in-Some.ensures.found)
       | in_default w ↦ rw w.places-is (across_same nodes node links c.args.found.now n c.loop-link.places.items _ c.loop-link.invariant (slice_get-get_or links n _ c.loop-link-test.true) w.in_default.ensures.absent)
     ]
+
+pub open_place-requires-clause-said : goal.open_place-requires-clause-said
+open_place-requires-clause-said c =
+    let links = c.peers-link-items.result.now in
+    let n = c.loop-link.link-index in
+    (c.peers-link-items.ensures.exact _).0 (Contains-get_or links n _ c.loop-link-test.true)
 
 pub returns : goal.returns
 returns c =

@@ -1,11 +1,11 @@
-use Rattle.std.proofs.Common.{◌≡◌, ◌∙◌, ◌↔◌, [], IsTrue, ap, sym, inl, inr, rules, arith}
+use Rattle.std.proofs.Common.{◌≡◌, ◌∙◌, [], ap, sym, inl, inr, arith}
 use Rattle.std.proofs.lemmas.Grind.{common_steps}
 use Rattle.hn_hash.specs.Hash.{hash_of}
 use Rattle.hn_store.proofs.acceptance.carries_data.Goals as goal
 
 pub returns-else-not-is_empty : goal.returns-else-not-is_empty
 returns-else-not-is_empty c =
-    let same : IsTrue c.eq.result ↔ (c.args.state.now.hash ≡ c.args.hash) = search rules in
+    let same = c.same_hash.ensures.same in
     let empty : c.args.state.now.body.now ≡ [] = grind (arith, common_steps) in
     let none : c.args.hash ≡ hash_of [] = c.requires ∙ ap hash_of empty in
     (λ yes. inr (same.0 yes ∙ none), λ carries. elim carries [ inl bytes ↦ absurd (bytes empty) | inr is ↦ same.1 (is ∙ sym none) ])

@@ -11,8 +11,8 @@ pub returns-clause-valid : goal.returns-clause-valid
 returns-clause-valid c =
     let item : PlainItem = plain_item c.args.item.now in
     let kind : kind_of item < 2 ^ 16 = omega (arith, c.kind_of-kind.ensures, c.kind_of-kind.type_inv) in
-    let fixed : All IsByte (fixed_of item) = subst (All IsByte) (c.as_slice-fixed.ensures ∙ c.parts_of-parts.ensures.fixed) c.put-3.ensures.bytes in
-    let after : All IsByte (tail_of item) = subst (All IsByte) c.parts_of-parts.ensures.after c.put-4.ensures.bytes in
+    let fixed : All IsByte (fixed_of item) = subst (All IsByte) (c.as_slice-fixed.ensures ∙ c.parts_of-parts.ensures.fixed) c.put-2.ensures.bytes in
+    let after : All IsByte (tail_of item) = subst (All IsByte) c.parts_of-parts.ensures.after c.put-3.ensures.bytes in
     record { kind_fits = kind; length_fits = omega (arith, c.requires.short); bytes = value_bytes item fixed after }
 
 pub returns-clause-read_back : goal.returns-clause-read_back

@@ -12,6 +12,6 @@ returns-then-not-may_ask c =
     let at = c.args.from.now.endpoint in
     let ports = c.get-ports.ensures in
     at_port at c.in-Some.port.now c.get-ports.result.now (λ port b a. a ≡ network_state c.args.hash port b) r r c.in-Some.ensures ports
-    (compared_stays at _ c.in-Some.port.now r (sym c.eq-same.ensures ∙ c.if-not-same.true)
+    (compared_stays at _ c.in-Some.port.now r (sym c.same_hash-same.ensures.value ∙ c.if-not-same.true)
     (ap (λ now. may_ask now c.in-Some.port.now.asked) (sym c.get.ensures.moment) ∙ sym c.may_ask.ensures ∙ c.if-not-may_ask.true)
     (subst ArePorts ports c.as_slice-kept.ensures.kept) (sym (c.in-Some.ensures ∙ ap (port_at at) ports)))

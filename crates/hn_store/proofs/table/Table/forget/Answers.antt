@@ -4,6 +4,8 @@ use Rattle.std.proofs.lemmas.Grind.{common_steps}
 use Rattle.hn_store.specs.declared.stored.HeldNode.{HeldNode}
 use Rattle.hn_store.specs.Loss.{is_forgotten, remembered}
 use Rattle.hn_store.specs.Nodes.{Nodes, IsTable}
+use Rattle.hn_store.specs.Young.{AreYoungBefore}
+use Rattle.hn_store.proofs.YoungNodes.{young_filter}
 use Rattle.hn_store.proofs.Maps.{IsTable-filter}
 use Rattle.hn_store.proofs.Losses.{count_forgotten}
 use Rattle.hn_store.proofs.table.Table.forget.Goals as goal
@@ -12,7 +14,9 @@ pub invariant_of-self : goal.invariant_of-self
 invariant_of-self c =
     let stays = λ (node : HeldNode). not (is_forgotten c.args.now node) in
     let left = filter_same _ stays _ (λ (x : HeldNode) b q k. search (rules, tests)) _ _ c.retain.ensures.filtered in
-    subst (λ (nodes : List HeldNode). IsTable (record { limit = c.self.inside.limit; entries = nodes })) (sym left) (IsTable-filter c.self.inside.limit stays c.self.inside.nodes.items c.self.invariant)
+    let xs = c.self.inside.nodes.items in
+    subst (λ (nodes : List HeldNode). IsTable (record { limit = c.self.inside.limit; entries = nodes }) × AreYoungBefore c.self.inside.young nodes) (sym left)
+    (IsTable-filter c.self.inside.limit stays xs c.self.invariant.0, young_filter c.self.inside.young stays xs c.self.invariant.1)
 
 pub returns-clause-nodes : goal.returns-clause-nodes
 returns-clause-nodes c =

@@ -1,10 +1,12 @@
-use Rattle.std.proofs.Common.{◌≡◌, ◌≢◌, ◌<◌, ◌∙◌, ℕ, List, Some, None, length, set, ap, sym, subst, arith}
+use Rattle.std.proofs.Common.{◌≡◌, ◌≢◌, ◌<◌, ◌≤◌, ◌∙◌, ℕ, List, Some, None, length, set, ap, sym, subst, arith}
 use Rattle.std.specs.Prelude.{insert}
 use Rattle.hn_store.specs.declared.stored.HeldNode.{HeldNode}
 use Rattle.hn_store.specs.Nodes.{Nodes, IsTable, held, entry, put}
 use Rattle.hn_store.specs.Place.{IsPlaceOf, IsGapFor}
 use Rattle.hn_store.specs.Acceptance.{plain_state, kept}
+use Rattle.hn_store.specs.Young.{AreYoungBefore}
 use Rattle.hn_store.proofs.Places.{held-none}
+use Rattle.hn_store.proofs.YoungNodes.{young_set, young_insert}
 use Rattle.hn_store.proofs.Maps.{IsTable-insert}
 use Rattle.hn_store.proofs.Changing.{IsTable-there, intact_kept, after_replaced, after_inserted}
 use Rattle.hn_store.proofs.table.Table.store.Goals as goal
@@ -17,7 +19,12 @@ invariant_of-self c =
     let place = subst (λ (es : List HeldNode). IsPlaceOf es s.node c.in-Ok.place) c.deref.ensures.value c.in-Ok.ensures.found in
     let one = intact_kept s c.args.now (Some x.stored) c.args.body c.requires.same c.requires.short c.requires.listed c.requires.hashed in
     let P = λ (body : List ℕ). IsTable (record { limit = c.self.inside.limit; entries = set xs c.in-Ok.place (record { id = x.id; stored = record (kept s c.args.now (Some x.stored)) { body = body } }) }) in
-    subst P (sym c.requires.same) (IsTable-there c.self.inside.limit xs s.node c.in-Ok.place x (kept s c.args.now (Some x.stored)) c.self.invariant place c.index_mut-node.ensures.value one)
+    let table = subst P (sym c.requires.same) (IsTable-there c.self.inside.limit xs s.node c.in-Ok.place x (kept s c.args.now (Some x.stored)) c.self.invariant.0 place c.index_mut-node.ensures.value one) in
+    let sooner = c.min-self-inside.result in
+    let until = c.young_until.result in
+    let before : sooner ≤ c.self.inside.young = omega (arith, c.min-self-inside.ensures) in
+    let early : sooner ≤ until = omega (arith, c.min-self-inside.ensures) in
+    (table, young_set c.self.inside.young sooner until xs c.in-Ok.place _ before early c.self.invariant.1 c.young_until.ensures)
 
 pub returns-in-Ok-clause-ok : goal.returns-in-Ok-clause-ok
 returns-in-Ok-clause-ok c =
@@ -38,11 +45,17 @@ invariant_of-self-in-Err c =
     let gap = subst (λ (es : List HeldNode). IsGapFor es s.node c.in-Err.place) c.deref.ensures.value c.in-Err.ensures.absent in
     let one = intact_kept s c.args.now None c.args.body c.requires.same c.requires.short c.requires.listed c.requires.hashed in
     let room : length xs ≢ c.self.inside.limit = subst (λ (n : Nodes). held n.entries s.node ≡ None → length n.entries ≢ n.limit) (sym c.self.view_is) c.requires.room (held-none xs s.node c.in-Err.place gap) in
-    let within = c.self.invariant.within in
+    let within = c.self.invariant.0.within in
     let less : length xs < c.self.inside.limit = omega arith in
     let with_body = ap (λ (body : List ℕ). insert xs c.in-Err.place (entry s.node (record (kept s c.args.now None) { body = body }))) c.requires.same in
     let P = λ (es : List HeldNode). IsTable (record { limit = c.self.inside.limit; entries = es }) in
-    subst P (sym (c.in_ok-insert-in-Err.ensures.items ∙ with_body)) (IsTable-insert c.self.inside.limit s.node c.in-Err.place (kept s c.args.now None) xs c.self.invariant gap less one)
+    let table = subst P (sym (c.in_ok-insert-in-Err.ensures.items ∙ with_body)) (IsTable-insert c.self.inside.limit s.node c.in-Err.place (kept s c.args.now None) xs c.self.invariant.0 gap less one) in
+    let sooner = c.min-self-inside.result in
+    let until = c.young_until.result in
+    let before : sooner ≤ c.self.inside.young = omega (arith, c.min-self-inside.ensures) in
+    let early : sooner ≤ until = omega (arith, c.min-self-inside.ensures) in
+    let young = young_insert c.self.inside.young sooner until s.node xs c.in-Err.place (kept s c.args.now None) gap before early c.self.invariant.1 c.young_until.ensures in
+    (table, subst (AreYoungBefore sooner) (sym (c.in_ok-insert-in-Err.ensures.items ∙ with_body)) young)
 
 pub returns-in_ok-insert-in-Err-clause-ok : goal.returns-in_ok-insert-in-Err-clause-ok
 returns-in_ok-insert-in-Err-clause-ok c =

@@ -1,0 +1,24 @@
+use Rattle.std.proofs.Common.{rules, slice_get, length, ◌<◌, ◌≡◌, Some, Ok, Err, Result, MatchResult, ℕ, IfOk}
+use Rattle.std.specs.Result.{IfErr}
+use Rattle.std.specs.List.{Contains}
+use Rattle.std.specs.Ordering.{nat_cmp}
+use Rattle.std.proofs.lemmas.Cmp.{nat_cmp_total}
+use Rattle.std.proofs.lemmas.List.Sorted.{answers_always}
+use Rattle.hn_data.specs.View.{ids_of}
+use Rattle.hn_base.proofs.AscendingLists.{exact_nat}
+use Rattle.hn_base.proofs.Parts.{found_by}
+use Rattle.hn_graph.proofs.search.search.Goals as goal
+
+both : (r : Result ℕ ℕ) (P : ℕ → Type 0) (Q : Type 0) → MatchResult r P (λ _. Q) → IfOk r P × IfErr r (λ _. Q)
+both (Ok i) P Q holds = (holds, tt)
+both (Err i) P Q holds = (tt, holds)
+
+pub returns : goal.returns
+returns c =
+    let said = c.binary_search_by_key.ensures in
+    let nodes = c.args.nodes.now in
+    let id = c.args.id.0 in
+    let by_id = said.position (λ n. n.id.0) (answers_always _ _ _ (λ f a r g called. search rules)) in
+    let is = found_by (λ n. n.id.0) nat_cmp nat_cmp_total exact_nat nodes id c.binary_search_by_key.result c.requires said.bound by_id in
+    let either = both c.binary_search_by_key.result (λ place. (place < length nodes) × (slice_get (ids_of nodes) place ≡ Some id)) (¬ (Contains (ids_of nodes) id)) is in
+    record { found = either.0; absent = either.1 }

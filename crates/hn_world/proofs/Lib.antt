@@ -16,3 +16,4 @@ mod Authentics
 mod Grown
 mod Received
 mod Addressed
+mod SameNames

@@ -167,6 +167,9 @@ impl Copies {
         ensures err { OnErr result (self.new ≡ self.old) }
     {
         let count = more.len();
+        if count == 0 {
+            return Ok(());
+        }
         let bytes = bytes_of(more.as_slice());
         self.items.append(&mut more)?;
         self.waiting += count;

@@ -105,8 +105,8 @@ pub enum WorldFault {
     /// of a router, its ninth delegated prefix, or the 1,000,001st event; 10, the moment would fall; 11, the endpoint is
     /// in use or not attached; 12, the router is stopped; 13, there is no such copy; 14, the router already has an
     /// endpoint on that link; 16, there are 1,000,000 copies, or they and the injected datagrams have 2^28 bytes
-    /// together; 19, the addresses are not in strictly ascending order, more than 64, or one is of an endpoint that is
-    /// not attached.
+    /// together; 18, two routers that are to exchange what they hold are not peers of each other on one link; 19, the
+    /// addresses are not in strictly ascending order, more than 64, or one is of an endpoint that is not attached.
     Refused(u8),
     /// Out of memory.
     NoMemory,

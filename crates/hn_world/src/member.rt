@@ -1,5 +1,6 @@
 ghost use Rattle.std.specs.Prelude.{◌≡◌, ◌<◌, ◌==◌, [], ◌++◌, ◌∷◌, filter, length, position, not, IfOk, Some, option_copied, find, ◌≤◌, ◌^◌};
 ghost use Rattle.std.specs.List.{slice_get, slice_set, list_any};
+ghost use Rattle.std.specs.Str.{bytes_eq};
 ghost use Rattle.hn_base.specs.Name.{name_text};
 ghost use Rattle.hn_router.specs.Act.{Tick, Happened};
 ghost use Rattle.hn_rules.specs.Done.{nothing};
@@ -48,18 +49,28 @@ impl Model for Members {
     ghost view = { λ m. m.items.items };
 }
 
-/// The text of a name.
-fn text_of(name: &Name) -> &[u8]
-    ensures { result.now ≡ name_text name.now }
+/// Whether two names are the same. Those of a home mostly differ near their ends, so the last bytes come first.
+fn are_same(a: &Name, b: &Name) -> bool
+    ensures { result ≡ bytes_eq (name_text a.now) (name_text b.now) }
 {
-    &name.bytes[..usize::from(name.len)]
+    if a.len != b.len {
+        return false;
+    }
+    let mut left = usize::from(a.len);
+    while left > 0 {
+        left -= 1;
+        if a.bytes[left] != b.bytes[left] {
+            return false;
+        }
+    }
+    true
 }
 
 /// Whether a router has that name.
 fn is_named(member: &Member, name: &Name) -> bool
     ensures { result ≡ is_named (name_text name.now) member.now }
 {
-    *text_of(&member.name) == *text_of(name)
+    are_same(&member.name, name)
 }
 
 impl Member {

@@ -53,7 +53,7 @@ impl World {
     pub fn running_names(&self, alloc: Global) -> Result<Vec<Name>, NoMemory>
         ensures { IfOk result (λ names. names.items ≡ running_names self.now) }
     {
-        let mut names = Vec::new(alloc);
+        let mut names = Vec::with_capacity(alloc, self.parts.members.as_slice().len())?;
         for member in self.parts.members.as_slice() {
             if member.running {
                 names.push(member.name)?;

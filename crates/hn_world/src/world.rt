@@ -1,4 +1,4 @@
-ghost use Rattle.std.specs.Prelude.{◌≡◌, ◌↔◌, ℕ, None, Some, Err, false, IfOk, OnErr, option_copied};
+ghost use Rattle.std.specs.Prelude.{◌≡◌, ◌↔◌, ◌≤◌, ◌^◌, ℕ, None, Some, Err, false, IfOk, OnErr, option_copied};
 ghost use Rattle.std.specs.Option.{option_map, option_map_or};
 ghost use Rattle.std.specs.List.{slice_get};
 ghost use Rattle.hn_base.specs.Name.{name_text};
@@ -159,7 +159,8 @@ impl World {
 
     /// The moment of the world, in milliseconds. Never allocates.
     pub fn moment(&self) -> Moment
-        ensures { result ≡ self.now.moment }
+        ensures moment { result ≡ self.now.moment }
+        ensures in_range { result ≤ 2 ^ 48 }
     {
         self.parts.moment.get()
     }

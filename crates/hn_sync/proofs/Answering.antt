@@ -151,7 +151,7 @@ tlv_sends_nothing : (from : Origin) (tlv : PlainTlv) → SendsNothing (IsTlvRule
 tlv_sends_nothing from tlv before after (inl h) = item_sends_nothing from h.0 before after h.2
 tlv_sends_nothing from tlv before after (inr h) = ap sends h.2
 
-tlvs_send_nothing : (from : Origin) (tlvs : List PlainTlv) → SendsNothing (IsTlvs from tlvs)
+pub tlvs_send_nothing : (from : Origin) (tlvs : List PlainTlv) → SendsNothing (IsTlvs from tlvs)
 tlvs_send_nothing from tlvs =
     nothing_by_each (λ tlv. Then (IsTlvRule from tlv) IsRefresh) (λ tlv. nothing_by_both (IsTlvRule from tlv) IsRefresh (tlv_sends_nothing from tlv) refresh_sends_nothing) tlvs
 

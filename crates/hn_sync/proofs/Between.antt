@@ -47,32 +47,32 @@ use Rattle.hn_sync.proofs.Pairs.{same_endpoint}
 -- ---- addresses
 
 -- endpoints with one address are one
-same_address : (t u : Target) → t.endpoint.0 < 2 ^ 32 → u.endpoint.0 < 2 ^ 32 → (address_of t).ip ≡ (address_of u).ip → t ≡ u
+pub same_address : (t u : Target) → t.endpoint.0 < 2 ^ 32 → u.endpoint.0 < 2 ^ 32 → (address_of t).ip ≡ (address_of u).ip → t ≡ u
 same_address t u fits too same =
     let place : t.place ≡ u.place = omega (arith, same) in
     let number : t.endpoint.0 ≡ u.endpoint.0 = omega (arith, same) in
     let endpoint = same_endpoint t.endpoint u.endpoint number in
     λ i. record { place = place i; endpoint = endpoint i }
 
-has_this : (b : Bool) (p q : ℕ) → (p == q && b) ≡ true → p ≡ q
+pub has_this : (b : Bool) (p q : ℕ) → (p == q && b) ≡ true → p ≡ q
 has_this b p q h = by_test (p == q) refl h
   where
     by_test : (t : Bool) → (p == q) ≡ t → (t && b) ≡ true → p ≡ q
     by_test true is _ = eqb-true p q is
     by_test false is none = absurd (cc)
 
-abbrev HasPorts : Member → Type 0
+abbrev pub HasPorts : Member → Type 0
 HasPorts m = ArePorts m.router.ports
 
 -- the endpoints of routers have 32 bits
-endpoint_fits : (m : Member) (e : EpId) → HasPorts m → Contains (endpoints_of m.router.ports) e → e.0 < 2 ^ 32
+pub endpoint_fits : (m : Member) (e : EpId) → HasPorts m → Contains (endpoints_of m.router.ports) e → e.0 < 2 ^ 32
 endpoint_fits m e ports there =
     let port = Contains-from_map (λ (p : Port). p.id) m.router.ports e there in
     let fits = (All-contains (λ (p : Port). (0 < p.id.0) × (p.id.0 < 2 ^ 32)) m.router.ports port.0 ports.numbered port.1).1 in
     let is : port.0.id.0 ≡ e.0 = ap (λ (x : EpId). x.0) port.2 in
     omega (arith, fits, is)
 
-target_fits : (link place : ℕ) (ms : List Member) (t : Target) → ((m : Member) → Contains ms m → HasPorts m) → Contains (on_link link place ms) t → t.endpoint.0 < 2 ^ 32
+pub target_fits : (link place : ℕ) (ms : List Member) (t : Target) → ((m : Member) → Contains ms m → HasPorts m) → Contains (on_link link place ms) t → t.endpoint.0 < 2 ^ 32
 target_fits link place [] t ports there = absurd (nothing_in t there)
 target_fits link place (m ∷ ms) t ports there = elim (Contains-append_cases (on_link_at link place m) (on_link link (suc place) ms) t there) [
   | inl here ↦
@@ -107,7 +107,7 @@ room_at true true false false code runs there h = absurd (cc)
 room_at true false x y code runs there h = absurd (cc)
 room_at false s x y code runs there h = absurd (cc)
 
-attached_there : (e : EpId) (ports : List Port) → Contains (endpoints_of ports) e → is_attached e ports ≡ true
+pub attached_there : (e : EpId) (ports : List Port) → Contains (endpoints_of ports) e → is_attached e ports ≡ true
 attached_there e ports there =
     let port = Contains-from_map (λ (p : Port). p.id) ports e there in
     let is : port.0.id.0 ≡ e.0 = ap (λ (x : EpId). x.0) port.2 in
@@ -187,12 +187,12 @@ pub record HasLaws : Type 0 where
   pub version : WorldHasItsVersion
   pub endpoints : EndpointsFollow
 
-replays_step : (version : Version) (ts : List Traced) (t : Traced) (before after : Parts) → Replays version ts before → (notes : List Note) × Step t notes before after → Replays version (ts ++ t ∷ []) after
+pub replays_step : (version : Version) (ts : List Traced) (t : Traced) (before after : Parts) → Replays version ts before → (notes : List Note) × Step t notes before after → Replays version (ts ++ t ∷ []) after
 unfolding Replays
 replays_step version ts t before after h step = goes_more (empty_world version) before after ts t h step
 
 module _ (laws : HasLaws) (here there : Target) (count : ℕ) where
-  replayed_more : (t : Traced) (before after : Parts) → IsReplayed before → (notes : List Note) × Step t notes before after → IsReplayed after
+  pub replayed_more : (t : Traced) (before after : Parts) → IsReplayed before → (notes : List Note) × Step t notes before after → IsReplayed after
   replayed_more t before after h step =
       let then = replays_step before.version before.trace t before after h step in
       let trace = laws.trace before.version (before.trace ++ t ∷ []) after then in
@@ -208,7 +208,7 @@ module _ (laws : HasLaws) (here there : Target) (count : ℕ) where
     other : IsUp ms there
     news : (k : ℕ) (c : MailCopy) → count ≤ k → slice_get cs k ≡ Some c → IsBetween c
 
-  ports_in : (w : Parts) → IsReplayed w → (m : Member) → Contains w.members m → HasPorts m
+  pub ports_in : (w : Parts) → IsReplayed w → (m : Member) → Contains w.members m → HasPorts m
   ports_in w replayed m in_world = (All-contains (IsSoundMember w.moment) w.members m (laws.sound w replayed) in_world).router.well.ports
 
   -- a delivery keeps that
@@ -282,7 +282,7 @@ module _ (laws : HasLaws) (here there : Target) (count : ℕ) where
 -- ---- an exchange
 
 -- an endpoint of a router that has a peer there
-endpoint_there : (s : State) (e : EpId) (node : NodeId) (f : EpId) → HasPeerAt s e node f → Contains (endpoints_of s.ports) e
+pub endpoint_there : (s : State) (e : EpId) (node : NodeId) (f : EpId) → HasPeerAt s e node f → Contains (endpoints_of s.ports) e
 endpoint_there s e node f h =
     let port = port_there e s.ports h.port h.is_port in
     subst (λ (x : EpId). Contains (endpoints_of s.ports) x) port.1 (Contains-map (λ (p : Port). p.id) s.ports h.port port.0)

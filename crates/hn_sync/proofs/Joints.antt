@@ -28,7 +28,7 @@ peer_from s e node f h = by_port (port_at e s.ports) refl h
     by_port None is none = absurd (cc)
     by_port (Some port) is peer = record { port = port; is_port = is; peer = peer }
 
-peer_to : (s : State) (e : EpId) (node : NodeId) (f : EpId) → HasPeerAt s e node f → has_peer_at s e node f ≡ true
+pub peer_to : (s : State) (e : EpId) (node : NodeId) (f : EpId) → HasPeerAt s e node f → has_peer_at s e node f ≡ true
 peer_to s e node f h = ap (λ (o : Option Port). option_map_or (λ port. has_peer node f port.peers) o false) h.is_port ∙ h.peer
 
 module _ (a b : Member) (e f : EpId) where

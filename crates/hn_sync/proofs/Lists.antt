@@ -43,7 +43,7 @@ flat_there made (x ∷ xs) y there = elim (Contains-append_cases (made x) (flat_
 ]
 
 -- the first that passes stands at its place
-position_is : {A : Type 0} (p : A → Bool) (xs : List A) (i : ℕ) → position p xs ≡ Some i → position_or_len p xs ≡ i
+pub position_is : {A : Type 0} (p : A → Bool) (xs : List A) (i : ℕ) → position p xs ≡ Some i → position_or_len p xs ≡ i
 position_is p xs i found = by_test (nat_lt (position_or_len p xs) (length xs)) found
   where
     by_test : (b : Bool) → ◌≡◌ {A = Option ℕ} (cond b (Some (position_or_len p xs)) None) (Some i) → position_or_len p xs ≡ i

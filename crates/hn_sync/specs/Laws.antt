@@ -11,7 +11,8 @@ use Rattle.hn_world.specs.declared.member.Member.{Member}
 use Rattle.hn_world.specs.declared.parts.Parts.{Parts}
 use Rattle.hn_world.specs.Replay.{IsReplayed}
 use Rattle.hn_sync.specs.Joined.{AreJoined, AreLeast, joint_of}
-use Rattle.hn_sync.specs.Exchange.{request, IsQuestion, IsBegunExchange, StopsAt, ExchangeEnds, unless_exchange}
+use Rattle.hn_sync.specs.Exchange.{request, IsQuestion, IsBegunExchange, IsExchange, StopsAt, ExchangeEnds, unless_exchange}
+use Rattle.hn_sync.specs.Repairs.{Repairs}
 
 -- What is computed are the least endpoints by which two routers are joined.
 abbrev pub JointIsLeast : Type 0
@@ -67,3 +68,9 @@ abbrev pub StopsForRoomAlone : Type 0
 StopsForRoomAlone =
     (a b : Name) (code : ℕ) (told told_after : Option (ℕ → ℕ)) (before after : Parts)
     → IsReplayed before → StopsAt a b code told told_after before after → (code ≡ 9) ⊎ (code ≡ 16)
+
+-- One exchange repairs: in a replayed world, a whole exchange leaves the router that asked with what the other one knows of
+-- each node that it reaches, but for what was not older and for collisions.
+abbrev pub ExchangeRepairs : Type 0
+ExchangeRepairs =
+    (a b : Name) (ts : List Traced) (before after : Parts) → IsReplayed before → IsExchange a b ts before after → Repairs a b before after

@@ -1,3 +1,4 @@
 pub mod Joined
 pub mod Exchange
+pub mod Repairs
 pub mod Laws

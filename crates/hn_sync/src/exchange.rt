@@ -8,9 +8,10 @@ ghost use Rattle.hn_world.specs.declared.parts.Parts.{Parts};
 ghost use Rattle.hn_world.specs.Refusal.{refusal};
 ghost use Rattle.hn_world.specs.Replay.{words_of};
 ghost use Rattle.hn_sync.specs.Exchange.{AreDelivered, Exchanges, IsCutOff, StopsAt, unless_exchange};
+ghost use Rattle.hn_sync.specs.Repairs.{Repairs};
 
 use crate::joint::unless_exchange;
-use crate::laws::{refused_or_asked, stops_for_room_alone};
+use crate::laws::{exchange_repairs, refused_or_asked, stops_for_room_alone};
 use crate::question::question;
 use hn_base::Name;
 use hn_io::{Draw, words_join};
@@ -26,6 +27,10 @@ pub trait Exchange {
     /// are peers of each other and are attached to one link. Then each copy that was made since is delivered, in ascending
     /// number, new ones included, until every one was. All this is one moment.
     ///
+    /// Afterwards b is repaired: of each node that a reaches, other than b, it holds the sequence number and the data that a
+    /// knows; or it held a number that is not older, and holds it still; or what a knows of the node, and what b held of it
+    /// or no data, collide. So it is where b has room for what a reaches, and has one identifier all the while.
+    ///
     /// # Errors
     ///
     /// `Refused`, and then the world is as before: 7, a name is unknown, which is asked of both first; 12, one of the two is
@@ -39,6 +44,7 @@ pub trait Exchange {
         draw: &mut D,
     ) -> Result<(), WorldFault>
         ensures ok { OnOk result (Exchanges a.now b.now None (D.words draw.old) (D.words draw.new) (parts self.old) (parts self.new)) }
+        ensures repairs { OnOk result (Repairs a.now b.now (parts self.old) (parts self.new)) }
         ensures first { (code : ℕ) → unless_exchange a.now b.now (parts self.old) ≡ Some code
             → (result ≡ Err (WorldFault.Refused code)) × (self.new ≡ self.old) × (draw.new ≡ draw.old) }
         ensures later { (code : ℕ) → unless_exchange a.now b.now (parts self.old) ≡ None → result ≡ Err (WorldFault.Refused code)
@@ -94,6 +100,7 @@ impl Exchange for World {
         words_join();
         refused_or_asked();
         stops_for_room_alone();
+        exchange_repairs();
         self.is_replayed();
         let question = question(alloc, self, a, b)?;
         let copies = self.copies();

@@ -1,9 +1,17 @@
 //! Laws of exchanges. Each is the contract of a function that does nothing.
 
-ghost use Rattle.hn_sync.specs.Laws.{JointIsLeast, NoJointWhereNoneJoined, QuestionIsPacked, AsksOrIsRefused, QuestionIsUnique, ExchangeIsEntered, ExchangeIsUnique, StopsForRoomAlone};
+ghost use Rattle.hn_sync.specs.Laws.{JointIsLeast, NoJointWhereNoneJoined, QuestionIsPacked, AsksOrIsRefused, QuestionIsUnique, ExchangeIsEntered, ExchangeIsUnique, StopsForRoomAlone, ExchangeRepairs};
 
-use hn_dncp::packing_is_unique;
-use hn_router::endpoints_follow;
+use hn_dncp::{packing_is_read, packing_is_unique};
+use hn_hash::hash_has_eight_bytes;
+use hn_router::{endpoints_follow, moment_is_now};
+use hn_rules::{items_are_published, refresh_after_a_refresh_rests, rules_have_one_result};
+use hn_store::{
+    acceptance_keeps_table, held_is_of_an_entry, held_was_brought, loss_keeps_table, others_stay,
+    put_changes_one_node,
+};
+use hn_tlv::{first_fault_is_unique, list_is_of_bytes, list_is_unique};
+use hn_typed::{item_fault_is_unique, item_is_unique, written_is_read};
 use hn_world::{always_sound, at_most_one_world, each_event_is_entered, step_is_unique};
 
 /// What is computed are the least endpoints by which two routers are joined, and there are none exactly where no endpoints
@@ -56,4 +64,33 @@ pub fn stops_for_room_alone()
     always_sound();
     at_most_one_world();
     endpoints_follow();
+}
+
+/// One exchange repairs: it leaves the router that asked with what the other one knows of each node that it reaches, but
+/// for what was not older and for collisions.
+pub fn exchange_repairs()
+    ensures { ExchangeRepairs }
+{
+    always_sound();
+    at_most_one_world();
+    each_event_is_entered();
+    endpoints_follow();
+    moment_is_now();
+    refresh_after_a_refresh_rests();
+    rules_have_one_result();
+    items_are_published();
+    held_is_of_an_entry();
+    put_changes_one_node();
+    others_stay();
+    acceptance_keeps_table();
+    held_was_brought();
+    loss_keeps_table();
+    hash_has_eight_bytes();
+    packing_is_read();
+    item_is_unique();
+    item_fault_is_unique();
+    written_is_read();
+    list_is_unique();
+    list_is_of_bytes();
+    first_fault_is_unique();
 }

@@ -29,7 +29,7 @@ pub running_router : (name : Name) (w : Parts) (router : State) → None ≡ unl
 running_router name w router runs found = let there = member_of (member_named (name_text name) w) router found in (there.0, there.1, there.2, sym runs)
 
 -- the words that a draw took are the first to come, and those after them are to come then
-taken : (words : List ℕ) (before after : ℕ → ℕ) → Took (Some before) words (Some after)
+pub taken : (words : List ℕ) (before after : ℕ → ℕ) → Took (Some before) words (Some after)
     → Begins words before × (after ≡ (λ place. before (length words + place)))
 taken words before after took =
     let at : IsAt (Some before) before [] = record { begins = λ i less. absurd (omega arith); rest = ap Some (simp zero-add) } in

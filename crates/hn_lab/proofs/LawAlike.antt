@@ -1,12 +1,12 @@
 -- Two ends of one process agree: they are one, or one of them was cut short and its text is a front of the other's.
-use Rattle.std.proofs.Common.{◌≡◌, ◌∙◌, ◌⊎◌, inl, inr, ℕ, List, [], ◌++◌, append_assoc, append-nil, Option, None, Some, refl, sym, ap, subst}
+use Rattle.std.proofs.Common.{◌≡◌, ◌∙◌, ◌⊎◌, inl, inr, ℕ, List, [], ◌∷◌, ◌++◌, append_assoc, append-nil, Option, None, Some, refl, sym, ap, subst}
 use Rattle.std.specs.Prelude.{⊤}
 use Rattle.std.proofs.lemmas.Option.{same_Some, none-some}
 use Rattle.hn_rules.specs.declared.done.Note.{Note}
 use Rattle.hn_lab.specs.declared.end.Stop.{Stop}
 use Rattle.hn_lab.specs.declared.end.Stop.TheVariants.{Refused, WireFailed, Cut}
 use Rattle.hn_lab.specs.Laws.{IsTold}
-use Rattle.hn_lab.specs.Process.{Process, Nothing, Unless, Then}
+use Rattle.hn_lab.specs.Process.{Process, Nothing, Unless, Then, Each}
 use Rattle.hn_lab.specs.Stage.{Stage}
 use Rattle.hn_lab.specs.Told.{Told}
 
@@ -240,6 +240,11 @@ sole_then P R first second = record {
   keeps = keeps_then P R first.keeps second.keeps;
   grows = grows_then P R first.grows second.grows;
 }
+
+-- for each of a list
+pub sole_each : {A : Type 0} (each : A → Process) → ((x : A) → IsSole (each x)) → (xs : List A) → IsSole (Each each xs)
+sole_each each sole [] = sole_nothing
+sole_each each sole (x ∷ xs) = sole_then (each x) (Each each xs) (sole x) (sole_each each sole xs)
 
 -- then one that notes something
 pub then_noting : (P : Process) (R : List Note → Process) → IsSole P → IsSoleNoting R → IsSoleNoting (λ notes. Then P (R notes))

@@ -1,8 +1,9 @@
 -- An event, a delivery, a flow and a run end in one way.
-use Rattle.std.proofs.Common.{◌≡◌, ◌∙◌, ◌<◌, inl, inr, ℕ, suc, Bool, true, false, List, [], ◌∷◌, Option, None, Some, refl, sym, ap, subst, slice_get, arith}
+use Rattle.std.proofs.Common.{◌≡◌, ◌∙◌, ◌<◌, inl, inr, ℕ, suc, Bool, true, false, List, Option, None, Some, refl, sym, ap, subst, slice_get, arith}
 use Rattle.std.specs.Prelude.{◌+◌, ◌||◌, ◌==◌, if◌then◌else◌, min}
 use Rattle.std.proofs.lemmas.Option.{same_Some}
 use Rattle.hn_base.specs.declared.name.Name.{Name}
+use Rattle.hn_router.specs.Laws.{RouterHasOneAdvert}
 use Rattle.hn_rules.specs.declared.done.Note.{Note}
 use Rattle.hn_world.specs.declared.copies.MailCopy.{MailCopy}
 use Rattle.hn_world.specs.declared.event.WEvent.{WEvent}
@@ -16,18 +17,21 @@ use Rattle.hn_lab.specs.declared.end.Stop.{Stop}
 use Rattle.hn_lab.specs.declared.end.Stop.TheVariants.{Refused, WireFailed, Cut}
 use Rattle.hn_lab.specs.Carrying.{Carries}
 use Rattle.hn_lab.specs.Delivery.{Happens, EventNotes, EventEnds, injection_for, Replaces, ComesTo, IsConveyed, Conveys, DeliveryEnds}
-use Rattle.hn_lab.specs.Events.{TreatmentEnds, CopyEnds, HasWaiting, Flow, TicksOf, Ticks, Passes, Round, Runs, drawn, is_lost}
-use Rattle.hn_lab.specs.Laws.{IsTold}
-use Rattle.hn_lab.specs.Process.{Unless, Then, Until}
+use Rattle.hn_lab.specs.Events.{TreatmentEnds, CopyEnds, HasWaiting, Flow, Ticks, Passes, Round, Runs, drawn, is_lost}
+use Rattle.hn_lab.specs.Laws.{IsTold, AdvertIsUnique}
+use Rattle.hn_lab.specs.Process.{Unless, Then, Each, Until}
+use Rattle.hn_lab.specs.Sending.{Turns, TickEnds}
 use Rattle.hn_lab.specs.Stage.{Stage, Route}
-use Rattle.hn_lab.proofs.LawAlike.{Grows, grows_none, grows_from, Agree, AreOne, FirstIsShort, SecondIsShort, IsCutShort, apart, IsSole, IsSoleNoting, sole_notes, sole_at, noting_at, IsStill, alike_still, grows_still, sole_nothing, sole_unless, sole_then, then_noting}
+use Rattle.hn_lab.proofs.LawAlike.{Grows, grows_none, grows_from, Agree, AreOne, FirstIsShort, SecondIsShort, IsCutShort, apart, IsSole, IsSoleNoting, sole_notes, sole_at, noting_at, IsStill, alike_still, grows_still, sole_unless, sole_then, sole_each, then_noting}
 use Rattle.hn_lab.proofs.LawCarry.{one_carriage, still_told}
+use Rattle.hn_lab.proofs.LawSendings.{sole_turns}
 use Rattle.hn_lab.proofs.LawUntil.{sole_until}
 
 -- ---- an event
 
-pub same_stage : (a b : Stage) → a.world ≡ b.world → a.loss ≡ b.loss → a.words ≡ b.words → a.route ≡ b.route → a.text ≡ b.text → a ≡ b
-same_stage a b world loss words route text = λ i. record { world = world i; loss = loss i; words = words i; route = route i; text = text i }
+pub same_stage : (a b : Stage) → a.world ≡ b.world → a.loss ≡ b.loss → a.words ≡ b.words → a.route ≡ b.route → a.senders ≡ b.senders → a.text ≡ b.text → a ≡ b
+same_stage a b world loss words route senders text =
+    λ i. record { world = world i; loss = loss i; words = words i; route = route i; senders = senders i; text = text i }
 
 still_event : (event : WEvent) (notes : List Note) → IsStill (λ p. refusal p.world event) (EventNotes event notes)
 still_event event notes = record { accepted = λ p a h. h.step.step.accepted; refused = λ code p a h. h; text = text }
@@ -42,7 +46,7 @@ module _ (steps : StepIsUnique) where
   happens_once : (event : WEvent) (m n : List Note) (p a b : Stage) → Happens event m p a → Happens event n p b → (m ≡ n) × (a ≡ b)
   happens_once event m n p a b h k =
       let one = steps event p.words a.words b.words m n p.world a.world b.world h.step k.step in
-      (one.1, same_stage a b one.0 (h.loss ∙ sym k.loss) one.2 (h.route ∙ sym k.route) (h.text ∙ sym k.text))
+      (one.1, same_stage a b one.0 (h.loss ∙ sym k.loss) one.2 (h.route ∙ sym k.route) (h.senders ∙ sym k.senders) (h.text ∙ sym k.text))
 
   pub noting_event : (event : WEvent) → IsSoleNoting (EventNotes event)
   noting_event event = record {
@@ -153,20 +157,20 @@ module _ (steps : StepIsUnique) where
   pub sole_flow : IsSole Flow
   sole_flow = sole_until HasWaiting CopyEnds sole_copy
 
-  -- ---- a run
+-- ---- a run
 
-  sole_ticks_of : (names : List Name) → IsSole (TicksOf names)
-  sole_ticks_of [] = sole_nothing
-  sole_ticks_of (name ∷ names) = sole_then (EventEnds (event.Tick name)) (TicksOf names) (sole_event (event.Tick name)) (sole_ticks_of names)
+module _ (steps : StepIsUnique) (adverts : RouterHasOneAdvert) (readings : AdvertIsUnique) where
+  sole_tick : (name : Name) → IsSole (TickEnds name)
+  sole_tick name = sole_then (EventEnds (event.Tick name)) (Turns name) (sole_event steps (event.Tick name)) (sole_turns adverts readings name)
 
   sole_ticks : IsSole Ticks
-  sole_ticks = sole_at (λ p. TicksOf (running_names p.world)) (λ p. sole_ticks_of (running_names p.world))
+  sole_ticks = sole_at (λ p. Each TickEnds (running_names p.world)) (λ p. sole_each TickEnds sole_tick (running_names p.world))
 
   sole_passes : (end step : ℕ) → IsSole (Passes end step)
-  sole_passes end step = sole_at (λ p. EventEnds (event.Time (min (p.world.moment + step) end))) (λ p. sole_event (event.Time (min (p.world.moment + step) end)))
+  sole_passes end step = sole_at (λ p. EventEnds (event.Time (min (p.world.moment + step) end))) (λ p. sole_event steps (event.Time (min (p.world.moment + step) end)))
 
   sole_round : (end step : ℕ) → IsSole (Round end step)
-  sole_round end step = sole_then (Passes end step) (Then Ticks Flow) (sole_passes end step) (sole_then Ticks Flow sole_ticks sole_flow)
+  sole_round end step = sole_then (Passes end step) (Then Ticks Flow) (sole_passes end step) (sole_then Ticks Flow sole_ticks (sole_flow steps))
 
   sole_rounds : (end step : ℕ) → IsSole (Until (λ p. p.world.moment < end) (Round end step))
   sole_rounds end step = sole_until (λ p. p.world.moment < end) (Round end step) (sole_round end step)

@@ -14,6 +14,7 @@ use Rattle.hn_script.specs.declared.line.Line.{Line}
 use Rattle.hn_script.specs.declared.line.Line.TheVariants as line
 use Rattle.hn_ula.specs.Ula.{Decides}
 use Rattle.hn_world.specs.declared.event.WEvent.{WEvent}
+use Rattle.hn_world.specs.declared.event.WEvent.TheVariants as event
 use Rattle.hn_world.specs.declared.member.Member.{Member}
 use Rattle.hn_world.specs.declared.parts.Parts.{Parts}
 use Rattle.hn_world.specs.Laws.{StepIsUnique, AgreementIsUnique}
@@ -22,17 +23,20 @@ use Rattle.hn_lab.specs.AddressReports.{addresses_lines, IsAddressedLine}
 use Rattle.hn_lab.specs.AdvertReports.{IsAdvertLine, advert_line}
 use Rattle.hn_lab.specs.AuditReports.{IsAudited, IsAuditLine, audit_line}
 use Rattle.hn_lab.specs.Choosing.{chosen_event, decided_event}
-use Rattle.hn_lab.specs.Delivery.{EventNotes, DeliveryEnds}
+use Rattle.hn_lab.specs.Delivery.{EventNotes, EventEnds, DeliveryEnds}
 use Rattle.hn_lab.specs.Laws.{IsTold, ResultsAreUnique}
-use Rattle.hn_lab.specs.Line.{Noted, Delivered, Sets, Tells, IsOf, Compares, OtherEnds, EndsBy, LineEnds, event_of, receiver, injection, unless_elects, mail_report, seeded}
+use Rattle.hn_lab.specs.Line.{Noted, Delivered, Sets, Tells, IsOf, Compares, OtherEnds, Follows, EndsBy, LineEnds, event_of, receiver, injection, unless_elects, mail_report, seeded}
 use Rattle.hn_lab.specs.PrefixReports.{AreUsedLines, used_lines, prefixes_lines, IsElectLine, elect_line}
 use Rattle.hn_lab.specs.Reports.{IsCompareLine, compare_line, show_line, hash_line}
+use Rattle.hn_lab.specs.Process.{Unless, Then}
+use Rattle.hn_lab.specs.Sending.{Solicits, starting, ending, ending_all}
 use Rattle.hn_lab.specs.Stage.{Stage}
 use Rattle.hn_lab.specs.Tells.{TellsLines, ReportsLines, Reports, IsOneLine, note_lines}
 use Rattle.hn_lab.specs.UlaReports.{ula_line, IsUlasLine}
-use Rattle.hn_lab.proofs.LawAlike.{grows_none, AreOne, IsSole, sole_at, noting_then}
+use Rattle.hn_lab.proofs.LawAlike.{grows_none, AreOne, IsSole, sole_at, sole_nothing, sole_unless, sole_then, noting_then}
 use Rattle.hn_lab.proofs.LawChoosings.{same_answer, sole_choice, one_addresses, one_addressed, one_ulas}
 use Rattle.hn_lab.proofs.LawEvents.{noting_event, sole_event, noting_delivery, sole_flow, sole_run}
+use Rattle.hn_lab.proofs.LawSendings.{sole_turns, sole_solicits}
 use Rattle.hn_lab.proofs.LawSyncs.{sole_sync}
 use Rattle.hn_lab.proofs.LawTells.{sole_tells, IsOneReport, one_line, sole_report}
 
@@ -161,7 +165,7 @@ sole_never = record {
 sole_other : ResultsAreUnique → (l : Line) → IsSole (OtherEnds l)
 sole_other unique (line.Seed seed) = sole_sets (seeded seed) (λ p. refl) (λ p. refl)
 sole_other unique (line.Loss percent) = sole_sets (λ p. record p { loss = percent }) (λ p. refl) (λ p. refl)
-sole_other unique (line.Run end step) = sole_run unique.steps end step
+sole_other unique (line.Run end step) = sole_run unique.steps unique.adverts unique.readings end step
 sole_other unique (line.Deliver copy) = sole_at (λ p. Delivered copy (receiver p.world copy)) (λ p. sole_delivered unique.steps copy (receiver p.world copy))
 sole_other unique line.Flow = sole_flow unique.steps
 sole_other unique (line.Inject name endpoint how bytes) = sole_noted unique.steps (injection name endpoint how bytes) (Some name)
@@ -190,10 +194,24 @@ sole_other unique (line.Ula name) = sole_choice unique.steps name Decides (decid
 sole_other unique (line.Ulas name) =
     reports_at (unless_runs name) (λ w. Tells name w (IsUlasLine name w)) (λ w. one_tells name w (IsUlasLine name w) (one_ulas name w))
 sole_other unique (line.Sync left right) = sole_sync unique.exchanges left right
+sole_other unique (line.Radv name e) =
+    sole_at (λ p. Then (Unless (unless_elects name e p.world)) (Sets (starting name e)))
+    (λ p. sole_then (Unless (unless_elects name e p.world)) (Sets (starting name e)) (sole_unless (unless_elects name e p.world)) (sole_sets (starting name e) (λ q. refl) (λ q. refl)))
+sole_other unique (line.Solicit name e) =
+    sole_at (λ p. Then (Unless (unless_elects name e p.world)) (Solicits name e))
+    (λ p. sole_then (Unless (unless_elects name e p.world)) (Solicits name e) (sole_unless (unless_elects name e p.world)) (sole_solicits name e))
 sole_other unique _ = sole_never
 
+-- what follows an event
+sole_follows : ResultsAreUnique → (event : WEvent) → IsSole (Follows event)
+sole_follows unique (event.Tick name) = sole_turns unique.adverts unique.readings name
+sole_follows unique (event.Detach name e) = sole_sets (ending name e) (λ p. refl) (λ p. refl)
+sole_follows unique (event.Stop name) = sole_sets (ending_all name) (λ p. refl) (λ p. refl)
+sole_follows unique (event.Start name) = sole_sets (ending_all name) (λ p. refl) (λ p. refl)
+sole_follows unique _ = sole_nothing
+
 sole_by : ResultsAreUnique → (l : Line) (event : Option WEvent) → IsSole (EndsBy l event)
-sole_by unique l (Some event) = sole_event unique.steps event
+sole_by unique l (Some event) = sole_then (EventEnds event) (Follows event) (sole_event unique.steps event) (sole_follows unique event)
 sole_by unique l None = sole_other unique l
 
 pub sole_line : ResultsAreUnique → (l : Line) → IsSole (LineEnds l)

@@ -22,11 +22,11 @@ module _ (exchanges : ExchangeIsUnique) (m n : Name) where
   same_ends : (code other : Option ℕ) (p a b : Stage) → Syncs m n code p a → Syncs m n other p b → Agree (stop_at code) (stop_at other) a b
   same_ends code other p a b h k =
       let one = exchanges m n code other p.words a.words b.words p.world a.world b.world h.ends k.ends in
-      AreOne (ap stop_at one.code_is) (same_stage a b one.world_is (h.loss ∙ sym k.loss) one.rest_is (h.route ∙ sym k.route) (h.text ∙ sym k.text))
+      AreOne (ap stop_at one.code_is) (same_stage a b one.world_is (h.loss ∙ sym k.loss) one.rest_is (h.route ∙ sym k.route) (h.senders ∙ sym k.senders) (h.text ∙ sym k.text))
 
   -- the text stays
   still_text : (c : Option Stop) (p a : Stage) → Exchanges m n c p a → a.text ≡ p.text
-  still_text None p a h = h.text
+  still_text None p a h = h.0.text
   still_text (Some (Refused code)) p a h = h.text
   still_text (Some WireFailed) p a h = absurd h
   still_text (Some (Cut fault)) p a h = ap (λ (s : Stage). s.text) h
@@ -35,9 +35,9 @@ module _ (exchanges : ExchangeIsUnique) (m n : Name) where
   grows_like c d p a b h k = grows_none a b (still_text d p b k ∙ sym (still_text c p a h))
 
   one_end : (c d : Option Stop) (p a b : Stage) → IsTold p.route → Exchanges m n c p a → Exchanges m n d p b → Agree c d a b
-  one_end None None p a b told h k = same_ends None None p a b h k
-  one_end None (Some (Refused f)) p a b told h k = same_ends None (Some f) p a b h k
-  one_end (Some (Refused e)) None p a b told h k = same_ends (Some e) None p a b h k
+  one_end None None p a b told h k = same_ends None None p a b h.0 k.0
+  one_end None (Some (Refused f)) p a b told h k = same_ends None (Some f) p a b h.0 k
+  one_end (Some (Refused e)) None p a b told h k = same_ends (Some e) None p a b h k.0
   one_end (Some (Refused e)) (Some (Refused f)) p a b told h k = same_ends (Some e) (Some f) p a b h k
   one_end (Some WireFailed) d p a b told h k = absurd h
   one_end (Some (Cut fault)) d p a b told h k = FirstIsShort tt (grows_like (Some (Cut fault)) d p a b h k)
@@ -49,7 +49,7 @@ module _ (exchanges : ExchangeIsUnique) (m n : Name) where
   sole_exchange : IsSole (Exchanges m n)
   sole_exchange = record {
     one = one_end;
-    keeps = λ p a told h. subst IsTold (sym h.route) told;
+    keeps = λ p a told h. subst IsTold (sym h.0.route) told;
     grows = λ c p a h. grows_none p a (still_text c p a h);
   }
 

@@ -3,12 +3,15 @@ mod RunEvents
 mod RunCopies
 mod RunTimes
 mod RunDeliveries
-mod RunTicks
+mod RunWrites
+mod RunEach
+mod RunTurns
 mod Choosings
 mod RunSyncs
 mod TextLines
 mod TextReports
 mod TextStreams
+mod Sendings
 mod PlayLines
 mod PlayScripts
 mod PrefixTexts
@@ -19,6 +22,7 @@ mod LawChoosings
 mod LawEvents
 mod LawLines
 mod LawPlays
+mod LawSendings
 mod LawSyncs
 mod LawTells
 mod LawUntil

@@ -24,18 +24,18 @@ words_drawn (suc n) words next above drew = rw (eqb-suc-zero n) (same_Some next 
 pub away_of : (w : Parts) (copy place : ℕ) (c : MailCopy) → copy ≡ suc place → slice_get w.copies place ≡ Some c → option_map_or (is_away w) (copy_at w copy) true ≡ is_away w c
 away_of w copy place c same at = rw (same, eqb-suc-zero place, sub-one, at) refl
 
-moved : (b : Bool) (p q : Stage) (next : ℕ → ℕ) → q.world ≡ p.world → q.loss ≡ p.loss → q.words ≡ (if b then p.words else next) → q.route ≡ p.route → q.text ≡ p.text → q ≡ (if b then p else record p { words = next })
-moved true p q next world loss words route text = same_stage p q world loss words route text
-moved false p q next world loss words route text = same_stage (record p { words = next }) q world loss words route text
+moved : (b : Bool) (p q : Stage) (next : ℕ → ℕ) → q.world ≡ p.world → q.loss ≡ p.loss → q.words ≡ (if b then p.words else next) → q.route ≡ p.route → q.senders ≡ p.senders → q.text ≡ p.text → q ≡ (if b then p else record p { words = next })
+moved true p q next world loss words route senders text = same_stage p q world loss words route senders text
+moved false p q next world loss words route senders text = same_stage (record p { words = next }) q world loss words route senders text
 
 -- whether a copy is lost, and what is drawn for it
 module _ (p q : Stage) (c : MailCopy) (lost : Bool) where
   pub when_away : is_away p.world c ≡ true → lost ≡ true → q ≡ p → (lost ≡ is_lost p c) × (q ≡ drawn p c)
   when_away away so stays = (rw away so, rw away stays)
 
-  pub when_near : is_away p.world c ≡ false → q.world ≡ p.world → q.loss ≡ p.loss → q.words ≡ (if p.loss == 0 then p.words else (λ place. p.words (suc place))) → q.route ≡ p.route → q.text ≡ p.text
+  pub when_near : is_away p.world c ≡ false → q.world ≡ p.world → q.loss ≡ p.loss → q.words ≡ (if p.loss == 0 then p.words else (λ place. p.words (suc place))) → q.route ≡ p.route → q.senders ≡ p.senders → q.text ≡ p.text
       → lost ≡ nat_lt (p.words 0 % 100) p.loss → (lost ≡ is_lost p c) × (q ≡ drawn p c)
-  when_near near world loss words route text is = (rw near is, rw near (moved (p.loss == 0) p q (λ place. p.words (suc place)) world loss words route text))
+  when_near near world loss words route senders text is = (rw near is, rw near (moved (p.loss == 0) p q (λ place. p.words (suc place)) world loss words route senders text))
 
 -- the first copy that waits is one
 pub some_copy : (copies : List MailCopy) (place : ℕ) → first_waiting copies ≡ Some place → (c : MailCopy) × (slice_get copies place ≡ Some c)

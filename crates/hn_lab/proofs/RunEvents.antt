@@ -13,8 +13,9 @@ use Rattle.hn_lab.specs.Stage.{Stage}
 use Rattle.hn_lab.proofs.RunStops.{starved, stopped_last}
 
 -- stages with the same parts
-pub same_stage : (p q : Stage) → q.world ≡ p.world → q.loss ≡ p.loss → q.words ≡ p.words → q.route ≡ p.route → q.text ≡ p.text → q ≡ p
-same_stage p q world loss words route text = λ k. record { world = world k; loss = loss k; words = words k; route = route k; text = text k }
+pub same_stage : (p q : Stage) → q.world ≡ p.world → q.loss ≡ p.loss → q.words ≡ p.words → q.route ≡ p.route → q.senders ≡ p.senders → q.text ≡ p.text → q ≡ p
+same_stage p q world loss words route senders text =
+    λ k. record { world = world k; loss = loss k; words = words k; route = route k; senders = senders k; text = text k }
 
 -- one more event in a trace
 pub one_more : (t : Traced) (old new : List Traced) → new ≡ old ++ t ∷ [] → length new ≡ length old + 1

@@ -22,6 +22,7 @@ pub record Happens (event : WEvent) (notes : List Note) (before after : Stage) :
   pub step : IsStep event notes (Some before.words) (Some after.words) before.world after.world
   pub loss : after.loss ≡ before.loss
   pub route : after.route ≡ before.route
+  pub senders : after.senders ≡ before.senders
   pub text : after.text ≡ before.text
 
 -- an event ends: it happens, and routers note this; or it is refused

@@ -1,7 +1,6 @@
 -- The events into which `flow` and `run` are expanded.
-use Rattle.std.specs.Prelude.{◌≡◌, ◌≢◌, ◌⊎◌, ◌≤◌, ◌<◌, ◌+◌, ◌%◌, ◌||◌, ◌==◌, if◌then◌else◌, nat_lt, min, ℕ, suc, Bool, true, false, List, [], ◌∷◌, Option, None, Some}
+use Rattle.std.specs.Prelude.{◌≡◌, ◌≢◌, ◌⊎◌, ◌≤◌, ◌<◌, ◌+◌, ◌%◌, ◌||◌, ◌==◌, if◌then◌else◌, nat_lt, min, ℕ, suc, Bool, true, false, Option, None, Some}
 use Rattle.std.specs.List.{slice_get}
-use Rattle.hn_base.specs.declared.name.Name.{Name}
 use Rattle.hn_world.specs.declared.copies.MailCopy.{MailCopy}
 use Rattle.hn_world.specs.declared.event.WEvent.TheVariants as event
 use Rattle.hn_world.specs.Receivers.{is_away, running_names}
@@ -9,7 +8,8 @@ use Rattle.hn_world.specs.Waiting.{first_waiting}
 use Rattle.hn_lab.specs.declared.end.Stop.{Stop}
 use Rattle.hn_lab.specs.declared.end.Stop.TheVariants.{Refused}
 use Rattle.hn_lab.specs.Stage.{Stage}
-use Rattle.hn_lab.specs.Process.{Process, Nothing, Then, Until}
+use Rattle.hn_lab.specs.Process.{Process, Then, Each, Until}
+use Rattle.hn_lab.specs.Sending.{TickEnds}
 use Rattle.hn_lab.specs.Delivery.{EventEnds, Delivers}
 
 -- A copy is treated: one whose receiver is away is dropped; with a loss above 0 one word decides whether it is dropped;
@@ -40,14 +40,9 @@ HasWaiting p = first_waiting p.world.copies ≢ None
 abbrev pub Flow : Process
 Flow stop before after = Until HasWaiting CopyEnds stop before after
 
--- routers tick, one after another
-abbrev pub TicksOf : List Name → Process
-TicksOf [] stop before after = Nothing stop before after
-TicksOf (name ∷ names) stop before after = Then (EventEnds (event.Tick name)) (TicksOf names) stop before after
-
--- the routers that run tick, in order of definition
+-- the routers that run tick, in order of definition, and send their Router Advertisements
 abbrev pub Ticks : Process
-Ticks stop before after = TicksOf (running_names before.world) stop before after
+Ticks stop before after = Each TickEnds (running_names before.world) stop before after
 
 -- time passes by a step, but not past the end
 abbrev pub Passes : ℕ → ℕ → Process

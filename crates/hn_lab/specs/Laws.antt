@@ -2,6 +2,8 @@
 use Rattle.std.specs.Prelude.{◌≡◌, ◌⊎◌, ⊤, ℕ, List, ◌++◌, Option, Some, length}
 use Rattle.std.specs.Io.KnownBytes.{Appends}
 use Rattle.hn_addr.specs.Laws.{ChoiceIsUnique}
+use Rattle.hn_advert.specs.Advert.{IsAdvert}
+use Rattle.hn_advert.specs.declared.advert.Advert.{Advert}
 use Rattle.hn_deleg.specs.Laws.{UsableIsUnique}
 use Rattle.hn_io.specs.declared.fault.IoFault.{IoFault}
 use Rattle.hn_link.specs.Election.{HasOneAnswer}
@@ -22,6 +24,10 @@ use Rattle.hn_lab.specs.Play.{IsPlay, IsCut, IsCutPlay}
 use Rattle.hn_lab.specs.Stage.{Stage, Route, Mail, Ports}
 use Rattle.hn_lab.specs.Told.{Told}
 
+-- Bytes are at most one Router Advertisement.
+abbrev pub AdvertIsUnique : Type 0
+AdvertIsUnique = (bytes : List ℕ) (a b : Advert) → IsAdvert bytes a → IsAdvert bytes b → a ≡ b
+
 -- What an event does, what a report tells of, and what a router chooses, is one thing. These are laws of the crates below.
 pub record ResultsAreUnique : Type 0 where
   pub steps : StepIsUnique
@@ -30,6 +36,7 @@ pub record ResultsAreUnique : Type 0 where
   pub common : CommonLinkIsUnique
   pub answer : HasOneAnswer
   pub adverts : RouterHasOneAdvert
+  pub readings : AdvertIsUnique
   pub choices : ChoiceIsUnique
   pub decisions : DecisionIsUnique
   pub exchanges : ExchangeIsUnique

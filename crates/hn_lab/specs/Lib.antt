@@ -3,13 +3,16 @@ pub mod Reports
 pub mod PrefixReports
 pub mod AdvertReports
 pub mod AuditReports
+pub mod Senders
 pub mod Stage
 pub mod Process
 pub mod Tells
 pub mod Carrying
 pub mod Delivery
+pub mod Sending
 pub mod Events
 pub mod Ended
+pub mod Writing
 pub mod Choosing
 pub mod AddressReports
 pub mod UlaReports

@@ -21,7 +21,7 @@ use Rattle.hn_world.specs.declared.parts.Parts.{Parts}
 use Rattle.hn_world.specs.Names.{member_named}
 use Rattle.hn_world.specs.Refusal.{of_router, unless_running, unless_attached, unless_known, unless_runs, unless_both_run, copy_at}
 use Rattle.hn_lab.specs.Stage.{Stage}
-use Rattle.hn_lab.specs.Process.{Process, Then}
+use Rattle.hn_lab.specs.Process.{Process, Nothing, Unless, Then}
 use Rattle.hn_addr.specs.Addresses.{IsChoice}
 use Rattle.hn_ula.specs.Ula.{Decides}
 use Rattle.hn_lab.specs.AddressReports.{addresses_lines, IsAddressedLine}
@@ -32,6 +32,7 @@ use Rattle.hn_lab.specs.Delivery.{EventNotes, EventEnds, DeliveryEnds}
 use Rattle.hn_lab.specs.Events.{Flow, Runs}
 use Rattle.hn_lab.specs.PrefixReports.{AreUsedLines, prefixes_lines, IsElectLine}
 use Rattle.hn_lab.specs.Reports.{show_line, hash_line, IsCompareLine, mail_line}
+use Rattle.hn_lab.specs.Sending.{Turns, Solicits, starting, ending, ending_all}
 use Rattle.hn_lab.specs.Syncing.{SyncEnds}
 use Rattle.hn_lab.specs.Tells.{TellsLines, ReportsLines, Reports, note_lines}
 use Rattle.hn_lab.specs.UlaReports.{ula_line, IsUlasLine}
@@ -90,7 +91,7 @@ pub record Compares (left right : Name) (w : Parts) (line : List ℕ) : Type 0 w
 abbrev pub mail_report : Parts → List ℕ
 mail_report w = mail_line (length w.copies) (count_by (λ c. c.waiting) w.copies)
 
--- the event that a line is, if it is one that writes nothing
+-- the event that a line is, if it is one of which no note comes up
 abbrev pub event_of : Line → Option WEvent
 event_of (line.Router name id) = Some (event.Router name id)
 event_of (line.Link name) = Some (event.Link name)
@@ -107,7 +108,7 @@ event_of (line.Tick name) = Some (event.Tick name)
 event_of (line.Drop copy) = Some (event.Drop copy)
 event_of _ = None
 
--- how each other line ends; one that no version has yet ends in no way
+-- how each other line ends
 abbrev pub OtherEnds : Line → Process
 OtherEnds (line.Seed seed) stop before after = Sets (seeded seed) stop before after
 OtherEnds (line.Loss percent) stop before after = Sets (λ p. record p { loss = percent }) stop before after
@@ -130,10 +131,21 @@ OtherEnds (line.Addressed name) stop before after = Reports (unless_runs name be
 OtherEnds (line.Ula name) stop before after = Chooses name Decides (decided_event name) (λ made. ula_line name made ∷ []) stop before after
 OtherEnds (line.Ulas name) stop before after = Reports (unless_runs name before.world) (Tells name before.world (IsUlasLine name before.world)) stop before after
 OtherEnds (line.Sync left right) stop before after = SyncEnds left right stop before after
+OtherEnds (line.Radv name e) stop before after = Then (Unless (unless_elects name e before.world)) (Sets (starting name e)) stop before after
+OtherEnds (line.Solicit name e) stop before after = Then (Unless (unless_elects name e before.world)) (Solicits name e) stop before after
 OtherEnds _ stop before after = ⊥
 
+-- what follows an event that is a line: after a tick of a router its Router Advertisements, and no sender outlives a detach
+-- of its endpoint, or a stop or a start of its router
+abbrev pub Follows : WEvent → Process
+Follows (event.Tick name) stop before after = Turns name stop before after
+Follows (event.Detach name e) stop before after = Sets (ending name e) stop before after
+Follows (event.Stop name) stop before after = Sets (ending_all name) stop before after
+Follows (event.Start name) stop before after = Sets (ending_all name) stop before after
+Follows _ stop before after = Nothing stop before after
+
 abbrev pub EndsBy : Line → Option WEvent → Process
-EndsBy line (Some event) stop before after = EventEnds event stop before after
+EndsBy line (Some event) stop before after = Then (EventEnds event) (Follows event) stop before after
 EndsBy line None stop before after = OtherEnds line stop before after
 
 -- how a line ends

@@ -16,10 +16,10 @@ use Rattle.hn_lab.specs.Stage.{Stage, Route, telling}
 use Rattle.hn_lab.specs.Tells.{TellsLines}
 use Rattle.hn_lab.specs.Told.{Told, told}
 
--- Where the play of a script of a version begins, over a route: nothing has happened, no copy is lost, each word is 0, and
--- there is no text.
+-- Where the play of a script of a version begins, over a route: nothing has happened, no copy is lost, each word is 0, no
+-- endpoint sends Router Advertisements, and there is no text.
 abbrev pub begun : Route → Version → Stage
-begun route version = record { world = empty_world version; loss = 0; words = λ _. 0; route = route; text = [] }
+begun route version = record { world = empty_world version; loss = 0; words = λ _. 0; route = route; senders = []; text = [] }
 
 -- a line of this number ends; where it is refused, the line of text that says so comes up
 abbrev pub LineSaid : ℕ → Line → Process

@@ -1,5 +1,5 @@
 -- What goes on in a play, and how it ends: done, or stopped.
-use Rattle.std.specs.Prelude.{◌≡◌, ◌⊎◌, ℕ, zero, suc, Option, None, Some}
+use Rattle.std.specs.Prelude.{◌≡◌, ◌⊎◌, ℕ, zero, suc, List, [], ◌∷◌, Option, None, Some}
 use Rattle.hn_lab.specs.declared.end.Stop.{Stop}
 use Rattle.hn_lab.specs.declared.end.Stop.TheVariants.{Refused, WireFailed, Cut}
 use Rattle.hn_lab.specs.Stage.{Stage}
@@ -27,6 +27,11 @@ abbrev pub Then : Process → Process → Process
 Then first second None before after = (between : Stage) × first None before between × second None between after
 Then first second (Some stop) before after =
     first (Some stop) before after ⊎ ((between : Stage) × first None before between × second (Some stop) between after)
+
+-- one for each of these, one after another
+abbrev pub Each : {A : Type 0} → (A → Process) → List A → Process
+Each each [] stop before after = Nothing stop before after
+Each each (x ∷ xs) stop before after = Then (each x) (Each each xs) stop before after
 
 -- so many times, each time where there is more to do
 abbrev pub Times : (Stage → Type 0) → Process → ℕ → Stage → Stage → Type 0

@@ -6,6 +6,7 @@ use Rattle.hn_wire.specs.declared.datagram.Datagram.{Datagram}
 use Rattle.hn_world.specs.declared.parts.Parts.{Parts}
 use Rattle.hn_lab.specs.declared.stream.Stream.{Stream}
 use Rattle.hn_lab.specs.declared.playing.Playing.{Playing}
+use Rattle.hn_lab.specs.declared.senders.Sending.{Sending}
 use Rattle.hn_lab.specs.Told.{Told, told}
 
 -- How copies go: by mail in memory; or over a wire, from a base to the port after it, with the datagrams that wait on
@@ -15,12 +16,13 @@ pub data Route : Type 0 where
   Ports : (base : ℕ) (waiting : Option (List Datagram)) → Route
 
 -- its world, of a hundred copies how many `flow` loses, the random words that are to come, from place 0, how copies go,
--- and the text so far
+-- those that send Router Advertisements, and the text so far
 pub record Stage : Type 0 where
   pub world : Parts
   pub loss : ℕ
   pub words : ℕ → ℕ
   pub route : Route
+  pub senders : List Sending
   pub text : List Told
 
 -- lines come up, one after another
@@ -43,5 +45,6 @@ stage_of p waiting text = record {
   loss = p.loss;
   words = words_of p.words;
   route = route_of p.base waiting;
+  senders = p.senders;
   text = text;
 }

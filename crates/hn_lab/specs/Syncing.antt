@@ -2,6 +2,7 @@
 use Rattle.std.specs.Prelude.{◌≡◌, ℕ, Option, None, Some}
 use Rattle.hn_base.specs.declared.name.Name.{Name}
 use Rattle.hn_sync.specs.Exchange.{ExchangeEnds, unless_exchange}
+use Rattle.hn_sync.specs.Repairs.{Repairs}
 use Rattle.hn_lab.specs.declared.end.Stop.TheVariants.{Refused, WireFailed, Cut}
 use Rattle.hn_lab.specs.Process.{Process, Unless, Then}
 use Rattle.hn_lab.specs.Stage.{Stage}
@@ -12,10 +13,12 @@ pub record Syncs (a b : Name) (code : Option ℕ) (before after : Stage) : Type 
   pub ends : ExchangeEnds a b code (Some before.words) (Some after.words) before.world after.world
   pub loss : after.loss ≡ before.loss
   pub route : after.route ≡ before.route
+  pub senders : after.senders ≡ before.senders
   pub text : after.text ≡ before.text
 
+-- where it goes on to its end, it repairs
 abbrev pub Exchanges : Name → Name → Process
-Exchanges a b None before after = Syncs a b None before after
+Exchanges a b None before after = Syncs a b None before after × Repairs a b before.world after.world
 Exchanges a b (Some (Refused code)) before after = Syncs a b (Some code) before after
 Exchanges a b (Some WireFailed) before after = ⊥
 Exchanges a b (Some (Cut fault)) before after = after ≡ before

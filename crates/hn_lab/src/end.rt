@@ -37,6 +37,17 @@ impl From<NoMemory> for Stop {
     }
 }
 
+impl From<IoFault> for Stop {
+    ghost use Rattle.std.specs.Prelude.{◌≡◌};
+    ghost use Rattle.hn_lab.specs.declared.end.Stop.TheVariants as stop;
+
+    ghost from_gives = { λ fault e. e ≡ stop.Cut fault };
+
+    fn from(fault: IoFault) -> Stop {
+        Stop::Cut(fault)
+    }
+}
+
 impl From<AllocError> for Stop {
     ghost use Rattle.std.specs.Prelude.{◌≡◌};
     ghost use Rattle.hn_io.specs.declared.fault.IoFault.TheVariants as fault;

@@ -14,7 +14,7 @@ ghost use Rattle.hn_lab.specs.Told.{Told};
 
 use crate::end::Stop;
 use crate::playing::Playing;
-use hn_io::Draw;
+use hn_io::{Draw, IoFault};
 use hn_wire::Wire;
 use hn_world::WEvent;
 use std::alloc::Global;
@@ -25,6 +25,7 @@ impl Playing {
         ensures world { self.new.world ≡ self.old.world }
         ensures loss { self.new.loss ≡ self.old.loss }
         ensures base { self.new.base ≡ self.old.base }
+        ensures senders { self.new.senders ≡ self.old.senders }
         ensures words { words_of self.new.words ≡ (if self.old.loss == 0 then words_of self.old.words else (λ place. words_of self.old.words (suc place))) }
         ensures lost { result ≡ nat_lt (words_of self.old.words 0 % 100) self.old.loss }
     {
@@ -84,6 +85,7 @@ impl Playing {
     /// An event is refused, the wire failed, or memory ended.
     pub(crate) fn flow<W: Wire>(&mut self, alloc: Global, wire: &mut W) -> Result<(), Stop>
         ensures ends { (text : List Told) → Ended Flow result (stage_of self.old (W.waiting wire.old) text) (stage_of self.new (W.waiting wire.new) text) }
+        ensures unwritten { result ≢ Err (Stop.Cut IoFault.Failed) }
         ensures base { self.new.base ≡ self.old.base }
         ensures entered { OnOk result (length self.old.world.trace ≤ length self.new.world.trace) }
         ensures unwired { self.old.base ≡ None → (wire.new ≡ wire.old) × (result ≢ Err Stop.WireFailed) }

@@ -3,6 +3,7 @@
 ghost use Rattle.hn_lab.specs.Laws.{AtMostOnePlay, AtMostOneCutPlay, CutTextsAreFronts, BrokenTextsAreFronts, MailDelivers, PiecesAppend, ResultsAreUnique};
 
 use hn_addr::choice_is_unique;
+use hn_advert::advert_is_unique;
 use hn_deleg::usable_is_unique;
 use hn_link::{common_link_is_unique, elected_is_unique};
 use hn_router::router_has_one_advert;
@@ -20,6 +21,7 @@ fn results_are_unique()
     common_link_is_unique();
     elected_is_unique();
     router_has_one_advert();
+    advert_is_unique();
     choice_is_unique();
     decision_is_unique();
     exchange_is_unique();

@@ -21,6 +21,8 @@ mod prefix_reports;
 mod reports;
 mod rounds;
 mod scripts;
+mod senders;
+mod sending;
 mod set;
 mod stream;
 mod syncing;

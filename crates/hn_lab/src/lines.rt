@@ -12,7 +12,7 @@ ghost use Rattle.hn_lab.specs.Told.{bytes_of};
 ghost use Rattle.hn_lab.specs.declared.end.End.TheVariants as end;
 
 use crate::end::{End, Stop};
-use crate::output::{write_lines, write_refusal};
+use crate::output::write_refusal;
 use crate::playing::Playing;
 use hn_io::{IoFault, Sink};
 use hn_script::Line;
@@ -49,8 +49,8 @@ impl Playing {
     {
         let _total = lines.len();
         for (number, line) in lines {
-            match self.line(alloc, wire, line) {
-                Ok(lines) => write_lines(out, &lines)?,
+            match self.line(alloc, out, wire, line) {
+                Ok(()) => {}
                 Err(Stop::Refused(code)) => {
                     write_refusal(alloc, out, number, code)?;
                     return Ok(End::Refused { line: number, code });

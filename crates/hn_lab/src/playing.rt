@@ -10,20 +10,23 @@ ghost use Rattle.hn_lab.specs.Told.{Told};
 
 use crate::carrying::Base;
 use crate::end::Stop;
+use crate::senders::Senders;
 use crate::stream::Stream;
 use hn_base::{Sequence, Version};
+use hn_io::IoFault;
 use hn_rules::Note;
 use hn_world::{WEvent, World, each_event_is_entered};
 use std::alloc::Global;
 
-/// A play so far: its world, of a hundred copies how many `flow` loses, the random words that are to come, and the port
-/// that copies are sent from, if they go over a wire.
+/// A play so far: its world, of a hundred copies how many `flow` loses, the random words that are to come, the port that
+/// copies are sent from, if they go over a wire, and those that send Router Advertisements.
 #[derive(Drop)]
 pub struct Playing {
     pub world: World,
     pub loss: u8,
     pub words: Stream,
     pub base: Option<Base>,
+    pub senders: Senders,
 }
 
 impl Playing {
@@ -37,6 +40,7 @@ impl Playing {
             loss: 0,
             words: Stream::zeros(),
             base,
+            senders: Senders::new(alloc),
         }
     }
 
@@ -50,6 +54,7 @@ impl Playing {
         ensures ends { (waiting : Option (List Datagram)) (text : List Told)
             → EndsWith (EventNotes event) (EventEnds event) result (stage_of self.old waiting text) (stage_of self.new waiting text) }
         ensures unbroken { result ≢ Err Stop.WireFailed }
+        ensures unwritten { result ≢ Err (Stop.Cut IoFault.Failed) }
         ensures base { self.new.base ≡ self.old.base }
         ensures entered { OnOk result ((length self.old.world.trace < 1000000) × (length self.new.world.trace ≡ length self.old.world.trace + 1)) }
     {
@@ -67,6 +72,7 @@ impl Playing {
         ensures ends { (waiting : Option (List Datagram)) (text : List Told)
             → Ended (EventEnds event) result (stage_of self.old waiting text) (stage_of self.new waiting text) }
         ensures unbroken { result ≢ Err Stop.WireFailed }
+        ensures unwritten { result ≢ Err (Stop.Cut IoFault.Failed) }
         ensures base { self.new.base ≡ self.old.base }
         ensures entered { OnOk result ((length self.old.world.trace < 1000000) × (length self.new.world.trace ≡ length self.old.world.trace + 1)) }
     {

@@ -5,40 +5,48 @@ ghost use Rattle.hn_io.specs.Faults.{Counts, IsReliable};
 ghost use Rattle.hn_wire.specs.declared.datagram.Datagram.{Datagram};
 ghost use Rattle.hn_lab.specs.declared.end.Stop.{Stop};
 ghost use Rattle.hn_lab.specs.Ended.{Ended};
-ghost use Rattle.hn_lab.specs.Events.{TicksOf, Ticks, Passes, Round, Runs};
+ghost use Rattle.hn_lab.specs.Writing.{EndsWriting};
+ghost use Rattle.hn_lab.specs.Process.{Each};
+ghost use Rattle.hn_lab.specs.Sending.{TickEnds};
+ghost use Rattle.hn_lab.specs.Events.{Ticks, Passes, Round, Runs};
 ghost use Rattle.hn_lab.specs.Stage.{stage_of};
 ghost use Rattle.hn_lab.specs.Told.{Told};
 
 use crate::end::Stop;
 use crate::playing::Playing;
 use hn_base::{Moment, Name};
+use hn_io::{IoFault, Sink};
 use hn_wire::Wire;
 use hn_world::{PAST, WEvent};
 use std::alloc::Global;
 
 impl Playing {
     /// Routers tick, one after another.
-    fn ticks_of(&mut self, alloc: Global, names: &[Name]) -> Result<(), Stop>
-        ensures ends { (waiting : Option (List Datagram)) (text : List Told) → Ended (TicksOf names.now) result (stage_of self.old waiting text) (stage_of self.new waiting text) }
+    fn ticks_of<K: Sink>(&mut self, alloc: Global, out: &mut K, names: &[Name]) -> Result<(), Stop>
+        ensures ends { (waiting : Option (List Datagram)) (text : List Told) → EndsWriting (Each TickEnds names.now) result (stage_of self.old waiting text) (stage_of self.new waiting text) (K.held out.old) (K.held out.new) }
         ensures unbroken { result ≢ Err Stop.WireFailed }
         ensures base { self.new.base ≡ self.old.base }
         ensures entered { OnOk result (length self.old.world.trace ≤ length self.new.world.trace) }
+        ensures sink_counts { Counts (result ≡ Err (Stop.Cut IoFault.Failed)) (K.faults out.old) (K.faults out.new) }
+        ensures sink_reliable { IsReliable (result ≡ Err (Stop.Cut IoFault.Failed)) (K.never_fails out.old) (K.never_fails out.new) }
     {
         for name in names {
-            self.event(alloc, WEvent::Tick { name: *name })?;
+            self.tick(alloc, out, *name)?;
         }
         Ok(())
     }
 
     /// The routers that run tick.
-    fn ticks(&mut self, alloc: Global) -> Result<(), Stop>
-        ensures ends { (waiting : Option (List Datagram)) (text : List Told) → Ended Ticks result (stage_of self.old waiting text) (stage_of self.new waiting text) }
+    fn ticks<K: Sink>(&mut self, alloc: Global, out: &mut K) -> Result<(), Stop>
+        ensures ends { (waiting : Option (List Datagram)) (text : List Told) → EndsWriting Ticks result (stage_of self.old waiting text) (stage_of self.new waiting text) (K.held out.old) (K.held out.new) }
         ensures unbroken { result ≢ Err Stop.WireFailed }
         ensures base { self.new.base ≡ self.old.base }
         ensures entered { OnOk result (length self.old.world.trace ≤ length self.new.world.trace) }
+        ensures sink_counts { Counts (result ≡ Err (Stop.Cut IoFault.Failed)) (K.faults out.old) (K.faults out.new) }
+        ensures sink_reliable { IsReliable (result ≡ Err (Stop.Cut IoFault.Failed)) (K.never_fails out.old) (K.never_fails out.new) }
     {
         let names = self.world.running_names(alloc)?;
-        self.ticks_of(alloc, names.as_slice())
+        self.ticks_of(alloc, out, names.as_slice())
     }
 
     /// Time passes by a step, but not past the end.
@@ -47,6 +55,7 @@ impl Playing {
         requires step { step ≤ 2 ^ 48 }
         ensures ends { (waiting : Option (List Datagram)) (text : List Told) → Ended (Passes end step) result (stage_of self.old waiting text) (stage_of self.new waiting text) }
         ensures unbroken { result ≢ Err Stop.WireFailed }
+        ensures unwritten { result ≢ Err (Stop.Cut IoFault.Failed) }
         ensures base { self.new.base ≡ self.old.base }
         ensures entered { OnOk result ((length self.old.world.trace < 1000000) × (length self.new.world.trace ≡ length self.old.world.trace + 1)) }
     {
@@ -55,24 +64,27 @@ impl Playing {
     }
 
     /// A round.
-    fn round<W: Wire>(
+    fn round<K: Sink, W: Wire>(
         &mut self,
         alloc: Global,
+        out: &mut K,
         wire: &mut W,
         end: Moment,
         step: u64,
     ) -> Result<(), Stop>
         requires end { end ≤ 2 ^ 48 }
         requires step { step ≤ 2 ^ 48 }
-        ensures ends { (text : List Told) → Ended (Round end step) result (stage_of self.old (W.waiting wire.old) text) (stage_of self.new (W.waiting wire.new) text) }
+        ensures ends { (text : List Told) → EndsWriting (Round end step) result (stage_of self.old (W.waiting wire.old) text) (stage_of self.new (W.waiting wire.new) text) (K.held out.old) (K.held out.new) }
         ensures base { self.new.base ≡ self.old.base }
         ensures entered { OnOk result ((length self.old.world.trace < 1000000) × (length self.old.world.trace < length self.new.world.trace)) }
         ensures unwired { self.old.base ≡ None → (wire.new ≡ wire.old) × (result ≢ Err Stop.WireFailed) }
         ensures counts { Counts (result ≡ Err Stop.WireFailed) (W.faults wire.old) (W.faults wire.new) }
         ensures reliable { IsReliable (result ≡ Err Stop.WireFailed) (W.never_fails wire.old) (W.never_fails wire.new) }
+        ensures sink_counts { Counts (result ≡ Err (Stop.Cut IoFault.Failed)) (K.faults out.old) (K.faults out.new) }
+        ensures sink_reliable { IsReliable (result ≡ Err (Stop.Cut IoFault.Failed)) (K.never_fails out.old) (K.never_fails out.new) }
     {
         self.pass(alloc, end, step)?;
-        self.ticks(alloc)?;
+        self.ticks(alloc, out)?;
         self.flow(alloc, wire)
     }
 
@@ -81,26 +93,29 @@ impl Playing {
     /// # Errors
     ///
     /// The moment has passed, an event is refused, the wire failed, or memory ended.
-    pub(crate) fn run<W: Wire>(
+    pub(crate) fn run<K: Sink, W: Wire>(
         &mut self,
         alloc: Global,
+        out: &mut K,
         wire: &mut W,
         end: Moment,
         step: u64,
     ) -> Result<(), Stop>
         requires end { end ≤ 2 ^ 48 }
         requires step { step ≤ 2 ^ 48 }
-        ensures ends { (text : List Told) → Ended (Runs end step) result (stage_of self.old (W.waiting wire.old) text) (stage_of self.new (W.waiting wire.new) text) }
+        ensures ends { (text : List Told) → EndsWriting (Runs end step) result (stage_of self.old (W.waiting wire.old) text) (stage_of self.new (W.waiting wire.new) text) (K.held out.old) (K.held out.new) }
         ensures base { self.new.base ≡ self.old.base }
         ensures unwired { self.old.base ≡ None → (wire.new ≡ wire.old) × (result ≢ Err Stop.WireFailed) }
         ensures counts { Counts (result ≡ Err Stop.WireFailed) (W.faults wire.old) (W.faults wire.new) }
         ensures reliable { IsReliable (result ≡ Err Stop.WireFailed) (W.never_fails wire.old) (W.never_fails wire.new) }
+        ensures sink_counts { Counts (result ≡ Err (Stop.Cut IoFault.Failed)) (K.faults out.old) (K.faults out.new) }
+        ensures sink_reliable { IsReliable (result ≡ Err (Stop.Cut IoFault.Failed)) (K.never_fails out.old) (K.never_fails out.new) }
     {
         if end < self.world.moment() {
             return Err(Stop::Refused(PAST));
         }
         while self.world.moment() < end {
-            self.round(alloc, wire, end, step)?;
+            self.round(alloc, out, wire, end, step)?;
         }
         Ok(())
     }

@@ -64,7 +64,7 @@ spelling (Ulas name) = spelled (codes "ulas") (Named name ∷ [])
 spelling (Radv name e) = spelled (codes "radv") (Named name ∷ Endpoint e ∷ [])
 spelling (Solicit name e) = spelled (codes "solicit") (Named name ∷ Endpoint e ∷ [])
 
--- whether a line is of a version; some are of none, since no version knows their words yet
+-- whether a line is of a version: some words are of version 2 alone
 abbrev pub IsOfVersion : Version → Line → Type 0
 IsOfVersion One (Private name bits) = ⊥
 IsOfVersion One (Address name) = ⊥
@@ -73,15 +73,15 @@ IsOfVersion One (Addressed name) = ⊥
 IsOfVersion One (Ula name) = ⊥
 IsOfVersion One (Ulas name) = ⊥
 IsOfVersion One (Sync left right) = ⊥
-IsOfVersion _ (Radv name e) = ⊥
-IsOfVersion _ (Solicit name e) = ⊥
+IsOfVersion One (Radv name e) = ⊥
+IsOfVersion One (Solicit name e) = ⊥
 IsOfVersion _ _ = Unit {0}
 
 -- the language of the lines of a version
 abbrev pub of_version : Version → Language Line
 of_version version = record { spelling = spelling; has = IsOfVersion version }
 
--- the language of the lines of all versions, also of those that no version has yet
+-- the language of the lines of all versions
 abbrev pub every_line : Language Line
 every_line = record { spelling = spelling; has = λ _. Unit {0} }
 

@@ -35,12 +35,18 @@ pub(crate) fn is_of_version(version: Version, word: &[u8]) -> bool
     ensures { MatchBool result (AreOfVersion version word.now) (IsUnknown (of_version version) word.now) }
 {
     match word {
-        b"private" | b"address" | b"addresses" | b"addressed" | b"ula" | b"ulas" | b"sync" =>
-            match version {
-                Version::One => false,
-                Version::Two => true,
-            },
-        b"radv" | b"solicit" => false,
+        b"private"
+        | b"address"
+        | b"addresses"
+        | b"addressed"
+        | b"ula"
+        | b"ulas"
+        | b"sync"
+        | b"radv"
+        | b"solicit" => match version {
+            Version::One => false,
+            Version::Two => true,
+        },
         _ => true,
     }
 }

@@ -26,7 +26,7 @@ pub returns-in_err-choice-clause-ends : goal.returns-in_err-choice-clause-ends
 returns-in_err-choice-clause-ends c waiting text =
     let name = c.args.name in
     let p = stage_of c.args.self.now waiting text in
-    let q : Playing = record { world = c.args.self.now.world; loss = c.args.self.now.loss; words = c.choose.new.draw; base = c.args.self.now.base } in
+    let q : Playing = record { world = c.args.self.now.world; loss = c.args.self.now.loss; words = c.choose.new.draw; base = c.args.self.now.base; senders = c.args.self.now.senders } in
     let a = stage_of q waiting text in
     leaving_on (OtherEnds (line.Address name)) (Cut NoMemory) c.from_residual-in_err-choice.result p a c.from_residual-in_err-choice.ensures.1
     (stopped_within (Chooses name IsChoice (chosen_event name) (λ made. [])) (OtherEnds (line.Address name)) (Cut NoMemory) p p a (λ at h. h) refl
@@ -37,7 +37,7 @@ returns-in_err-may_happen-clause-ends c waiting text =
     let name = c.args.name in
     let made = c.in_ok-choice.choice in
     let p = stage_of c.args.self.now waiting text in
-    let q : Playing = record { world = c.args.self.now.world; loss = c.args.self.now.loss; words = c.choose.new.draw; base = c.args.self.now.base } in
+    let q : Playing = record { world = c.args.self.now.world; loss = c.args.self.now.loss; words = c.choose.new.draw; base = c.args.self.now.base; senders = c.args.self.now.senders } in
     let s = stage_of q waiting text in
     let a = stage_of c.may_happen.new.self waiting text in
     let is = c.in_ok-choice.ensures in
@@ -53,7 +53,7 @@ returns-clause-ends c waiting text =
     let name = c.args.name in
     let made = c.in_ok-choice.choice in
     let p = stage_of c.args.self.now waiting text in
-    let q : Playing = record { world = c.args.self.now.world; loss = c.args.self.now.loss; words = c.choose.new.draw; base = c.args.self.now.base } in
+    let q : Playing = record { world = c.args.self.now.world; loss = c.args.self.now.loss; words = c.choose.new.draw; base = c.args.self.now.base; senders = c.args.self.now.senders } in
     let s = stage_of q waiting text in
     let a = stage_of c.may_happen.new.self waiting text in
     let is = c.in_ok-choice.ensures in

@@ -1,10 +1,12 @@
-use Rattle.std.proofs.Common.{◌∙◌, sym, refl, arith}
+use Rattle.std.proofs.Common.{◌∙◌, [], sym, refl, arith}
+use Rattle.hn_io.specs.declared.fault.IoFault.TheVariants.{Failed}
 use Rattle.hn_world.specs.Waiting.{first_waiting}
+use Rattle.hn_lab.specs.declared.end.Stop.TheVariants.{Cut}
 use Rattle.hn_lab.specs.Events.{CopyEnds, HasWaiting, Flow}
 use Rattle.hn_lab.specs.Stage.{stage_of}
 use Rattle.hn_lab.proofs.RunCopies.{some_waits, none_waits}
 use Rattle.hn_lab.proofs.RunTimes.{once_more}
-use Rattle.hn_lab.proofs.RunStops.{handed_on, stopped_within}
+use Rattle.hn_lab.proofs.RunStops.{handed_on, no_other_error, stopped_within}
 use Rattle.hn_lab.proofs.playing.Playing.flow.Goals as goal
 
 pub loop-copy-preserved : goal.loop-copy-preserved
@@ -37,3 +39,7 @@ pub returns-clause-ends : goal.returns-clause-ends
 returns-clause-ends g c text =
     let so_far = c.loop-copy.invariant.treated text in
     (so_far.0, so_far.1, λ waits. waits (none_waits (first_waiting c.loop-copy.self.world.copies) (sym c.next_waiting.ensures ∙ c.in_default.is)))
+
+pub returns-in_err-copy-clause-unwritten : goal.returns-in_err-copy-clause-unwritten
+returns-in_err-copy-clause-unwritten g c =
+    no_other_error c.in_err-copy.field-0.0 (Cut Failed) c.from_residual.result c.from_residual.ensures.1 (c.in_err-copy.ensures.ends []).unwritten

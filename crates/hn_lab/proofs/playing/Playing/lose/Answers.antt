@@ -8,5 +8,5 @@ use Rattle.hn_lab.proofs.playing.Playing.lose.Goals as goal
 
 pub returns-clause-ends : goal.returns-clause-ends
 returns-clause-ends c waiting text =
-    let q : Playing = record { world = c.args.self.now.world; loss = c.args.percent; words = c.args.self.now.words; base = c.args.self.now.base } in
+    let q : Playing = record { world = c.args.self.now.world; loss = c.args.percent; words = c.args.self.now.words; base = c.args.self.now.base; senders = c.args.self.now.senders } in
     nothing_left (OtherEnds (line.Loss c.args.percent)) c.new.result (stage_of c.args.self.now waiting text) (stage_of q waiting text) c.new.ensures (refl, refl)

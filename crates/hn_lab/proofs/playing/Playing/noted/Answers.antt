@@ -10,12 +10,12 @@ use Rattle.hn_lab.proofs.playing.Playing.noted.Goals as goal
 pub returns-in_err-apply-clause-ends : goal.returns-in_err-apply-clause-ends
 returns-in_err-apply-clause-ends c waiting text =
     let p = stage_of c.args.self.now waiting text in
-    let a = stage_of (record { world = c.apply.new.self; loss = c.args.self.now.loss; words = c.apply.new.draw; base = c.args.self.now.base }) waiting text in
+    let a = stage_of (record { world = c.apply.new.self; loss = c.args.self.now.loss; words = c.apply.new.draw; base = c.args.self.now.base; senders = c.args.self.now.senders }) waiting text in
     let why = c.in_err-apply.field-0.0 in
     handed_on (EventNotes c.args.event) (EventEnds c.args.event) (stop_of why) c.from_residual.result p a c.from_residual.ensures.1
     (not_applied c.args.event why p a (λ code is. (
       (c.in_err-apply.ensures.refused code).0 (ap Err is),
-      same_stage p a c.in_err-apply.ensures.err refl (ap words_of (c.in_err-apply.ensures.undrawn code (ap Err is))) refl refl,
+      same_stage p a c.in_err-apply.ensures.err refl (ap words_of (c.in_err-apply.ensures.undrawn code (ap Err is))) refl refl refl,
     )))
 
 pub returns-clause-entered : goal.returns-clause-entered

@@ -27,12 +27,6 @@ returns-in-Loss-clause-ends g c text =
     let p = stage_of c.args.self.now v text in
     subst (λ (l : Line). Leaves (OtherEnds l) c.lose.result p (stage_of c.lose.new.self v text)) (sym c.in-Loss.is) (c.lose.ensures.ends v text)
 
-pub returns-in-Run-clause-ends : goal.returns-in-Run-clause-ends
-returns-in-Run-clause-ends g c text =
-    let v = g.W.Wire.waiting c.args.wire.now in
-    let p = stage_of c.args.self.now v text in
-    subst (λ (l : Line). EndsLeaving (OtherEnds l) c.run_until.result p (stage_of c.run_until.new.self (g.W.Wire.waiting c.run_until.new.wire) text)) (sym c.in-Run.is) (c.run_until.ensures.ends text)
-
 pub returns-in-Deliver-clause-ends : goal.returns-in-Deliver-clause-ends
 returns-in-Deliver-clause-ends g c text =
     let v = g.W.Wire.waiting c.args.wire.now in
@@ -125,18 +119,21 @@ returns-in-Addresses-clause-ends g c text =
     let v = g.W.Wire.waiting c.args.wire.now in
     let p = stage_of c.args.self.now v text in
     let w = c.args.self.now.world in
-    subst (λ (l : Line). EndsLeaving (OtherEnds l) c.addresses.result p p) (sym c.in-Addresses.is) (leaving_within (ReportsLines (unless_runs c.in-Addresses.name w) (Tells c.in-Addresses.name w (λ m lines. lines ≡ addresses_lines c.in-Addresses.name m))) (OtherEnds (line.Addresses c.in-Addresses.name)) c.addresses.result p p (λ stop at h. h) (c.addresses.ensures.ends v text))
+    let name = c.in-Addresses.name in
+    subst (λ (l : Line). EndsLeaving (OtherEnds l) c.addresses.result p p) (sym c.in-Addresses.is) (leaving_within (ReportsLines (unless_runs name w) (Tells name w (λ m lines. lines ≡ addresses_lines name m))) (OtherEnds (line.Addresses name)) c.addresses.result p p (λ stop at h. h) (c.addresses.ensures.ends v text))
 
 pub returns-in-Addressed-clause-ends : goal.returns-in-Addressed-clause-ends
 returns-in-Addressed-clause-ends g c text =
     let v = g.W.Wire.waiting c.args.wire.now in
     let p = stage_of c.args.self.now v text in
     let w = c.args.self.now.world in
-    subst (λ (l : Line). EndsLeaving (OtherEnds l) c.addressed.result p p) (sym c.in-Addressed.is) (leaving_within (Reports (unless_runs c.in-Addressed.name w) (Tells c.in-Addressed.name w (IsAddressedLine c.in-Addressed.name w))) (OtherEnds (line.Addressed c.in-Addressed.name)) c.addressed.result p p (λ stop at h. h) (c.addressed.ensures.ends v text))
+    let name = c.in-Addressed.name in
+    subst (λ (l : Line). EndsLeaving (OtherEnds l) c.addressed.result p p) (sym c.in-Addressed.is) (leaving_within (Reports (unless_runs name w) (Tells name w (IsAddressedLine name w))) (OtherEnds (line.Addressed name)) c.addressed.result p p (λ stop at h. h) (c.addressed.ensures.ends v text))
 
 pub returns-in-Ulas-clause-ends : goal.returns-in-Ulas-clause-ends
 returns-in-Ulas-clause-ends g c text =
     let v = g.W.Wire.waiting c.args.wire.now in
     let p = stage_of c.args.self.now v text in
     let w = c.args.self.now.world in
-    subst (λ (l : Line). EndsLeaving (OtherEnds l) c.ulas.result p p) (sym c.in-Ulas.is) (leaving_within (Reports (unless_runs c.in-Ulas.name w) (Tells c.in-Ulas.name w (IsUlasLine c.in-Ulas.name w))) (OtherEnds (line.Ulas c.in-Ulas.name)) c.ulas.result p p (λ stop at h. h) (c.ulas.ensures.ends v text))
+    let name = c.in-Ulas.name in
+    subst (λ (l : Line). EndsLeaving (OtherEnds l) c.ulas.result p p) (sym c.in-Ulas.is) (leaving_within (Reports (unless_runs name w) (Tells name w (IsUlasLine name w))) (OtherEnds (line.Ulas name)) c.ulas.result p p (λ stop at h. h) (c.ulas.ensures.ends v text))

@@ -1,37 +1,43 @@
-use Rattle.std.proofs.Common.{refl, inl, inr}
+use Rattle.std.proofs.Common.{None, Some, inl, inr, refl}
 use Rattle.hn_lab.specs.Events.{Passes, Ticks, Flow, Round}
 use Rattle.hn_lab.specs.Process.{Then}
 use Rattle.hn_lab.specs.Stage.{stage_of}
-use Rattle.hn_lab.proofs.RunStops.{then_on, ended_within, handed_on, stopped_within}
+use Rattle.hn_lab.proofs.RunTimes.{then_assoc}
+use Rattle.hn_lab.proofs.RunWrites.{still_done, still_stopped, still_writes, first_stops, goes_on, then_writes, writing_as, writing_on}
 use Rattle.hn_lab.proofs.playing.Playing.round.Goals as goal
 
 pub returns-in_err-pass-clause-ends : goal.returns-in_err-pass-clause-ends
 returns-in_err-pass-clause-ends g c text =
-    let w = g.W.Wire.waiting c.args.wire.now in
-    let p = stage_of c.args.self.now w text in
-    let a = stage_of c.pass.new.self w text in
+    let v = g.W.Wire.waiting c.args.wire.now in
+    let p = stage_of c.args.self.now v text in
+    let a = stage_of c.pass.new.self v text in
     let why = c.in_err-pass.field-0.0 in
-    let round = Round c.args.end c.args.step in
-    handed_on (λ _. round) round why c.from_residual.result p a c.from_residual.ensures.1
-    (stopped_within (Passes c.args.end c.args.step) round why p p a (λ at h. inl h) refl (c.in_err-pass.ensures.ends w text))
+    let pass = Passes c.args.end c.args.step in
+    writing_on (Round c.args.end c.args.step) why c.from_residual.result p a _ _ c.from_residual.ensures.1
+    (first_stops pass (Then Ticks Flow) why p a _ _ (still_stopped pass why p a _ (c.in_err-pass.ensures.ends v text)))
 
 pub returns-in_err-ticks-clause-ends : goal.returns-in_err-ticks-clause-ends
 returns-in_err-ticks-clause-ends g c text =
-    let w = g.W.Wire.waiting c.args.wire.now in
-    let p = stage_of c.args.self.now w text in
-    let b = stage_of c.pass.new.self w text in
-    let a = stage_of c.ticks.new.self w text in
+    let v = g.W.Wire.waiting c.args.wire.now in
+    let p = stage_of c.args.self.now v text in
+    let m = stage_of c.pass.new.self v text in
+    let a = stage_of c.ticks.new.self v text in
     let why = c.in_err-ticks.field-0.0 in
-    let round = Round c.args.end c.args.step in
-    handed_on (λ _. round) round why c.from_residual-in_err-ticks.result p a c.from_residual-in_err-ticks.ensures.1
-    (stopped_within Ticks round why p b a (λ at h. inr (b, c.in_ok-pass.ensures.ends w text, inl h)) refl (c.in_err-ticks.ensures.ends w text))
+    let pass = Passes c.args.end c.args.step in
+    let first = still_done pass p m (g.K.Sink.held c.args.out.now) refl (c.in_ok-pass.ensures.ends v text) in
+    writing_on (Round c.args.end c.args.step) why c.from_residual-in_err-ticks.result p a _ _ c.from_residual-in_err-ticks.ensures.1
+    (goes_on pass Ticks (Round c.args.end c.args.step) (Some why) p m a _ _ _ first (λ at h. inr (first.at, first.ended, inl h)) (c.in_err-ticks.ensures.ends v first.at.text))
 
 pub returns-clause-ends : goal.returns-clause-ends
 returns-clause-ends g c text =
-    let w = g.W.Wire.waiting c.args.wire.now in
-    let p = stage_of c.args.self.now w text in
-    let b = stage_of c.pass.new.self w text in
-    let t = stage_of c.ticks.new.self w text in
+    let v = g.W.Wire.waiting c.args.wire.now in
+    let p = stage_of c.args.self.now v text in
+    let m = stage_of c.pass.new.self v text in
+    let b = stage_of c.ticks.new.self v text in
     let a = stage_of c.flow.new.self (g.W.Wire.waiting c.flow.new.wire) text in
-    ended_within Flow (Round c.args.end c.args.step) c.flow.result p t a
-    (λ stop at h. then_on (Passes c.args.end c.args.step) (Then Ticks Flow) stop p b at (c.in_ok-pass.ensures.ends w text) (then_on Ticks Flow stop b t at (c.in_ok-ticks.ensures.ends w text) h)) refl (c.flow.ensures.ends text)
+    let pass = Passes c.args.end c.args.step in
+    let first = still_done pass p m (g.K.Sink.held c.args.out.now) refl (c.in_ok-pass.ensures.ends v text) in
+    let two = goes_on pass Ticks (Then pass Ticks) None p m b _ _ _ first (λ at h. (first.at, first.ended, h)) (c.in_ok-ticks.ensures.ends v first.at.text) in
+    writing_as (Then (Then pass Ticks) Flow) (Round c.args.end c.args.step) c.flow.result p a _ _ (λ stop at h. then_assoc pass Ticks Flow stop p at h)
+    (then_writes (Then pass Ticks) Flow c.flow.result p b a _ _ _ two
+    (still_writes Flow c.flow.result (record b { text = two.at.text }) (record a { text = two.at.text }) _ refl (c.flow.ensures.ends two.at.text)))

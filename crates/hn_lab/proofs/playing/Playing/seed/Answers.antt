@@ -9,5 +9,5 @@ use Rattle.hn_lab.proofs.playing.Playing.seed.Goals as goal
 pub returns-clause-ends : goal.returns-clause-ends
 returns-clause-ends c waiting text =
     let p = stage_of c.args.self.now waiting text in
-    let q : Playing = record { world = c.args.self.now.world; loss = c.args.self.now.loss; words = c.of_seed-self.result; base = c.args.self.now.base } in
+    let q : Playing = record { world = c.args.self.now.world; loss = c.args.self.now.loss; words = c.of_seed-self.result; base = c.args.self.now.base; senders = c.args.self.now.senders } in
     nothing_left (OtherEnds (line.Seed c.args.seed)) c.new.result p (stage_of q waiting text) c.new.ensures (refl, ap (λ (words : ℕ → ℕ). record p { words = words }) c.of_seed-self.ensures)

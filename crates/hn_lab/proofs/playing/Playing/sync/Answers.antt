@@ -17,24 +17,24 @@ returns-in_err-sync-clause-ends c waiting text =
     let m = c.args.a.now in
     let n = c.args.b.now in
     let why = c.in_err-sync.field-0.0 in
-    let q : Playing = record { world = c.sync.new.self; loss = c.args.self.now.loss; words = c.sync.new.draw; base = c.args.self.now.base } in
+    let q : Playing = record { world = c.sync.new.self; loss = c.args.self.now.loss; words = c.sync.new.draw; base = c.args.self.now.base; senders = c.args.self.now.senders } in
     let p = stage_of c.args.self.now waiting text in
     let a = stage_of q waiting text in
     leaving_within (SyncEnds m n) (OtherEnds (line.Sync m n)) c.from_residual.result p a (λ stop at h. h)
     (leaving_on (SyncEnds m n) (stop_of why) c.from_residual.result p a c.from_residual.ensures.1
     (not_synced m n why p a
-    (λ code is. let first = c.in_err-sync.ensures.first code is in (same_error _ _ first.0, same_stage p a first.1 refl (ap words_of first.2) refl refl))
-    (λ code is same. record { ends = c.in_err-sync.ensures.later code is (ap Err same); loss = refl; route = refl; text = refl })))
+    (λ code is. let first = c.in_err-sync.ensures.first code is in (same_error _ _ first.0, same_stage p a first.1 refl (ap words_of first.2) refl refl refl))
+    (λ code is same. record { ends = c.in_err-sync.ensures.later code is (ap Err same); loss = refl; route = refl; senders = refl; text = refl })))
 
 pub returns-clause-ends : goal.returns-clause-ends
 returns-clause-ends c waiting text =
     let m = c.args.a.now in
     let n = c.args.b.now in
-    let q : Playing = record { world = c.sync.new.self; loss = c.args.self.now.loss; words = c.sync.new.draw; base = c.args.self.now.base } in
+    let q : Playing = record { world = c.sync.new.self; loss = c.args.self.now.loss; words = c.sync.new.draw; base = c.args.self.now.base; senders = c.args.self.now.senders } in
     let p = stage_of c.args.self.now waiting text in
     let a = stage_of q waiting text in
     nothing_left (OtherEnds (line.Sync m n)) c.new.result p a c.new.ensures
-    (p, (not_first _ _ (λ code is. (c.in_ok-sync.ensures.first code is).0), refl), record { ends = c.in_ok-sync.ensures.ok; loss = refl; route = refl; text = refl })
+    (p, (not_first _ _ (λ code is. (c.in_ok-sync.ensures.first code is).0), refl), (record { ends = c.in_ok-sync.ensures.ok; loss = refl; route = refl; senders = refl; text = refl }, c.in_ok-sync.ensures.repairs))
 
 pub returns-in_err-sync-clause-unbroken : goal.returns-in_err-sync-clause-unbroken
 returns-in_err-sync-clause-unbroken c = no_other_error (stop_of c.in_err-sync.field-0.0) WireFailed c.from_residual.result c.from_residual.ensures.1 (world_not_broken c.in_err-sync.field-0.0)

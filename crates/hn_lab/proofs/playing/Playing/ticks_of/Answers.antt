@@ -1,34 +1,47 @@
-use Rattle.std.proofs.Common.{◌∙◌, None, Some, subst, refl, arith}
+use Rattle.std.proofs.Common.{◌∙◌, None, Some, subst, arith}
 use Rattle.hn_base.specs.declared.name.Name.{Name}
-use Rattle.hn_world.specs.declared.event.WEvent.TheVariants.{Tick}
-use Rattle.hn_lab.specs.Delivery.{EventEnds}
-use Rattle.hn_lab.specs.Events.{TicksOf}
+use Rattle.hn_lab.specs.Process.{Each}
+use Rattle.hn_lab.specs.Sending.{TickEnds}
 use Rattle.hn_lab.specs.Stage.{stage_of}
-use Rattle.hn_lab.proofs.RunTicks.{ticks_further, ticks_stopped}
-use Rattle.hn_lab.proofs.RunStops.{handed_on, stopped_within}
+use Rattle.hn_lab.specs.Writing.{EndsAt}
+use Rattle.hn_lab.proofs.RunEach.{each_further, each_stopped, each_done}
+use Rattle.hn_lab.proofs.RunWrites.{writing_on}
 use Rattle.hn_lab.proofs.playing.Playing.ticks_of.Goals as goal
 
-pub returns-in_err-event-clause-ends : goal.returns-in_err-event-clause-ends
-returns-in_err-event-clause-ends c waiting text =
+pub returns-in_err-tick-clause-ends : goal.returns-in_err-tick-clause-ends
+returns-in_err-tick-clause-ends g c waiting text =
+    let sink = g.K.Sink in
+    let xs = c.args.names.now in
     let p = stage_of c.args.self.now waiting text in
     let b = stage_of c.loop-name.self waiting text in
-    let a = stage_of c.event.new.self waiting text in
-    let names = c.args.names.now in
-    let why = c.in_err-event.field-0.0 in
-    handed_on (λ _. TicksOf names) (TicksOf names) why c.from_residual.result p a c.from_residual.ensures.1
-    (stopped_within (EventEnds (Tick c.name-item.result)) (TicksOf names) why p b a
-    (λ at h. ticks_stopped names c.loop-name.name-index c.name-item.result c.loop-name-test.true p b at (c.loop-name.invariant.ticked waiting text) why (subst (λ (name : Name). EventEnds (Tick name) (Some why) b at) c.name-item.is h))
-    refl (c.in_err-event.ensures.ends waiting text))
+    let a = stage_of c.tick.new.self waiting text in
+    let done = c.loop-name.invariant.ticked waiting text in
+    let why = c.in_err-tick.field-0.0 in
+    writing_on (Each TickEnds xs) why c.from_residual.result p a _ _ c.from_residual.ensures.1
+    (each_stopped TickEnds xs p b _ _ c.loop-name.name-index c.name-item.result c.loop-name-test.true done a _ why
+    (subst (λ (name : Name). EndsAt (TickEnds name) (Some why) (record b { text = done.at.text }) (record a { text = done.at.text }) (sink.held c.loop-name.out) (sink.held c.tick.new.out)) c.name-item.is (c.in_err-tick.ensures.ends waiting done.at.text)))
 
 pub loop-name-preserved : goal.loop-name-preserved
-loop-name-preserved c =
+loop-name-preserved g c =
+    let sink = g.K.Sink in
+    let xs = c.args.names.now in
     let before = c.loop-name.invariant in
     record {
       ticked = λ waiting text.
           let p = stage_of c.args.self.now waiting text in
           let b = stage_of c.loop-name.self waiting text in
-          let a = stage_of c.event.new.self waiting text in
-          ticks_further c.args.names.now c.loop-name.name-index c.name-item.result c.loop-name-test.true p b a (before.ticked waiting text) (subst (λ (name : Name). EventEnds (Tick name) None b a) c.name-item.is (c.in_ok-event.ensures.ends waiting text));
-      base = c.in_ok-event.ensures.base ∙ before.base;
-      kept = let more = c.in_ok-event.ensures.entered.1 in let kept = before.kept in omega arith;
+          let a = stage_of c.tick.new.self waiting text in
+          let done = before.ticked waiting text in
+          each_further TickEnds xs p b _ _ c.loop-name.name-index c.name-item.result c.loop-name-test.true done a _
+          (subst (λ (name : Name). EndsAt (TickEnds name) None (record b { text = done.at.text }) (record a { text = done.at.text }) (sink.held c.loop-name.out) (sink.held c.tick.new.out)) c.name-item.is (c.in_ok-tick.ensures.ends waiting done.at.text));
+      base = c.in_ok-tick.ensures.base ∙ before.base;
+      kept = let more = c.in_ok-tick.ensures.entered in let kept = before.kept in omega arith;
+      no_fault = c.in_ok-tick.ensures.sink_counts.stays (λ failed. cc) ∙ before.no_fault;
+      reliable = λ never. (c.in_ok-tick.ensures.sink_reliable (before.reliable never)).0;
     }
+
+pub returns-clause-ends : goal.returns-clause-ends
+returns-clause-ends g c waiting text =
+    let p = stage_of c.args.self.now waiting text in
+    let b = stage_of c.loop-name.self waiting text in
+    each_done TickEnds c.args.names.now p b _ _ c.loop-name.name-index c.loop-name-test.false (c.loop-name.invariant.ticked waiting text)

@@ -27,7 +27,7 @@ pub returns-in_err-decided-clause-ends : goal.returns-in_err-decided-clause-ends
 returns-in_err-decided-clause-ends c waiting text =
     let name = c.args.name in
     let p = stage_of c.args.self.now waiting text in
-    let q : Playing = record { world = c.args.self.now.world; loss = c.args.self.now.loss; words = c.decide.new.draw; base = c.args.self.now.base } in
+    let q : Playing = record { world = c.args.self.now.world; loss = c.args.self.now.loss; words = c.decide.new.draw; base = c.args.self.now.base; senders = c.args.self.now.senders } in
     let a = stage_of q waiting text in
     leaving_on (OtherEnds (line.Ula name)) (Cut NoMemory) c.from_residual-in_err-decided.result p a c.from_residual-in_err-decided.ensures.1
     (stopped_within (Chooses name Decides (decided_event name) (λ made. ula_line name made ∷ [])) (OtherEnds (line.Ula name)) (Cut NoMemory) p p a (λ at h. h) refl
@@ -38,7 +38,7 @@ returns-in_err-may_happen-clause-ends c waiting text =
     let name = c.args.name in
     let made = c.in_ok-decided.decided in
     let p = stage_of c.args.self.now waiting text in
-    let q : Playing = record { world = c.args.self.now.world; loss = c.args.self.now.loss; words = c.decide.new.draw; base = c.args.self.now.base } in
+    let q : Playing = record { world = c.args.self.now.world; loss = c.args.self.now.loss; words = c.decide.new.draw; base = c.args.self.now.base; senders = c.args.self.now.senders } in
     let s = stage_of q waiting text in
     let a = stage_of c.may_happen.new.self waiting text in
     let is = c.in_ok-decided.ensures in
@@ -72,7 +72,7 @@ returns-clause-ends c waiting text =
     let name = c.args.name in
     let made = c.in_ok-decided.decided in
     let p = stage_of c.args.self.now waiting text in
-    let q : Playing = record { world = c.args.self.now.world; loss = c.args.self.now.loss; words = c.decide.new.draw; base = c.args.self.now.base } in
+    let q : Playing = record { world = c.args.self.now.world; loss = c.args.self.now.loss; words = c.decide.new.draw; base = c.args.self.now.base; senders = c.args.self.now.senders } in
     let s = stage_of q waiting text in
     let a = stage_of c.may_happen.new.self waiting text in
     let is = c.in_ok-decided.ensures in

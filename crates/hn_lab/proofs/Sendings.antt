@@ -1,0 +1,62 @@
+-- Those that send, when one is put in place, added or taken out.
+use Rattle.std.proofs.Common.{◌≡◌, ◌≤◌, ℕ, Bool, true, false, List, [], length, filter, take, drop, get_or, refl, sym, ap, arith}
+use Rattle.std.specs.Prelude.{insert, nat_le, nat_lt, Decides}
+use Rattle.std.proofs.Math.Bool.{beq}
+use Rattle.std.proofs.Math.Dec.{eqb}
+use Rattle.std.specs.List.Sorted.{IsPartitionedBy, IsPartitionPoint}
+use Rattle.std.proofs.lemmas.Bool.{eqb-true, lt-ltb, le-ltb, leb-true, leb-false}
+use Rattle.std.proofs.lemmas.List.Kept.{IsNonDecreasingBy-filter}
+use Rattle.std.proofs.lemmas.List.Sorted.{IsNonDecreasingBy-insert, IsPartitionedBy-leb}
+use Rattle.hn_base.proofs.Fronts.{filter-front, filter-back}
+use Rattle.hn_lab.specs.declared.senders.Sending.{Sending}
+use Rattle.hn_lab.specs.declared.senders.Shape.{Shape}
+use Rattle.hn_lab.specs.Senders.{number, AreInOrder, placed}
+
+-- shapes with equal fields are equal
+pub same_shape : (a b : Shape) → a.managed ≡ b.managed → a.other ≡ b.other → a.lifetime ≡ b.lifetime → a.prefixes ≡ b.prefixes → a ≡ b
+same_shape a b managed other lifetime prefixes =
+    λ i. record { managed = managed i; other = other i; lifetime = lifetime i; prefixes = prefixes i }
+
+same_flag : (a b : Bool) → beq a b ≡ true → a ≡ b
+same_flag true true is = refl
+same_flag true false is = absurd cc
+same_flag false true is = absurd cc
+same_flag false false is = refl
+
+-- what the tests of their fields tell
+pub shape_told : (a b : Shape) (r : Bool) → beq a.managed b.managed ≡ true → beq a.other b.other ≡ true → eqb a.lifetime b.lifetime ≡ true → Decides r (a.prefixes ≡ b.prefixes) → Decides r (a ≡ b)
+shape_told a b r managed other lifetime prefixes = (
+  λ is. same_shape a b (same_flag a.managed b.managed managed) (same_flag a.other b.other other) (eqb-true a.lifetime b.lifetime lifetime) (prefixes.0 is),
+  λ same. prefixes.1 (ap (λ (x : Shape). x.prefixes) same),
+)
+
+-- ---- the order
+
+pub order-none : AreInOrder []
+order-none i j d le within = absurd (omega arith)
+
+pub order-filter : (p : Sending → Bool) (senders : List Sending) → AreInOrder senders → AreInOrder (filter p senders)
+order-filter p senders are = IsNonDecreasingBy-filter number p senders are
+
+-- the place at which the higher endpoints begin
+abbrev pub IsPlaceFor : Sending → List Sending → ℕ → Type 0
+IsPlaceFor s senders i = IsPartitionPoint (λ (t : Sending). nat_le (number t) (number s) ≡ true) (λ (t : Sending). nat_le (number t) (number s) ≡ false) senders i
+
+pub order-partitioned : (at : ℕ) (senders : List Sending) → AreInOrder senders → IsPartitionedBy (λ t. nat_le (number t) at) senders
+order-partitioned at senders are = IsPartitionedBy-leb number senders at are
+
+pub order-insert : (s : Sending) (senders : List Sending) (i : ℕ) → AreInOrder senders → i ≤ length senders → IsPlaceFor s senders i → AreInOrder (insert senders i s)
+order-insert s senders i are within parts =
+    IsNonDecreasingBy-insert number senders i s are within
+    (λ k d less. leb-true _ _ (parts.0 k d (omega arith) less))
+    (λ k d past less. let lower = leb-false _ _ (parts.1 k d past less) in omega arith)
+
+pub placed-insert : (s : Sending) (senders : List Sending) (i : ℕ) → i ≤ length senders → IsPlaceFor s senders i → insert senders i s ≡ placed s senders
+placed-insert s senders i within parts =
+    let front : take i senders ≡ filter (λ t. nat_le (number t) (number s)) senders =
+    sym (filter-front (λ (t : Sending). nat_le (number t) (number s)) senders i (λ k d less within'. parts.0 k d (omega arith) less) (λ k d past less. parts.1 k d past less))
+    in
+    let back : drop i senders ≡ filter (λ t. nat_lt (number s) (number t)) senders =
+    sym (filter-back (λ (t : Sending). nat_lt (number s) (number t)) senders i (λ k d less within'. let low = leb-true _ _ (parts.0 k d (omega arith) less) in le-ltb (number s) (number (get_or senders k d)) low) (λ k d past less. let high = leb-false _ _ (parts.1 k d past less) in lt-ltb (number s) (number (get_or senders k d)) high))
+    in
+    cc

@@ -1,0 +1,47 @@
+use Rattle.std.proofs.Common.{◌∙◌}
+use Rattle.hn_base.specs.declared.ids.EpId.{EpId}
+use Rattle.hn_lab.specs.Process.{Each}
+use Rattle.hn_lab.specs.Sending.{TurnEnds}
+use Rattle.hn_lab.specs.Stage.{stage_of}
+use Rattle.hn_lab.proofs.RunEach.{each_further, each_stopped, each_done}
+use Rattle.hn_lab.proofs.RunWrites.{writing_on}
+use Rattle.hn_lab.proofs.playing.Playing.turns.Goals as goal
+
+pub returns-in_err-turn-clause-ends : goal.returns-in_err-turn-clause-ends
+returns-in_err-turn-clause-ends g c waiting text =
+    let name = c.args.name.now in
+    let xs = c.args.endpoints.now in
+    let p = stage_of c.args.self.now waiting text in
+    let b = stage_of c.loop-endpoint.self waiting text in
+    let a = stage_of c.turn.new.self waiting text in
+    let done = c.loop-endpoint.invariant.turned waiting text in
+    let why = c.in_err-turn.field-0.0 in
+    let d : EpId = record { 0 = 0 } in
+    writing_on (Each (TurnEnds name) xs) why c.from_residual.result p a _ _ c.from_residual.ensures.1
+    (each_stopped (TurnEnds name) xs p b _ _ c.loop-endpoint.endpoint-index d c.loop-endpoint-test.true done a _ why (c.in_err-turn.ensures.ends waiting done.at.text))
+
+pub loop-endpoint-preserved : goal.loop-endpoint-preserved
+loop-endpoint-preserved g c =
+    let name = c.args.name.now in
+    let xs = c.args.endpoints.now in
+    let before = c.loop-endpoint.invariant in
+    let d : EpId = record { 0 = 0 } in
+    record {
+      turned = λ waiting text.
+          let p = stage_of c.args.self.now waiting text in
+          let b = stage_of c.loop-endpoint.self waiting text in
+          let a = stage_of c.turn.new.self waiting text in
+          let done = before.turned waiting text in
+          each_further (TurnEnds name) xs p b _ _ c.loop-endpoint.endpoint-index d c.loop-endpoint-test.true done a _ (c.in_ok-turn.ensures.ends waiting done.at.text);
+      world = c.in_ok-turn.ensures.world ∙ before.world;
+      base = c.in_ok-turn.ensures.base ∙ before.base;
+      no_fault = c.in_ok-turn.ensures.sink_counts.stays (λ failed. cc) ∙ before.no_fault;
+      reliable = λ never. (c.in_ok-turn.ensures.sink_reliable (before.reliable never)).0;
+    }
+
+pub returns-clause-ends : goal.returns-clause-ends
+returns-clause-ends g c waiting text =
+    let name = c.args.name.now in
+    let p = stage_of c.args.self.now waiting text in
+    let b = stage_of c.loop-endpoint.self waiting text in
+    each_done (TurnEnds name) c.args.endpoints.now p b _ _ c.loop-endpoint.endpoint-index c.loop-endpoint-test.false (c.loop-endpoint.invariant.turned waiting text)

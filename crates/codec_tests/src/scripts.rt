@@ -68,7 +68,9 @@ const LATER_WORDS: &str = "hncp 2\n\
     addressed A\n\
     ula A\n\
     ulas A\n\
-    sync A B\n";
+    sync A B\n\
+    radv A 1\n\
+    solicit A 1\n";
 
 /// Lines that are printed otherwise.
 const WRITTEN: &str = "hncp 1\n\
@@ -151,12 +153,8 @@ const LATER: &str =
     "hncp 1\nprivate\n|hncp 1\nprivate A 60\n|hncp 1\nprivate A 60 60\n|hncp 1\nprivate A 65\n|\
      hncp 1\nprivate A off\n|hncp 1\n private\n|hncp 1\naddress A\n|hncp 1\naddress\n|\
      hncp 1\naddresses A\n|hncp 1\naddresses A B\n|hncp 1\naddressed A\n|hncp 1\naddressed 1\n|\
-     hncp 1\nula A\n|hncp 1\nula\n|hncp 1\nulas A\n|hncp 1\nulas A B\n|\
-     hncp 1\nsync\n|hncp 1\nsync A\n|hncp 1\nsync A B\n|hncp 1\nsync A B C\n";
-
-/// Words that no version has yet.
-const NOT_YET: &str = "hncp 1\nradv A 1\n|\
-     hncp 2\nradv A 1\n|hncp 2\nradv\n|hncp 1\nsolicit A 1\n|hncp 2\nsolicit A 1\n";
+     hncp 1\nula A\n|hncp 1\nula\n|hncp 1\nulas A\n|hncp 1\nulas A B\n|hncp 1\nsync\n|\
+     hncp 1\nsync A\n|hncp 1\nsync A B\n|hncp 1\nsync A B C\n|hncp 1\nradv A 1\n|hncp 1\nradv\n|hncp 1\nsolicit A 1\n|hncp 1\nsolicit A 1 1\n";
 
 /// Too few and too many words.
 const COUNTED: &str =
@@ -170,8 +168,8 @@ const COUNTED: &str =
      hncp 2\nprivate\n|hncp 2\nprivate A\n|hncp 2\nprivate A 1 1\n|hncp 2\nprivate 1\n|hncp 2\ntick\n|\
      hncp 2\naddress\n|hncp 2\naddress A B\n|hncp 2\naddresses\n|hncp 2\naddresses A 1\n|\
      hncp 2\naddressed\n|hncp 2\naddressed A B\n|hncp 2\nula\n|hncp 2\nula A fd00::/48\n|\
-     hncp 2\nulas\n|hncp 2\nulas A B\n|hncp 2\nulas 1 2\n|hncp 2\nsync\n|hncp 2\nsync A\n|\
-     hncp 2\nsync A B C\n";
+     hncp 2\nulas\n|hncp 2\nulas A B\n|hncp 2\nulas 1 2\n|hncp 2\nsync\n|hncp 2\nsync A\n|hncp 2\nsync A B C\n|\
+     hncp 2\nradv\n|hncp 2\nradv A\n|hncp 2\nradv A 1 1\n|hncp 2\nsolicit A\n|hncp 2\nsolicit 1\n";
 
 /// Malformed words, and numbers out of range.
 const MALFORMED: &str =
@@ -194,13 +192,13 @@ const MALFORMED: &str =
      hncp 1\ninject A 1 uni --\n|hncp 2\nprivate A 0\n|hncp 2\nprivate A 65\n|hncp 2\nprivate A Off\n|\
      hncp 2\nprivate A o\n|hncp 2\nprivate 1 1\n|hncp 2\nprivate A -1\n|hncp 2\nloss 101\n|\
      hncp 2\naddress 1\n|hncp 2\naddresses a.b\n|hncp 2\naddressed abcdefghijklmnopq\n|\
-     hncp 2\nula -\n|hncp 2\nulas _A\n|hncp 2\nsync A -\n|hncp 2\nsync 1 B\n";
+     hncp 2\nula -\n|hncp 2\nulas _A\n|hncp 2\nsync A -\n|hncp 2\nsync 1 B\n|hncp 2\nradv A 0\n|hncp 2\nradv 1 A\n|\
+     hncp 2\nsolicit A 4294967296\n|hncp 2\nsolicit A -\n";
 
 #[test]
 fn lines_are_refused(rt: HostRuntime) {
     are_refused(&rt, rt.alloc(), UNKNOWN, 2, 2);
     are_refused(&rt, rt.alloc(), LATER, 2, 2);
-    are_refused(&rt, rt.alloc(), NOT_YET, 2, 2);
     are_refused(&rt, rt.alloc(), COUNTED, 2, 3);
     are_refused(&rt, rt.alloc(), MALFORMED, 2, 4);
 }
@@ -229,7 +227,7 @@ fn the_first_fault_decides(rt: HostRuntime) {
     are_refused(&rt, rt.alloc(), "hncp 1\nfly\nloss 101\n", 2, 2);
     are_refused(&rt, rt.alloc(), "hncp 1\nmail\n\t\nfly\n", 3, 6);
     are_refused(&rt, rt.alloc(), "hncp 1\nprivate A\nloss 101\n", 2, 2);
-    are_refused(&rt, rt.alloc(), "hncp 2\nprivate A off\nradv\n", 3, 2);
+    are_refused(&rt, rt.alloc(), "hncp 2\nprivate A off\nfly A\n", 3, 2);
 }
 
 /// The fault of a text that is filled up to this length.

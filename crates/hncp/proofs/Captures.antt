@@ -1,9 +1,8 @@
 -- The reading of a capture, line by line.
-use Rattle.std.proofs.Common.{◌≡◌, ◌∙◌, ◌⊎◌, ◌+◌, ◌<◌, ◌≤◌, ◌^◌, ℕ, List, [], ◌∷◌, ◌++◌, length, refl, sym, ap, subst, inl, inr, arith, append_assoc, length-append}
+use Rattle.std.proofs.Common.{◌≡◌, ◌∙◌, ◌+◌, ◌<◌, ◌≤◌, ◌^◌, ℕ, List, [], ◌∷◌, ◌++◌, length, refl, sym, ap, subst, inl, inr, arith, append_assoc, length-append}
 use Rattle.std.specs.List.{AllZip}
 use Rattle.std.proofs.lemmas.List.{append-nil}
 use Rattle.std.proofs.lemmas.List.Elements.{AllZip-push, length_all_zip}
-use Rattle.hn_script.specs.Field.{IsHexWord}
 use Rattle.hn_script.specs.Texts.{lines_of}
 use Rattle.hn_script.specs.declared.fault.ScriptFault.{ScriptFault}
 use Rattle.hn_tlv.specs.Grammar.{HasTlvs}
@@ -14,7 +13,7 @@ use Rattle.hn_watch.specs.Watch.{fed_of, malformed_of, Holds}
 use Rattle.hn_watch.specs.Laws.{ListsShow, HeldAfterMalformed}
 use Rattle.hncp.specs.Watch.{IsCaptureLine, CaptureFault, CaptureFaultFrom, AreFed, watch_text, IsCapture, IsWatched, IsRefusedCapture}
 use Rattle.hn_lab.specs.Reports.{refused_line}
-use Rattle.hncp.specs.Capture.{IsShown, IsLineFed, HasFed, IsRead, IsTextOf}
+use Rattle.hncp.specs.Capture.{IsLineFed, HasFed, IsRead, IsTextOf}
 
 -- ---- one more datagram
 

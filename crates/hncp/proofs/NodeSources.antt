@@ -1,5 +1,5 @@
 -- What is said of a node file that was read is said of the source that has it.
-use Rattle.std.proofs.Common.{◌≡◌, ◌≢◌, ◌<◌, ◌≤◌, ◌^◌, ℕ, List, [], Option, None, length, inl, inr, refl, arith}
+use Rattle.std.proofs.Common.{◌≡◌, ◌<◌, ◌≤◌, ◌^◌, ℕ, List, Option, None, length, inl, inr, refl, arith}
 use Rattle.std.specs.Io.KnownBytes.{Appends, Consumes}
 use Rattle.hn_base.specs.Input.{IsWhole}
 use Rattle.hn_node.specs.declared.served.Served.{Served}

@@ -1,12 +1,12 @@
 -- What forms come to.
-use Rattle.std.proofs.Common.{◌≡◌, ◌≢◌, ◌<◌, ◌≤◌, ◌^◌, ◌⊎◌, ℕ, zero, suc, List, [], ◌∷◌, Option, None, Some, length, inl, inr, refl, sym, subst, arith}
+use Rattle.std.proofs.Common.{◌≡◌, ◌≢◌, ◌<◌, ◌≤◌, ◌^◌, ◌⊎◌, ℕ, zero, suc, List, [], ◌∷◌, Option, length, inl, inr, sym, arith}
 use Rattle.std.specs.Prelude.{Contains}
-use Rattle.std.specs.Io.KnownBytes.{Appends, Consumes}
+use Rattle.std.specs.Io.KnownBytes.{Consumes}
 use Rattle.hn_base.specs.Input.{IsWhole}
 use Rattle.hn_io.specs.declared.fault.IoFault.TheVariants.{Failed, NoMemory}
-use Rattle.hncp.specs.Decode.{SpellsTlvs, IsDecodeOf, WritesDecode, CutsDecode}
+use Rattle.hncp.specs.Decode.{SpellsTlvs, IsDecodeOf}
 use Rattle.hncp.specs.Outcome.{DecodeHolds, IsDecodeRun, WatchHolds, IsWatchRun}
-use Rattle.hncp.specs.Watch.{IsCapture, WritesWatch, CutsWatch, StarvesWatch}
+use Rattle.hncp.specs.Watch.{IsCapture}
 use Rattle.hncp.proofs.Sources.{decode_longer, cut_longer}
 use Rattle.hncp.proofs.Streams.{Appends-none, AppendsFront-none}
 use Rattle.hncp.proofs.WatchSources.{some_source, any_source, written_longer, cut_watch_longer, starved_longer, capture_longer}

@@ -1,6 +1,6 @@
 -- What is said of the bytes that were read is said of a source that has them.
-use Rattle.std.proofs.Common.{◌≡◌, ◌≢◌, ◌<◌, ◌≤◌, ◌^◌, ℕ, List, [], Option, None, Some, length, refl, inl, inr, arith}
-use Rattle.std.specs.Io.KnownBytes.{Appends, Consumes}
+use Rattle.std.proofs.Common.{◌≢◌, ◌<◌, ◌≤◌, ◌^◌, ℕ, List, [], Option, None, Some, length, refl, inl, inr, arith}
+use Rattle.std.specs.Io.KnownBytes.{Consumes}
 use Rattle.hn_base.specs.Input.{IsWhole}
 use Rattle.hn_base.proofs.WholeSources.{of_source}
 use Rattle.hn_io.specs.declared.fault.IoFault.{IoFault}

@@ -141,10 +141,20 @@ fn words_that_are_bad_usage(rt: HostRuntime) -> Result<(), Fail> {
     Ok(())
 }
 
+/// Two Router Advertisements come up in one line of the script, and then a line is refused.
+const SENDING: &str =
+    "hncp 2\nrouter A 00000001\nlink L\nattach A 1 L\nradv A 1\nrun 16200 100\nsolicit A 2\n";
+
+const SENDING_TEXT: &str = "ra A 1 100 86000000400000000000000000000000\n\
+                            ra A 1 16100 86000000400000000000000000000000\nrefused 7 11\n";
+
 #[test]
 fn each_read_and_write_fails_in_turn(rt: HostRuntime) -> Result<(), Fail> {
     let alloc = rt.alloc();
     let first_line = "show A id=00000001 number=1 reach=1 held=0 running=yes\n";
+    let first_sent = "ra A 1 100 86000000400000000000000000000000\n";
+    let both_sent = "ra A 1 100 86000000400000000000000000000000\n\
+                     ra A 1 16100 86000000400000000000000000000000\n";
     let hex = "007B000178000000";
     let contents = "tlvs 1\n0 123 1 other value=78\n";
     let nested = "0021000400210000";
@@ -161,6 +171,10 @@ fn each_read_and_write_fails_in_turn(rt: HostRuntime) -> Result<(), Fail> {
         ("lab", TWO_ROUTERS, 0, 1, SINK_FAILED, ""),
         ("lab", TWO_ROUTERS, 0, 2, SINK_FAILED, first_line),
         ("lab", TWO_ROUTERS, 0, 3, DONE, TWO_ROUTERS_TEXT),
+        ("lab", SENDING, 0, 1, SINK_FAILED, ""),
+        ("lab", SENDING, 0, 2, SINK_FAILED, first_sent),
+        ("lab", SENDING, 0, 3, SINK_FAILED, both_sent),
+        ("lab", SENDING, 0, 4, REFUSED, SENDING_TEXT),
         ("decode", hex, 1, 0, SOURCE_FAILED, ""),
         ("decode", hex, 2, 0, SOURCE_FAILED, ""),
         ("decode", hex, 0, 1, SINK_FAILED, ""),

@@ -1,4 +1,4 @@
-use Rattle.std.proofs.Common.{◌≡◌, ◌∙◌, ◌+◌, arith}
+use Rattle.std.proofs.Common.{arith}
 use Rattle.std.proofs.lemmas.Result.{err_from_is_err_and}
 use Rattle.hncp.proofs.Captures.{none_read, few_fed, read_more, first_fault}
 use Rattle.hncp.proofs.capture.read_capture.Goals as goal

@@ -1,4 +1,4 @@
-use Rattle.std.proofs.Common.{ℕ, [], ◌∷◌, refl}
+use Rattle.std.proofs.Common.{[], ◌∷◌}
 use Rattle.hncp.proofs.NodeSources.{node_read, node_unread}
 use Rattle.hncp.proofs.Sources.{Contains-more}
 use Rattle.hncp.proofs.node.node.Goals as goal

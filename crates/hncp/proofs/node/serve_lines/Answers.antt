@@ -1,4 +1,4 @@
-use Rattle.std.proofs.Common.{◌≡◌, ◌∙◌, ℕ, List, [], ◌∷◌, ◌++◌, Option, Some, Err, take, inl, inr, refl, sym, ap, subst, lit<}
+use Rattle.std.proofs.Common.{ℕ, [], ◌∷◌, ◌++◌, Some, Err, inl, inr, refl, sym, ap, subst, lit<}
 use Rattle.hn_base.specs.Words.{Begins}
 use Rattle.hn_io.specs.Pcg.{pcg_word}
 use Rattle.hn_node.specs.Turns.{serving, words_of}

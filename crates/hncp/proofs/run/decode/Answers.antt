@@ -1,4 +1,4 @@
-use Rattle.std.proofs.Common.{ℕ, List, [], ◌∷◌, refl, lit<}
+use Rattle.std.proofs.Common.{[], ◌∷◌, refl, lit<}
 use Rattle.hn_io.specs.declared.fault.IoFault.TheVariants.{Failed, NoMemory}
 use Rattle.hncp.specs.Decode.{WritesDecode, CutsDecode}
 use Rattle.hncp.proofs.Outcomes.{by_status, decode_read, decode_unread}

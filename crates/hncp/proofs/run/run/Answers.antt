@@ -1,4 +1,4 @@
-use Rattle.std.proofs.Common.{ℕ, [], ◌∷◌}
+use Rattle.std.proofs.Common.{[], ◌∷◌}
 use Rattle.hncp.specs.declared.words.Form.TheVariants.{Lab, Udp, Node, Decode, Watch, Soak}
 use Rattle.hncp.specs.Node.{IsNodeRun, PlainCall}
 use Rattle.hncp.proofs.Nodes.{as_called, call_in_range}

@@ -1,4 +1,4 @@
-use Rattle.std.proofs.Common.{◌≡◌, ◌∙◌, ◌+◌, ℕ, List, ◌∷◌, [], ◌++◌, append_assoc, get_or, take, refl, sym, ap, subst}
+use Rattle.std.proofs.Common.{◌≡◌, ◌∙◌, ℕ, List, ◌∷◌, [], ◌++◌, take, sym, ap, subst}
 use Rattle.std.proofs.lemmas.List.{take_more}
 use Rattle.hn_script.specs.declared.node_file.NodeLine.{NodeLine}
 use Rattle.hncp.specs.Node.{IsSetUp}

@@ -1,4 +1,5 @@
-use Rattle.std.proofs.Common.{[], inl, inr, refl, subst, arith}
+use Rattle.std.proofs.Common.{◌≡◌, ℕ, zero, suc, [], ◌∷◌, inl, inr, refl, sym, subst, lit<, arith}
+use Rattle.std.specs.Prelude.{Contains}
 use Rattle.hn_lab.specs.Lab.{HasDonePlay, HasRefusal}
 use Rattle.hn_lab.specs.Stage.{Mail}
 use Rattle.hncp.proofs.Streams.{Appends-none}
@@ -31,3 +32,15 @@ returns-in-Err-clause-soak g c =
       };
       appends = Appends-none (g.K.Sink.held c.args.out.now);
     }
+
+-- a status that is not that of a failed wire
+unbroken : (status : ℕ) → Contains (0 ∷ 2 ∷ 4 ∷ 5 ∷ 6 ∷ []) status → (status ≡ 5 → ⊥) → Contains (0 ∷ 2 ∷ 4 ∷ 6 ∷ []) status
+unbroken status (zero, within, is) other = (0, lit< tt, is)
+unbroken status (suc zero, within, is) other = (1, lit< tt, is)
+unbroken status (suc (suc zero), within, is) other = (2, lit< tt, is)
+unbroken status (suc (suc (suc zero)), within, is) other = absurd (other (sym is))
+unbroken status (suc (suc (suc (suc zero))), within, is) other = (3, lit< tt, is)
+unbroken status (suc (suc (suc (suc (suc k)))), within, is) other = absurd (omega arith)
+
+pub returns-in-Ok-clause-statuses : goal.returns-in-Ok-clause-statuses
+returns-in-Ok-clause-statuses g c = unbroken c.play.result.status c.play.ensures.statuses (c.play.ensures.unwired refl).1

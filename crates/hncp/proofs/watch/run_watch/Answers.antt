@@ -1,4 +1,4 @@
-use Rattle.std.proofs.Common.{ℕ, inl, inr, arith}
+use Rattle.std.proofs.Common.{inl, inr, arith}
 use Rattle.hncp.proofs.Captures.{capture_passes}
 use Rattle.hncp.proofs.watch.run_watch.Goals as goal
 

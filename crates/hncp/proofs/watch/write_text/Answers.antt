@@ -1,9 +1,9 @@
 use Rattle.std.proofs.Common.{◌∙◌, ℕ, List, subst, sym, append-nil}
 use Rattle.std.specs.Io.KnownBytes.{Appends}
 use Rattle.std.proofs.lemmas.Result.{err_from_is_err_and}
-use Rattle.hncp.specs.Watch.{watch_line, watch_text}
+use Rattle.hncp.specs.Watch.{watch_line}
 use Rattle.hncp.proofs.Streams.{part_is_cut}
-use Rattle.hncp.proofs.WatchTexts.{text_to, text_all, grows, cut_first, cut_later}
+use Rattle.hncp.proofs.WatchTexts.{text_all, grows, cut_first, cut_later}
 use Rattle.hncp.proofs.watch.write_text.Goals as goal
 
 pub returns-in_err-write_piece-clause-cut : goal.returns-in_err-write_piece-clause-cut

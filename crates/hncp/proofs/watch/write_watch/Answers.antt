@@ -1,6 +1,6 @@
-use Rattle.std.proofs.Common.{◌≡◌, ◌∙◌, ℕ, List, inr, ap, subst, lit<}
+use Rattle.std.proofs.Common.{◌∙◌, List, inr, ap, lit<}
 use Rattle.hn_watch.specs.declared.seen.Seen.{Seen}
-use Rattle.hn_watch.specs.Watch.{fed_of, malformed_of}
+use Rattle.hn_watch.specs.Watch.{fed_of}
 use Rattle.hncp.specs.Watch.{watch_text}
 use Rattle.hncp.proofs.Cut.{starved_of_written}
 use Rattle.hncp.proofs.watch.write_watch.Goals as goal

@@ -1,4 +1,4 @@
-use Rattle.std.proofs.Common.{◌≡◌, ℕ, ◌<◌, ◌-◌, List, [], ◌∷◌, ◌∙◌, length, take, drop, get_or, map, codes, arith}
+use Rattle.std.proofs.Common.{◌≡◌, ◌-◌, [], ◌∷◌, ◌∙◌, length, take, drop, get_or, map, codes, arith}
 use Rattle.std.specs.Prelude.{string_bytes}
 use Rattle.hncp.proofs.Forms.{word_at, six_first, same_word}
 use Rattle.hncp.proofs.words.Form.of_node.Goals as goal

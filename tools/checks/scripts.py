@@ -110,7 +110,7 @@ def check_annotate(folder):
         expected = {number: count for number, count in growth(lines).items() if count}
         must(found == expected, f'{short(path)}: lines {dict(found)}, and not {expected}')
         written += len(columns)
-        for each in {each[0]: each for each in columns if not each[3].startswith('refused ')}.values():
+        for each in {each[0]: each for each in columns if not each[3].startswith(('refused ', 'ra '))}.values():
             check_moment(lines, int(each[0]), int(each[1]))
     path = os.path.join(folder, 'other.transcript')
     with open(path, 'w') as file:

@@ -1,9 +1,13 @@
-use Rattle.std.specs.Prelude.{ℕ, ◌+◌, ◌-◌, ◌^◌, List, nat_le, count_by, min}
+use Rattle.std.specs.Prelude.{ℕ, ◌+◌, ◌-◌, ◌^◌, ◌<◌, List, Contains, nat_le, count_by, min}
 
 -- the calls of an object, numbered from 1: how many were made, and the numbers of those that fail
 pub record CallCount : Type 0 where
   pub made : ℕ
   pub fails : List ℕ
+
+-- the number of the next call is listed; past 2^64 - 1 calls have no numbers
+abbrev pub IsListed : CallCount → Type 0
+IsListed calls = (calls.made + 1 < 2 ^ 64) × Contains calls.fails (calls.made + 1)
 
 -- after one more call
 abbrev pub called : CallCount → CallCount

@@ -1,4 +1,4 @@
-ghost use Rattle.std.specs.Prelude.{◌≡◌, ◌+◌, ◌^◌, ◌<◌, ◌↔◌, [], IsTrue, Some, Contains};
+ghost use Rattle.std.specs.Prelude.{◌≡◌, ◌↔◌, [], IsTrue, Some};
 
 use crate::fault::IoFault;
 use crate::sink::Sink;
@@ -22,7 +22,7 @@ impl Model for Calls {
 }
 
 impl Calls {
-    ghost use Rattle.hn_io.specs.Memory.{called, faults_so_far};
+    ghost use Rattle.hn_io.specs.Memory.{IsListed, called, faults_so_far};
     ghost use Rattle.hn_io.specs.Faults.{Counts};
 
     /// The calls of which none was made. Never allocates.
@@ -36,7 +36,7 @@ impl Calls {
     /// Counts a call, and answers whether it fails. Never allocates.
     pub fn fails_now(&mut self) -> bool
         ensures called { self.new ≡ called self.old }
-        ensures listed { IsTrue result ↔ (self.old.made + 1 < 2 ^ 64) × Contains self.old.fails (self.old.made + 1) }
+        ensures listed { IsTrue result ↔ IsListed self.old }
         ensures counts { Counts (IsTrue result) (faults_so_far self.old) (faults_so_far self.new) }
     {
         match self.made.checked_add(1) {
@@ -84,7 +84,9 @@ impl MemSource {
 }
 
 impl Source for MemSource {
-    ghost use Rattle.hn_io.specs.Memory.{faults_so_far};
+    ghost use Rattle.std.specs.Prelude.{◌<◌, ◌≤◌, ◌++◌, Ok, Err, length, take, drop, min, IfOk, OnErr};
+    ghost use Rattle.hn_io.specs.Faults.{Counts, IsReliable};
+    ghost use Rattle.hn_io.specs.Memory.{IsListed, called, faults_so_far};
 
     ghost faults = { λ s. faults_so_far s.calls };
 
@@ -92,7 +94,22 @@ impl Source for MemSource {
 
     ghost never_fails = { λ s. s.calls.fails ≡ [] };
 
-    fn read(&mut self, buf: &mut [u8]) -> Result<usize, IoFault> {
+    /// Reads as many bytes as are left and fit. Never allocates. The buffer changes only in the bytes that are read.
+    fn read(&mut self, buf: &mut [u8]) -> Result<usize, IoFault>
+        requires { 0 < length buf.old }
+        ensures count { IfOk result (λ n. n ≤ length buf.new) }
+        ensures whole { IfOk result (λ n. n ≡ min (length buf.old) (length self.old.left)) }
+        ensures bytes { IfOk result (λ n. self.old.left ≡ take n buf.new ++ self.new.left) }
+        ensures rest { IfOk result (λ n. drop n buf.new ≡ drop n buf.old) }
+        ensures end { result ≡ Ok 0 → self.old.left ≡ [] }
+        ensures err { OnErr result (self.new.left ≡ self.old.left) }
+        ensures untouched { OnErr result (buf.new ≡ buf.old) }
+        ensures no_memory { ¬ (result ≡ Err IoFault.NoMemory) }
+        ensures counts { Counts (result ≡ Err IoFault.Failed) (faults_so_far self.old.calls) (faults_so_far self.new.calls) }
+        ensures reliable { IsReliable (result ≡ Err IoFault.Failed) (self.old.calls.fails ≡ []) (self.new.calls.fails ≡ []) }
+        ensures called { self.new.calls ≡ called self.old.calls }
+        ensures listed { (result ≡ Err IoFault.Failed) ↔ IsListed self.old.calls }
+    {
         if self.calls.fails_now() {
             return Err(IoFault::Failed);
         }
@@ -141,7 +158,9 @@ impl MemSink {
 }
 
 impl Sink for MemSink {
-    ghost use Rattle.hn_io.specs.Memory.{faults_so_far};
+    ghost use Rattle.std.specs.Prelude.{◌<◌, ◌++◌, Ok, Err, length, IfOk, OnErr};
+    ghost use Rattle.hn_io.specs.Faults.{Counts, IsReliable};
+    ghost use Rattle.hn_io.specs.Memory.{IsListed, called, faults_so_far};
 
     ghost faults = { λ s. faults_so_far s.calls };
 
@@ -149,7 +168,17 @@ impl Sink for MemSink {
 
     ghost never_fails = { λ s. s.calls.fails ≡ [] };
 
-    fn write(&mut self, piece: &[u8]) -> Result<usize, IoFault> {
+    /// Takes the whole piece, or nothing.
+    fn write(&mut self, piece: &[u8]) -> Result<usize, IoFault>
+        requires { 0 < length piece.now }
+        ensures count { IfOk result (λ n. n ≡ length piece.now) }
+        ensures bytes { IfOk result (λ _. self.new.held ≡ self.old.held ++ piece.now) }
+        ensures err { OnErr result (self.new.held ≡ self.old.held) }
+        ensures counts { Counts (result ≡ Err IoFault.Failed) (faults_so_far self.old.calls) (faults_so_far self.new.calls) }
+        ensures reliable { IsReliable (result ≡ Err IoFault.Failed) (self.old.calls.fails ≡ []) (self.new.calls.fails ≡ []) }
+        ensures called { self.new.calls ≡ called self.old.calls }
+        ensures listed { (result ≡ Err IoFault.Failed) ↔ IsListed self.old.calls }
+    {
         if self.calls.fails_now() {
             return Err(IoFault::Failed);
         }

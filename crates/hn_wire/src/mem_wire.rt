@@ -72,8 +72,7 @@ impl MemWire {
 
 impl Wire for MemWire {
     ghost use Rattle.hn_io.specs.Faults.{Counts, IsReliable};
-    ghost use Rattle.hn_io.specs.Memory.{called, faults_so_far};
-    ghost use Rattle.hn_wire.specs.Memory.{IsListed};
+    ghost use Rattle.hn_io.specs.Memory.{IsListed, called, faults_so_far};
     ghost use Rattle.hn_wire.specs.Wires.{TakesOf, arrived};
 
     ghost faults = { λ w. faults_so_far w.calls };

@@ -62,13 +62,13 @@ module _ (all ls : List (ℕ × Line)) (number : ℕ) (l : Line) (p m a : Stage)
   all_broken e = (e.at, (number, stops WireFailed e.at e.ended), e.is_last (λ same. absurd cc), whole (Some WireFailed) e)
 
   -- the sink fails in it
-  pub cut_so : EndsAt (LineEnds l) (Some (Cut Failed)) m a j k → (after : Stage) × (written : List ℕ) × IsCutPlay all p after × (after.world ≡ a.world) × IsCutText after.text written × Appends h k written
+  pub cut_so : EndsAt (LineEnds l) (Some (Cut Failed)) m a j k → (after : Stage) × (written : List ℕ) × IsCutPlay all p after × (after ≡ record a { text = after.text }) × IsCutText after.text written × Appends h k written
   cut_so e =
       let cut : IsCutThere e.at.world e.at.text h k = whole (Some (Cut Failed)) e in (
         e.at,
         bytes_of cut.front ++ cut.part,
         record { cut = (number, stops (Cut Failed) e.at (inl e.ended)); so_far = cut.front; line = cut.line; text_is = cut.text_is },
-        ap (λ (s : Stage). s.world) (e.is_last (λ same. absurd cc)),
+        e.is_last (λ same. absurd cc),
         record { before = cut.front; last = record { world = e.at.world; line = cut.line }; part = cut.part; text_is = cut.text_is; in_part = cut.in_part; written_is = refl },
         cut.appends,
       )
@@ -99,12 +99,12 @@ module _ (all ls : List (ℕ × Line)) (number : ℕ) (l : Line) (p m a : Stage)
     said_so fault = stops (Cut fault) (telling (refused_line number code ∷ []) e.at) (inr (code, e.at, e.ended, ([], refused_line number code, [], refl, refl)))
 
     pub cut_refusal : AppendsPart k o (refused_line number code)
-        → (after : Stage) × (written : List ℕ) × IsCutPlay all p after × (after.world ≡ a.world) × IsCutText after.text written × Appends h o written
+        → (after : Stage) × (written : List ℕ) × IsCutPlay all p after × (after ≡ record a { text = after.text }) × IsCutText after.text written × Appends h o written
     cut_refusal (part, in_part, written) = (
       telling (refused_line number code ∷ []) e.at,
       bytes_of e.at.text ++ part,
       record { cut = (number, said_so Failed); so_far = e.at.text; line = refused_line number code; text_is = refl },
-      ap (λ (s : Stage). s.world) last,
+      ap (λ (s : Stage). record s { text = e.at.text ++ told e.at.world (refused_line number code ∷ []) }) last,
       record { before = e.at.text; last = record { world = e.at.world; line = refused_line number code }; part = part; text_is = refl; in_part = in_part; written_is = refl },
       Appends-more h k o (bytes_of e.at.text) part (whole (Some (Refused code)) e) written,
     )

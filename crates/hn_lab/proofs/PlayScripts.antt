@@ -47,7 +47,7 @@ not_done law script route status (Err NoMemory) p a h k is begins uncut refused 
 
 -- where memory sufficed, a play is whole, or a failed sink cut it
 pub plays_out : (script : Script) (first last : Route) (status : ℕ) (r : Result End IoFault) (p a : Stage) (h k : Option (List ℕ)) → status ≡ play_status r → ¬ (status ≡ 6) → p ≡ begun first script.version → last ≡ a.route → IsUncut script.lines p a h k r
-    → (r ≡ Err Failed → (after : Stage) × (written : List ℕ) × IsCutPlay script.lines p after × (after.world ≡ a.world) × IsCutText after.text written × Appends h k written)
+    → (r ≡ Err Failed → (after : Stage) × (written : List ℕ) × IsCutPlay script.lines p after × (after ≡ record a { text = after.text }) × IsCutText after.text written × Appends h k written)
     → (written : List ℕ) × Plays first last script status (Some a.world) written × Appends h k written
 plays_out script first last status (Ok end) p a h k is rest begins route_is (after, play, same, appends) cut =
     let whole : IsWholePlay first last script status (Some a.world) (bytes_of after.text) = record {
@@ -62,11 +62,12 @@ plays_out script first last status (Ok end) p a h k is rest begins route_is (aft
     (bytes_of after.text, inl whole, appends)
 plays_out script first last status (Err Failed) p a h k is rest begins route_is uncut cut =
     let part = cut refl in
-    let broken : IsBrokenPlay first script status (Some a.world) part.1 = record {
+    let broken : IsBrokenPlay first last script status (Some a.world) part.1 = record {
       after = part.0;
       play = subst (λ (x : Stage). IsCutPlay script.lines x part.0) begins part.2;
       status_is = is;
-      world_is = ap Some (sym part.3);
+      world_is = ap (λ (x : Stage). Some x.world) (sym part.3);
+      route_is = route_is ∙ ap (λ (x : Stage). x.route) (sym part.3);
       written_is = part.4;
     } in
     (part.1, inr (inl broken), part.5)

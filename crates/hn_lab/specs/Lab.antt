@@ -52,12 +52,13 @@ pub record IsWholePlay (first last : Route) (script : Script) (status : ℕ) (wo
   pub route_is : last ≡ after.route
   pub written_is : written ≡ bytes_of after.text
 
--- a play that a failed sink cut: all lines before some one are written, and a proper part of that
-pub record IsBrokenPlay (first : Route) (script : Script) (status : ℕ) (world : Option Parts) (written : List ℕ) : Type 0 where
+-- a play that a failed sink cut, from one route to another: all lines before some one are written, and a proper part of that
+pub record IsBrokenPlay (first last : Route) (script : Script) (status : ℕ) (world : Option Parts) (written : List ℕ) : Type 0 where
   pub after : Stage
   pub play : IsCutPlay script.lines (begun first script.version) after
   pub status_is : status ≡ 4
   pub world_is : world ≡ Some after.world
+  pub route_is : last ≡ after.route
   pub written_is : IsCutText after.text written
 
 -- a play that ran out of memory: a front of the text is written
@@ -72,7 +73,7 @@ pub record IsStarvedPlay (first : Route) (script : Script) (status : ℕ) (world
 abbrev pub Plays : Route → Route → Script → ℕ → Option Parts → List ℕ → Type 0
 Plays first last script status world written =
     IsWholePlay first last script status world written
-    ⊎ (IsBrokenPlay first script status world written ⊎ IsStarvedPlay first script status world written)
+    ⊎ (IsBrokenPlay first last script status world written ⊎ IsStarvedPlay first script status world written)
 
 -- what is written of a line, by the status: the whole line, a proper part of it, or a front
 abbrev pub IsLineWritten : List ℕ → ℕ → List ℕ → Type 0

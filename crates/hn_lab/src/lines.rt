@@ -35,7 +35,8 @@ impl Playing {
         ensures whole { IfOk result (λ end. (after : Stage) × IsPlay lines.items end (stage_of self.old (W.waiting wire.old) []) after
             × (after ≡ stage_of self.new (W.waiting wire.new) after.text) × Appends (K.held out.old) (K.held out.new) (bytes_of after.text)) }
         ensures cut { result ≡ Err IoFault.Failed → (after : Stage) × (written : List ℕ)
-            × IsCutPlay lines.items (stage_of self.old (W.waiting wire.old) []) after × (after.world ≡ self.new.world)
+            × IsCutPlay lines.items (stage_of self.old (W.waiting wire.old) []) after
+            × (after ≡ stage_of self.new (W.waiting wire.new) after.text)
             × IsCutText after.text written × Appends (K.held out.old) (K.held out.new) written }
         ensures starved { result ≡ Err IoFault.NoMemory → (after : Stage)
             × IsCut IoFault.NoMemory lines.items (stage_of self.old (W.waiting wire.old) []) after

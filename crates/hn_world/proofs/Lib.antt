@@ -17,3 +17,4 @@ mod Grown
 mod Received
 mod Addressed
 mod SameNames
+pub mod Named

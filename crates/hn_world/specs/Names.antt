@@ -1,5 +1,6 @@
 -- Routers and links by their names, and where routers are attached.
-use Rattle.std.specs.Prelude.{ℕ, Bool, ◌||◌, ◌==◌, false, List, Option, find, position, is_some}
+use Rattle.std.specs.Prelude.{◌≢◌, ℕ, Bool, ◌||◌, ◌==◌, false, List, Option, find, position, is_some}
+use Rattle.std.specs.List.{AllPairs}
 use Rattle.std.specs.Option.{option_map, option_map_or}
 use Rattle.std.specs.Str.{bytes_eq}
 use Rattle.hn_base.specs.Name.{name_text}
@@ -27,6 +28,10 @@ link_place name w = position (is_link_named name) w.links
 -- the router of a name
 abbrev pub member_named : List ℕ → Parts → Option Member
 member_named name w = find (is_named name) w.members
+
+-- no two of these routers have one name
+abbrev pub NamesDiffer : List Member → Type 0
+NamesDiffer members = AllPairs (λ a b. name_text a.name ≢ name_text b.name) members
 
 -- whether a name is taken, by a router or a link
 abbrev pub is_taken : List ℕ → Parts → Bool

@@ -4,6 +4,7 @@ ghost use Rattle.std.specs.Prelude.{◌<◌, List, length};
 ghost use Rattle.hn_rules.specs.declared.done.Note.{Note};
 ghost use Rattle.hn_world.specs.declared.event.Traced.{Traced};
 ghost use Rattle.hn_world.specs.declared.parts.Parts.{Parts};
+ghost use Rattle.hn_world.specs.Names.{NamesDiffer};
 ghost use Rattle.hn_world.specs.Replay.{IsReplayed, IsSound, Always};
 ghost use Rattle.hn_world.specs.Step.{Step};
 ghost use Rattle.hn_world.specs.Within.{AreWithinLimits};
@@ -80,6 +81,12 @@ pub fn always_attached()
 {
     endpoints_follow();
 }
+
+/// No two routers of a world have one name, and so it was at each moment of the world's past.
+pub fn names_differ()
+    ensures now { (w : Parts) → IsReplayed w → NamesDiffer w.members }
+    ensures always { (w : Parts) → IsReplayed w → Always (λ past. NamesDiffer past.members) w }
+{}
 
 /// Each copy goes to a router that is there.
 pub fn copies_have_receivers()

@@ -6,7 +6,7 @@ ghost use Rattle.hn_router.specs.Act.{Tick, Happened};
 ghost use Rattle.hn_rules.specs.Done.{nothing};
 ghost use Rattle.hn_rules.specs.Still.{at_moment};
 ghost use Rattle.hn_world.specs.declared.member.Member.{Member};
-ghost use Rattle.hn_world.specs.Names.{is_named, is_of, link_of, is_on};
+ghost use Rattle.hn_world.specs.Names.{is_named, is_of, link_of, is_on, NamesDiffer};
 ghost use Rattle.hn_world.specs.Beside.{with_beside};
 ghost use Rattle.hn_world.specs.Step.{attached_to, detached_from, stopped};
 
@@ -156,6 +156,17 @@ impl Members {
         ensures { result ≡ position (is_named (name_text name.now)) self.now }
     {
         self.items.iter().position(|member| is_named(member, name))
+    }
+
+    /// The place of the router of a name. This place is asked first. Never allocates.
+    pub(crate) fn place_near(&self, name: &Name, first: usize) -> Option<usize>
+        requires { NamesDiffer self.now }
+        ensures { result ≡ position (is_named (name_text name.now)) self.now }
+    {
+        match self.get(first) {
+            Some(member) if is_named(member, name) => Some(first),
+            _ => self.place_of(name),
+        }
     }
 
     /// The router of a name. Never allocates.

@@ -7,6 +7,7 @@ ghost use Rattle.hn_rules.specs.declared.state.State.{State};
 ghost use Rattle.hn_world.specs.declared.member.Member.{Member};
 ghost use Rattle.hn_router.specs.Act.{plain_event};
 ghost use Rattle.hn_world.specs.Beside.{with_beside};
+ghost use Rattle.hn_world.specs.Names.{NamesDiffer};
 ghost use Rattle.hn_world.specs.Refusal.{refusal};
 ghost use Rattle.hn_world.specs.Routed.{routed, named_by, place_by};
 ghost use Rattle.hn_world.specs.Step.{beside};
@@ -113,12 +114,13 @@ impl WEvent {
 }
 
 impl Parts {
-    /// The place of the router that an event names. Never allocates.
-    pub(crate) fn place_by(&self, event: &WEvent) -> Option<usize>
+    /// The place of the router that an event names. This place is asked first. Never allocates.
+    pub(crate) fn place_near(&self, event: &WEvent, first: usize) -> Option<usize>
+        requires { NamesDiffer self.now.members }
         ensures { result ≡ place_by (named_by event.now) self.now }
     {
         let name = event.named()?;
-        self.members.place_of(&name)
+        self.members.place_near(&name, first)
     }
 
     /// What an event changes beside the router at a place.

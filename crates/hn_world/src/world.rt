@@ -12,7 +12,7 @@ ghost use Rattle.hn_world.specs.Replay.{empty_world, IsReplayed, IsSound};
 
 use crate::copies::Copies;
 use crate::event::{Traced, WEvent, WorldFault};
-use crate::law::{always_authentic, always_sound};
+use crate::law::{always_authentic, always_sound, names_differ};
 use crate::links::Links;
 use crate::member::{Member, Members};
 use crate::parts::Parts;
@@ -29,6 +29,8 @@ use std::marker::Model;
 #[derive(Drop)]
 pub struct World {
     pub(crate) parts: Parts,
+    /// The place after that of the router that the last event named. Routers mostly come in turn, so it is asked first.
+    next: usize,
 }
 
 impl Model for World {
@@ -40,6 +42,14 @@ impl Model for World {
     ghost view = { λ w. w.parts };
 
     ghost invariant = { λ w. IsReplayed w.parts };
+}
+
+/// The place to ask first after an event of the router at this place.
+fn after(place: Option<usize>) -> usize {
+    match place {
+        Some(place) => place.saturating_add(1),
+        None => 0,
+    }
 }
 
 impl Parts {
@@ -119,6 +129,7 @@ impl World {
                 published: Publications::new(alloc),
                 trace: Trace::new(alloc),
             },
+            next: 0,
         }
     }
 
@@ -126,7 +137,9 @@ impl World {
     pub fn refusal(&self, event: &WEvent) -> Option<u8>
         ensures { result ≡ refusal self.now event.now }
     {
-        self.parts.refusal(event, self.parts.place_by(event))
+        names_differ();
+        self.parts
+            .refusal(event, self.parts.place_near(event, self.next))
     }
 
     /// Lets an event happen, and answers what routers noted. What routers hold afterwards was published, or two texts that
@@ -150,11 +163,14 @@ impl World {
     {
         always_sound();
         always_authentic();
-        let place = self.parts.place_by(&event);
+        names_differ();
+        let place = self.parts.place_near(&event, self.next);
         if let Some(code) = self.parts.refusal(&event, place) {
             return Err(WorldFault::Refused(code));
         }
-        Ok(self.parts.happen(alloc, event, place, draw)?)
+        let notes = self.parts.happen(alloc, event, place, draw)?;
+        self.next = after(place);
+        Ok(notes)
     }
 
     /// The moment of the world, in milliseconds. Never allocates.

@@ -1,0 +1,8 @@
+use Rattle.std.proofs.Common.{◌∙◌, sym}
+use Rattle.hn_base.specs.Name.{name_text}
+use Rattle.hn_world.proofs.Named.{place_is_first}
+use Rattle.hn_world.proofs.member.Members.place_near.Goals as goal
+
+pub returns-in-Some : goal.returns-in-Some
+returns-in-Some c =
+    place_is_first c.args.self.now c.args.first c.in-Some.member.now (name_text c.args.name.now) c.requires (sym c.in-Some.ensures) (sym c.is_named.ensures ∙ c.if-is_named.true)

@@ -22,10 +22,7 @@ struct Ran {
 
 /// Three turns of node 1 at port 9000, with a peer at 9002, over a wire of which these calls fail.
 fn three_turns(alloc: Global, file: &str, fails: Vec<u64>) -> Result<Ran, AllocError> {
-    let words = words(
-        alloc,
-        &["hncp", "node", "00000001", "9000", "3", "0", "9002"],
-    )?;
+    let words = words(alloc, "hncp node 00000001 9000 3 0 9002")?;
     let mut source = MemSource::new(file.as_bytes().to_vec(alloc)?, Vec::new(alloc));
     let mut sink = MemSink::new(alloc, Vec::new(alloc));
     let mut wire = MemWire::new(alloc, fails);

@@ -1,5 +1,5 @@
 use crate::status::{DONE, SINK_FAILED, WIRE_FAILED};
-use crate::tests::play_over;
+use crate::tests::{holds_lines, play_over};
 use hn_io::{IoFault, MemSink, MemSource};
 use hn_wire::{MemWire, Wire};
 use std::alloc::{AllocError, Global};
@@ -10,15 +10,14 @@ const HOME: &str =
     "hncp 1\nrouter A 00000001\nrouter B 00000002\nlink L\nattach A 1 L\nattach B 1 L\n\
      external A 2001:db8::/56 7200 3600\nrun 20000 100\naudit A\nshow A\nprefixes A\nprefixes B\n";
 
-/// The lines of its text.
-const HOME_TEXT: [&str; 6] = [
-    "audit A settled=yes quiet=yes sound=yes\n",
-    "show A id=00000001 number=5 reach=2 held=1 running=yes\n",
-    "prefixes A 1\n",
-    "prefix A ep=1 in=2001:db8::/56 is=2001:db8::/64 published=no applied=yes\n",
-    "prefixes B 1\n",
-    "prefix B ep=1 in=2001:db8::/56 is=2001:db8::/64 published=2 applied=yes\n",
-];
+/// Its text.
+const HOME_TEXT: &str = "audit A settled=yes quiet=yes sound=yes
+show A id=00000001 number=5 reach=2 held=1 running=yes
+prefixes A 1
+prefix A ep=1 in=2001:db8::/56 is=2001:db8::/64 published=no applied=yes
+prefixes B 1
+prefix B ep=1 in=2001:db8::/56 is=2001:db8::/64 published=2 applied=yes
+";
 
 /// The script of two routers that meet.
 const MEETING: &str =
@@ -57,23 +56,8 @@ fn over<W: Wire>(
 ) -> Result<(u8, MemSink), AllocError> {
     let mut source = MemSource::new(script.as_bytes().to_vec(alloc)?, Vec::new(alloc));
     let mut sink = MemSink::new(alloc, fails);
-    let (status, _) = play_over(
-        alloc,
-        &["hncp", "udp", "9000"],
-        &mut source,
-        &mut sink,
-        wire,
-    )?;
+    let (status, _) = play_over(alloc, "hncp udp 9000", &mut source, &mut sink, wire)?;
     Ok((status, sink))
-}
-
-/// The first lines of the text of the home of two.
-fn first_lines(alloc: Global, count: usize) -> Result<String, AllocError> {
-    let mut text = String::new(alloc);
-    for line in HOME_TEXT.iter().take(count) {
-        text.push_str(line)?;
-    }
-    Ok(text)
 }
 
 #[test]
@@ -82,19 +66,12 @@ fn a_home_over_a_wire(rt: HostRuntime) -> Result<(), Fail> {
     for write in 1..7 {
         let mut wire = MemWire::new(alloc, Vec::new(alloc));
         let (status, sink) = over(alloc, HOME, vec![in alloc; write]?, &mut wire)?;
-        let text = first_lines(alloc, write as usize - 1)?;
-        assert_eq!(rt;
-            (status, sink.held()),
-            (SINK_FAILED, text.as_bytes()),
-            "{write}"
-        );
+        assert_eq!(rt; status, SINK_FAILED, "{write}");
+        assert!(rt; holds_lines(&sink, write - 1, HOME_TEXT), "{write}");
     }
     let mut wire = MemWire::new(alloc, Vec::new(alloc));
     let (status, sink) = over(alloc, HOME, Vec::new(alloc), &mut wire)?;
-    assert_eq!(rt;
-        (status, sink.held()),
-        (DONE, first_lines(alloc, 6)?.as_bytes())
-    );
+    assert_eq!(rt; (status, sink.held()), (DONE, HOME_TEXT.as_bytes()));
     assert!(rt; wire.waits(9001, 0).is_none(), "each copy was taken");
     Ok(())
 }

@@ -1,33 +1,10 @@
-//! The program `hncp`: a laboratory of home routers, which runs a script, or that of a soak, and writes its transcript, in
-//! memory or over loopback sockets; a reader of datagrams; and a watch of what was claimed on a link.
+//! The program `hncp`: its words, the system's streams, sockets and clock are handed to `hn_run`.
 #![tactic(auto)]
 
-mod capture;
-mod decode;
-mod hex_text;
-mod node;
-#[cfg(test)]
-mod node_tests;
-mod outcome;
-mod output;
-mod report;
-mod run;
-mod seen_text;
-mod setup;
-mod soak;
-mod status;
-#[cfg(test)]
-mod tests;
-mod watch;
-#[cfg(test)]
-mod wire_tests;
-mod words;
-
 use hn_io::{ReaderSource, WriterSink};
+use hn_run::{BAD_USAGE, NO_MEMORY, REFUSED, SINK_FAILED, SOURCE_FAILED, WIRE_FAILED, run};
 use hn_udp::UdpWire;
 use hn_wire::MachineClock;
-use run::run;
-use status::{BAD_USAGE, NO_MEMORY, REFUSED, SINK_FAILED, SOURCE_FAILED, WIRE_FAILED};
 use std::alloc::Global;
 use std::io::{BufWriter, ErrorKind, Write};
 use std::process::ExitCode;

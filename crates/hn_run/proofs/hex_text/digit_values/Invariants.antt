@@ -1,0 +1,6 @@
+use Rattle.std.proofs.Common.{◌≡◌, length}
+use Rattle.hn_run.proofs.HexDigits.{AreKnown}
+use Rattle.hn_run.proofs.hex_text.digit_values.Given as goal
+
+abbrev pub invariant-loop-byte : goal.invariant-loop-byte
+invariant-loop-byte l = record { size : length l.values ≡ 256; known : AreKnown l.values l.byte }

@@ -1,0 +1,55 @@
+use Rattle.std.proofs.Common.{[], ◌∷◌}
+use Rattle.hn_run.specs.declared.words.Form.TheVariants.{Lab, Udp, Node, Decode, Watch, Soak}
+use Rattle.hn_run.specs.Node.{IsNodeRun, PlainCall}
+use Rattle.hn_run.proofs.Nodes.{as_called, call_in_range}
+use Rattle.hn_run.proofs.Sources.{Contains-more}
+use Rattle.hn_run.proofs.program.run.Goals as goal
+
+pub returns-in-Some-Lab-clause-statuses : goal.returns-in-Some-Lab-clause-statuses
+returns-in-Some-Lab-clause-statuses g c =
+    rw c.of_play.ensures.status (Contains-more (0 ∷ []) (2 ∷ 3 ∷ 4 ∷ 5 ∷ 6 ∷ []) 1 c.lab.result.status c.lab.ensures.statuses)
+
+pub returns-in-Some-Udp-clause-statuses : goal.returns-in-Some-Udp-clause-statuses
+returns-in-Some-Udp-clause-statuses g c =
+    rw c.of_play-in-Some-Udp.ensures.status (Contains-more (0 ∷ []) (2 ∷ 3 ∷ 4 ∷ 5 ∷ 6 ∷ []) 1 c.lab-in-Some-Udp.result.status c.lab-in-Some-Udp.ensures.statuses)
+
+pub returns-in-Some-Soak-clause-statuses : goal.returns-in-Some-Soak-clause-statuses
+returns-in-Some-Soak-clause-statuses g c =
+    let status = c.soak.result.status in
+    let usage = Contains-more (0 ∷ []) (2 ∷ 4 ∷ 6 ∷ []) 1 status c.soak.ensures.statuses in
+    let source = Contains-more (0 ∷ 1 ∷ 2 ∷ []) (4 ∷ 6 ∷ []) 3 status usage in
+    rw c.of_play-in-Some-Soak.ensures.status (Contains-more (0 ∷ 1 ∷ 2 ∷ 3 ∷ 4 ∷ []) (6 ∷ []) 5 status source)
+
+pub returns-in-None-clause-lab : goal.returns-in-None-clause-lab
+returns-in-None-clause-lab g c asked _ = absurd (c.in-None.ensures.none Lab asked)
+
+pub returns-in-None-clause-udp : goal.returns-in-None-clause-udp
+returns-in-None-clause-udp g c base asked _ = absurd (c.in-None.ensures.none (Udp base) asked)
+
+pub returns-in-None-clause-decode : goal.returns-in-None-clause-decode
+returns-in-None-clause-decode g c asked _ = absurd (c.in-None.ensures.none Decode asked)
+
+pub returns-in-None-clause-watch : goal.returns-in-None-clause-watch
+returns-in-None-clause-watch g c asked _ = absurd (c.in-None.ensures.none Watch asked)
+
+pub returns-in-None-clause-soak : goal.returns-in-None-clause-soak
+returns-in-None-clause-soak g c n seed asked = absurd (c.in-None.ensures.none (Soak n seed) asked)
+
+pub node-requires : goal.node-requires
+node-requires g c =
+    let read = rw c.in-Some-Node.field-0-is at c.in-Some-Node.ensures.found in
+    record { call = call_in_range c.in-Some-Node.call read.1 read.2 read.3 read.4 read.5 read.7 }
+
+pub returns-in-Some-Node-clause-node : goal.returns-in-Some-Node-clause-node
+returns-in-Some-Node-clause-node g c call asked good =
+    let read = rw c.in-Some-Node.field-0-is at c.in-Some-Node.ensures.found in
+    let P : PlainCall → Type 0 = λ x. IsNodeRun x (g.S.Source.left c.args.src.now) c.node.result.status c.node.result.served (record { waiting = g.W.Wire.waiting c.args.wire.now; readings = g.C.Clock.readings c.args.clock.now })
+    (record { waiting = g.W.Wire.waiting c.node.new.wire; readings = g.C.Clock.readings c.node.new.clock }) (g.K.Sink.held c.args.out.now) (g.K.Sink.held c.node.new.out) in
+    as_called P c.in-Some-Node.call call _ read asked (c.node.ensures.node good)
+
+pub returns-in-Some-Node-clause-statuses : goal.returns-in-Some-Node-clause-statuses
+returns-in-Some-Node-clause-statuses g c =
+    Contains-more (0 ∷ []) (2 ∷ 3 ∷ 4 ∷ 5 ∷ 6 ∷ []) 1 c.node.result.status c.node.ensures.statuses
+
+pub returns-in-None-clause-node : goal.returns-in-None-clause-node
+returns-in-None-clause-node g c call asked _ = absurd (c.in-None.ensures.none (Node call) asked)

@@ -1,0 +1,13 @@
+use Rattle.std.proofs.Common.{◌≡◌, ℕ, List, [], ◌∷◌, take}
+use Rattle.hn_base.specs.Words.{Took}
+use Rattle.hn_own.specs.Ports.{endpoints_of}
+use Rattle.hn_run.specs.Node.{IsSetUp}
+use Rattle.hn_run.proofs.setup.set_up.Given as goal
+
+-- the lines so far happened
+abbrev pub invariant-loop-number : goal.invariant-loop-number
+invariant-loop-number g l = record {
+  set_up : (words : List ℕ) × IsSetUp l.fn.id (take l.number-index l.lines) l.now words l.router × Took (g.D.Draw.words l.fn.draw) words (g.D.Draw.words l.draw);
+  ends : endpoints_of l.router.ports ≡ (record { 0 = 1 }) ∷ [];
+  moment : l.router.moment ≡ l.now;
+}

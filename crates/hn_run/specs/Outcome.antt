@@ -1,0 +1,50 @@
+-- What each form of the program comes to.
+use Rattle.std.specs.Prelude.{◌≡◌, ◌≢◌, ◌⊎◌, ℕ, List, Option}
+use Rattle.std.specs.Io.KnownBytes.{Appends}
+use Rattle.hn_base.specs.Input.{IsWhole}
+use Rattle.hn_io.specs.Faults.{Counts, IsReliable}
+use Rattle.hn_io.specs.declared.fault.IoFault.TheVariants.{Failed, NoMemory}
+use Rattle.hn_lab.specs.Lab.{IsScriptPlay, IsUnread, StatusOfScript}
+use Rattle.hn_lab.specs.Stage.{Mail}
+use Rattle.hn_script.specs.Soak.{soak_text}
+use Rattle.hn_world.specs.declared.parts.Parts.{Parts}
+use Rattle.hn_run.specs.Decode.{SpellsTlvs, WritesDecode, CutsDecode}
+use Rattle.hn_run.specs.Watch.{IsCapture, WritesWatch, CutsWatch, StarvesWatch}
+
+-- what a call says of what may fail: its count of faults, and that what never fails did not
+pub record IsCaused (failed : Type 0) (faults faults_after : ℕ) (never never_after : Type 0) : Type 0 where
+  pub counts : Counts failed faults faults_after
+  pub reliable : IsReliable failed never never_after
+
+-- what a sink holds after `decode`, by the status: the whole text; a proper front of it, where the sink failed; a front,
+-- where memory ended
+abbrev pub DecodeHolds : List ℕ → ℕ → Option (List ℕ) → Option (List ℕ) → Type 0
+DecodeHolds bytes status before after =
+    (((status ≡ 0) ⊎ (status ≡ 2)) × WritesDecode bytes status before after)
+    ⊎ (((status ≡ 4) × CutsDecode bytes Failed before after) ⊎ ((status ≡ 6) × CutsDecode bytes NoMemory before after))
+
+-- what `decode` comes to, by the bytes that its source has left, where it tells them
+pub record IsDecodeRun (left : Option (List ℕ)) (status : ℕ) (before after : Option (List ℕ)) : Type 0 where
+  pub bytes : List ℕ
+  pub are_whole : IsWhole left bytes
+  pub holds : DecodeHolds bytes status before after
+  pub only : SpellsTlvs bytes → status ≢ 2
+
+-- the same of `watch`
+abbrev pub WatchHolds : List ℕ → ℕ → Option (List ℕ) → Option (List ℕ) → Type 0
+WatchHolds bytes status before after =
+    (((status ≡ 0) ⊎ (status ≡ 2)) × WritesWatch bytes status before after)
+    ⊎ (((status ≡ 4) × CutsWatch bytes Failed before after) ⊎ ((status ≡ 6) × StarvesWatch bytes before after))
+
+pub record IsWatchRun (left : Option (List ℕ)) (status : ℕ) (before after : Option (List ℕ)) : Type 0 where
+  pub bytes : List ℕ
+  pub are_whole : IsWhole left bytes
+  pub holds : WatchHolds bytes status before after
+  pub only : (datagrams : List (List ℕ)) → IsCapture bytes datagrams → status ≢ 2
+
+-- what `soak` comes to: the play of its script by mail, or out of memory before it began
+pub record IsSoakRun (n seed status : ℕ) (world : Option Parts) (before after : Option (List ℕ)) : Type 0 where
+  pub written : List ℕ
+  pub comes : IsScriptPlay Mail Mail (soak_text n seed) status world written ⊎ IsUnread status world written
+  pub only : StatusOfScript Mail (soak_text n seed) status
+  pub appends : Appends before after written

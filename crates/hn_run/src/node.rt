@@ -1,0 +1,195 @@
+//! `node`: a router that is set up by its file, and served.
+
+ghost use Rattle.std.specs.Prelude.{◌≡◌, ◌≢◌, ◌≤◌, ◌^◌, ◌⊎◌, ◌+◌, ℕ, List, [], ◌∷◌, Err, OnOk, OnErr, IfOk, Contains, None, Some, length, string_bytes};
+ghost use Rattle.std.specs.Io.KnownBytes.{Appends, Consumes};
+ghost use Rattle.hn_io.specs.Faults.{Counts, IsReliable};
+ghost use Rattle.hn_lab.specs.Output.{AppendsPart};
+ghost use Rattle.hn_lab.specs.Reports.{refused_line};
+ghost use Rattle.hn_node.specs.declared.served.ServeEnd.{ServeEnd};
+ghost use Rattle.hn_script.specs.NodeFile.{IsNodeFile};
+ghost use Rattle.hn_run.specs.Node.{IsCall, IsOverfull, IsNodeRun, MakesNode, StatusOfNode, LineHolds, line_of, plain_call};
+
+use crate::outcome::Outcome;
+use crate::setup::{SetupFault, set_up};
+use crate::status::{
+    DONE, NO_MEMORY, REFUSED, SINK_FAILED, SOURCE_FAILED, WIRE_FAILED, written_status,
+};
+use crate::words::NodeCall;
+use hn_base::NoMemory;
+use hn_io::{IoFault, Pcg, Sink, Source, words_join};
+use hn_lab::{read_all, write_piece, write_refusal};
+use hn_node::{ServeEnd, Served, serve};
+use hn_script::{
+    NodeLine, ParseFault, fault_excludes_node_file, node_file_is_unique, parse_node_file,
+};
+use hn_wire::{Clock, Wire};
+use std::alloc::{AllocError, Global};
+
+/// The code of a ninth delegated prefix.
+const FULL: u8 = 9;
+
+/// The line on a router that was served.
+fn node_line(alloc: Global, served: &Served) -> Result<String, AllocError>
+    ensures { IfOk result (λ line. string_bytes line ≡ line_of served.now) }
+{
+    let id = served.router.id();
+    let number = served.router.number();
+    let reach = served.router.reach().len();
+    let taken = served.taken;
+    let sent = served.sent;
+    format!(in alloc; "node id={id} number={number} reach={reach} taken={taken} sent={sent}\n")
+}
+
+/// Writes that line.
+fn write_served<K: Sink>(alloc: Global, served: &Served, out: &mut K) -> Result<(), IoFault>
+    ensures ok { OnOk result (Appends (K.held out.old) (K.held out.new) (line_of served.now)) }
+    ensures cut { OnErr result (AppendsPart (K.held out.old) (K.held out.new) (line_of served.now)) }
+    ensures counts { Counts (result ≡ Err IoFault.Failed) (K.faults out.old) (K.faults out.new) }
+    ensures reliable { IsReliable (result ≡ Err IoFault.Failed) (K.never_fails out.old) (K.never_fails out.new) }
+{
+    match node_line(alloc, served) {
+        Ok(line) => write_piece(out, line.as_bytes()),
+        Err(_) => Err(IoFault::NoMemory),
+    }
+}
+
+/// Writes the line of a refusal.
+fn refuse<K: Sink>(alloc: Global, line: u32, code: u8, out: &mut K) -> Outcome
+    ensures holds { (written : List ℕ) × LineHolds result.status (refused_line line code) written × Appends (K.held out.old) (K.held out.new) written }
+    ensures nothing { (result.world ≡ None) × (result.served ≡ None) }
+    ensures statuses { Contains (REFUSED ∷ SINK_FAILED ∷ NO_MEMORY ∷ []) result.status }
+    ensures counts { Counts (result.status ≡ SINK_FAILED) (K.faults out.old) (K.faults out.new) }
+    ensures reliable { IsReliable (result.status ≡ SINK_FAILED) (K.never_fails out.old) (K.never_fails out.new) }
+{
+    Outcome::of(written_status(&write_refusal(alloc, out, line, code), REFUSED))
+}
+
+/// Tells of a router that was served; nothing where the wire failed.
+fn tell<K: Sink>(alloc: Global, served: Served, out: &mut K) -> Outcome
+    ensures told { served.end ≡ ServeEnd.Turns → (written : List ℕ) × LineHolds result.status (line_of served) written
+        × Appends (K.held out.old) (K.held out.new) written × Contains (DONE ∷ SINK_FAILED ∷ NO_MEMORY ∷ []) result.status }
+    ensures untold { served.end ≡ ServeEnd.WireFault → (result.status ≡ WIRE_FAILED) × (out.new ≡ out.old) }
+    ensures served { ((result.status ≡ NO_MEMORY) × (result.served ≡ None)) ⊎ ((result.status ≢ NO_MEMORY) × (result.served ≡ Some served)) }
+    ensures no_world { result.world ≡ None }
+    ensures counts { Counts (result.status ≡ SINK_FAILED) (K.faults out.old) (K.faults out.new) }
+    ensures reliable { IsReliable (result.status ≡ SINK_FAILED) (K.never_fails out.old) (K.never_fails out.new) }
+{
+    if let ServeEnd::WireFault = served.end {
+        return Outcome {
+            status: WIRE_FAILED,
+            world: None,
+            served: Some(served),
+        };
+    }
+    let status = written_status(&write_served(alloc, &served, out), DONE);
+    if status == NO_MEMORY {
+        return Outcome::of(NO_MEMORY);
+    }
+    Outcome {
+        status,
+        world: None,
+        served: Some(served),
+    }
+}
+
+/// Sets a router up by the lines of its file, serves it, and tells of it.
+fn serve_lines<K: Sink, W: Wire, C: Clock>(
+    alloc: Global,
+    call: &NodeCall,
+    lines: &[(u32, NodeLine)],
+    out: &mut K,
+    wire: &mut W,
+    clock: &mut C,
+) -> Outcome
+    requires call { IsCall call.now }
+    ensures node { (bytes : List ℕ) → IsNodeFile lines.now bytes → (text : List ℕ) × MakesNode (plain_call call.now) bytes result.status result.served
+        (record { waiting = W.waiting wire.old; readings = C.readings clock.old }) (record { waiting = W.waiting wire.new; readings = C.readings clock.new }) text
+        × ((written : List ℕ) × LineHolds result.status text written × Appends (K.held out.old) (K.held out.new) written) }
+    ensures done { ((now number : ℕ) → ¬ IsOverfull call.now.id lines.now now number) → result.status ≢ REFUSED }
+    ensures no_world { result.world ≡ None }
+    ensures nothing { result.status ≡ NO_MEMORY → result.served ≡ None }
+    ensures statuses { Contains (DONE ∷ REFUSED ∷ SINK_FAILED ∷ WIRE_FAILED ∷ NO_MEMORY ∷ []) result.status }
+    ensures sink_counts { Counts (result.status ≡ SINK_FAILED) (K.faults out.old) (K.faults out.new) }
+    ensures sink_reliable { IsReliable (result.status ≡ SINK_FAILED) (K.never_fails out.old) (K.never_fails out.new) }
+    ensures wire_counts { Counts (result.status ≡ WIRE_FAILED) (W.faults wire.old) (W.faults wire.new) }
+    ensures wire_reliable { IsReliable (result.status ≡ WIRE_FAILED) (W.never_fails wire.old) (W.never_fails wire.new) }
+{
+    words_join();
+    let now = clock.now();
+    let mut draw = Pcg::new(call.seed);
+    let router = match set_up(alloc, call.id, lines, now, &mut draw) {
+        Ok(router) => router,
+        Err(SetupFault::Overfull(number)) => return refuse(alloc, number, FULL, out),
+        Err(SetupFault::NoMemory) => return Outcome::of(NO_MEMORY),
+    };
+    let peers = &call.peers[..usize::from(call.count)];
+    match serve(
+        alloc, router, call.port, peers, wire, clock, &mut draw, call.turns,
+    ) {
+        Ok(served) => tell(alloc, served, out),
+        Err(NoMemory) => Outcome::of(NO_MEMORY),
+    }
+}
+
+/// Serves the router of the node file that bytes are, or writes the line of their first fault.
+fn node_of<K: Sink, W: Wire, C: Clock>(
+    alloc: Global,
+    call: &NodeCall,
+    bytes: &[u8],
+    out: &mut K,
+    wire: &mut W,
+    clock: &mut C,
+) -> Outcome
+    requires call { IsCall call.now }
+    ensures node { (text : List ℕ) × MakesNode (plain_call call.now) bytes.now result.status result.served
+        (record { waiting = W.waiting wire.old; readings = C.readings clock.old }) (record { waiting = W.waiting wire.new; readings = C.readings clock.new }) text
+        × ((written : List ℕ) × LineHolds result.status text written × Appends (K.held out.old) (K.held out.new) written) }
+    ensures only { StatusOfNode (plain_call call.now) bytes.now result.status }
+    ensures no_world { result.world ≡ None }
+    ensures nothing { result.status ≡ NO_MEMORY → result.served ≡ None }
+    ensures statuses { Contains (DONE ∷ REFUSED ∷ SINK_FAILED ∷ WIRE_FAILED ∷ NO_MEMORY ∷ []) result.status }
+    ensures sink_counts { Counts (result.status ≡ SINK_FAILED) (K.faults out.old) (K.faults out.new) }
+    ensures sink_reliable { IsReliable (result.status ≡ SINK_FAILED) (K.never_fails out.old) (K.never_fails out.new) }
+    ensures wire_counts { Counts (result.status ≡ WIRE_FAILED) (W.faults wire.old) (W.faults wire.new) }
+    ensures wire_reliable { IsReliable (result.status ≡ WIRE_FAILED) (W.never_fails wire.old) (W.never_fails wire.new) }
+{
+    node_file_is_unique();
+    fault_excludes_node_file();
+    match parse_node_file(alloc, bytes) {
+        Ok(lines) => serve_lines(alloc, call, lines.as_slice(), out, wire, clock),
+        Err(ParseFault::Script(fault)) => refuse(alloc, fault.line, fault.code, out),
+        Err(ParseFault::NoMemory) => Outcome::of(NO_MEMORY),
+    }
+}
+
+/// Reads a node file, serves the router that it sets up in turns over the wire, and writes a line on it.
+pub fn node<S: Source, K: Sink, W: Wire, C: Clock>(
+    alloc: Global,
+    call: &NodeCall,
+    src: &mut S,
+    out: &mut K,
+    wire: &mut W,
+    clock: &mut C,
+) -> Outcome
+    requires call { IsCall call.now }
+    ensures node { result.status ≢ SOURCE_FAILED → IsNodeRun (plain_call call.now) (S.left src.old) result.status result.served
+        (record { waiting = W.waiting wire.old; readings = C.readings clock.old }) (record { waiting = W.waiting wire.new; readings = C.readings clock.new })
+        (K.held out.old) (K.held out.new) }
+    ensures no_world { result.world ≡ None }
+    ensures nothing { (result.status ≡ SOURCE_FAILED) ⊎ (result.status ≡ NO_MEMORY) → result.served ≡ None }
+    ensures statuses { Contains (DONE ∷ REFUSED ∷ SOURCE_FAILED ∷ SINK_FAILED ∷ WIRE_FAILED ∷ NO_MEMORY ∷ []) result.status }
+    ensures unwritten { result.status ≡ SOURCE_FAILED → out.new ≡ out.old }
+    ensures source_counts { Counts (result.status ≡ SOURCE_FAILED) (S.faults src.old) (S.faults src.new) }
+    ensures source_reliable { IsReliable (result.status ≡ SOURCE_FAILED) (S.never_fails src.old) (S.never_fails src.new) }
+    ensures sink_counts { Counts (result.status ≡ SINK_FAILED) (K.faults out.old) (K.faults out.new) }
+    ensures sink_reliable { IsReliable (result.status ≡ SINK_FAILED) (K.never_fails out.old) (K.never_fails out.new) }
+    ensures wire_counts { Counts (result.status ≡ WIRE_FAILED) (W.faults wire.old) (W.faults wire.new) }
+    ensures wire_reliable { IsReliable (result.status ≡ WIRE_FAILED) (W.never_fails wire.old) (W.never_fails wire.new) }
+    ensures bounded { (read : List ℕ) × (length read ≤ 2 ^ 24 + 1) × Consumes (S.left src.old) (S.left src.new) read }
+{
+    match read_all(alloc, src) {
+        Ok(bytes) => node_of(alloc, call, &bytes, out, wire, clock),
+        Err(IoFault::Failed) => Outcome::of(SOURCE_FAILED),
+        Err(IoFault::NoMemory) => Outcome::of(NO_MEMORY),
+    }
+}

@@ -1,0 +1,142 @@
+ghost use Rattle.std.specs.Prelude.{◌≡◌, ◌≢◌, ◌+◌, ◌^◌, ◌≤◌, ◌⊎◌, ℕ, List, [], ◌∷◌, None, map, length, Contains, IfSome, string_bytes};
+ghost use Rattle.std.specs.Io.KnownBytes.{Consumes};
+ghost use Rattle.hn_io.specs.Faults.{Counts, IsReliable};
+ghost use Rattle.hn_world.specs.Replay.{IsReplayed, Always, Throughout};
+ghost use Rattle.hn_world.specs.Authentic.{AuthenticUnlessInjected};
+ghost use Rattle.hn_world.specs.Leaves.{EqualHashesAgree};
+ghost use Rattle.hn_world.specs.Within.{AreWithinLimits};
+ghost use Rattle.hn_audit.specs.Laws.{SettledAreSound};
+ghost use Rattle.hn_audit.specs.Staying.{QuietStays};
+ghost use Rattle.hn_lab.specs.Lab.{IsLabRun};
+ghost use Rattle.hn_lab.specs.Stage.{Mail, Ports};
+ghost use Rattle.hn_run.specs.Form.{IsFormOf, HasSource, IsPlayed, IsWired, IsTimed};
+ghost use Rattle.hn_run.specs.Outcome.{IsCaused, IsDecodeRun, IsWatchRun, IsSoakRun};
+ghost use Rattle.hn_run.specs.Node.{IsNodeRun, plain_call};
+ghost use Rattle.hn_run.specs.declared.words.Form.{Form};
+ghost use Rattle.hn_run.specs.declared.words.NodeCall.{NodeCall};
+
+use crate::decode::{each_source_decodes, run_decode};
+use crate::node::node;
+use crate::outcome::Outcome;
+use crate::soak::soak;
+use crate::status::{BAD_USAGE, DONE, NO_MEMORY, REFUSED, SINK_FAILED, SOURCE_FAILED, WIRE_FAILED};
+use crate::watch::run_watch;
+use crate::words::Form;
+use hn_io::{IoFault, Sink, Source};
+use hn_lab::{lab, read_all};
+use hn_wire::{Clock, Wire};
+use std::alloc::Global;
+
+/// Reads hexadecimal text, and writes the contents of the datagram that it spells. Answers the status.
+fn decode<S: Source, K: Sink>(alloc: Global, src: &mut S, out: &mut K) -> u8
+    ensures decode { result ≢ SOURCE_FAILED → IsDecodeRun (S.left src.old) result (K.held out.old) (K.held out.new) }
+    ensures statuses { Contains (DONE ∷ REFUSED ∷ SOURCE_FAILED ∷ SINK_FAILED ∷ NO_MEMORY ∷ []) result }
+    ensures source_counts { Counts (result ≡ SOURCE_FAILED) (S.faults src.old) (S.faults src.new) }
+    ensures sink_counts { Counts (result ≡ SINK_FAILED) (K.faults out.old) (K.faults out.new) }
+    ensures source_reliable { IsReliable (result ≡ SOURCE_FAILED) (S.never_fails src.old) (S.never_fails src.new) }
+    ensures sink_reliable { IsReliable (result ≡ SINK_FAILED) (K.never_fails out.old) (K.never_fails out.new) }
+    ensures unwritten { result ≡ SOURCE_FAILED → out.new ≡ out.old }
+    ensures bounded { (read : List ℕ) × (length read ≤ 2 ^ 24 + 1) × Consumes (S.left src.old) (S.left src.new) read }
+{
+    each_source_decodes();
+    match read_all(alloc, src) {
+        Ok(bytes) => run_decode(alloc, bytes, out),
+        Err(IoFault::Failed) => SOURCE_FAILED,
+        Err(IoFault::NoMemory) => NO_MEMORY,
+    }
+}
+
+/// Reads a capture, and writes what was claimed by its datagrams. Answers the status.
+fn watch<S: Source, K: Sink>(alloc: Global, src: &mut S, out: &mut K) -> u8
+    ensures watch { result ≢ SOURCE_FAILED → IsWatchRun (S.left src.old) result (K.held out.old) (K.held out.new) }
+    ensures statuses { Contains (DONE ∷ REFUSED ∷ SOURCE_FAILED ∷ SINK_FAILED ∷ NO_MEMORY ∷ []) result }
+    ensures source_counts { Counts (result ≡ SOURCE_FAILED) (S.faults src.old) (S.faults src.new) }
+    ensures sink_counts { Counts (result ≡ SINK_FAILED) (K.faults out.old) (K.faults out.new) }
+    ensures source_reliable { IsReliable (result ≡ SOURCE_FAILED) (S.never_fails src.old) (S.never_fails src.new) }
+    ensures sink_reliable { IsReliable (result ≡ SINK_FAILED) (K.never_fails out.old) (K.never_fails out.new) }
+    ensures unwritten { result ≡ SOURCE_FAILED → out.new ≡ out.old }
+    ensures bounded { (read : List ℕ) × (length read ≤ 2 ^ 24 + 1) × Consumes (S.left src.old) (S.left src.new) read }
+{
+    match read_all(alloc, src) {
+        Ok(bytes) => run_watch(alloc, &bytes, out),
+        Err(IoFault::Failed) => SOURCE_FAILED,
+        Err(IoFault::NoMemory) => NO_MEMORY,
+    }
+}
+
+/// Runs the program: `words` are those of the command line, the program's name first. The forms are `lab`, which reads
+/// a script, plays it and writes its transcript; `udp`, which does the same and delivers each copy over the wire, from a
+/// base to the port after it; `node`, which reads the file of a node and serves it over the wire; `decode`, which reads
+/// hexadecimal text and writes what the datagram has; `watch`, which reads a capture and writes what was claimed by its
+/// datagrams; and `soak`, which plays the script of a soak and writes its transcript.
+pub fn run<S: Source, K: Sink, W: Wire, C: Clock>(
+    alloc: Global,
+    words: &[String],
+    src: &mut S,
+    out: &mut K,
+    wire: &mut W,
+    clock: &mut C,
+) -> Outcome
+    // Bad usage is what no form's words are; then nothing is touched.
+    ensures form { result.status ≡ BAD_USAGE → (form : Form) → IsFormOf form (map string_bytes words.now) → ⊥ }
+    ensures bad_usage { ((form : Form) → IsFormOf form (map string_bytes words.now) → ⊥) → result.status ≡ BAD_USAGE }
+    ensures untouched { result.status ≡ BAD_USAGE → (src.new ≡ src.old) × (out.new ≡ out.old) × (wire.new ≡ wire.old) × (clock.new ≡ clock.old) }
+
+    // What each form comes to. After status 3 there is no more to say; it is said of the bytes that were read, which are
+    // all that the source has, where it tells them.
+    ensures lab { IsFormOf Form.Lab (map string_bytes words.now) → result.status ≢ SOURCE_FAILED
+        → IsLabRun Mail Mail (S.left src.old) result.status result.world (K.held out.old) (K.held out.new) }
+    ensures udp { (base : ℕ) → IsFormOf (Form.Udp base) (map string_bytes words.now) → result.status ≢ SOURCE_FAILED
+        → IsLabRun (Ports base (W.waiting wire.old)) (Ports base (W.waiting wire.new)) (S.left src.old) result.status result.world (K.held out.old) (K.held out.new) }
+    ensures node { (call : NodeCall) → IsFormOf (Form.Node call) (map string_bytes words.now) → result.status ≢ SOURCE_FAILED
+        → IsNodeRun (plain_call call) (S.left src.old) result.status result.served (record { waiting = W.waiting wire.old; readings = C.readings clock.old })
+        (record { waiting = W.waiting wire.new; readings = C.readings clock.new }) (K.held out.old) (K.held out.new) }
+    ensures decode { IsFormOf Form.Decode (map string_bytes words.now) → result.status ≢ SOURCE_FAILED
+        → IsDecodeRun (S.left src.old) result.status (K.held out.old) (K.held out.new) }
+    ensures watch { IsFormOf Form.Watch (map string_bytes words.now) → result.status ≢ SOURCE_FAILED
+        → IsWatchRun (S.left src.old) result.status (K.held out.old) (K.held out.new) }
+    ensures soak { (n seed : ℕ) → IsFormOf (Form.Soak n seed) (map string_bytes words.now)
+        → IsSoakRun n seed result.status result.world (K.held out.old) (K.held out.new) }
+
+    // What a form does not use stays as it is, and what it does not make is not there.
+    ensures unread { (form : Form) → IsFormOf form (map string_bytes words.now) → ¬ HasSource form → src.new ≡ src.old }
+    ensures unwired { (form : Form) → IsFormOf form (map string_bytes words.now) → ¬ IsWired form → wire.new ≡ wire.old }
+    ensures untimed { (form : Form) → IsFormOf form (map string_bytes words.now) → ¬ IsTimed form → clock.new ≡ clock.old }
+    ensures no_world { (form : Form) → IsFormOf form (map string_bytes words.now) → ¬ IsPlayed form → result.world ≡ None }
+    ensures not_served { (form : Form) → IsFormOf form (map string_bytes words.now) → ¬ IsTimed form → result.served ≡ None }
+
+    // The world is the replay of its trace. At each moment of its past two routers with equal hashes have equal leaves, or
+    // a collision exists; and a running router that is settled and quiet is sound.
+    ensures replayed { IfSome result.world IsReplayed }
+    ensures headline { IfSome result.world (Always EqualHashesAgree) }
+    ensures settled { IfSome result.world (Always SettledAreSound) }
+
+    // Over time that passes and ticks that nothing disturbs, a settled and quiet router stays so, with the same assignments.
+    ensures stays { IfSome result.world (Throughout QuietStays) }
+
+    // At each moment of its past tables, lists and datagrams are within the limits of its version; and until something is
+    // injected, what routers hold of other nodes was published, or two texts that were published collide.
+    ensures within_limits { IfSome result.world (Always AreWithinLimits) }
+    ensures authentic { IfSome result.world (Always AuthenticUnlessInjected) }
+
+    // Where each status comes from. After 3 nothing was written. Reading ends after 2^24 + 1 bytes.
+    ensures statuses { Contains (DONE ∷ BAD_USAGE ∷ REFUSED ∷ SOURCE_FAILED ∷ SINK_FAILED ∷ WIRE_FAILED ∷ NO_MEMORY ∷ []) result.status }
+    ensures nothing { (result.status ≡ BAD_USAGE) ⊎ ((result.status ≡ SOURCE_FAILED) ⊎ (result.status ≡ NO_MEMORY)) → (result.world ≡ None) × (result.served ≡ None) }
+    ensures sourced { result.status ≡ SOURCE_FAILED → (form : Form) → IsFormOf form (map string_bytes words.now) → HasSource form }
+    ensures wired { result.status ≡ WIRE_FAILED → (form : Form) → IsFormOf form (map string_bytes words.now) → IsWired form }
+    ensures source { IsCaused (result.status ≡ SOURCE_FAILED) (S.faults src.old) (S.faults src.new) (S.never_fails src.old) (S.never_fails src.new) }
+    ensures sink { IsCaused (result.status ≡ SINK_FAILED) (K.faults out.old) (K.faults out.new) (K.never_fails out.old) (K.never_fails out.new) }
+    ensures wire { IsCaused (result.status ≡ WIRE_FAILED) (W.faults wire.old) (W.faults wire.new) (W.never_fails wire.old) (W.never_fails wire.new) }
+    ensures unwritten { result.status ≡ SOURCE_FAILED → out.new ≡ out.old }
+    ensures bounded { (read : List ℕ) × (length read ≤ 2 ^ 24 + 1) × Consumes (S.left src.old) (S.left src.new) read }
+{
+    match Form::of(words) {
+        Some(Form::Lab) => Outcome::of_play(lab(alloc, src, out, wire, None)),
+        Some(Form::Udp { base }) => Outcome::of_play(lab(alloc, src, out, wire, Some(base))),
+        Some(Form::Node(call)) => node(alloc, &call, src, out, wire, clock),
+        Some(Form::Decode) => Outcome::of(decode(alloc, src, out)),
+        Some(Form::Watch) => Outcome::of(watch(alloc, src, out)),
+        Some(Form::Soak { n, seed }) => Outcome::of_play(soak(alloc, n, seed, out, wire)),
+        None => Outcome::of(BAD_USAGE),
+    }
+}

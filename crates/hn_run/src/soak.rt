@@ -1,0 +1,46 @@
+ghost use Rattle.std.specs.Prelude.{◌≡◌, ◌≢◌, ◌≤◌, [], ◌∷◌, None, Contains, IfSome};
+ghost use Rattle.hn_io.specs.Faults.{Counts, IsReliable};
+ghost use Rattle.hn_world.specs.Replay.{IsReplayed, Always, Throughout};
+ghost use Rattle.hn_world.specs.Authentic.{AuthenticUnlessInjected};
+ghost use Rattle.hn_world.specs.Leaves.{EqualHashesAgree};
+ghost use Rattle.hn_world.specs.Within.{AreWithinLimits};
+ghost use Rattle.hn_audit.specs.Laws.{SettledAreSound};
+ghost use Rattle.hn_audit.specs.Staying.{QuietStays};
+ghost use Rattle.hn_run.specs.Outcome.{IsSoakRun};
+
+use crate::status::{DONE, NO_MEMORY, REFUSED, SINK_FAILED};
+use hn_base::NoMemory;
+use hn_io::Sink;
+use hn_lab::{Played, play};
+use hn_script::{
+    fault_excludes_script, lines_are_of_version, script_is_limited, script_is_unique, soak_script,
+};
+use hn_wire::Wire;
+use std::alloc::Global;
+
+/// Plays the script of a soak of `n` routers, and writes its transcript. The wire is not used.
+pub fn soak<K: Sink, W: Wire>(alloc: Global, n: u32, seed: u64, out: &mut K, wire: &mut W) -> Played
+    requires at_least { 2 ≤ n }
+    requires at_most { n ≤ 32 }
+    ensures soak { IsSoakRun n seed result.status result.world (K.held out.old) (K.held out.new) }
+    ensures no_world { result.status ≡ NO_MEMORY → result.world ≡ None }
+    ensures replayed { IfSome result.world IsReplayed }
+    ensures headline { IfSome result.world (Always EqualHashesAgree) }
+    ensures settled { IfSome result.world (Always SettledAreSound) }
+    ensures stays { IfSome result.world (Throughout QuietStays) }
+    ensures within_limits { IfSome result.world (Always AreWithinLimits) }
+    ensures authentic { IfSome result.world (Always AuthenticUnlessInjected) }
+    ensures statuses { Contains (DONE ∷ REFUSED ∷ SINK_FAILED ∷ NO_MEMORY ∷ []) result.status }
+    ensures counts { Counts (result.status ≡ SINK_FAILED) (K.faults out.old) (K.faults out.new) }
+    ensures reliable { IsReliable (result.status ≡ SINK_FAILED) (K.never_fails out.old) (K.never_fails out.new) }
+    ensures unwired { wire.new ≡ wire.old }
+{
+    script_is_limited();
+    lines_are_of_version();
+    script_is_unique();
+    fault_excludes_script();
+    match soak_script(alloc, n, seed) {
+        Ok(script) => play(alloc, script, out, wire, None),
+        Err(NoMemory) => Played::without_world(NO_MEMORY),
+    }
+}

@@ -1,0 +1,108 @@
+//! What was claimed on a link, by the datagrams of a capture.
+
+ghost use Rattle.std.specs.Prelude.{◌≡◌, ◌≢◌, ◌⊎◌, ℕ, List, [], ◌∷◌, Err, OnOk, IfErr, Contains};
+ghost use Rattle.std.specs.Io.KnownBytes.{Appends};
+ghost use Rattle.hn_io.specs.Faults.{Counts, IsReliable};
+ghost use Rattle.hn_run.specs.Decode.{AppendsCut};
+ghost use Rattle.hn_run.specs.Watch.{seen_line, watch_text, IsCapture, WritesWatch, CutsWatch, StarvesWatch};
+ghost use Rattle.hn_run.specs.Capture.{IsTextOf};
+
+use crate::capture::read_capture;
+use crate::seen_text;
+use crate::status::{DONE, NO_MEMORY, REFUSED, SINK_FAILED, written_status};
+use hn_io::{IoFault, Sink};
+use hn_lab::{pieces_append, write_piece, write_refusal};
+use hn_script::{LARGE, ParseFault, SOURCE_LIMIT};
+use hn_watch::{Seen, Watch};
+use std::alloc::Global;
+
+/// Writes the line of a node that was seen.
+fn write_seen<K: Sink>(alloc: Global, seen: &Seen, out: &mut K) -> Result<(), IoFault>
+    ensures written { OnOk result (Appends (K.held out.old) (K.held out.new) (seen_line seen.now)) }
+    ensures cut { IfErr result (λ cut. AppendsCut cut (K.held out.old) (K.held out.new) (seen_line seen.now)) }
+    ensures counts { Counts (result ≡ Err IoFault.Failed) (K.faults out.old) (K.faults out.new) }
+    ensures reliable { IsReliable (result ≡ Err IoFault.Failed) (K.never_fails out.old) (K.never_fails out.new) }
+{
+    match seen_text::seen_line(alloc, seen) {
+        Ok(line) => write_piece(out, line.as_bytes()),
+        Err(_) => Err(IoFault::NoMemory),
+    }
+}
+
+/// Writes the text of a capture: its first line, and then that of each node that was seen.
+fn write_text<K: Sink>(
+    alloc: Global,
+    datagrams: u64,
+    malformed: u64,
+    seen: &[Seen],
+    out: &mut K,
+) -> Result<(), IoFault>
+    ensures written { OnOk result (Appends (K.held out.old) (K.held out.new) (watch_text datagrams malformed seen.now)) }
+    ensures cut { IfErr result (λ cut. AppendsCut cut (K.held out.old) (K.held out.new) (watch_text datagrams malformed seen.now)) }
+    ensures counts { Counts (result ≡ Err IoFault.Failed) (K.faults out.old) (K.faults out.new) }
+    ensures reliable { IsReliable (result ≡ Err IoFault.Failed) (K.never_fails out.old) (K.never_fails out.new) }
+{
+    pieces_append();
+    let Ok(first) = seen_text::watch_line(alloc, datagrams, malformed) else {
+        return Err(IoFault::NoMemory);
+    };
+    write_piece(out, first.as_bytes())?;
+    for one in seen {
+        write_seen(alloc, one, out)?;
+    }
+    Ok(())
+}
+
+/// Writes what a watch has seen, and answers the status.
+fn write_watch<K: Sink>(alloc: Global, watch: &Watch, out: &mut K) -> u8
+    ensures written { result ≡ DONE → (text : List ℕ) × IsTextOf watch.now text × Appends (K.held out.old) (K.held out.new) text }
+    ensures broken { result ≡ SINK_FAILED → (text : List ℕ) × IsTextOf watch.now text × AppendsCut IoFault.Failed (K.held out.old) (K.held out.new) text }
+    ensures starved { result ≡ NO_MEMORY → Appends (K.held out.old) (K.held out.new) []
+        ⊎ ((text : List ℕ) × IsTextOf watch.now text × AppendsCut IoFault.NoMemory (K.held out.old) (K.held out.new) text) }
+    ensures statuses { Contains (DONE ∷ SINK_FAILED ∷ NO_MEMORY ∷ []) result }
+    ensures counts { Counts (result ≡ SINK_FAILED) (K.faults out.old) (K.faults out.new) }
+    ensures reliable { IsReliable (result ≡ SINK_FAILED) (K.never_fails out.old) (K.never_fails out.new) }
+{
+    match watch.seen(alloc) {
+        Ok(seen) => {
+            let written = write_text(alloc, watch.fed(), watch.malformed(), seen.as_slice(), out);
+            written_status(&written, DONE)
+        }
+        Err(_) => NO_MEMORY,
+    }
+}
+
+/// Writes what was claimed by the datagrams of a capture, or its first line with a fault, and answers the status.
+fn write_watched<K: Sink>(alloc: Global, source: &[u8], out: &mut K) -> u8
+    ensures written { (result ≡ DONE) ⊎ (result ≡ REFUSED) → WritesWatch source.now result (K.held out.old) (K.held out.new) }
+    ensures broken { result ≡ SINK_FAILED → CutsWatch source.now IoFault.Failed (K.held out.old) (K.held out.new) }
+    ensures starved { result ≡ NO_MEMORY → StarvesWatch source.now (K.held out.old) (K.held out.new) }
+    ensures statuses { Contains (DONE ∷ REFUSED ∷ SINK_FAILED ∷ NO_MEMORY ∷ []) result }
+    ensures counts { Counts (result ≡ SINK_FAILED) (K.faults out.old) (K.faults out.new) }
+    ensures reliable { IsReliable (result ≡ SINK_FAILED) (K.never_fails out.old) (K.never_fails out.new) }
+{
+    if source.len() > SOURCE_LIMIT {
+        return written_status(&write_refusal(alloc, out, 0, LARGE), REFUSED);
+    }
+    match read_capture(alloc, source) {
+        Ok(watch) => write_watch(alloc, &watch, out),
+        Err(ParseFault::Script(fault)) => {
+            written_status(&write_refusal(alloc, out, fault.line, fault.code), REFUSED)
+        }
+        Err(ParseFault::NoMemory) => NO_MEMORY,
+    }
+}
+
+/// Writes what was claimed by the datagrams of a capture, or its first line with a fault, and answers the status. A
+/// capture is not refused.
+pub fn run_watch<K: Sink>(alloc: Global, source: &[u8], out: &mut K) -> u8
+    ensures written { (result ≡ DONE) ⊎ (result ≡ REFUSED) → WritesWatch source.now result (K.held out.old) (K.held out.new) }
+    ensures broken { result ≡ SINK_FAILED → CutsWatch source.now IoFault.Failed (K.held out.old) (K.held out.new) }
+    ensures starved { result ≡ NO_MEMORY → StarvesWatch source.now (K.held out.old) (K.held out.new) }
+    ensures complete { (datagrams : List (List ℕ)) → IsCapture source.now datagrams → result ≢ REFUSED }
+    ensures statuses { Contains (DONE ∷ REFUSED ∷ SINK_FAILED ∷ NO_MEMORY ∷ []) result }
+    ensures counts { Counts (result ≡ SINK_FAILED) (K.faults out.old) (K.faults out.new) }
+    ensures reliable { IsReliable (result ≡ SINK_FAILED) (K.never_fails out.old) (K.never_fails out.new) }
+{
+    write_watched(alloc, source, out)
+}

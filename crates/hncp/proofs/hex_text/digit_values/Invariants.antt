@@ -1,6 +1,0 @@
-use Rattle.std.proofs.Common.{◌≡◌, length}
-use Rattle.hncp.proofs.HexDigits.{AreKnown}
-use Rattle.hncp.proofs.hex_text.digit_values.Given as goal
-
-abbrev pub invariant-loop-byte : goal.invariant-loop-byte
-invariant-loop-byte l = record { size : length l.values ≡ 256; known : AreKnown l.values l.byte }

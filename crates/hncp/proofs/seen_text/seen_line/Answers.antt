@@ -1,5 +1,0 @@
-use Rattle.std.proofs.Common.{append_assoc}
-use Rattle.hncp.proofs.seen_text.seen_line.Goals as goal
-
-pub returns : goal.returns
-returns c = simp append_assoc (rw (← c.as_slice.ensures) c.format.ensures.ok)

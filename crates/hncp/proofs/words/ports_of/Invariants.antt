@@ -1,6 +1,0 @@
-use Rattle.std.proofs.Common.{map, string_bytes}
-use Rattle.hncp.proofs.Ported.{ArePorted}
-use Rattle.hncp.proofs.words.ports_of.Given as goal
-
-abbrev pub invariant-loop-place : goal.invariant-loop-place
-invariant-loop-place l = ArePorted (map string_bytes l.words) l.place l.ports

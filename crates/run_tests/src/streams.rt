@@ -1,0 +1,318 @@
+use hn_io::{IoFault, MemSink, MemSource, Sink, Source};
+use hn_run::{BAD_USAGE, DONE, Form, REFUSED, SINK_FAILED, SOURCE_FAILED, run};
+use hn_wire::{MemClock, MemWire, Wire};
+use std::alloc::{AllocError, Global};
+use std::process::Abort;
+use std::test::Fail;
+
+/// A source that gives, or a sink that takes, one byte at a time.
+#[derive(Drop)]
+struct OneByte<T>(T);
+
+impl<S: Source> Source for OneByte<S> {
+    ghost faults = { λ s. S.faults s.0 };
+
+    ghost left = { λ s. S.left s.0 };
+
+    ghost never_fails = { λ s. S.never_fails s.0 };
+
+    fn read(&mut self, buf: &mut [u8]) -> Result<usize, IoFault> {
+        self.0.read(&mut buf[..1])
+    }
+}
+
+impl<K: Sink> Sink for OneByte<K> {
+    ghost faults = { λ s. K.faults s.0 };
+
+    ghost held = { λ s. K.held s.0 };
+
+    ghost never_fails = { λ s. K.never_fails s.0 };
+
+    fn write(&mut self, piece: &[u8]) -> Result<usize, IoFault> {
+        self.0.write(&piece[..1])
+    }
+}
+
+/// The words of a command line, with one space between two of them. An empty line has none.
+pub fn words(alloc: Global, line: &str) -> Result<Vec<String>, AllocError> {
+    let mut words = Vec::new(alloc);
+    if line.is_empty() {
+        return Ok(words);
+    }
+    for word in line.split(' ') {
+        words.push(String::from_str(alloc, word)?)?;
+    }
+    Ok(words)
+}
+
+/// Runs the program over a wire: its status, and how many events the world has that it came to, if it has one.
+pub fn play_over<S: Source, K: Sink, W: Wire>(
+    alloc: Global,
+    line: &str,
+    source: &mut S,
+    sink: &mut K,
+    wire: &mut W,
+) -> Result<(u8, Option<usize>), AllocError> {
+    let words = words(alloc, line)?;
+    let mut clock = MemClock::new(vec![in alloc; 0]?);
+    let outcome = run(alloc, &words, source, sink, wire, &mut clock);
+    let events = outcome.world.map(|world| world.trace().len());
+    Ok((outcome.status, events))
+}
+
+/// The same over a wire on which nothing waits.
+fn play<S: Source, K: Sink>(
+    alloc: Global,
+    line: &str,
+    source: &mut S,
+    sink: &mut K,
+) -> Result<(u8, Option<usize>), AllocError> {
+    let mut wire = MemWire::new(alloc, Vec::new(alloc));
+    play_over(alloc, line, source, sink, &mut wire)
+}
+
+/// Runs the program with an input, of which one read fails, or one write: its status and its sink. No call is numbered 0.
+fn ran(
+    alloc: Global,
+    line: &str,
+    input: Vec<u8>,
+    read: u64,
+    write: u64,
+) -> Result<(u8, MemSink), AllocError> {
+    let mut source = MemSource::new(input, vec![in alloc; read]?);
+    let mut sink = MemSink::new(alloc, vec![in alloc; write]?);
+    let (status, _) = play(alloc, line, &mut source, &mut sink)?;
+    Ok((status, sink))
+}
+
+/// How many lines end in a text.
+pub fn lines_of(text: &[u8]) -> u64 {
+    text.iter().filter(|byte| **byte == b'\n').count() as u64
+}
+
+/// Whether a sink holds the first lines of a text, so many of them, and nothing else.
+pub fn holds_lines(sink: &MemSink, count: u64, text: &str) -> bool {
+    let held = sink.held();
+    let ends = held.last().is_none_or(|byte| *byte == b'\n');
+    ends && lines_of(held) == count && text.as_bytes().starts_with(held)
+}
+
+#[test]
+fn texts_that_are_no_hexadecimal(rt: HostRuntime) -> Result<(), Fail> {
+    let alloc = rt.alloc();
+    for text in ["007B00017800000", "007B0001780000x0", "007B0001\t78000000"] {
+        let (status, sink) = ran(alloc, "hncp decode", text.as_bytes().to_vec(alloc)?, 0, 0)?;
+        assert!(rt; status == REFUSED, "{text:?}: {status}");
+        assert!(rt; sink.held() == b"refused 0 4\n".as_slice(), "{text:?}");
+    }
+    Ok(())
+}
+
+#[test]
+fn a_source_that_is_too_long(rt: HostRuntime) -> Result<(), Fail> {
+    let alloc = rt.alloc();
+    for line in ["hncp decode", "hncp lab"] {
+        let blanks = vec![in alloc; b' '; 16_777_217]?;
+        let (status, sink) = ran(alloc, line, blanks, 0, 0)?;
+        assert!(rt; status == REFUSED, "{line}: {status}");
+        assert!(rt; sink.held() == b"refused 0 15\n".as_slice(), "{line}");
+    }
+    Ok(())
+}
+
+/// Command lines that are bad usage.
+const BAD_LINES: &str = "
+hncp
+lab
+hncp -x
+hncp Lab
+hncp lab -x
+soak 6 1
+hncp soak
+hncp soak 2
+hncp soak 1 1
+hncp soak 33 1
+hncp soak 6 18446744073709551616
+hncp soak 6 000000000000000000001
+hncp soak 6 -1
+hncp soak  1
+hncp soak 6 1 1
+hncp lab 6 1
+hncp lab 9000
+hncp udp
+hncp udp 1023
+hncp udp 65535
+hncp udp 9000 9001
+udp 9000
+";
+
+#[test]
+fn words_that_are_bad_usage(rt: HostRuntime) -> Result<(), Fail> {
+    let alloc = rt.alloc();
+    for line in BAD_LINES.lines() {
+        let mut source = MemSource::new(b"hncp 1\n".to_vec(alloc)?, Vec::new(alloc));
+        let mut sink = MemSink::new(alloc, Vec::new(alloc));
+        let came_to = play(alloc, line, &mut source, &mut sink)?;
+        assert!(rt; came_to == (BAD_USAGE, None), "{line:?}");
+        assert!(rt; sink.held().is_empty());
+        assert!(rt;
+            source.read(&mut [0; 8]) == Ok(7),
+            "the source is as before"
+        );
+    }
+    Ok(())
+}
+
+/// The script of two lone routers.
+const TWO_ROUTERS: &str = "hncp 1\nrouter A 00000001\nrouter B 00000002\nshow A\ncompare A B\n";
+
+const TWO_ROUTERS_TEXT: &str =
+    "show A id=00000001 number=1 reach=1 held=0 running=yes\ncompare A B net=same ids=other\n";
+
+/// Two Router Advertisements come up in one line of the script, and then a line is refused.
+const SENDING: &str =
+    "hncp 2\nrouter A 00000001\nlink L\nattach A 1 L\nradv A 1\nrun 16200 100\nsolicit A 2\n";
+
+const SENDING_TEXT: &str = "ra A 1 100 86000000400000000000000000000000\n\
+                            ra A 1 16100 86000000400000000000000000000000\nrefused 7 11\n";
+
+/// A TLV in another one.
+const NESTED: &str = "0021000400210000\n";
+
+const NESTED_TEXT: &str = "tlvs 1\n0 33 4 external\n  4 33 0 external\n";
+
+/// Two claims that differ, and a datagram that is no list of TLVs.
+const CAPTURE: &str = "00050014000000090000000200000000900150983cd24fb0\n\
+                       00050014000000090000000200000000D41D8CD98F00B204\n000100";
+
+const CAPTURE_TEXT: &str = "watch datagrams=3 malformed=1\n\
+                            node 00000009 number=2 hash=900150983cd24fb0 conflicts=1\n";
+
+/// The reads are that of the whole input and that of its end; each fails in turn. The writes are one a line; each fails in
+/// turn, and the lines before it are written. Then no call fails, and the run comes to this status and text.
+fn fails_in_turn(
+    rt: &impl Abort,
+    alloc: Global,
+    line: &str,
+    input: &str,
+    status: u8,
+    text: &str,
+) -> Result<(), Fail> {
+    let input = input.as_bytes();
+    for read in 1..3 {
+        let (came_to, sink) = ran(alloc, line, input.to_vec(alloc)?, read, 0)?;
+        assert!(rt;
+            came_to == SOURCE_FAILED && sink.held().is_empty(),
+            "{line}, read {read}"
+        );
+    }
+    let lines = lines_of(text.as_bytes());
+    for write in 1..=lines {
+        let (came_to, sink) = ran(alloc, line, input.to_vec(alloc)?, 0, write)?;
+        assert!(rt;
+            came_to == SINK_FAILED && holds_lines(&sink, write - 1, text),
+            "{line}, write {write}"
+        );
+    }
+    let (came_to, sink) = ran(
+        alloc,
+        line,
+        input.to_vec(alloc)?,
+        3,
+        lines.saturating_add(1),
+    )?;
+    assert!(rt; came_to == status, "{line}: {came_to}");
+    assert!(rt; sink.held() == text.as_bytes(), "{line}");
+    Ok(())
+}
+
+#[test]
+fn each_read_and_write_fails_in_turn(rt: HostRuntime) -> Result<(), Fail> {
+    for (line, input, status, text) in [
+        ("hncp lab", TWO_ROUTERS, DONE, TWO_ROUTERS_TEXT),
+        ("hncp lab", SENDING, REFUSED, SENDING_TEXT),
+        (
+            "hncp decode",
+            "007B000178000000",
+            DONE,
+            "tlvs 1\n0 123 1 other value=78\n",
+        ),
+        ("hncp decode", NESTED, DONE, NESTED_TEXT),
+        ("hncp decode", "x", REFUSED, "refused 0 4\n"),
+        (
+            "hncp decode",
+            "000100",
+            REFUSED,
+            "malformed place=0 why=1\n",
+        ),
+        ("hncp watch", CAPTURE, DONE, CAPTURE_TEXT),
+        ("hncp watch", "-\n00 ", REFUSED, "refused 2 4\n"),
+    ] {
+        fails_in_turn(&rt, rt.alloc(), line, input, status, text)?;
+    }
+    Ok(())
+}
+
+#[test]
+fn one_byte_at_a_time(rt: HostRuntime) -> Result<(), Fail> {
+    let alloc = rt.alloc();
+    for (line, input, text, events) in [
+        ("hncp lab", TWO_ROUTERS, TWO_ROUTERS_TEXT, Some(2)),
+        ("hncp decode", NESTED, NESTED_TEXT, None),
+    ] {
+        let bytes = input.as_bytes().to_vec(alloc)?;
+        let mut source = OneByte(MemSource::new(bytes, Vec::new(alloc)));
+        let mut sink = OneByte(MemSink::new(alloc, Vec::new(alloc)));
+        let came_to = play(alloc, line, &mut source, &mut sink)?;
+        assert!(rt; came_to == (DONE, events), "{line}");
+        assert!(rt; sink.0.held() == text.as_bytes(), "{line}");
+    }
+    Ok(())
+}
+
+#[test]
+fn words_that_ask_for_a_soak(rt: HostRuntime) -> Result<(), Fail> {
+    for (line, n, seed) in [
+        ("hncp soak 2 0", 2, 0),
+        ("hncp soak 6 1", 6, 1),
+        ("hncp soak 32 18446744073709551615", 32, u64::MAX),
+        ("hncp soak 00000000000000000006 00000000000000000001", 6, 1),
+    ] {
+        let form = Form::of(&words(rt.alloc(), line)?);
+        let asked =
+            matches!(form, Some(Form::Soak { n: asked, seed: with }) if asked == n && with == seed);
+        assert!(rt; asked, "{line}");
+    }
+    Ok(())
+}
+
+#[test]
+fn a_soak_has_one_text(rt: HostRuntime) -> Result<(), Fail> {
+    let alloc = rt.alloc();
+    let mut source = MemSource::new(b"unread".to_vec(alloc)?, Vec::new(alloc));
+    let mut sink = MemSink::new(alloc, Vec::new(alloc));
+    let mut again = MemSink::new(alloc, Vec::new(alloc));
+    let first = play(alloc, "hncp soak 6 1", &mut source, &mut sink)?;
+    let second = play(alloc, "hncp soak 6 1", &mut source, &mut again)?;
+    assert!(rt; first.0 == DONE && first == second);
+    assert!(rt; sink.held() == again.held());
+    let text = str::from_utf8(sink.held()).map_err(|_| "text")?;
+    let last = text.lines().last().ok_or("a line")?;
+    assert!(rt; last.starts_with("show r6 id=00000006 number="), "{last}");
+    assert!(rt;
+        source.read(&mut [0; 8]) == Ok(6),
+        "the source is as before"
+    );
+    Ok(())
+}
+
+#[test]
+fn a_write_of_a_soak_fails(rt: HostRuntime) -> Result<(), Fail> {
+    let alloc = rt.alloc();
+    let mut source = MemSource::new(Vec::new(alloc), Vec::new(alloc));
+    let mut sink = MemSink::new(alloc, vec![in alloc; 1]?);
+    let (status, events) = play(alloc, "hncp soak 2 1", &mut source, &mut sink)?;
+    assert!(rt; status == SINK_FAILED, "{status}");
+    assert!(rt; events.is_some() && sink.held().is_empty());
+    Ok(())
+}

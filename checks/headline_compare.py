@@ -1,0 +1,80 @@
+"""Finds the first difference between two pages with the headline."""
+import re
+from typing import Dict, Iterator, List, Optional, Tuple
+
+PLACE = re.compile(r'`(\S+\.(?:rt|antt)): ([^`]+)`$')
+ROW = re.compile(r'\| `(\S+\.antt)` \| (.*) \|$')
+CLAUSE = re.compile(r'ensures (\w+) ')
+
+
+def items(page: str) -> Dict[str, str]:
+    """What a page has: each clause, definition and section, by what it is called."""
+    found: Dict[str, str] = {}
+    for name, text in _items(page.split('\n')):
+        found[name] = found.get(name, '') + text + '\n'
+    return found
+
+
+def _items(lines: List[str]) -> Iterator[Tuple[str, str]]:
+    section, at = 'the beginning', 0
+    while at < len(lines):
+        line, place, row = lines[at], PLACE.match(lines[at]), ROW.match(lines[at])
+        if line.startswith('## '):
+            section = 'the section "%s"' % line[3:]
+        if place and lines[at + 1:at + 2] == ['```text']:
+            end = lines.index('```', at + 2) if '```' in lines[at + 2:] else len(lines)
+            yield from _in_block(place.group(1), place.group(2), lines[at + 2:end])
+            at = end
+        elif row:
+            for part in row.group(2).split(', '):
+                yield '%s: %s' % (row.group(1), part.split(' ')[0]), part
+        else:
+            yield section, line
+        at += 1
+
+
+def _in_block(file: str, names: str, lines: List[str]) -> Iterator[Tuple[str, str]]:
+    """The definitions of a block, or the clauses and comments of a contract."""
+    if file.endswith('.antt'):
+        for name, text in zip(names.split(', '), '\n'.join(lines).split('\n\n')):
+            yield '%s: %s' % (file, name), text
+        return
+    clause: Optional[str] = None
+    for line in lines:
+        match = CLAUSE.match(line)
+        if match:
+            clause = match.group(1)
+        elif not line or line.startswith('//'):
+            clause = None
+        what = '%s: the comments of %s' % (file, names) if clause is None else '%s: %s (%s)' % (file, names, clause)
+        yield what, line
+
+
+def difference(old: str, new: str) -> Optional[str]:
+    """The first difference of the page that is there from the one that the sources make, if there is one."""
+    if old == new:
+        return None
+    before, after = items(old), items(new)
+    for name in sorted(after, key=_is_of_text):
+        if name not in before:
+            return '%s appeared' % name
+        if before[name] != after[name]:
+            return '%s changed' % name + _first_line(before[name], after[name], name)
+    for name in before:
+        if name not in after:
+            return '%s went' % name
+    return 'the order of the page changed'
+
+
+def _is_of_text(name: str) -> bool:
+    """Whether an item is a section: these are compared last."""
+    return name.startswith('the ')
+
+
+def _first_line(before: str, after: str, name: str) -> str:
+    """The first line of a section that differs."""
+    if not _is_of_text(name):
+        return ''
+    known = set(before.split('\n'))
+    lines = [line for line in after.split('\n') if line not in known]
+    return ': ' + lines[0][:120] if lines else ''

@@ -1,0 +1,225 @@
+"""Makes the page with the headline: its clauses, the signs, the definitions, and the counts."""
+import hashlib
+from itertools import groupby
+from typing import Dict, Iterable, Iterator, List, Set, Tuple
+
+import headline_text as text
+from sources.closure import Node, NotFound, Sources
+from sources.lexing import tokens
+from sources.rust import Contract
+
+FILES = ('hn_run/src/run.rt', 'hncp/src/run.rt')
+"""Where the contract may be, below `crates`: it is in the first of these files that has the function."""
+FUNCTION = 'run'
+HALVES = ('headline', 'settled')
+"""The clauses that the page is about: their definitions are shown, listed and counted."""
+BESIDE = ('replayed', 'stays', 'authentic')
+"""The clauses that are shown beside them."""
+OVER_TIME = ('hn_world/specs/Replay.antt: Always', 'hn_world/specs/Replay.antt: Throughout')
+"""The definitions that say of which worlds a half is said. What is said of one world does not rest on them."""
+NEAR = 2
+"""How many steps from the halves a definition is shown."""
+NEAR_BESIDE = 0
+"""How many steps from the clauses beside them."""
+MARK = 4
+"""How many digits the mark of a definition has."""
+
+
+class NoSuchSign(Exception):
+    """A text that the page shows uses a sign that the key has not."""
+
+
+def _file_of_contract(sources: Sources) -> str:
+    """The file that has the contract."""
+    for file in FILES:
+        rust = sources.rust(file)
+        if rust is not None and rust.has_function(FUNCTION):
+            return file
+    raise NotFound('%s in %s' % (FUNCTION, ' or '.join(FILES)))
+
+
+class Headline:
+    """What the page says, as found in the sources."""
+
+    def __init__(self, sources: Sources) -> None:
+        self.sources = sources
+        self.file = _file_of_contract(sources)
+        self.contract: Contract = sources.rust(self.file).contract(FUNCTION)
+        for clause in HALVES + BESIDE:
+            if clause not in self.contract.clauses:
+                raise NotFound('the clause %s of %s in %s' % (clause, FUNCTION, self.file))
+        self.of_one_world = sources.steps(self._seeds(HALVES, OVER_TIME))
+        self.with_worlds = sources.steps(self._seeds(HALVES))
+        self.shown = self._shown()
+        self.listed = [node for node in self.of_one_world if not node.is_type and node not in self.shown]
+
+    def _seeds(self, clauses: Iterable[str], without: Tuple[str, ...] = ()) -> List[Node]:
+        found = self.sources.cited_by_clauses(self.file, FUNCTION, clauses)
+        return [node for node in found if node.place not in without]
+
+    def _shown(self) -> List[Node]:
+        """The definitions that are shown, each after the clause or definition that first names it."""
+        beside = self.sources.steps(self._seeds(BESIDE))
+        near = {node for node, steps in self.with_worlds.items() if steps <= NEAR}
+        near |= {node for node, steps in beside.items() if steps <= NEAR_BESIDE}
+        order: Dict[Node, None] = {}
+        self._read_from(self._seeds(HALVES + BESIDE), near, order)
+        return [node for node in order if not node.is_type]
+
+    def _read_from(self, nodes: List[Node], near: Set[Node], order: Dict[Node, None]) -> None:
+        for node in nodes:
+            if node in near and node not in order:
+                order[node] = None
+                self._read_from(self.sources.cites(node), near, order)
+
+    def count(self, found: Iterable[Node]) -> Tuple[int, int, int, int, int]:
+        """How many definitions, their lines and files; how many types, and their lines."""
+        found = list(found)
+        definitions = [node for node in found if not node.is_type]
+        types = [node for node in found if node.is_type]
+        return (len(definitions), self._lines(definitions), len({node.file for node in definitions}),
+                len(types), self._lines(types))
+
+    def _lines(self, nodes: List[Node]) -> int:
+        return sum(len(self.sources.entity(node).code) for node in nodes)
+
+    def counts(self) -> List[Tuple[str, Tuple[int, int, int, int, int]]]:
+        """The rows of the table of counts."""
+        steps = self.sources.steps
+        return [
+            ('`headline`, of one world', self.count(steps(self._seeds(HALVES[:1], OVER_TIME)))),
+            ('`settled`, of one world', self.count(steps(self._seeds(HALVES[1:], OVER_TIME)))),
+            ('both, of one world', self.count(self.of_one_world)),
+            ('both, with how a world comes about', self.count(self.with_worlds)),
+            ('these with `replayed`, `stays` and `authentic`', self.count(steps(self._seeds(HALVES + BESIDE)))),
+            ('all clauses of `run`', self.count(steps(self._seeds(self.contract.clauses)))),
+        ]
+
+    def types(self) -> List[Node]:
+        """The types that the shown definitions name."""
+        return sorted(node for node in self._named() if node.is_type)
+
+    def begins(self) -> List[Node]:
+        """The definitions that the shown text names, and that are neither shown nor listed."""
+        known = set(self.shown) | set(self.listed)
+        return sorted(node for node in self._named() if not node.is_type and node not in known)
+
+    def _named(self) -> Set[Node]:
+        """What the shown clauses and definitions name."""
+        clauses = self._seeds(name for name in self.contract.clauses if self._is_beside(name))
+        return set(clauses).union(*map(self.sources.cites, self.shown))
+
+    def _is_beside(self, clause: str) -> bool:
+        """Whether a clause stands in a paragraph that is shown."""
+        paragraphs = [self.contract.paragraph(name) for name in HALVES + BESIDE]
+        return self.contract.paragraph(clause) in paragraphs
+
+    def signs(self) -> Iterator[Tuple[str, str]]:
+        """Each sign and each word of the kit that the page shows, with the place at which it stands."""
+        for name in HALVES + BESIDE:
+            for sign in self._signs_of_clause(name):
+                yield sign, '%s: %s (%s)' % (self.file, FUNCTION, name)
+        for node in self.shown:
+            for sign in self._signs_of_definition(node):
+                yield sign, node.place
+
+    def _signs_of_clause(self, name: str) -> Iterator[str]:
+        uses = self.sources.rust(self.file).ghosts
+        yield from _plain_signs('\n'.join(self.contract.clauses[name]))
+        for cited in self.contract.cited(name):
+            if self.sources.by_uses(uses, cited) is None:
+                yield cited[0]
+
+    def _signs_of_definition(self, node: Node) -> Iterator[str]:
+        spec = self.sources.spec(node.file)
+        found = spec.definitions[node.name]
+        yield from _plain_signs('\n'.join(found.code))
+        yield from found.keywords()
+        for cited in spec.cited(found):
+            if self.sources.of_spec(node.file, cited) is None:
+                yield cited[0]
+
+
+def _plain_signs(shown: str) -> Iterator[str]:
+    """The tokens of a text that have no letter of a name and no digit."""
+    for token in tokens(shown):
+        if token.kind != 'text' and not any(sign.isascii() and sign.isalnum() for sign in token.text):
+            yield token.text
+
+
+def key(found: Headline) -> List[str]:
+    """The rows of the key that the shown text needs. Each sign that it uses is in one."""
+    used = dict((sign, place) for sign, place in reversed(list(found.signs())) if not sign.isdigit())
+    known = {sign for row in text.KEY for sign in row.signs.split()}
+    for sign, place in used.items():
+        if sign not in known:
+            raise NoSuchSign('%s uses `%s`, which the key of checks/headline_text.py has not' % (place, sign))
+    return ['| %s | %s |' % (row.shown, row.says) for row in text.KEY if set(row.signs.split()) & set(used)]
+
+
+def mark(lines: List[str]) -> str:
+    """A mark that changes with the text of a definition, its comments aside."""
+    return hashlib.sha256('\n'.join(lines).encode('utf-8')).hexdigest()[:MARK]
+
+
+def _clauses(found: Headline) -> List[str]:
+    """The paragraphs of the contract that the clauses stand in."""
+    paragraphs: List[List[str]] = []
+    for name in HALVES + BESIDE:
+        if found.contract.paragraph(name) not in paragraphs:
+            paragraphs.append(found.contract.paragraph(name))
+    lines = ['`%s: %s`' % (found.file, FUNCTION), '```text']
+    for paragraph in paragraphs:
+        lines += [line[4:] for line in paragraph] + ['']
+    return lines[:-1] + ['```', '']
+
+
+def _definitions(found: Headline) -> List[str]:
+    """A block for each definition, or for several of one file that follow each other."""
+    lines: List[str] = []
+    for _, nodes in groupby(found.shown, lambda node: node.file):
+        group = list(nodes)
+        lines += ['`%s`' % _place(group), '```text']
+        for node in group:
+            lines += found.sources.entity(node).shown + ['']
+        lines[-1:] = ['```', '']
+    return lines
+
+
+def _place(nodes: List[Node]) -> str:
+    """The place of several definitions or types of one file."""
+    return '%s: %s' % (nodes[0].file, ', '.join(node.name for node in nodes))
+
+
+def _places(nodes: List[Node]) -> str:
+    """The places of definitions or types, by their files."""
+    return '; '.join('`%s`' % _place(list(group)) for _, group in groupby(nodes, lambda node: node.file)) + '.'
+
+
+def _others(found: Headline) -> List[str]:
+    """A row for each file: each definition with its length and its mark."""
+    rows: Dict[str, List[str]] = {}
+    for node in sorted(found.listed):
+        code = found.sources.entity(node).code
+        rows.setdefault(node.file, []).append('%s %d %s' % (node.name, len(code), mark(code)))
+    table = ['| `%s` | %s |' % (file, ', '.join(names)) for file, names in rows.items()]
+    return ['| File | Definitions |', '|---|---|'] + table + ['']
+
+
+def _counts(found: Headline) -> List[str]:
+    table = ['| What | Definitions | Lines | Files | Types | Lines |', '|---|---|---|---|---|---|']
+    for what, numbers in found.counts():
+        table.append('| %s | %s |' % (what, ' | '.join('{:,}'.format(number) for number in numbers)))
+    return table + ['']
+
+
+def page(sources: Sources) -> str:
+    """The page, from the sources."""
+    found = Headline(sources)
+    lines = [text.BEGINNING, '## The clauses', '', text.CLAUSES, ''] + _clauses(found)
+    lines += ['## The signs', '', text.SIGNS, '', '| Sign | Says |', '|---|---|'] + key(found) + ['']
+    lines += ['## The definitions', '', text.DEFINITIONS, ''] + _definitions(found)
+    lines += [text.TYPES + ' ' + _places(found.types()), '', text.BEGINS + ' ' + _places(found.begins()), '']
+    lines += ['## The others', '', text.OTHERS, ''] + _others(found)
+    lines += ['## The counts', '', text.COUNTS, ''] + _counts(found)
+    return '\n'.join(lines).rstrip('\n') + '\n'

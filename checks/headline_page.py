@@ -8,8 +8,8 @@ from sources.closure import Node, NotFound, Sources
 from sources.lexing import tokens
 from sources.rust import Contract
 
-FILES = ('hn_run/src/run.rt', 'hncp/src/run.rt')
-"""Where the contract may be, below `crates`: it is in the first of these files that has the function."""
+FILE = 'hn_run/src/program.rt'
+"""Where the contract is, below `crates`."""
 FUNCTION = 'run'
 HALVES = ('headline', 'settled')
 """The clauses that the page is about: their definitions are shown, listed and counted."""
@@ -29,22 +29,16 @@ class NoSuchSign(Exception):
     """A text that the page shows uses a sign that the key has not."""
 
 
-def _file_of_contract(sources: Sources) -> str:
-    """The file that has the contract."""
-    for file in FILES:
-        rust = sources.rust(file)
-        if rust is not None and rust.has_function(FUNCTION):
-            return file
-    raise NotFound('%s in %s' % (FUNCTION, ' or '.join(FILES)))
-
-
 class Headline:
     """What the page says, as found in the sources."""
 
     def __init__(self, sources: Sources) -> None:
         self.sources = sources
-        self.file = _file_of_contract(sources)
-        self.contract: Contract = sources.rust(self.file).contract(FUNCTION)
+        self.file = FILE
+        rust = sources.rust(FILE)
+        if rust is None or not rust.has_function(FUNCTION):
+            raise NotFound('%s in %s' % (FUNCTION, FILE))
+        self.contract: Contract = rust.contract(FUNCTION)
         for clause in HALVES + BESIDE:
             if clause not in self.contract.clauses:
                 raise NotFound('the clause %s of %s in %s' % (clause, FUNCTION, self.file))

@@ -1,4 +1,4 @@
--- What was prepared, and then done, is the event.
+-- What was planned, and then done, is the event.
 use Rattle.std.specs.Option.{option_map}
 use Rattle.std.proofs.Common.{◌≡◌, ◌∙◌, ℕ, ◌^◌, ◌<◌, ◌≤◌, ◌-◌, ◌==◌, Bool, true, false, cond, List, [], ◌∷◌, ◌++◌, length, get_or, Option, Some, None, Result, Ok, Err, OnOk, slice_get, slice_set, refl, sym, subst, ap, arith}
 use Rattle.std.proofs.lemmas.List.{append-nil}
@@ -15,6 +15,7 @@ use Rattle.hn_router.specs.Act.{PlainEvent, Arrive, Tick, Happened}
 use Rattle.hn_rules.specs.Done.{nothing}
 use Rattle.hn_rules.specs.Still.{at_moment}
 use Rattle.hn_router.specs.New.{IsNew}
+use Rattle.hn_router.specs.Plan.{PlainPlan}
 use Rattle.hn_rules.specs.declared.done.Note.{Note}
 use Rattle.hn_rules.specs.declared.done.Publication.{Publication}
 use Rattle.hn_rules.specs.declared.state.State.{State}
@@ -22,13 +23,12 @@ use Rattle.hn_world.specs.declared.copies.MailCopy.{MailCopy}
 use Rattle.hn_world.specs.declared.event.WEvent.{WEvent}
 use Rattle.hn_world.specs.declared.event.WEvent.TheVariants as event
 use Rattle.hn_world.specs.declared.event.Traced.{Traced}
-use Rattle.hn_world.specs.declared.finish.Prepared.{Prepared}
 use Rattle.hn_world.specs.declared.member.Member.{Member}
 use Rattle.hn_world.specs.declared.parts.Parts.{Parts}
 use Rattle.hn_world.specs.Limits.{table_limit}
 use Rattle.hn_world.specs.Mail.{copies_of}
 use Rattle.hn_world.specs.Names.{is_named, router_place, member_named}
-use Rattle.hn_world.specs.Prepared.{IsPrepared}
+use Rattle.hn_world.specs.Planned.{IsPlanned}
 use Rattle.hn_world.specs.Refusal.{refusal, of_router, of_copy, unless_full_of_events, copy_at}
 use Rattle.hn_world.specs.Replay.{IsSound, IsSoundMember}
 use Rattle.hn_world.proofs.Places.{got_front, within, found_at}
@@ -39,11 +39,6 @@ use Rattle.hn_world.specs.Step.{ActsAt, Acts, DoesAt, Step, IsStep, IsInRange, a
 -- the name in a route
 abbrev name_in : Option (Name × PlainEvent) → Option Name
 name_in own = option_map (λ o. o.0) own
-
--- three clauses on an effect
-pub on_ok : {X Y : Type 0} (r : Result X Y) (P Q R S : Type 0) → (P → Q → R → S) → OnOk r P → OnOk r Q → OnOk r R → OnOk r S
-on_ok (Ok x) P Q R S f p q r = f p q r
-on_ok (Err e) P Q R S f p q r = tt
 
 -- ---- what an accepted event finds
 
@@ -76,45 +71,41 @@ named_nowhere name w none = find-none (is_named name) w.members (none_passes (is
 pub router_within : (name : List ℕ) (w : Parts) (place : ℕ) → router_place name w ≡ Some place → place < length w.members
 router_within name w place found = within (is_named name) w.members place found
 
+pub named_within : (name : Option Name) (w : Parts) (place : ℕ) → place_by name w ≡ Some place → place < length w.members
+named_within None w place found = absurd cc
+named_within (Some name) w place found = router_within (name_text name) w place found
+
 -- and it is no later than the world
 pub router_past : (w : Parts) (place : ℕ) → IsSound w → (m : Member) → slice_get w.members place ≡ Some m → m.router.moment ≤ w.moment
 router_past w place sound m at = (all_at (IsSoundMember w.moment) w.members place m at sound).past
 
-pub prepared_within : (place : ℕ) (event : PlainEvent) (told told_after : Option (ℕ → ℕ)) (w : Parts) (p : Prepared) → IsPrepared place event told told_after w p → p.place < length w.members
-prepared_within place event told told_after w p h =
-    let lt = slice_get_within w.members place h.member h.is_member in
-    let same = h.place_is in
-    omega arith
-
 -- ---- an event at a router
 
--- what is finished, of what was prepared
-abbrev pub IsFinished : WEvent → (Member → Member) → Parts → Prepared → Parts → Type 0
-IsFinished event change before p after =
-    (m : Member) → slice_get before.members p.place ≡ Some m → p.copies.items ≡ copies_of before.members p.place m p.plan.done.sends
-    → after ≡ entered (record { event = event; words = p.plan.done.words }) (acted change p.place m p.plan.state p.plan.done before)
+-- what is finished, of what was planned
+abbrev pub IsFinished : WEvent → (Member → Member) → ℕ → Parts → PlainPlan → Parts → Type 0
+IsFinished event change place before plan after =
+    (m : Member) → slice_get before.members place ≡ Some m
+    → after ≡ entered (record { event = event; words = plan.done.words }) (acted change place m plan.state plan.done before)
 
-module _ (change : Member → Member) (place : ℕ) (event : PlainEvent) (told told_after : Option (ℕ → ℕ)) (before : Parts) (p : Prepared) (h : IsPrepared place event told told_after before p) where
+module _ (change : Member → Member) (place : ℕ) (event : PlainEvent) (told told_after : Option (ℕ → ℕ)) (before : Parts) (plan : PlainPlan) (h : IsPlanned place event told told_after before plan) where
   -- the world after it
   abbrev did : Parts
-  did = acted change place h.member p.plan.state p.plan.done before
+  did = acted change place h.member plan.state plan.done before
 
   -- its next router
   abbrev next_member : Member
-  next_member = record h.member { router = p.plan.state }
+  next_member = record h.member { router = plan.state }
 
-  finished : (t : WEvent) (after : Parts) → IsFinished t change before p after → after ≡ entered (record { event = t; words = p.plan.done.words }) did
-  finished t after gives =
-      let world = gives h.member (ap (slice_get before.members) h.place_is ∙ h.is_member) (h.copies ∙ ap (λ (at : ℕ). copies_of before.members at h.member p.plan.done.sends) (sym h.place_is)) in
-      world ∙ ap (λ (at : ℕ). entered (record { event = t; words = p.plan.done.words }) (acted change at h.member p.plan.state p.plan.done before)) h.place_is
+  finished : (t : WEvent) (after : Parts) → IsFinished t change place before plan after → after ≡ entered (record { event = t; words = plan.done.words }) did
+  finished t after gives = gives h.member h.is_member
 
   -- what changes beside it may be said in another way
-  acts_at : (to : Member → Member) (notes : List Note) → change next_member ≡ to next_member → notes ≡ p.plan.done.notes → ActsAt to place event p.plan.done.words notes before did
+  acts_at : (to : Member → Member) (notes : List Note) → change next_member ≡ to next_member → notes ≡ plan.done.notes → ActsAt to place event plan.done.words notes before did
   acts_at to notes same noted = record {
     member = h.member;
     is_member = h.is_member;
-    next = p.plan.state;
-    done = p.plan.done;
+    next = plan.state;
+    done = plan.done;
     happened = h.happened;
     took = refl;
     noted = noted;
@@ -122,17 +113,17 @@ module _ (change : Member → Member) (place : ℕ) (event : PlainEvent) (told t
   }
 
   pub acted_step : (t : WEvent) (name : Name) (after : Parts) (notes : List Note) → refusal before t ≡ None → IsInRange t → routed t ≡ Some (name, event) → place_by (named_by t) before ≡ Some place
-      → change next_member ≡ beside t before next_member → IsFinished t change before p after → notes ≡ p.plan.done.notes → IsStep t notes told told_after before after
+      → change next_member ≡ beside t before next_member → IsFinished t change place before plan after → notes ≡ plan.done.notes → IsStep t notes told told_after before after
   acted_step t name after notes accepted in_range is found same gives noted =
       let named : place_by (named_by t) before ≡ router_place (name_text name) before = ap (λ (o : Option Name). place_by o before) (named_routed t (name, event) is) in
-      let acts : Acts (beside t before) name event p.plan.done.words notes before did = record { place = place; is_place = sym named ∙ found; acts = acts_at (beside t before) notes same noted } in
+      let acts : Acts (beside t before) name event plan.done.words notes before did = record { place = place; is_place = sym named ∙ found; acts = acts_at (beside t before) notes same noted } in
       record {
-        words = p.plan.done.words;
+        words = plan.done.words;
         step = record {
           accepted = accepted;
           in_range = in_range;
           between = did;
-          does = subst (λ (own : Option (Name × PlainEvent)). DoesAt t own p.plan.done.words notes before did) (sym is) acts;
+          does = subst (λ (own : Option (Name × PlainEvent)). DoesAt t own plan.done.words notes before did) (sym is) acts;
           gives = finished t after gives;
         };
         drew = h.drew;
@@ -159,32 +150,32 @@ receiver_within asked copy w c accepted found =
 abbrev pub arrival_of : MailCopy → PlainEvent
 arrival_of c = Arrive (record { endpoint = c.to.endpoint; from = c.from; multicast = c.multicast }) c.bytes
 
-module _ (copy : ℕ) (c : MailCopy) (told told_after : Option (ℕ → ℕ)) (before after : Parts) (p : Prepared) (at : copy_at before copy ≡ Some c) (h : IsPrepared c.to.place (arrival_of c) told told_after before p)
-    (gives : IsFinished (event.Deliver copy) (λ m. m) before p after) where
+module _ (copy : ℕ) (c : MailCopy) (told told_after : Option (ℕ → ℕ)) (before after : Parts) (plan : PlainPlan) (at : copy_at before copy ≡ Some c) (h : IsPlanned c.to.place (arrival_of c) told told_after before plan)
+    (gives : IsFinished (event.Deliver copy) (λ m. m) c.to.place before plan after) where
   abbrev done : Parts
-  done = did (λ m. m) c.to.place (arrival_of c) told told_after before p h
+  done = did (λ m. m) c.to.place (arrival_of c) told told_after before plan h
 
   -- the copy stands where it stood
   stays_there : slice_get after.copies (copy - 1) ≡ Some c
   stays_there =
-      let world = finished (λ m. m) c.to.place (arrival_of c) told told_after before p h (event.Deliver copy) after gives in
+      let world = finished (λ m. m) c.to.place (arrival_of c) told told_after before plan h (event.Deliver copy) after gives in
       ap (λ (w : Parts). slice_get w.copies (copy - 1)) world ∙ got_front before.copies _ (copy - 1) c (copy_there copy before c at).1
 
   pub stays_within : copy - 1 < length after.copies
   stays_within = slice_get_within after.copies (copy - 1) c stays_there
 
-  pub delivered_step : (copies : List MailCopy) (notes : List Note) → refusal before (event.Deliver copy) ≡ None → notes ≡ p.plan.done.notes
+  pub delivered_step : (copies : List MailCopy) (notes : List Note) → refusal before (event.Deliver copy) ≡ None → notes ≡ plan.done.notes
       → ((d : MailCopy) → slice_get after.copies (copy - 1) ≡ Some d → copies ≡ slice_set after.copies (copy - 1) (record d { waiting = false }))
       → IsStep (event.Deliver copy) notes told told_after before (record after { copies = copies })
   delivered_step copies notes accepted noted takes =
-      let world = finished (λ m. m) c.to.place (arrival_of c) told told_after before p h (event.Deliver copy) after gives in
+      let world = finished (λ m. m) c.to.place (arrival_of c) told told_after before plan h (event.Deliver copy) after gives in
       record {
-        words = p.plan.done.words;
+        words = plan.done.words;
         step = record {
           accepted = accepted;
           in_range = tt;
           between = taken copy c done;
-          does = record { mail = c; is_copy = (copy_there copy before c at).1; between = done; acts = acts_at (λ m. m) c.to.place (arrival_of c) told told_after before p h (λ m. m) notes refl noted; gives = refl };
+          does = record { mail = c; is_copy = (copy_there copy before c at).1; between = done; acts = acts_at (λ m. m) c.to.place (arrival_of c) told told_after before plan h (λ m. m) notes refl noted; gives = refl };
           gives = ap (λ (cs : List MailCopy). record after { copies = cs }) (takes c stays_there) ∙ ap (λ (w : Parts). record w { copies = slice_set w.copies (copy - 1) (record c { waiting = false }) }) world;
         };
         drew = h.drew;
@@ -204,20 +195,35 @@ quiet_step t notes told before after step none = record {
   drew = λ words. subst (λ (after : List ℕ). Drew told words told after) (sym (append-nil words)) (λ stream at. at);
 }
 
-pub begun_step : (name : Name) (id : NodeId) (before : Parts) (router : State) (m : Member) (p : Publication) (members : List Member) (published : List Publication) (trace : List Traced) (t : Traced) → refusal before (event.Router name id) ≡ None → id.0 < 2 ^ 32
-    → IsNew id (table_limit before.version) before.moment router → m ≡ record { name = name; running = true; router = router; attachments = [] } → p ≡ record { id = id; number = 1; body = router.own.body }
-    → t ≡ record { event = event.Router name id; words = [] } → members ≡ before.members ++ m ∷ [] → published ≡ before.published ++ p ∷ [] → trace ≡ before.trace ++ t ∷ []
-    → Step (record { event = event.Router name id; words = [] }) [] before (record before { members = members; published = published; trace = trace })
-begun_step name id before router m p members published trace t accepted fits new member publication event joined added entered = record {
-  accepted = accepted;
-  in_range = fits;
-  between = record before {
-    members = before.members ++ record { name = name; running = true; router = router; attachments = [] } ∷ [];
-    published = before.published ++ record { id = id; number = 1; body = router.own.body } ∷ [];
-  };
-  does = record { router = router; is_new = new; quietly = record { took = refl; noted = refl; gives = refl } };
-  gives = rw (joined, added, entered, member, publication, event) refl;
-}
+-- a new router, where the world before it was opened
+pub begun_step : (name : Name) (id : NodeId) (opened before : Parts) (limit now : ℕ) (router : State) (m : Member) (p : Publication) (members : List Member) (published : List Publication) (trace : List Traced) (t : Traced) → opened ≡ before
+    → refusal before (event.Router name id) ≡ None → id.0 < 2 ^ 32 → limit ≡ table_limit opened.version → now ≡ opened.moment → IsNew id limit now router
+    → m ≡ record { name = name; running = true; router = router; attachments = [] } → p ≡ record { id = id; number = 1; body = router.own.body } → t ≡ record { event = event.Router name id; words = [] }
+    → members ≡ opened.members ++ m ∷ [] → published ≡ opened.published ++ p ∷ [] → trace ≡ opened.trace ++ t ∷ []
+    → Step (record { event = event.Router name id; words = [] }) [] before (record opened { members = members; published = published; trace = trace })
+begun_step name id opened before limit now router m p members published trace t same accepted fits sized at new is_member is_publication is_event joined added is_entered =
+    let sized_new = subst (λ (l : ℕ). IsNew id l now router) sized new in
+    let new_now = subst (λ (n : ℕ). IsNew id (table_limit opened.version) n router) at sized_new in
+    record {
+      accepted = accepted;
+      in_range = fits;
+      between = record before {
+        members = before.members ++ record { name = name; running = true; router = router; attachments = [] } ∷ [];
+        published = before.published ++ record { id = id; number = 1; body = router.own.body } ∷ [];
+      };
+      does = record {
+        router = router;
+        is_new = subst (λ (w : Parts). IsNew id (table_limit w.version) w.moment router) same new_now;
+        quietly = record { took = refl; noted = refl; gives = refl };
+      };
+      gives =
+          rw (joined, added, is_entered, is_member, is_publication, is_event)
+          (ap (λ (w : Parts). record w {
+            members = w.members ++ record { name = name; running = true; router = router; attachments = [] } ∷ [];
+            published = w.published ++ record { id = id; number = 1; body = router.own.body } ∷ [];
+            trace = w.trace ++ record { event = event.Router name id; words = [] } ∷ [];
+          }) same);
+    }
 
 pub dropped_step : (copy : ℕ) (before : Parts) (copies : List MailCopy) (trace : List Traced) (t : Traced) → refusal before (event.Drop copy) ≡ None
     → t ≡ record { event = event.Drop copy; words = [] } → trace ≡ before.trace ++ t ∷ []

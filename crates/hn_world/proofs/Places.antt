@@ -1,11 +1,20 @@
 -- Elements at their places.
-use Rattle.std.proofs.Common.{◌≡◌, ◌∙◌, ◌<◌, ℕ, zero, suc, Bool, true, false, List, [], ◌∷◌, ◌++◌, cond, length, Option, Some, None, find, position, slice_get, slice_set, nat_lt, refl, sym, ap}
+use Rattle.std.proofs.Common.{◌≡◌, ◌∙◌, ◌<◌, ℕ, zero, suc, Bool, true, false, List, [], ◌∷◌, ◌++◌, cond, length, get_or, Option, Some, None, find, position, slice_get, slice_set, nat_lt, refl, sym, subst, ap}
 use Rattle.std.specs.List.{position_or_len}
 use Rattle.std.proofs.lemmas.List.Folds.{find_at}
 use Rattle.std.proofs.lemmas.List.{length-set}
 use Rattle.std.proofs.lemmas.List.Folds.{position_or_len-set}
 use Rattle.std.proofs.lemmas.List.Quantifiers.{position-Some}
-use Rattle.std.proofs.lemmas.Option.{get_or_from_slice_get}
+use Rattle.std.proofs.lemmas.Option.{get_or_from_slice_get, slice_get_read}
+
+-- an element that was read, where the list was opened
+pub read_at : {A : Type 0} (opened xs : List A) (i : ℕ) (x : A) → opened ≡ xs → i < length xs → x ≡ get_or opened i x → slice_get xs i ≡ Some x
+read_at {A} opened xs i x same lt is =
+    subst (λ (ys : List A). slice_get ys i ≡ Some x) same (slice_get_read opened (length opened) i x refl (subst (λ (ys : List A). i < length ys) (sym same) lt) is)
+
+-- there is one element at a place
+pub one_there : {A : Type 0} (xs : List A) (i : ℕ) (x y : A) → slice_get xs i ≡ Some x → slice_get xs i ≡ Some y → x ≡ y
+one_there xs i x y this that = cc
 
 -- an element that was put
 pub got_set : {A : Type 0} (xs : List A) (i : ℕ) (x y : A) → slice_get xs i ≡ Some x → slice_get (slice_set xs i y) i ≡ Some y

@@ -8,7 +8,7 @@ pub mod Routed
 pub mod Beside
 pub mod Refusal
 pub mod Step
-pub mod Prepared
+pub mod Planned
 pub mod Replay
 pub mod Leaves
 pub mod Within

@@ -71,8 +71,8 @@ impl Parts {
             unreachable!()
         };
         let beside = self.beside(alloc, &event, place)?;
-        let prepared = self.prepare(alloc, place, &own, draw)?;
-        self.finish(event, beside, prepared)
+        let plan = self.plan(alloc, place, &own, draw)?;
+        self.finish(alloc, event, beside, place, plan)
     }
 
     /// A copy is delivered to its endpoint.
@@ -96,8 +96,10 @@ impl Parts {
             multicast: mail.multicast,
             bytes: mail.bytes.get().as_slice(),
         };
-        let prepared = self.prepare(alloc, mail.to.place, &arrival, draw)?;
-        let notes = self.finish(WEvent::Deliver { copy }, Beside::Nothing, prepared)?;
+        let place = mail.to.place;
+        let plan = self.plan(alloc, place, &arrival, draw)?;
+        let event = WEvent::Deliver { copy };
+        let notes = self.finish(alloc, event, Beside::Nothing, place, plan)?;
         self.copies.take((copy - 1) as usize);
         Ok(notes)
     }

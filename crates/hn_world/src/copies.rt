@@ -156,14 +156,14 @@ impl Copies {
         self.first = next_waiting(self.items.as_slice(), self.first);
     }
 
-    /// Adds copies that wait.
+    /// Moves copies that wait to the end.
     ///
     /// # Errors
     ///
     /// Out of memory; the copies are as before then.
-    pub(crate) fn add(&mut self, mut more: Vec<MailCopy>) -> Result<(), NoMemory>
-        requires { All (λ c. c.waiting ≡ true) more.items }
-        ensures ok { OnOk result (self.new ≡ self.old ++ more.items) }
+    pub(crate) fn add(&mut self, more: &mut Vec<MailCopy>) -> Result<(), NoMemory>
+        requires { All (λ c. c.waiting ≡ true) more.old.items }
+        ensures ok { OnOk result (self.new ≡ self.old ++ more.old.items) }
         ensures err { OnErr result (self.new ≡ self.old) }
     {
         let count = more.len();
@@ -171,7 +171,7 @@ impl Copies {
             return Ok(());
         }
         let bytes = bytes_of(more.as_slice());
-        self.items.append(&mut more)?;
+        self.items.append(more)?;
         self.waiting += count;
         self.bytes = (self.bytes + bytes).min(MOST_BYTES);
         Ok(())

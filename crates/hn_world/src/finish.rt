@@ -1,92 +1,165 @@
 //! An event at a router: first what it would do, then all room, and only then the change.
 
-ghost use Rattle.std.specs.Prelude.{◌≡◌, ◌++◌, ◌∷◌, ◌≤◌, ◌^◌, ◌<◌, [], true, All, length, IfOk, OnOk, OnErr, Some};
-ghost use Rattle.std.specs.List.{slice_get};
-ghost use Rattle.hn_base.specs.Words.{Took};
-ghost use Rattle.hn_router.specs.Act.{plain_event, PlainEvent, Happened};
+ghost use Rattle.std.specs.Prelude.{◌≡◌, ◌+◌, ◌++◌, ◌∷◌, ◌≤◌, ◌<◌, [], true, All, length, vec_len, vec_capacity, IfOk, OnOk, OnErr, Some};
+ghost use Rattle.std.specs.List.{slice_get, slice_set};
+ghost use Rattle.hn_own.specs.Ports.{ArePorts};
+ghost use Rattle.hn_router.specs.Act.{plain_event};
 ghost use Rattle.hn_world.specs.declared.member.Member.{Member};
 ghost use Rattle.hn_world.specs.Beside.{with_beside};
 ghost use Rattle.hn_world.specs.Mail.{copies_of};
-ghost use Rattle.hn_world.specs.Step.{acted, entered};
-ghost use Rattle.hn_world.specs.Prepared.{IsPrepared};
+ghost use Rattle.hn_world.specs.Planned.{IsPlanned};
 ghost use Rattle.hn_world.specs.Replay.{IsSound};
+ghost use Rattle.hn_world.specs.Step.{acted, entered};
 
-use crate::copies::MailCopy;
+use crate::copies::Copies;
 use crate::event::{Traced, WEvent};
 use crate::mail::copies_of;
+use crate::member::Members;
 use crate::parts::Parts;
 use crate::routed::Beside;
 use hn_base::{NoMemory, Sequence};
 use hn_io::Draw;
 use hn_router::{Event, Plan};
-use hn_rules::{Done, Note};
+use hn_rules::{Done, Note, Publication};
 use std::alloc::Global;
 
-/// What an event at a router would do.
-#[derive(Drop)]
-pub(crate) struct Prepared {
+/// Makes room for what the router at a place would publish and for an event, and adds the copies of what it would send; or
+/// nothing.
+fn make_room(
+    alloc: Global,
+    members: &Members,
+    place: usize,
+    plan: &Plan,
+    published: &mut Vec<Publication>,
+    trace: &mut Vec<Traced>,
+    copies: &mut Copies,
+) -> Result<(), NoMemory>
+    requires there { place < length members.now }
+    requires ports { All (λ m. ArePorts m.router.ports) members.now }
+    ensures published { published.new.items ≡ published.old.items }
+    ensures trace { trace.new.items ≡ trace.old.items }
+    ensures publications_fit { OnOk result (vec_len published.new + length plan.now.done.published ≤ vec_capacity published.new) }
+    ensures event_fits { OnOk result (vec_len trace.new < vec_capacity trace.new) }
+    ensures copies { OnOk result ((m : Member) → slice_get members.now place ≡ Some m
+        → copies.new ≡ copies.old ++ copies_of members.now place m plan.now.done.sends) }
+    ensures err { OnErr result (copies.new ≡ copies.old) }
+{
+    published.reserve(plan.done().published.len())?;
+    trace.reserve(1)?;
+    let member = members.at(place);
+    let sends = plan.done().sends.as_slice();
+    let mut more = copies_of(alloc, members.as_slice(), place, member, sends)?;
+    copies.add(&mut more)
+}
+
+/// The plan, once there is room for it.
+fn with_room(
+    alloc: Global,
+    members: &Members,
     place: usize,
     plan: Plan,
-    copies: Vec<MailCopy>,
+    published: &mut Vec<Publication>,
+    trace: &mut Vec<Traced>,
+    copies: &mut Copies,
+) -> Result<Plan, NoMemory>
+    requires there { place < length members.now }
+    requires ports { All (λ m. ArePorts m.router.ports) members.now }
+    ensures plan { IfOk result (λ planned. planned ≡ plan) }
+    ensures published { published.new.items ≡ published.old.items }
+    ensures trace { trace.new.items ≡ trace.old.items }
+    ensures publications_fit { OnOk result (vec_len published.new + length plan.done.published ≤ vec_capacity published.new) }
+    ensures event_fits { OnOk result (vec_len trace.new < vec_capacity trace.new) }
+    ensures copies { OnOk result ((m : Member) → slice_get members.now place ≡ Some m
+        → copies.new ≡ copies.old ++ copies_of members.now place m plan.done.sends) }
+    ensures err { OnErr result (copies.new ≡ copies.old) }
+{
+    make_room(alloc, members, place, &plan, published, trace, copies)?;
+    Ok(plan)
+}
+
+/// Does what was planned for the router at a place, with what changes beside it, and records what it published and the
+/// event. There is room. Never allocates.
+fn settle(
+    members: &mut Members,
+    published: &mut Vec<Publication>,
+    trace: &mut Vec<Traced>,
+    event: WEvent,
+    beside: Beside,
+    place: usize,
+    plan: Plan,
+) -> Sequence<Note>
+    requires there { place < length members.old }
+    requires publications_fit { vec_len published.old + length plan.done.published ≤ vec_capacity published.old }
+    requires event_fits { vec_len trace.old < vec_capacity trace.old }
+    ensures members { (m : Member) → slice_get members.old place ≡ Some m
+        → members.new ≡ slice_set members.old place (with_beside beside (record m { router = plan.state })) }
+    ensures published { published.new.items ≡ published.old.items ++ plan.done.published }
+    ensures trace { trace.new.items ≡ trace.old.items ++ record { event = event; words = plan.done.words } ∷ [] }
+    ensures notes { result ≡ plan.done.notes }
+{
+    let Done {
+        notes,
+        published: more,
+        words,
+        ..
+    } = members.commit(place, plan, beside);
+    published.append(&mut more.into_vec()).unwrap();
+    trace.push_reserved(Traced { event, words });
+    notes
 }
 
 impl Parts {
     /// What an event at the router of a place would do; nothing changes.
-    pub(crate) fn prepare<D: Draw>(
+    pub(crate) fn plan<D: Draw>(
         &self,
         alloc: Global,
         place: usize,
         event: &Event<'_>,
         draw: &mut D,
-    ) -> Result<Prepared, NoMemory>
+    ) -> Result<Plan, NoMemory>
         requires there { place < length self.now.members }
         requires sound { IsSound self.now }
-        ensures { IfOk result (IsPrepared place (plain_event event.now) (D.words draw.old) (D.words draw.new) self.now) }
+        ensures { IfOk result (IsPlanned place (plain_event event.now) (D.words draw.old) (D.words draw.new) self.now) }
     {
         let member = self.members.at(place);
-        let plan = member.router.plan(alloc, event, self.moment.get(), draw)?;
-        let sends = plan.done().sends.as_slice();
-        let copies = copies_of(alloc, self.members.as_slice(), place, member, sends)?;
-        Ok(Prepared {
-            place,
-            plan,
-            copies,
-        })
+        member.router.plan(alloc, event, self.moment.get(), draw)
     }
 
-    /// Does what was prepared, with what changes beside the router, or nothing.
+    /// Does what was planned for the router at a place, with what changes beside it, or nothing.
     pub(crate) fn finish(
         &mut self,
+        alloc: Global,
         event: WEvent,
         beside: Beside,
-        prepared: Prepared,
+        place: usize,
+        plan: Plan,
     ) -> Result<Sequence<Note>, NoMemory>
-        requires there { prepared.place < length self.old.members }
-        requires waiting { All (λ c. c.waiting ≡ true) prepared.copies.items }
-        ensures world { OnOk result ((m : Member) → slice_get self.old.members prepared.place ≡ Some m
-            → prepared.copies.items ≡ copies_of self.old.members prepared.place m prepared.plan.done.sends
-            → self.new ≡ entered (record { event = event; words = prepared.plan.done.words }) (acted (with_beside beside) prepared.place m prepared.plan.state prepared.plan.done self.old)) }
-        ensures notes { IfOk result (λ notes. notes ≡ prepared.plan.done.notes) }
+        requires there { place < length self.old.members }
+        requires sound { IsSound self.old }
+        ensures world { OnOk result ((m : Member) → slice_get self.old.members place ≡ Some m
+            → self.new ≡ entered (record { event = event; words = plan.done.words }) (acted (with_beside beside) place m plan.state plan.done self.old)) }
+        ensures notes { IfOk result (λ notes. notes ≡ plan.done.notes) }
         ensures err { OnErr result (self.new ≡ self.old) }
     {
-        let Prepared {
+        let injected = self.trace.injected_with(&event);
+        let plan = with_room(
+            alloc,
+            &self.members,
             place,
             plan,
-            copies,
-        } = prepared;
-        let injected = self.trace.injected_with(&event);
-        self.published.items.reserve(plan.done().published.len())?;
-        self.trace.items.reserve(1)?;
-        self.copies.add(copies)?;
-        let Done {
-            notes,
-            published,
-            words,
-            ..
-        } = self.members.commit(place, plan, beside);
-        let mut published = published.into_vec();
-        self.published.items.append(&mut published).unwrap();
-        self.trace.items.push(Traced { event, words }).unwrap();
+            &mut self.published.items,
+            &mut self.trace.items,
+            &mut self.copies,
+        )?;
+        let notes = settle(
+            &mut self.members,
+            &mut self.published.items,
+            &mut self.trace.items,
+            event,
+            beside,
+            place,
+            plan,
+        );
         self.trace.injected = injected;
         Ok(notes)
     }

@@ -134,6 +134,18 @@ impl Member {
     }
 }
 
+/// A router looks at its clock before something is due for it. Never allocates.
+fn pass<D: Draw>(router: &mut Router, alloc: Global, now: Moment, draw: &mut D)
+    requires past { router.old.moment ≤ now }
+    requires in_range { now ≤ 2 ^ 48 }
+    requires undue { now < router.old.due }
+    ensures router { router.new ≡ at_moment now router.old }
+    ensures happened { Happened now Tick router.old (at_moment now router.old) nothing }
+    ensures undrawn { D.words draw.new ≡ D.words draw.old }
+{
+    router.act(alloc, &Event::Tick, now, draw).unwrap();
+}
+
 impl Members {
     /// No routers. Never allocates.
     pub(crate) fn new(alloc: Global) -> Members
@@ -216,10 +228,7 @@ impl Members {
         ensures happened { (m : Member) → slice_get self.old place ≡ Some m → Happened now Tick m.router (at_moment now m.router) nothing }
         ensures undrawn { D.words draw.new ≡ D.words draw.old }
     {
-        let router = &mut self.items[place].router;
-        if router.act(alloc, &Event::Tick, now, draw).is_err() {
-            unreachable!()
-        }
+        pass(&mut self.items[place].router, alloc, now, draw);
     }
 
     /// A router stops. Never allocates.

@@ -1,19 +1,17 @@
 //! Events at no router: a new router, a new link, the moment, a router that stops, a copy that is dropped.
 
-ghost use Rattle.std.specs.Prelude.{◌≡◌, ◌≤◌, ◌<◌, ◌^◌, ◌++◌, ◌∷◌, [], ℕ, List, Option, OnOk, OnErr, None, Some};
+ghost use Rattle.std.specs.Prelude.{◌≡◌, ◌⊎◌, ◌≤◌, ◌<◌, ◌^◌, ◌++◌, ◌∷◌, [], true, vec_len, vec_capacity, IfOk, OnOk, OnErr, None, Some};
 ghost use Rattle.hn_base.specs.Name.{name_text};
 ghost use Rattle.hn_world.specs.Names.{router_place};
-ghost use Rattle.hn_rules.specs.declared.done.Note.{Note};
+ghost use Rattle.hn_router.specs.New.{IsNew};
 ghost use Rattle.hn_world.specs.declared.event.WEvent.TheVariants as event;
 ghost use Rattle.hn_world.specs.Refusal.{refusal};
 ghost use Rattle.hn_world.specs.Step.{Step};
 
 use crate::event::{Traced, WEvent};
 use crate::limits::table_limit;
-use crate::links::Links;
-use crate::member::{Member, Members};
+use crate::member::Member;
 use crate::parts::Parts;
-use crate::published::Publications;
 use crate::trace::Trace;
 use hn_base::{Moment, Name, NoMemory, NodeId, Sequence, Words};
 use hn_router::Router;
@@ -41,46 +39,54 @@ pub(crate) fn enter(trace: &mut Trace, traced: Traced) -> Result<(), NoMemory>
     Ok(())
 }
 
-/// Adds a router, what it published and an event, or nothing.
-fn enter_router(
-    members: &mut Members,
-    published: &mut Publications,
-    trace: &mut Trace,
-    member: Member,
-    publication: Publication,
-    traced: Traced,
+/// Makes room for a router, a publication and an event; nothing is added.
+fn make_room(
+    members: &mut Vec<Member>,
+    published: &mut Vec<Publication>,
+    trace: &mut Vec<Traced>,
 ) -> Result<(), NoMemory>
-    ensures members { OnOk result (members.new ≡ members.old ++ member ∷ []) }
-    ensures published { OnOk result (published.new ≡ published.old ++ publication ∷ []) }
-    ensures trace { OnOk result (trace.new ≡ trace.old ++ traced ∷ []) }
-    ensures no_member { OnErr result (members.new ≡ members.old) }
-    ensures no_publication { OnErr result (published.new ≡ published.old) }
-    ensures no_trace { OnErr result (trace.new ≡ trace.old) }
+    ensures members { members.new.items ≡ members.old.items }
+    ensures publications { published.new.items ≡ published.old.items }
+    ensures entries { trace.new.items ≡ trace.old.items }
+    ensures member_fits { OnOk result (vec_len members.new < vec_capacity members.new) }
+    ensures publication_fits { OnOk result (vec_len published.new < vec_capacity published.new) }
+    ensures entry_fits { OnOk result (vec_len trace.new < vec_capacity trace.new) }
 {
-    members.items.reserve(1)?;
-    published.items.reserve(1)?;
-    enter(trace, traced)?;
-    members.items.push(member).unwrap();
-    published.items.push(publication).unwrap();
+    members.reserve(1)?;
+    published.reserve(1)?;
+    trace.reserve(1)?;
     Ok(())
 }
 
-/// Adds a link and an event, or neither.
-fn enter_link(
-    links: &mut Links,
-    trace: &mut Trace,
+/// A running router without attachments, under its name, and what it publishes first.
+fn new_member(
+    alloc: Global,
     name: Name,
-    traced: Traced,
-) -> Result<(), NoMemory>
-    ensures links { OnOk result (links.new ≡ links.old ++ name ∷ []) }
-    ensures trace { OnOk result (trace.new ≡ trace.old ++ traced ∷ []) }
-    ensures no_link { OnErr result (links.new ≡ links.old) }
-    ensures no_trace { OnErr result (trace.new ≡ trace.old) }
+    id: NodeId,
+    now: Moment,
+    limit: usize,
+) -> Result<(Member, Publication), NoMemory>
+    requires in_range { now ≤ 2 ^ 48 }
+    requires sized { (limit ≡ 256) ⊎ (limit ≡ 1024) }
+    ensures router { IfOk result (λ made. IsNew id limit now made.0.router) }
+    ensures member { IfOk result (λ made. made.0 ≡ record { name = name; running = true; router = made.0.router; attachments = [] }) }
+    ensures publication { IfOk result (λ made. made.1 ≡ record { id = id; number = 1; body = made.0.router.own.body }) }
 {
-    links.items.reserve(1)?;
-    enter(trace, traced)?;
-    links.items.push(name).unwrap();
-    Ok(())
+    let router = Router::sized(alloc, id, now, limit)?;
+    let body = router.body().share()?;
+    Ok((
+        Member {
+            name,
+            running: true,
+            router,
+            attachments: Sequence::new(alloc),
+        },
+        Publication {
+            id,
+            number: 1,
+            body,
+        },
+    ))
 }
 
 impl Parts {
@@ -96,28 +102,19 @@ impl Parts {
         ensures ok { OnOk result (Step (record { event = event.Router name id; words = [] }) [] self.old self.new) }
         ensures err { OnErr result (self.new ≡ self.old) }
     {
+        let injected = self.trace.injected_with(&WEvent::Router { name, id });
+        make_room(
+            &mut self.members.items,
+            &mut self.published.items,
+            &mut self.trace.items,
+        )?;
         let limit = table_limit(self.version);
-        let router = Router::sized(alloc, id, self.moment.get(), limit)?;
-        let publication = Publication {
-            id,
-            number: 1,
-            body: router.body().share()?,
-        };
-        let member = Member {
-            name,
-            running: true,
-            router,
-            attachments: Sequence::new(alloc),
-        };
-        let traced = without_words(alloc, WEvent::Router { name, id });
-        enter_router(
-            &mut self.members,
-            &mut self.published,
-            &mut self.trace,
-            member,
-            publication,
-            traced,
-        )
+        let (member, publication) = new_member(alloc, name, id, self.moment.get(), limit)?;
+        self.members.items.push_reserved(member);
+        self.published.items.push_reserved(publication);
+        self.trace.items.push_reserved(without_words(alloc, WEvent::Router { name, id }));
+        self.trace.injected = injected;
+        Ok(())
     }
 
     /// A new link.
@@ -126,8 +123,13 @@ impl Parts {
         ensures ok { OnOk result (Step (record { event = event.Link name; words = [] }) [] self.old self.new) }
         ensures err { OnErr result (self.new ≡ self.old) }
     {
-        let traced = without_words(alloc, WEvent::Link { name });
-        enter_link(&mut self.links, &mut self.trace, name, traced)
+        self.links.items.reserve(1)?;
+        enter(
+            &mut self.trace,
+            without_words(alloc, WEvent::Link { name }),
+        )?;
+        self.links.items.push_reserved(name);
+        Ok(())
     }
 
     /// The moment.

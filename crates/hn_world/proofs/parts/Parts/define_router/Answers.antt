@@ -1,18 +1,18 @@
-use Rattle.std.proofs.Common.{◌∙◌, ℕ, List, true, ap, subst}
-use Rattle.hn_router.specs.New.{IsNew}
+use Rattle.std.proofs.Common.{◌∙◌, List, [], ◌∷◌, ◌++◌, ap}
 use Rattle.hn_rules.specs.declared.done.Publication.{Publication}
-use Rattle.hn_world.specs.declared.member.Attachment.{Attachment}
+use Rattle.hn_world.specs.declared.event.Traced.{Traced}
 use Rattle.hn_world.specs.declared.member.Member.{Member}
-use Rattle.hn_world.specs.Limits.{table_limit}
-use Rattle.hn_world.proofs.Acting.{on_ok, begun_step}
+use Rattle.hn_world.proofs.Acting.{begun_step}
 use Rattle.hn_world.proofs.parts.Parts.define_router.Goals as goal
 
 pub returns-clause-ok : goal.returns-clause-ok
 returns-clause-ok c =
-    let router = c.in_ok-router.router in
-    let sized = subst (λ (limit : ℕ). IsNew c.args.id limit c.get.result router) c.table_limit-limit.ensures.limit c.in_ok-router.ensures in
-    let new = subst (λ (now : ℕ). IsNew c.args.id (table_limit c.args.self.now.version) now router) c.get.ensures.moment sized in
-    let member : _ = ap (λ (as' : List Attachment). let m : Member = record { name = c.args.name; running = true; router = router; attachments = as' } in m) c.new.ensures in
-    let publication : _ = ap (λ (body : List ℕ). let p : Publication = record { id = c.args.id; number = 1; body = body } in p) (c.in_ok-share.ensures ∙ c.body.ensures) in
-    on_ok c.enter_router.result _ _ _ _ (λ members published trace. begun_step c.args.name c.args.id c.args.self.now router _ _ c.enter_router.new.members c.enter_router.new.published c.enter_router.new.trace c.without_words-traced.result c.requires.accepted c.requires.in_range new member publication c.without_words-traced.ensures members published trace)
-    c.enter_router.ensures.members c.enter_router.ensures.published c.enter_router.ensures.trace
+    let member = c.in_ok-member.member in
+    let publication = c.in_ok-member.publication in
+    let traced = c.without_words.result in
+    begun_step c.args.name c.args.id _ c.args.self.now _ _ member.router member publication _ _ _ traced c.self.view_is
+    c.requires.accepted c.requires.in_range c.table_limit-limit.ensures.limit c.get.ensures.moment c.in_ok-member.ensures.router
+    c.in_ok-member.ensures.member c.in_ok-member.ensures.publication c.without_words.ensures
+    (c.push_reserved.ensures.items ∙ ap (λ (ms : List Member). ms ++ member ∷ []) c.make_room.ensures.members)
+    (c.push_reserved-2.ensures.items ∙ ap (λ (ps : List Publication). ps ++ publication ∷ []) c.make_room.ensures.publications)
+    (c.push_reserved-3.ensures.items ∙ ap (λ (ts : List Traced). ts ++ traced ∷ []) c.make_room.ensures.entries)

@@ -1,5 +1,5 @@
 -- The lines of each first word: some line begins with it, and what is after the word in all lines that do.
-use Rattle.std.proofs.Common.{◌≡◌, ◌≢◌, ◌⊎◌, ℕ, ◌==◌, ◌&&◌, ◌||◌, Bool, true, false, List, [], ◌∷◌, length, map, codes, Option, None, Err, inl, inr, refl, sym, subst, eq-eqb, arith, replicate, lit≤}
+use Rattle.std.proofs.Common.{◌≡◌, ◌≢◌, ◌⊎◌, ℕ, ◌==◌, ◌&&◌, ◌||◌, Bool, true, false, List, [], ◌∷◌, ◌++◌, length, map, Option, None, Err, inl, inr, refl, sym, subst, eq-eqb, arith, replicate, lit≤}
 use Rattle.std.proofs.lemmas.Bool.{false≢true, eqb-true, and_parts, or_left, or_right}
 use Rattle.hn_base.specs.declared.caps.Caps.{Caps as PriorityCaps}
 use Rattle.hn_base.specs.declared.ids.EpId.{EpId}
@@ -10,7 +10,7 @@ use Rattle.hn_base.specs.declared.name.Name.{Name}
 use Rattle.hn_base.specs.Prefix.{PlainPrefix}
 use Rattle.hn_script.specs.Fault.{IsUnknown, FirstWordFault}
 use Rattle.hn_script.specs.Field.{Field, Named, Node, Endpoint, Number, Prefixed, Capability, Way, Hex, Length}
-use Rattle.hn_script.specs.FirstWords.{IsOneOf, IsNoneOf, shared_words}
+use Rattle.hn_script.specs.FirstWords.{IsOneOf, IsNoneOf, shared_words, router_words, prefix_words, range_words}
 use Rattle.hn_script.specs.Line.{spelling, every_line, any_number, time_from, priority, lifetime}
 use Rattle.hn_script.specs.Reading.{ReadsFields}
 use Rattle.hn_script.specs.declared.line.How.{How}
@@ -251,7 +251,7 @@ inject_follows _ h = absurd (false≢true h)
 
 -- the first words that no other line shares what follows with, and those that lines share
 abbrev pub known_words : List (List ℕ)
-known_words = codes "router" ∷ codes "attach" ∷ codes "external" ∷ codes "withdraw" ∷ codes "caps" ∷ codes "private" ∷ codes "loss" ∷ codes "time" ∷ codes "run" ∷ codes "elect" ∷ shared_words
+known_words = range_words ++ prefix_words ++ router_words ++ shared_words
 
 known_first : (line : Line) → is_one_of known_words (spelling line).first ≡ true
 known_first (Router a b) = refl
@@ -265,3 +265,26 @@ unknown_word word none line has e = none_of known_words (spelling line).first wo
 pub first_letters : (line : Line) → is_letters (spelling line).first ≡ true
 first_letters (Router a b) = refl
 first_letters _ = refl
+
+-- ---- the lines that are of no other group
+
+-- a line of the words of routers is one of these
+pub no_other_of_router : (line : Line) → IsOneOf router_words (spelling line).first
+    → ((name : Name) (id : NodeId) → line ≢ Router name id) → ((name : Name) (e : EpId) (link : Name) → line ≢ Attach name e link)
+    → ((name : Name) (caps : PriorityCaps) → line ≢ Caps name caps) → ((name : Name) (e : EpId) (letter : Letter) → line ≢ Elect name e letter)
+    → ((name : Name) (e : EpId) (how : How) (bytes : List ℕ) → line ≢ Inject name e how bytes) → ⊥
+no_other_of_router (Router name id) one router attach caps elect inject = router name id refl
+no_other_of_router (Attach name e link) one router attach caps elect inject = attach name e link refl
+no_other_of_router (Caps name c) one router attach caps elect inject = caps name c refl
+no_other_of_router (Elect name e letter) one router attach caps elect inject = elect name e letter refl
+no_other_of_router (Inject name e how bytes) one router attach caps elect inject = inject name e how bytes refl
+no_other_of_router line one router attach caps elect inject = false≢true (one_of router_words (spelling line).first one)
+
+-- a line of the words of prefixes is one of these
+pub no_other_of_prefix : (line : Line) → IsOneOf prefix_words (spelling line).first
+    → ((name : Name) (prefix : PlainPrefix) (valid preferred : ℕ) → line ≢ External name prefix valid preferred)
+    → ((name : Name) (prefix : PlainPrefix) → line ≢ Withdraw name prefix) → ((name : Name) (bits : Option ℕ) → line ≢ Private name bits) → ⊥
+no_other_of_prefix (External name prefix valid preferred) one external withdraw private = external name prefix valid preferred refl
+no_other_of_prefix (Withdraw name prefix) one external withdraw private = withdraw name prefix refl
+no_other_of_prefix (Private name bits) one external withdraw private = private name bits refl
+no_other_of_prefix line one external withdraw private = false≢true (one_of prefix_words (spelling line).first one)

@@ -31,6 +31,22 @@ pair_words = codes "compare" ∷ codes "sync" ∷ []
 abbrev pub lone_words : List (List ℕ)
 lone_words = codes "flow" ∷ codes "mail" ∷ []
 
--- the words that share what is after them with others; and `inject`, whose bytes are read last
+-- the words that share what is after them with others
 abbrev pub shared_words : List (List ℕ)
-shared_words = name_words ++ endpoint_words ++ number_words ++ pair_words ++ lone_words ++ codes "inject" ∷ []
+shared_words = endpoint_words ++ number_words ++ pair_words ++ lone_words ++ name_words
+
+-- alone with a router and its node, an endpoint beside more, or capabilities
+abbrev pub router_words : List (List ℕ)
+router_words = codes "router" ∷ codes "attach" ∷ codes "caps" ∷ codes "elect" ∷ codes "inject" ∷ []
+
+-- alone with a prefix, or with the length of one
+abbrev pub prefix_words : List (List ℕ)
+prefix_words = codes "external" ∷ codes "withdraw" ∷ codes "private" ∷ []
+
+-- alone with numbers in a range
+abbrev pub range_words : List (List ℕ)
+range_words = codes "loss" ∷ codes "time" ∷ codes "run" ∷ []
+
+-- the words of version 2 alone
+abbrev pub later_words : List (List ℕ)
+later_words = codes "private" ∷ codes "address" ∷ codes "addresses" ∷ codes "addressed" ∷ codes "ula" ∷ codes "ulas" ∷ codes "sync" ∷ codes "radv" ∷ codes "solicit" ∷ []

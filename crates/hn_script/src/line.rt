@@ -1,6 +1,7 @@
 ghost use Rattle.std.specs.Prelude.{◌≡◌};
 ghost use Rattle.std.specs.Fmt.{WritesOnOk};
 ghost use Rattle.hn_script.specs.Field.{letter_text};
+ghost use Rattle.hn_script.specs.FirstWords.{IsOneOf, router_words, prefix_words};
 ghost use Rattle.hn_script.specs.Line.{spelling, values_text};
 
 use hn_base::{Bytes, Caps, EpId, Hex, Letter, LinkLength, Moment, Name, NodeId};
@@ -196,8 +197,44 @@ impl Line {
             | Line::Solicit(name, EpId(e)) => write!(f, " {name} {e}"),
             Line::Seed(n) | Line::Deliver(n) | Line::Drop(n) | Line::Time(n) => write!(f, " {n}"),
             Line::Compare(left, right) | Line::Sync(left, right) => write!(f, " {left} {right}"),
+            Line::Loss(percent) => write!(f, " {percent}"),
+            Line::Run(end, step) => write!(f, " {end} {step}"),
+            Line::Router(..)
+            | Line::Attach(..)
+            | Line::Caps(..)
+            | Line::Elect(..)
+            | Line::Inject(..) => self.write_of_router(f),
+            Line::External(..) | Line::Withdraw(..) | Line::Private(..) => self.write_of_prefix(f),
+        }
+    }
+
+    /// The same, of a line with a node, an endpoint and more, or capabilities.
+    fn write_of_router<W: fmt::Write>(&self, f: &mut fmt::Formatter<W>) -> fmt::Result
+        requires { IsOneOf router_words (spelling self.now).first }
+        ensures { WritesOnOk W.Write.write_str_gives f.old result (values_text (spelling self.now).fields) f.new }
+    {
+        match self {
             Line::Router(name, id) => write!(f, " {name} {id}"),
             Line::Attach(name, EpId(e), link) => write!(f, " {name} {e} {link}"),
+            Line::Caps(name, Caps { m, p, h, l }) => write!(f, " {name} {m} {p} {h} {l}"),
+            Line::Elect(name, EpId(e), letter) => {
+                let letter = letter_text(*letter);
+                write!(f, " {name} {e} {letter}")
+            }
+            Line::Inject(name, EpId(e), how, bytes) => {
+                let bytes = Hex(bytes.as_slice());
+                write!(f, " {name} {e} {how} {bytes}")
+            }
+            _ => unreachable!(),
+        }
+    }
+
+    /// The same, of a line with a prefix or the length of one.
+    fn write_of_prefix<W: fmt::Write>(&self, f: &mut fmt::Formatter<W>) -> fmt::Result
+        requires { IsOneOf prefix_words (spelling self.now).first }
+        ensures { WritesOnOk W.Write.write_str_gives f.old result (values_text (spelling self.now).fields) f.new }
+    {
+        match self {
             Line::External(name, prefix, valid, preferred) => {
                 let prefix = prefix.text();
                 write!(f, " {name} {prefix} {valid} {preferred}")
@@ -206,22 +243,14 @@ impl Line {
                 let prefix = prefix.text();
                 write!(f, " {name} {prefix}")
             }
-            Line::Caps(name, Caps { m, p, h, l }) => write!(f, " {name} {m} {p} {h} {l}"),
-            Line::Loss(percent) => write!(f, " {percent}"),
-            Line::Run(end, step) => write!(f, " {end} {step}"),
-            Line::Inject(name, EpId(e), how, bytes) => {
-                let bytes = Hex(bytes.as_slice());
-                write!(f, " {name} {e} {how} {bytes}")
-            }
-            Line::Elect(name, EpId(e), letter) => {
-                let letter = letter_text(*letter);
-                write!(f, " {name} {e} {letter}")
-            }
-            Line::Private(name, None) => write!(f, " {name} off"),
-            Line::Private(name, Some(length)) => {
-                let bits = length.get();
-                write!(f, " {name} {bits}")
-            }
+            Line::Private(name, length) => match length {
+                None => write!(f, " {name} off"),
+                Some(length) => {
+                    let bits = length.get();
+                    write!(f, " {name} {bits}")
+                }
+            },
+            _ => unreachable!(),
         }
     }
 }

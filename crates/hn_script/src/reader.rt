@@ -1,9 +1,9 @@
 //! The reading of a line.
 
-ghost use Rattle.std.specs.Prelude.{◌≡◌, ◌≢◌, ◌<◌, ◌≤◌, length, codes, Option, MatchResult, IfSome, IfNone};
+ghost use Rattle.std.specs.Prelude.{◌≡◌, ◌≢◌, ◌<◌, ◌≤◌, ◌∷◌, ◌++◌, length, codes, Option, MatchResult, IfSome, IfNone};
 ghost use Rattle.hn_script.specs.Fault.{IsPlain, TextFault, LineFault};
 ghost use Rattle.hn_script.specs.Entries.{IsEntry};
-ghost use Rattle.hn_script.specs.FirstWords.{IsOneOf, IsNoneOf, shared_words, name_words, endpoint_words, number_words, pair_words, lone_words};
+ghost use Rattle.hn_script.specs.FirstWords.{IsOneOf, IsNoneOf, shared_words, name_words, endpoint_words, number_words, pair_words, lone_words, router_words, prefix_words};
 ghost use Rattle.hn_script.specs.Line.{every_line, of_version};
 ghost use Rattle.hn_script.specs.Reading.{ReadsLine, ReadsDraft, ReadsText};
 ghost use Rattle.hn_script.specs.Texts.{words_of};
@@ -101,9 +101,9 @@ fn read_lone(word: &str, rest: &[u8]) -> Result<Line, u8>
     }
 }
 
-/// The line of a first word that no other line shares its values with, and the words in `rest`.
+/// The line of a first word that no other line shares its values with, unless the word is `inject`.
 fn read_sole(word: &str, rest: &[u8]) -> Result<Line, u8>
-    requires { IsNoneOf shared_words word.now }
+    requires { IsNoneOf (codes "inject" ∷ shared_words) word.now }
     ensures { ReadsLine every_line word.now (words_of rest.now) result }
 {
     match word {
@@ -115,6 +115,24 @@ fn read_sole(word: &str, rest: &[u8]) -> Result<Line, u8>
             let (name, endpoint, link) = attachment(rest)?;
             Ok(Line::Attach(name, endpoint, link))
         }
+        "caps" => {
+            let (name, caps) = name_and_caps(rest)?;
+            Ok(Line::Caps(name, caps))
+        }
+        "elect" => {
+            let (name, endpoint, letter) = candidacy(rest)?;
+            Ok(Line::Elect(name, endpoint, letter))
+        }
+        _ => read_prefixed(word, rest),
+    }
+}
+
+/// The same, where the word is none of those either: with a prefix or the length of one after it, or with numbers.
+fn read_prefixed(word: &str, rest: &[u8]) -> Result<Line, u8>
+    requires { IsNoneOf (router_words ++ shared_words) word.now }
+    ensures { ReadsLine every_line word.now (words_of rest.now) result }
+{
+    match word {
         "external" => {
             let (name, prefix, valid, preferred) = delegation(rest)?;
             Ok(Line::External(name, prefix, valid, preferred))
@@ -123,25 +141,41 @@ fn read_sole(word: &str, rest: &[u8]) -> Result<Line, u8>
             let (name, prefix) = name_and_prefix(rest)?;
             Ok(Line::Withdraw(name, prefix))
         }
-        "caps" => {
-            let (name, caps) = name_and_caps(rest)?;
-            Ok(Line::Caps(name, caps))
-        }
         "private" => {
             let (name, length) = name_and_length(rest)?;
             Ok(Line::Private(name, length))
         }
+        _ => read_ranged(word, rest),
+    }
+}
+
+/// The same, where the word is none of those either: with numbers in a range after it.
+fn read_ranged(word: &str, rest: &[u8]) -> Result<Line, u8>
+    requires { IsNoneOf (prefix_words ++ router_words ++ shared_words) word.now }
+    ensures { ReadsLine every_line word.now (words_of rest.now) result }
+{
+    match word {
         "loss" => Ok(Line::Loss(one_number(rest, 0, 100)? as u8)),
         "time" => Ok(Line::Time(moment(rest)?)),
         "run" => {
             let (end, step) = moment_and_span(rest)?;
             Ok(Line::Run(end, step))
         }
-        "elect" => {
-            let (name, endpoint, letter) = candidacy(rest)?;
-            Ok(Line::Elect(name, endpoint, letter))
-        }
         _ => Err(UNKNOWN),
+    }
+}
+
+/// The line of a first word that has no name alone after it, and the words in `rest`, unless the word is `inject`.
+fn read_unnamed(word: &str, rest: &[u8]) -> Result<Line, u8>
+    requires { IsNoneOf (codes "inject" ∷ name_words) word.now }
+    ensures { ReadsLine every_line word.now (words_of rest.now) result }
+{
+    match word {
+        "detach" | "advert" | "radv" | "solicit" => read_endpoint(word, rest),
+        "seed" | "deliver" | "drop" => read_number(word, rest),
+        "compare" | "sync" => read_pair(word, rest),
+        "flow" | "mail" => read_lone(word, rest),
+        _ => read_sole(word, rest),
     }
 }
 
@@ -165,11 +199,7 @@ fn read_line(word: &str, rest: &[u8]) -> Result<Line, u8>
         | "addressed"
         | "ula"
         | "ulas" => read_named(word, rest),
-        "detach" | "advert" | "radv" | "solicit" => read_endpoint(word, rest),
-        "seed" | "deliver" | "drop" => read_number(word, rest),
-        "compare" | "sync" => read_pair(word, rest),
-        "flow" | "mail" => read_lone(word, rest),
-        _ => read_sole(word, rest),
+        _ => read_unnamed(word, rest),
     }
 }
 
@@ -184,15 +214,12 @@ fn read_injected(rest: &[u8]) -> Result<Draft<'_>, u8>
 }
 
 /// The draft of this first word and the words in `rest`, whatever the version.
-fn read_known<'a>(word: &[u8], rest: &'a [u8]) -> Result<Draft<'a>, u8>
+fn read_known<'a>(word: &str, rest: &'a [u8]) -> Result<Draft<'a>, u8>
     ensures { ReadsDraft every_line word.now (words_of rest.now) result }
 {
-    if word == b"inject".as_slice() {
+    if word == "inject" {
         return read_injected(rest);
     }
-    let Ok(word) = str::from_utf8(word) else {
-        return Err(UNKNOWN);
-    };
     Ok(Draft::Whole(read_line(word, rest)?))
 }
 
@@ -200,6 +227,9 @@ fn read_known<'a>(word: &[u8], rest: &'a [u8]) -> Result<Draft<'a>, u8>
 fn read_draft<'a>(version: Version, word: &[u8], rest: &'a [u8]) -> Result<Draft<'a>, u8>
     ensures { ReadsDraft (of_version version) word.now (words_of rest.now) result }
 {
+    let Ok(word) = str::from_utf8(word) else {
+        return Err(UNKNOWN);
+    };
     if is_of_version(version, word) {
         return read_known(word, rest);
     }

@@ -3,6 +3,7 @@
 ghost use Rattle.std.specs.Prelude.{◌≡◌, ◌≢◌, MatchBool, IfSome, IfNone};
 ghost use Rattle.hn_base.specs.declared.version.Version.{Version};
 ghost use Rattle.hn_script.specs.Fault.{IsUnknown};
+ghost use Rattle.hn_script.specs.FirstWords.{IsOneOf, IsNoneOf, later_words};
 ghost use Rattle.hn_script.specs.Line.{of_version};
 ghost use Rattle.hn_script.specs.Reading.{AreOfVersion};
 ghost use Rattle.hn_script.specs.Script.{first_line};
@@ -30,23 +31,30 @@ pub(crate) fn version_of(text: &[u8]) -> Option<Version>
     (text == first_line(Version::Two)).then_some(Version::Two)
 }
 
+/// Whether this is a first word of version 2 alone.
+fn is_later(word: &str) -> bool
+    ensures { MatchBool result (IsOneOf later_words word.now) (IsNoneOf later_words word.now) }
+{
+    matches!(
+        word,
+        "private"
+            | "address"
+            | "addresses"
+            | "addressed"
+            | "ula"
+            | "ulas"
+            | "sync"
+            | "radv"
+            | "solicit"
+    )
+}
+
 /// Whether the lines that begin with this word are of this version; else none of them is. Never allocates.
-pub(crate) fn is_of_version(version: Version, word: &[u8]) -> bool
+pub(crate) fn is_of_version(version: Version, word: &str) -> bool
     ensures { MatchBool result (AreOfVersion version word.now) (IsUnknown (of_version version) word.now) }
 {
-    match word {
-        b"private"
-        | b"address"
-        | b"addresses"
-        | b"addressed"
-        | b"ula"
-        | b"ulas"
-        | b"sync"
-        | b"radv"
-        | b"solicit" => match version {
-            Version::One => false,
-            Version::Two => true,
-        },
-        _ => true,
+    match version {
+        Version::One => !is_later(word),
+        Version::Two => true,
     }
 }

@@ -4,8 +4,20 @@ The lines are those of docs/FORMATS.md, "The text of a datagram". The numbers be
 """
 import hashlib
 
+import re
+
 import common
 from common import Problem
+
+# The causes W of `bad why=W`, and of `malformed place=P why=W` (docs/FORMATS.md, "The text of a datagram").
+BAD = {1: 'fixed fields or the bytes of a prefix are missing', 2: 'what follows the fields is no pad of zeros and list of TLVs',
+       3: 'a prefix length above 128, or a bit that is set past the prefix length', 4: 'a user agent that is not in UTF-8'}
+MALFORMED = {1: 'one to three bytes are left, where type and length take four', 2: 'the length passes the end',
+             3: 'a pad byte is missing', 4: 'a pad byte is not zero'}
+# How many bytes the fields of a type take before its sub-TLVs; those of a prefix come on top (RFC 7787, section 7; RFC 7788,
+# section 10). HNCP-Version has a text to its end, and no sub-TLVs.
+FIXED = {1: 0, 2: 4, 3: 8, 4: 8, 5: 20, 8: 12, 9: 8, 33: 0, 34: 8, 35: 5, 36: 20}
+PREFIXED = (34, 35)
 
 
 class Item:
@@ -65,3 +77,27 @@ def hash_of(value):
 def network_state(states):
     """What a network state hash is made of: numbers and hashes in ascending order of nodes (RFC 7787, section 4.1.1)."""
     return b''.join(number + digest for _, number, digest in sorted(states))
+
+
+def first_fault(octets):
+    """The place and the cause of what is no list of TLVs, as `hncp decode` tells them, or None."""
+    found = re.match(r'malformed place=(\d+) why=(\d)$', common.decode(octets.hex())[0])
+    return found and (int(found.group(1)), int(found.group(2)))
+
+
+def fields_end(kind, value):
+    """Where the fields of a value end, which are all there."""
+    at = FIXED[kind]
+    return at + 1 + (value[at] + 7) // 8 if kind in PREFIXED else at
+
+
+def inner_fault(kind, value):
+    """Of a value that is `bad why=2`: the place within it, and the cause as of a datagram. Sub-TLVs begin at a multiple of 4,
+    after zeros (RFC 7787, section 7)."""
+    end = fields_end(kind, value)
+    start = end + -end % 4
+    for place in range(end, start):
+        if place >= len(value) or value[place]:
+            return place, 3 if place >= len(value) else 4
+    place, why = first_fault(value[start:])
+    return start + place, why

@@ -1,5 +1,6 @@
 """What `tools/check` tries the tools on: datagrams with faults, captures, and scripts, all from seeded generators."""
 import glob
+import ipaddress
 import os
 import random
 import struct
@@ -116,7 +117,13 @@ def mutants(seed, count):
 
 # Captures
 
+FILE_HEAD = struct.pack('<IHHiIII', 0xa1b2c3d4, 2, 4, 0, 0, 262144, 1)
 SOURCE, DESTINATION = bytes.fromhex('fe80' + 27 * '0' + '1'), bytes.fromhex('ff02' + 26 * '0' + '11')
+
+
+def packed(text):
+    """The bytes of an address."""
+    return ipaddress.ip_address(text).packed
 
 
 def checksum(data):
@@ -156,7 +163,7 @@ def icmp_error(packet):
 def write_capture(path, frames):
     """Writes frames a second apart; a pair has the bytes that the capture kept, and how many the frame had."""
     with open(path, 'wb') as file:
-        file.write(struct.pack('<IHHiIII', 0xa1b2c3d4, 2, 4, 0, 0, 262144, 1))
+        file.write(FILE_HEAD)
         for moment, frame in enumerate(frames):
             kept, length = frame if isinstance(frame, tuple) else (frame, len(frame))
             file.write(struct.pack('<IIII', moment, 0, len(kept), length) + kept)

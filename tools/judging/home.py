@@ -1,0 +1,189 @@
+"""The home at the end of a capture: which nodes, peers, links and prefixes, and what does not fit."""
+import ipaddress
+import itertools
+
+import items
+from judging.rules import Finding
+from judging.senders import KEEP_ALIVE
+from judging.states import ENDLESS, shown
+
+SILENCE = 2.1     # keep-alive intervals after which a peer is gone (RFC 7788, section 3)
+
+
+def network(text):
+    return ipaddress.ip_network(text)
+
+
+class Assigned:
+    """An assigned prefix: what it is, who published it, on which endpoint, and with which priority."""
+
+    def __init__(self, data, words):
+        self.state = data.state
+        self.post = data.state.node, int(words['endpoint'])
+        self.text, self.priority = words['prefix'], words['priority']
+        self.prefix = network(words['prefix'])
+
+
+class Home:
+    """The nodes as the last Node States of each say, at the moment of the last datagram."""
+
+    def __init__(self, states, senders, end):
+        self.states, self.senders, self.end = states, senders, end
+        self.latest = states.latest
+        self.data = {node: states.data[state.version] for node, state in self.latest.items() if state.version in states.data}
+        self.peers = {node: {(words['node'], int(words['endpoint']), int(words['own'])) for words in data.named('peer')}
+                      for node, data in self.data.items()}
+        self.heard = {endpoint: last for endpoint, last in senders.heard_last().items() if not self.is_silent(endpoint, last)}
+        self.reached = self.reach()
+        self.is_whole = self.knows_all()
+        self.links = self.find_links()
+        self.assigned = [Assigned(data, words) for node, data in self.data.items() if node in self.reached for words in data.named('assigned')]
+        self.delegated = self.find_delegated()
+
+    def is_silent(self, endpoint, last):
+        node, number = endpoint
+        said = self.senders.intervals.get(node, {})
+        seconds = said.get(number, said.get(0, KEEP_ALIVE))
+        return 0 < seconds * SILENCE < self.end - last.moment
+
+    def is_mutual(self, node, peer, endpoint, own):
+        return (node, own, endpoint) in self.peers.get(peer, ())
+
+    def reach(self):
+        """The nodes that are heard, and those that they reach by mutual peers (RFC 7787, section 4.6)."""
+        found, left = set(), [node for node, _ in self.heard]
+        while left:
+            node = left.pop()
+            if node not in found:
+                found.add(node)
+                left += [peer for peer, endpoint, own in self.peers.get(node, ()) if self.is_mutual(node, peer, endpoint, own)]
+        return found
+
+    def knows_all(self):
+        """Whether the capture has the latest data of all nodes that are reached, and of the peers that they name."""
+        named = {peer for node in self.reached for peer, _, _ in self.peers.get(node, ())}
+        return bool(self.reached) and all(node in self.data for node in self.reached | named)
+
+    def find_links(self):
+        """Of each endpoint its link: endpoints of mutual peers are on one (RFC 7788, section 6.1)."""
+        links = {}
+        posts = {(node, int(words['endpoint'])) for node in self.reached & set(self.data) for words in self.data[node].named('assigned')}
+        posts |= {(node, own) for node in self.reached for _, _, own in self.peers.get(node, ())} | set(self.heard)
+        for post in sorted(posts):
+            links[post] = {post}
+        for node in sorted(self.reached):
+            for peer, endpoint, own in self.peers.get(node, ()):
+                if self.is_mutual(node, peer, endpoint, own):
+                    joined = links.setdefault((node, own), {(node, own)}) | links.setdefault((peer, endpoint), {(peer, endpoint)})
+                    for post in joined:
+                        links[post] = joined
+        return links
+
+    def find_delegated(self):
+        """The delegated prefixes of the nodes that are reached: (prefix, node, valid and preferred seconds that are left)."""
+        found = []
+        for node in sorted(self.reached & set(self.data)):
+            latest = self.latest[node]
+            age = latest.age + self.end - latest.moment
+            for text, valid, preferred in self.data[node].delegated():
+                found.append((text, node, valid if valid == ENDLESS else valid - age, preferred if preferred == ENDLESS else preferred - age))
+        return found
+
+    def around(self, prefix):
+        """The delegated prefixes that have a prefix inside, the largest first."""
+        inside = {text for text, _, _, _ in self.delegated if prefix.subnet_of(network(text))}
+        return sorted(inside, key=lambda text: network(text).prefixlen)
+
+    # Findings
+
+    def judge(self, findings):
+        for each in self.assigned:
+            if self.is_whole and not self.around(each.prefix):
+                self.find(findings, 'inside-nothing', each.state, f'{shown(each.text)} of endpoint {each.post[1]} is inside no delegated prefix')
+        for one, other in itertools.combinations(self.assigned, 2):
+            self.judge_pair(findings, one, other)
+        self.judge_addresses(findings)
+
+    @staticmethod
+    def find(findings, rule, state, text):
+        findings.append(Finding(rule, state.frame, state.source, text, node=state.node))
+
+    def judge_pair(self, findings, one, other):
+        if other.state.frame < one.state.frame:
+            one, other = other, one
+        where = f'{shown(other.text)} of {name(other.post)}, and {shown(one.text)} of {name(one.post)} (frame {one.state.frame})'
+        same = other.post in self.links.get(one.post, {one.post})
+        if not same and one.prefix.overlaps(other.prefix):
+            self.find(findings, 'overlap', other.state, f'{where} overlap, on two links')
+        both = [text for text in self.around(one.prefix) if text in self.around(other.prefix)]
+        if same and one.prefix != other.prefix and both:
+            self.find(findings, 'two-prefixes', other.state, f'{where} are on one link, and both inside {shown(both[0])}')
+
+    def judge_addresses(self, findings):
+        first = {}
+        for node in sorted(self.reached & set(self.data)):
+            for words in self.data[node].named('address'):
+                address, state = words['address'], self.data[node].state
+                if self.is_whole and not any(network(address).subnet_of(each.prefix) for each in self.assigned):
+                    self.find(findings, 'address-outside', state, f'{shown(address)} is inside no assigned prefix')
+                if first.setdefault(address, node) != node:
+                    self.find(findings, 'address-twice', state, f'{shown(address)}, which node {first[address]} has too')
+
+    # The table
+
+    def lines(self):
+        for node in sorted(self.latest):
+            yield from self.node_lines(node)
+        for node in sorted(self.reached):
+            for peer, endpoint, own in sorted(self.peers.get(node, ())):
+                if not self.is_mutual(node, peer, endpoint, own):
+                    yield f'peer {name((node, own))} - {name((peer, endpoint))} mutual={"no" if peer in self.data else "unknown"}'
+                elif (node, own) < (peer, endpoint):
+                    yield f'peer {name((node, own))} - {name((peer, endpoint))} mutual=yes'
+        groups = sorted({tuple(sorted(link)) for link in self.links.values()})
+        for place, link in enumerate(groups, 1):
+            yield f'link {place}: {" ".join(map(name, link))}'
+            for each in sorted((each for each in self.assigned if each.post in link), key=lambda each: each.prefix):
+                inside = ','.join(map(shown, self.around(each.prefix))) or ('none' if self.is_whole else 'unknown')
+                yield f'  assigned {shown(each.text)} by={name(each.post)} priority={each.priority} inside={inside}'
+        yield from self.network_lines()
+
+    def node_lines(self, node):
+        latest, data = self.latest[node], self.data.get(node)
+        age = latest.age + self.end - latest.moment
+        where = f'data=frame {data.state.frame}' if data else 'data=unknown'
+        yield (f'node {node} number={latest.number} hash={latest.digest} age={age:.3f} s reached={"yes" if node in self.reached else "no"} {where}')
+        for (_, endpoint), last in sorted((pair for pair in self.senders.heard_last().items() if pair[0][0] == node), key=lambda pair: pair[0]):
+            silent = '' if (node, endpoint) in self.heard else f' silent since frame {last.frame}'
+            yield f'  endpoint {endpoint} source={last.source}{silent}'
+        for words in data.named('version') if data else []:
+            yield f'  version m={words["m"]} p={words["p"]} h={words["h"]} l={words["l"]} agent={agent(words["agent"])}'
+        for text, owner, valid, preferred in self.delegated:
+            if owner == node:
+                yield f'  delegated {shown(text)} valid={seconds(valid)} preferred={seconds(preferred)}'
+        for words in data.named('address') if data else []:
+            yield f'  address {shown(words["address"])} endpoint={words["endpoint"]}'
+
+    def network_lines(self):
+        parts = [self.latest[node].part for node in self.reached if node in self.latest]
+        if not parts:
+            return
+        made = items.hash_of(items.network_state(parts)).hex()
+        said = {name(sender.endpoint): sender.said[-1][1] for sender in self.senders.known.values()
+                if sender.said and sender.endpoint in self.heard}
+        yield f'hash {made} of these {len(parts)} reached node(s); said last:' + ''.join(
+            f' {post}={"the same" if digest == made else digest}' for post, digest in sorted(said.items()))
+
+
+def name(post):
+    return f'{post[0]}/{post[1]}'
+
+
+def seconds(left):
+    return 'endless' if left == ENDLESS else f'{left:.0f} s' if left > 0 else f'ended {-left:.0f} s ago'
+
+
+def agent(text):
+    """A user agent as text, what is no printable ASCII by escapes."""
+    octets = b'' if text == '-' else bytes.fromhex(text)
+    return '"' + ''.join(chr(each) if 32 <= each < 127 and each not in (34, 92) else f'\\x{each:02x}' for each in octets) + '"'

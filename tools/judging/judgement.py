@@ -1,0 +1,86 @@
+"""Judges datagrams, however they were come by."""
+import re
+
+import captures
+import items
+from judging.home import Home
+from judging.rules import TYPES, Finding
+from judging.senders import Senders
+from judging.states import HEAD, States, walk
+
+SLACK = 0.01    # seconds that moments may be off
+
+
+class Judgement:
+    """What was found in datagrams, which are taken in their order."""
+
+    def __init__(self, ports=(captures.PORT,), slack=SLACK):
+        self.findings = []
+        self.senders = Senders(self.findings, slack, ports)
+        self.states = States(self.findings, self.senders)
+        self.count, self.cut = 0, []
+        self.end = 0.0
+        self.home = None
+
+    def take(self, datagram):
+        self.count += 1
+        self.end = max(self.end, datagram.moment)
+        self.senders.take_frame(datagram)
+        if datagram.is_cut:
+            self.cut.append(datagram)
+            return
+        first, *rest = datagram.lines
+        fault = re.match(r'malformed place=(\d+) why=(\d)$', first)
+        if fault:
+            text = f'place={fault.group(1)} why={fault.group(2)}: {items.MALFORMED[int(fault.group(2))]}'
+            self.find('malformed', datagram, text)
+            return
+        found = items.tree(enumerate(rest, 2))
+        self.take_refused(datagram, found)
+        self.senders.take(datagram, found)
+        self.states.take(datagram, found)
+
+    def find(self, rule, datagram, text, **more):
+        self.findings.append(Finding(rule, datagram.frame, datagram.source, text, **more))
+
+    def take_refused(self, datagram, found):
+        """What `hncp decode` refuses of a datagram that is a list of TLVs, and where within it the fault is."""
+        for top in found:
+            node = top.words.get('node') if top.name == 'node-state' else None
+            for item in walk([top]):
+                value = datagram.payload[item.place + HEAD:item.place + HEAD + item.length]
+                if item.name == 'bad':
+                    self.take_bad(datagram, item, value, node)
+                elif 'body' in item.words and item is top:
+                    place, why = items.first_fault(bytes.fromhex(item.words['body']))
+                    place += item.place + HEAD + items.FIXED[item.kind]
+                    self.find('body', datagram, f'place={place} why={why} of the datagram: {items.MALFORMED[why]}', node=node)
+
+    def take_bad(self, datagram, item, value, node):
+        why, sections = int(item.words['why']), TYPES[item.kind]
+        text = f'place={item.place} type={item.kind} why={why}: {items.BAD[why]}'
+        self.find('bad', datagram, text, node=node, sections=f'RFC 7787, section 7; {sections}' if why == 2 else sections)
+        if why == 2:
+            place, cause = items.inner_fault(item.kind, value)
+            where = f'place {place} of the value, {item.place + HEAD + place} of the datagram'
+            if cause == 3 and place == len(value):
+                text = f'the length {item.length} of the TLV of type {item.kind} ends before the padding of its last sub-TLV: {where}'
+                self.find('no-padding', datagram, text, node=node)
+            else:
+                self.findings[-1].text += f'; {where}: {items.MALFORMED[cause]}'
+
+    def close(self):
+        """Ends it: the home as it is then is judged too, and the findings come in the order of frames."""
+        self.states.end()
+        self.home = Home(self.states, self.senders, self.end)
+        self.home.judge(self.findings)
+        self.findings.sort(key=lambda finding: finding.frame)
+
+
+def judge(datagrams, **settings):
+    """The judgement of all of these."""
+    made = Judgement(**settings)
+    for datagram in datagrams:
+        made.take(datagram)
+    made.close()
+    return made

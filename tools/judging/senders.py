@@ -1,0 +1,188 @@
+"""Who sends what, and when: sources, destinations, Node Endpoints, Trickle, keep-alives and requests."""
+import ipaddress
+
+from judging.rules import Finding
+
+GROUP = 'ff02::11'                        # All-Homenet-Nodes (RFC 7788, section 14)
+IMIN, IMAX = 0.2, 25.6                    # seconds: Imin, and Imin after 7 doublings (RFC 7788, section 3)
+DELAY = IMIN / 2                          # how late a keep-alive or a reply by multicast may come (RFC 7787, sections 4.4, 6.1.2)
+MOST_BYTES = 4000                         # that a node has to be able to receive (RFC 7788, section 3)
+KEEP_ALIVE = 20.0                         # seconds, unless the node says otherwise (RFC 7788, section 3)
+DATA_KINDS = (8, 9, *range(32, 44))       # types that have their place within node data alone
+
+
+def address_of(text):
+    try:
+        return ipaddress.ip_address(text)
+    except ValueError:
+        return None
+
+
+def is_link_local(text):
+    address = address_of(text)
+    return address is not None and address.version == 6 and address.is_link_local
+
+
+def is_multicast(text):
+    address = address_of(text)
+    return address is not None and address.is_multicast
+
+
+class Sender:
+    """What is remembered of a source on a link."""
+
+    def __init__(self):
+        self.endpoint = None       # (node, endpoint) of its last Node Endpoint
+        self.ports = set()         # the ports that it sent from
+        self.last = None           # its last datagram
+        self.state = None          # the last one with a Network State
+        self.multicast = None      # the last one by multicast: moment, hash, and the least time to the next of the same hash
+        self.interval = IMIN       # what Trickle's interval was at least, then
+        self.said = []             # (moment, hash) of its Network States
+        self.asked = []            # (moment, destination, whether it is the first to that destination)
+        self.knows = set()         # whom it asked
+
+
+class Senders:
+    """Takes the datagrams in their order, and adds what it finds."""
+
+    def __init__(self, findings, slack, ports):
+        self.findings = findings
+        self.slack = slack
+        self.ports = ports
+        self.known = {}            # (link, source) -> Sender
+        self.endpoints = {}        # (link, node, endpoint) -> the first source
+        self.intervals = {}        # node -> {endpoint: seconds}, by the Keep-Alive Intervals of its data
+
+    def of(self, datagram, address):
+        return self.known.setdefault((datagram.link, address), Sender())
+
+    def find(self, rule, datagram, text, **more):
+        self.findings.append(Finding(rule, datagram.frame, datagram.source, text, **more))
+
+    def take_frame(self, datagram):
+        """What addresses, ports and size say, of a datagram that may be cut or malformed."""
+        if not is_link_local(datagram.source):
+            self.find('far-source', datagram, 'the source is not link-local, so that each node ignores it')
+        multicast = is_multicast(datagram.destination)
+        if multicast and address_of(datagram.destination) != address_of(GROUP):
+            self.find('far-destination', datagram, f'a multicast to {datagram.destination}, and not to {GROUP}')
+        elif not multicast and not is_link_local(datagram.destination):
+            self.find('far-destination', datagram, f'the destination {datagram.destination} is not link-local')
+        sender = self.of(datagram, datagram.source)
+        sender.ports.add(datagram.source_port)
+        if datagram.port not in self.ports and datagram.port not in self.of(datagram, datagram.destination).ports:
+            what = 'a multicast' if multicast else f'a unicast to {datagram.destination}, which sent nothing from there,'
+            self.find('port', datagram, f'{what} to port {datagram.port}')
+        if datagram.length > MOST_BYTES:
+            self.find('long', datagram, f'{datagram.length} bytes, and a node need not be able to receive more than {MOST_BYTES}')
+
+    def take(self, datagram, found):
+        """What the items say."""
+        sender = self.of(datagram, datagram.source)
+        self.take_endpoints(sender, datagram, found)
+        for item in found:
+            if item.kind in DATA_KINDS:
+                self.find('misplaced', datagram, f'a TLV of type {item.kind} at place {item.place} of the datagram, outside of node data')
+        states = [item.words['hash'] for item in found if item.name == 'network-state']
+        if states:
+            self.take_state(sender, datagram, states[-1])
+        if any(item.name == 'request-network' for item in found) and not is_multicast(datagram.destination):
+            self.take_request(sender, datagram)
+        sender.last = datagram
+
+    # Node Endpoints
+
+    def take_endpoints(self, sender, datagram, found):
+        named = False
+        for item in found:
+            if item.name == 'network-state' and not named:
+                self.find('no-endpoint', datagram, f'a Network State at place {item.place}, and no Node Endpoint before it')
+            if item.name == 'node-endpoint':
+                named = True
+                self.take_endpoint(sender, datagram, item.words['node'], int(item.words['endpoint']))
+        if found and not named and not any(item.name == 'network-state' for item in found):
+            self.find('listener', datagram, 'no Node Endpoint: it asks and listens, and becomes nobody\'s peer')
+
+    def take_endpoint(self, sender, datagram, node, endpoint):
+        if endpoint == 0:
+            self.find('endpoint-zero', datagram, 'a Node Endpoint with endpoint 0', node=node)
+        if sender.endpoint not in (None, (node, endpoint)):
+            text = f'Node Endpoint {node}/{endpoint}, and {sender.endpoint[0]}/{sender.endpoint[1]} before'
+            self.find('other-endpoint', datagram, text, node=node)
+        sender.endpoint = node, endpoint
+        first = self.endpoints.setdefault((datagram.link, node, endpoint), datagram.source)
+        if first != datagram.source:
+            self.find('two-sources', datagram, f'Node Endpoint {node}/{endpoint} came from {first} before', node=node)
+            self.endpoints[datagram.link, node, endpoint] = datagram.source
+
+    # Trickle and keep-alives
+
+    def keep_alive_of(self, sender):
+        """The keep-alive interval of the source's endpoint in seconds, 0 for none, and whether its data say so."""
+        node, endpoint = sender.endpoint or (None, None)
+        said = self.intervals.get(node, {})
+        seconds = said.get(endpoint, said.get(0))
+        return (KEEP_ALIVE, False) if seconds is None else (seconds, True)
+
+    def take_state(self, sender, datagram, digest):
+        interval, is_said = self.keep_alive_of(sender)
+        last = sender.state
+        if last and interval and datagram.moment - last.moment > interval + DELAY + self.slack:
+            where = '' if is_said else ', which holds where the data say nothing else'
+            text = f'{datagram.moment - last.moment:.3f} s after frame {last.frame}; its keep-alive interval is {interval:g} s{where}'
+            self.find('too-late', datagram, text)
+        sender.state = datagram
+        sender.said = [each for each in sender.said if each[0] > datagram.moment - 1] + [(datagram.moment, digest)]
+        if is_multicast(datagram.destination):
+            self.take_multicast(sender, datagram, digest, interval)
+
+    def take_multicast(self, sender, datagram, digest, keep_alive):
+        """A reset begins an interval of Imin, so that the next multicast comes half of it later or more. Trickle is reset if the
+        hash changes, and not otherwise; so with the same hash each interval is twice the one before, up to Imax. A multicast
+        that comes when a keep-alive is due may be one; it begins an interval of the same length anew."""
+        last = sender.multicast
+        if last is None:
+            sender.interval, least = IMIN, IMIN
+        else:
+            frame, moment, before, least = last
+            gap = datagram.moment - moment
+            least = least if digest == before else IMIN / 2
+            if 0 <= gap < least - self.slack:
+                why = 'of the same hash ' if least > IMIN / 2 else ''
+                self.find('too-soon', datagram, f'a multicast {why}{gap:.3f} s after that of frame {frame}; Trickle waits {least:g} s or more')
+            if digest != before:
+                sender.interval, least = IMIN, IMIN
+            elif keep_alive and gap >= keep_alive - self.slack:
+                least = max(sender.interval / 2 - DELAY, 0)
+            else:
+                sender.interval = min(2 * sender.interval, IMAX)
+                least = min(sender.interval, IMAX / 2)
+        sender.multicast = datagram.frame, datagram.moment, digest, least
+
+    # Requests
+
+    def heard_from(self, datagram, address):
+        """The hashes that a source said lately enough to be answered now."""
+        earliest = datagram.moment - IMIN - DELAY - self.slack
+        return {digest for moment, digest in self.of(datagram, address).said if moment >= earliest}
+
+    def take_request(self, sender, datagram):
+        """At most one request for each hash within Imin on a link. The first one to a destination counts for that destination
+        alone, since a node may ask each one that it does not know (RFC 7787, section 4.5)."""
+        is_first = datagram.destination not in sender.knows
+        sender.knows.add(datagram.destination)
+        earliest = datagram.moment - IMIN + self.slack
+        sender.asked = [each for each in sender.asked if each[0] > earliest] + [(datagram.moment, datagram.destination, is_first)]
+        same = [each for each in sender.asked if each[1] == datagram.destination]
+        again = [each for each in sender.asked if not each[2]]
+        for asked, where in [(same, f' to {datagram.destination}'), (again, ' to nodes that it asked before')]:
+            hashes = set().union(*(self.heard_from(datagram, address) for _, address, _ in asked))
+            if len(asked) > max(1, len(hashes)):
+                text = f'{len(asked)} requests within {datagram.moment - asked[0][0]:.3f} s{where}, for {max(1, len(hashes))} hash(es)'
+                self.find('asks-often', datagram, text)
+                return
+
+    def heard_last(self):
+        """Of each Node Endpoint the last datagram of its source: (node, endpoint) -> datagram."""
+        return {sender.endpoint: sender.last for sender in self.known.values() if sender.endpoint}

@@ -1,0 +1,244 @@
+"""What Node States say: numbers, hashes, ages, and the data of nodes."""
+import re
+
+import items
+from judging.rules import DNCP, HNCP, TYPES, Finding
+from judging.senders import DATA_KINDS, is_multicast
+
+HEAD, FIELDS = 4, 20                 # bytes of type and length, and of the fields of a Node State
+TOGETHER = 0.1                       # seconds within which the parts of one answer follow each other
+ENDLESS = 2 ** 32 - 1                # a lifetime that never ends
+OLDEST = 2 ** 32 - 2 ** 15           # milliseconds (RFC 7787, section 4.6)
+AGE_SLACK, AGE_DRIFT = 1.0, 0.002    # seconds that an age may be off, and by how much of the time that went by
+RESERVED_CAPABILITY = 8
+HOME_KINDS = 32                      # types from here on count beside an HNCP-Version alone (RFC 7788, section 4)
+
+
+def is_older(one, other):
+    """Whether one number is older than the other; numbers wrap (RFC 7787, section 4.4)."""
+    return one != other and (one - other) % 2 ** 32 >= 2 ** 31
+
+
+def walk(found):
+    for item in found:
+        yield item
+        yield from walk(item.below)
+
+
+class State:
+    """A Node State as a datagram shows it."""
+
+    def __init__(self, datagram, item):
+        self.node = item.words['node']
+        self.number, self.age = int(item.words['number']), int(item.words['age']) / 1000
+        self.digest = item.words['hash']
+        self.frame, self.moment, self.source = datagram.frame, datagram.moment, datagram.source
+        self.item = item
+        at = item.place + HEAD
+        self.octets = datagram.payload[at + FIELDS:at + item.length]
+
+    @property
+    def version(self):
+        return self.node, self.number, self.digest
+
+    @property
+    def part(self):
+        """What a network state hash is made of."""
+        return bytes.fromhex(self.node), self.number.to_bytes(4, 'big'), bytes.fromhex(self.digest)
+
+
+class Data:
+    """The data of a node, with the state that showed them first: what a home is judged by."""
+
+    def __init__(self, state):
+        self.state = state
+        self.below = state.item.below
+
+    def named(self, name):
+        return [item.words for item in self.below if item.name == name]
+
+    def delegated(self):
+        """The delegated prefixes, each with both lifetimes in seconds."""
+        for external in self.below:
+            for item in external.below if external.name == 'external' else []:
+                if item.name == 'delegated':
+                    yield item.words['prefix'], int(item.words['valid']), int(item.words['preferred'])
+
+
+class Answer:
+    """An answer to a Request Network State, perhaps in several datagrams."""
+
+    def __init__(self, datagram, digest):
+        self.datagram, self.digest = datagram, digest
+        self.moment = datagram.moment
+        self.states = []
+
+    def is_right(self):
+        """Whether the hash is that of the states, or of those without data: other answers may stand beside them."""
+        for states in (self.states, [each for each in self.states if not each.octets]):
+            parts = {state.node: state.part for state in states}
+            if items.hash_of(items.network_state(parts.values())).hex() == self.digest:
+                return True
+        return False
+
+
+class States:
+    """Takes the Node States in their order, and adds what it finds."""
+
+    def __init__(self, findings, senders):
+        self.findings = findings
+        self.senders = senders
+        self.hashes = {}       # (node, number) -> {hash: frame}
+        self.shown = {}        # (link, source, node) -> the number that it showed last
+        self.origins = {}      # (node, number, hash) -> (origination, moment) of the first state
+        self.data = {}         # (node, number, hash) -> Data
+        self.latest = {}       # node -> State
+        self.answers = {}      # (link, source, destination) -> Answer
+        self.told = set()
+
+    def find(self, rule, state, text, **more):
+        self.findings.append(Finding(rule, state.frame, state.source, text, node=state.node, **more))
+
+    def once(self, rule, state, text, about):
+        """Adds a finding on the data of a node once, whoever shows them again."""
+        if (rule, state.version, about) not in self.told:
+            self.told.add((rule, state.version, about))
+            self.find(rule, state, text)
+
+    def take(self, datagram, found):
+        states = [State(datagram, item) for item in found if item.name == 'node-state']
+        for state in states:
+            self.take_number(datagram, state)
+            self.take_hash(state)
+            self.take_age(state)
+            if state.octets:
+                self.take_data(datagram, state)
+            self.take_lifetimes(state)
+        if not is_multicast(datagram.destination):
+            digests = [item.words['hash'] for item in found if item.name == 'network-state']
+            self.take_answer(datagram, digests[-1:], states)
+
+    def take_number(self, datagram, state):
+        key = datagram.link, datagram.source, state.node
+        before = self.shown.get(key)
+        sender = self.senders.of(datagram, datagram.source).endpoint
+        is_own = sender is not None and sender[0] == state.node
+        if before is not None and is_older(state.number, before):
+            why = 'its own number; it began anew, or another node has its identifier' if is_own else 'of what it knows of the node'
+            self.find('number-falls', state, f'number {state.number} after {before}, {why}')
+        self.shown[key] = state.number
+        latest = self.latest.get(state.node)
+        if latest is None or is_own or not is_older(state.number, latest.number):
+            self.latest[state.node] = state
+
+    def take_hash(self, state):
+        known = self.hashes.setdefault((state.node, state.number), {})
+        if known and state.digest not in known:
+            other, frame = next(iter(known.items()))
+            self.find('two-hashes', state, f'number {state.number} with the hash {state.digest}, and with {other} in frame {frame}')
+        known.setdefault(state.digest, state.frame)
+
+    def take_age(self, state):
+        if state.age * 1000 >= OLDEST:
+            self.find('too-old', state, f'the age is {state.age:.3f} s; from {OLDEST / 1000:.3f} s on the data no longer count')
+            return
+        origin, first = state.moment - state.age, self.origins.setdefault(state.version, state)
+        off, since = origin - (first.moment - first.age), abs(state.moment - first.moment)
+        if abs(off) > AGE_SLACK + AGE_DRIFT * since:
+            way = 'less' if off > 0 else 'more'
+            text = (f'number {state.number} is {state.age:.3f} s old, {abs(off):.3f} s {way} than frame {first.frame} says '
+                    f'({first.age:.3f} s, {state.moment - first.moment:.3f} s before)')
+            self.find('age', state, text)
+            self.origins[state.version] = state
+
+    def take_data(self, datagram, state):
+        made = items.hash_of(state.octets).hex()
+        if made != state.digest:
+            self.find('data-hash', state, f'number {state.number} has the hash {state.digest}, and its data give {made}')
+        elif state.version not in self.data and 'body' not in state.item.words:
+            self.data[state.version] = Data(state)
+            said = {int(words['endpoint']): int(words['interval']) / 1000 for words in reversed(self.data[state.version].named('keep-alive'))}
+            self.senders.intervals[state.node] = said
+        if 'body' not in state.item.words:
+            self.take_items(datagram, state)
+
+    def take_items(self, datagram, state):
+        """What the items within the data say, each found once."""
+        below = state.item.below
+        counted = [item.kind for item in below if item.kind > HOME_KINDS and item.kind in DATA_KINDS]
+        if not any(item.name == 'version' for item in below):
+            ignored = f'; others ignore its TLVs of the types {", ".join(map(str, sorted(set(counted))))}' if counted else ''
+            self.once('no-version', state, f'number {state.number} has no HNCP-Version{ignored}', '')
+        for item in below:
+            if item.kind < 6 or item.kind == 34:
+                where = f'{DNCP}, section 7' if item.kind < 6 else f'{HNCP}, section 10.2.1'
+                text = f'a TLV of type {item.kind} at place {item.place} of the datagram, directly within node data'
+                self.misplaced(state, text, where)
+        for item in walk(below):
+            value = datagram.payload[item.place + HEAD:item.place + HEAD + item.length]
+            if item.name == 'peer' and '0' in (item.words['endpoint'], item.words['own']):
+                self.once('endpoint-zero', state, f'a Peer of node {item.words["node"]} with endpoint 0', item.words['node'])
+            if item.name == 'version':
+                self.take_version(state, item, value)
+            if item.name == 'assigned' and value[4] & 0xf0:
+                self.once('reserved', state, f'reserved bits of the Assigned-Prefix {item.words["prefix"]} are set', item.words['prefix'])
+
+    def misplaced(self, state, text, where):
+        if ('misplaced', state.version, text) not in self.told:
+            self.told.add(('misplaced', state.version, text))
+            self.find('misplaced', state, text, sections=where)
+
+    def take_version(self, state, item, value):
+        high = [f'{name.upper()}={item.words[name]}' for name in 'mphl' if int(item.words[name]) >= RESERVED_CAPABILITY]
+        if high:
+            self.once('capability', state, f'{" ".join(high)} of the HNCP-Version; 8 to 15 are reserved', '')
+        if any(value[:2]):
+            self.once('reserved', state, 'reserved bits of the HNCP-Version are set', 'version')
+
+    def take_lifetimes(self, state):
+        """Lifetimes count from the origination of the data: a state without the data tells their age too."""
+        known = self.data.get(state.version)
+        for prefix, valid, _ in known.delegated() if known else []:
+            left = valid - state.age
+            if valid != ENDLESS and left <= 0:
+                text = f'{shown(prefix)} was valid for {valid} s, and number {state.number} is {state.age:.3f} s old: it ended {-left:.3f} s ago'
+                self.once('ended', state, text, prefix)
+
+    # Network state hashes
+
+    def take_answer(self, datagram, digests, states):
+        key = datagram.link, datagram.source, datagram.destination
+        answer = self.answers.get(key)
+        if digests or answer and datagram.moment - answer.moment > TOGETHER:
+            self.close(key)
+            answer = None
+        if digests:
+            answer = self.answers[key] = Answer(datagram, digests[0])
+        if answer and states:
+            answer.states += states
+            answer.moment = datagram.moment
+            if answer.is_right():
+                del self.answers[key]
+
+    def close(self, key):
+        """Ends an answer, whose hash none of its parts came to."""
+        answer = self.answers.pop(key, None)
+        if answer and answer.states:
+            states = {state.node for state in answer.states}
+            text = f'the network state hash {answer.digest} is not that of the {len(states)} Node State(s) of the answer'
+            self.findings.append(Finding('network-hash', answer.datagram.frame, answer.datagram.source, text))
+
+    def end(self):
+        for key in list(self.answers):
+            self.close(key)
+
+
+def shown(text):
+    """A prefix or an address, as IPv4 where it is IPv4-mapped (RFC 4291, section 2.5.5.2)."""
+    address, _, length = text.partition('/')
+    found = re.match(r'::ffff:([0-9a-f]{1,4}):([0-9a-f]{1,4})$', address)
+    if found and (not length or int(length) >= 96):
+        high, low = (int(each, 16) for each in found.groups())
+        octets = high >> 8, high & 255, low >> 8, low & 255
+        return '.'.join(map(str, octets)) + (f'/{int(length) - 96}' if length else '')
+    return text

@@ -8,6 +8,7 @@ from judging.senders import KEEP_ALIVE
 from judging.states import ENDLESS, shown
 
 SILENCE = 2.1     # keep-alive intervals after which a peer is gone (RFC 7788, section 3)
+REST = 10.0       # seconds after which an assignment is applied, if nobody objects (RFC 7695, section 4.3; RFC 7788, section 6.3.3)
 
 
 def network(text):
@@ -39,6 +40,7 @@ class Home:
         self.links = self.find_links()
         self.assigned = [Assigned(data, words) for node, data in self.data.items() if node in self.reached for words in data.named('assigned')]
         self.delegated = self.find_delegated()
+        self.young = []      # what does not fit, in a home that changed too lately to be judged
 
     def is_silent(self, endpoint, last):
         node, number = endpoint
@@ -83,8 +85,7 @@ class Home:
         """The delegated prefixes of the nodes that are reached: (prefix, node, valid and preferred seconds that are left)."""
         found = []
         for node in sorted(self.reached & set(self.data)):
-            latest = self.latest[node]
-            age = latest.age + self.end - latest.moment
+            age = self.age(node)
             for text, valid, preferred in self.data[node].delegated():
                 found.append((text, node, valid if valid == ENDLESS else valid - age, preferred if preferred == ENDLESS else preferred - age))
         return found
@@ -97,37 +98,50 @@ class Home:
     # Findings
 
     def judge(self, findings):
+        findings += self.judge_lifetimes()
+        fits_not = [*self.judge_inside(), *self.judge_pairs(), *self.judge_addresses()]
+        if min(map(self.age, self.reached & set(self.latest)), default=0) < REST:
+            self.young = fits_not
+        else:
+            findings += fits_not
+
+    def age(self, node):
+        """How old the last data of a node are at the end, in seconds."""
+        return self.latest[node].age + self.end - self.latest[node].moment
+
+    def judge_lifetimes(self):
+        """What ended after the last Node State that told the age."""
+        for text, node, valid, _ in self.delegated:
+            state = self.latest[node]
+            if valid <= 0 and ('ended', state.version, text) not in self.states.told:
+                yield finding('ended', state, f'{shown(text)} ended {-valid:.3f} s before the end of the capture')
+
+    def judge_inside(self):
         for each in self.assigned:
             if self.is_whole and not self.around(each.prefix):
-                self.find(findings, 'inside-nothing', each.state, f'{shown(each.text)} of endpoint {each.post[1]} is inside no delegated prefix')
+                yield finding('inside-nothing', each.state, f'{shown(each.text)} of endpoint {each.post[1]} is inside no delegated prefix')
+
+    def judge_pairs(self):
         for one, other in itertools.combinations(self.assigned, 2):
-            self.judge_pair(findings, one, other)
-        self.judge_addresses(findings)
+            if other.state.frame < one.state.frame:
+                one, other = other, one
+            where = f'{shown(other.text)} of {name(other.post)}, and {shown(one.text)} of {name(one.post)} (frame {one.state.frame})'
+            same = other.post in self.links.get(one.post, {one.post})
+            if not same and one.prefix.overlaps(other.prefix):
+                yield finding('overlap', other.state, f'{where} overlap, on two links')
+            both = [text for text in self.around(one.prefix) if text in self.around(other.prefix)]
+            if same and one.prefix != other.prefix and both:
+                yield finding('two-prefixes', other.state, f'{where} are on one link, and both inside {shown(both[0])}')
 
-    @staticmethod
-    def find(findings, rule, state, text):
-        findings.append(Finding(rule, state.frame, state.source, text, node=state.node))
-
-    def judge_pair(self, findings, one, other):
-        if other.state.frame < one.state.frame:
-            one, other = other, one
-        where = f'{shown(other.text)} of {name(other.post)}, and {shown(one.text)} of {name(one.post)} (frame {one.state.frame})'
-        same = other.post in self.links.get(one.post, {one.post})
-        if not same and one.prefix.overlaps(other.prefix):
-            self.find(findings, 'overlap', other.state, f'{where} overlap, on two links')
-        both = [text for text in self.around(one.prefix) if text in self.around(other.prefix)]
-        if same and one.prefix != other.prefix and both:
-            self.find(findings, 'two-prefixes', other.state, f'{where} are on one link, and both inside {shown(both[0])}')
-
-    def judge_addresses(self, findings):
+    def judge_addresses(self):
         first = {}
         for node in sorted(self.reached & set(self.data)):
             for words in self.data[node].named('address'):
                 address, state = words['address'], self.data[node].state
                 if self.is_whole and not any(network(address).subnet_of(each.prefix) for each in self.assigned):
-                    self.find(findings, 'address-outside', state, f'{shown(address)} is inside no assigned prefix')
+                    yield finding('address-outside', state, f'{shown(address)} is inside no assigned prefix')
                 if first.setdefault(address, node) != node:
-                    self.find(findings, 'address-twice', state, f'{shown(address)}, which node {first[address]} has too')
+                    yield finding('address-twice', state, f'{shown(address)}, which node {first[address]} has too')
 
     # The table
 
@@ -147,12 +161,14 @@ class Home:
                 inside = ','.join(map(shown, self.around(each.prefix))) or ('none' if self.is_whole else 'unknown')
                 yield f'  assigned {shown(each.text)} by={name(each.post)} priority={each.priority} inside={inside}'
         yield from self.network_lines()
+        for each in self.young:
+            yield f'changed less than {REST:g} s before the end, so not counted: {each}'
 
     def node_lines(self, node):
         latest, data = self.latest[node], self.data.get(node)
-        age = latest.age + self.end - latest.moment
         where = f'data=frame {data.state.frame}' if data else 'data=unknown'
-        yield (f'node {node} number={latest.number} hash={latest.digest} age={age:.3f} s reached={"yes" if node in self.reached else "no"} {where}')
+        reached = 'yes' if node in self.reached else 'no'
+        yield f'node {node} number={latest.number} hash={latest.digest} age={self.age(node):.3f} s reached={reached} {where}'
         for (_, endpoint), last in sorted((pair for pair in self.senders.heard_last().items() if pair[0][0] == node), key=lambda pair: pair[0]):
             silent = '' if (node, endpoint) in self.heard else f' silent since frame {last.frame}'
             yield f'  endpoint {endpoint} source={last.source}{silent}'
@@ -173,6 +189,10 @@ class Home:
                 if sender.said and sender.endpoint in self.heard}
         yield f'hash {made} of these {len(parts)} reached node(s); said last:' + ''.join(
             f' {post}={"the same" if digest == made else digest}' for post, digest in sorted(said.items()))
+
+
+def finding(rule, state, text):
+    return Finding(rule, state.frame, state.source, text, node=state.node)
 
 
 def name(post):

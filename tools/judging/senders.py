@@ -1,16 +1,19 @@
 """Who sends what, and when: sources, destinations, Node Endpoints, Trickle, keep-alives and requests."""
+import functools
 import ipaddress
 
 from judging.rules import Finding
 
 GROUP = 'ff02::11'                        # All-Homenet-Nodes (RFC 7788, section 14)
 IMIN, IMAX = 0.2, 25.6                    # seconds: Imin, and Imin after 7 doublings (RFC 7788, section 3)
+LAG = 0.1                                 # seconds that a gateway may begin an interval late
 DELAY = IMIN / 2                          # how late a keep-alive or a reply by multicast may come (RFC 7787, sections 4.4, 6.1.2)
 MOST_BYTES = 4000                         # that a node has to be able to receive (RFC 7788, section 3)
 KEEP_ALIVE = 20.0                         # seconds, unless the node says otherwise (RFC 7788, section 3)
 DATA_KINDS = (8, 9, *range(32, 44))       # types that have their place within node data alone
 
 
+@functools.lru_cache(maxsize=4096)
 def address_of(text):
     try:
         return ipaddress.ip_address(text)
@@ -36,11 +39,41 @@ class Sender:
         self.ports = set()         # the ports that it sent from
         self.last = None           # its last datagram
         self.state = None          # the last one with a Network State
-        self.multicast = None      # the last one by multicast: moment, hash, and the least time to the next of the same hash
-        self.interval = IMIN       # what Trickle's interval was at least, then
+        self.multicast = None      # the last one by multicast with a Network State
+        self.trickle = None        # the Trickle of its last hash
         self.said = []             # (moment, hash) of its Network States
         self.asked = []            # (moment, destination, whether it is the first to that destination)
         self.knows = set()         # whom it asked
+
+
+class Trickle:
+    """How long Trickle's interval is at least, since a hash was first sent (RFC 6206, section 4.2).
+
+    Trickle is reset if the hash changes, and not otherwise (RFC 7787, section 4.3). A reset begins an interval of Imin, and the
+    multicast comes in its second half. With the same hash each interval is twice the one before, up to Imax, whether something
+    is sent in it or not, and no two multicasts come in one. What comes when a keep-alive is due may be one; it begins an
+    interval of the same length anew (RFC 7787, section 6.1.2).
+    """
+
+    def __init__(self, moment, digest):
+        self.digest = digest
+        self.start, self.length = moment - IMIN / 2, IMIN
+        self.next = 2 * IMIN       # the interval of the next multicast, at least
+        self.early = 0.0           # how much earlier it may come
+
+    def least(self, moment):
+        """How long after the last multicast one at this moment comes, at least."""
+        while self.start + self.length + LAG <= moment:
+            self.start += self.length + LAG
+            self.length = min(2 * self.length, IMAX)
+        return max(self.length, self.next) / 2 - self.early
+
+    def sent(self, moment, maybe_keep_alive):
+        self.length = max(self.length, IMIN if maybe_keep_alive else self.next)
+        if maybe_keep_alive:
+            self.start, self.next, self.early = moment, self.length, DELAY
+        else:
+            self.next, self.early = min(2 * self.length, IMAX), 0.0
 
 
 class Senders:
@@ -138,27 +171,21 @@ class Senders:
             self.take_multicast(sender, datagram, digest, interval)
 
     def take_multicast(self, sender, datagram, digest, keep_alive):
-        """A reset begins an interval of Imin, so that the next multicast comes half of it later or more. Trickle is reset if the
-        hash changes, and not otherwise; so with the same hash each interval is twice the one before, up to Imax. A multicast
-        that comes when a keep-alive is due may be one; it begins an interval of the same length anew."""
-        last = sender.multicast
-        if last is None:
-            sender.interval, least = IMIN, IMIN
-        else:
-            frame, moment, before, least = last
-            gap = datagram.moment - moment
-            least = least if digest == before else IMIN / 2
-            if 0 <= gap < least - self.slack:
-                why = 'of the same hash ' if least > IMIN / 2 else ''
-                self.find('too-soon', datagram, f'a multicast {why}{gap:.3f} s after that of frame {frame}; Trickle waits {least:g} s or more')
-            if digest != before:
-                sender.interval, least = IMIN, IMIN
-            elif keep_alive and gap >= keep_alive - self.slack:
-                least = max(sender.interval / 2 - DELAY, 0)
-            else:
-                sender.interval = min(2 * sender.interval, IMAX)
-                least = min(sender.interval, IMAX / 2)
-        sender.multicast = datagram.frame, datagram.moment, digest, least
+        last, sender.multicast = sender.multicast, datagram
+        if last is None or digest != sender.trickle.digest:
+            if last and 0 <= datagram.moment - last.moment < IMIN / 2 - self.slack:
+                self.find_soon(datagram, last, IMIN / 2, 'another')
+            sender.trickle = Trickle(datagram.moment, digest)
+            return
+        gap, least = datagram.moment - last.moment, sender.trickle.least(datagram.moment)
+        if 0 <= gap < least - self.slack:
+            self.find_soon(datagram, last, least, 'the same')
+        sender.trickle.sent(datagram.moment, keep_alive and gap >= keep_alive - self.slack)
+
+    def find_soon(self, datagram, last, least, which):
+        gap = datagram.moment - last.moment
+        text = f'a multicast {gap:.3f} s after frame {last.frame}, with {which} hash; Trickle waits {least:g} s or more'
+        self.find('too-soon', datagram, text)
 
     # Requests
 

@@ -108,15 +108,21 @@ class States:
     def take(self, datagram, found):
         states = [State(datagram, item) for item in found if item.name == 'node-state']
         for state in states:
-            self.take_number(datagram, state)
-            self.take_hash(state)
-            self.take_age(state)
-            if state.octets:
-                self.take_data(datagram, state)
-            self.take_lifetimes(state)
+            if state.age * 1000 >= OLDEST:
+                self.find('too-old', state, f'the age is {state.age:.3f} s; from {OLDEST / 1000:.3f} s on the data no longer count')
+            else:
+                self.take_state(datagram, state)
         if not is_multicast(datagram.destination):
             digests = [item.words['hash'] for item in found if item.name == 'network-state']
             self.take_answer(datagram, digests[-1:], states)
+
+    def take_state(self, datagram, state):
+        self.take_number(datagram, state)
+        self.take_hash(state)
+        if state.octets:
+            self.take_data(datagram, state)
+        self.take_age(state)
+        self.take_lifetimes(state)
 
     def take_number(self, datagram, state):
         key = datagram.link, datagram.source, state.node
@@ -139,9 +145,6 @@ class States:
         known.setdefault(state.digest, state.frame)
 
     def take_age(self, state):
-        if state.age * 1000 >= OLDEST:
-            self.find('too-old', state, f'the age is {state.age:.3f} s; from {OLDEST / 1000:.3f} s on the data no longer count')
-            return
         origin, first = state.moment - state.age, self.origins.setdefault(state.version, state)
         off, since = origin - (first.moment - first.age), abs(state.moment - first.moment)
         if abs(off) > AGE_SLACK + AGE_DRIFT * since:

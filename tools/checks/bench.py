@@ -1,0 +1,189 @@
+"""The checks of what stands beside real gateways: judge and relay."""
+import bisect
+import os
+import random
+import re
+import shutil
+import struct
+
+import captures
+import common
+import items
+from checks import faults, homes, samples
+from checks.helpers import SEED, lines_of, must, must_be, run
+from judging.judgement import Judgement, judge
+from judging.text import text_of
+
+MUTANTS = 10000
+TOGETHER = 100         # mutants that are judged as one capture
+BATCH = 2 ** 18        # bytes that are decoded by one call
+WHOLE = 20             # how many shorter captures of the sound home are judged
+
+
+# Many datagrams by few calls
+
+def fault_of(octets):
+    """The place and the cause of what is no list of TLVs, or None: as items.first_fault, without a call."""
+    at = 0
+    while at < len(octets):
+        if len(octets) - at < 4:
+            return at, 1
+        length = struct.unpack('>H', octets[at + 2:at + 4])[0]
+        end = at + 4 + length
+        if end > len(octets):
+            return at, 2
+        for place in range(end, end + -length % 4):
+            if place >= len(octets) or octets[place]:
+                return place, 3 if place >= len(octets) else 4
+        at = end + -length % 4
+    return None
+
+
+def decode_all(payloads):
+    """What `hncp decode` says of each. Sound lists are one list together, which is decoded at once."""
+    texts, batch, size = {}, [], 0
+    for payload in dict.fromkeys(payloads):
+        fault = fault_of(payload)
+        if fault:
+            texts[payload] = [f'malformed place={fault[0]} why={fault[1]}']
+            continue
+        batch.append(payload)
+        size += len(payload)
+        if size > BATCH:
+            decode_batch(batch, texts)
+            batch, size = [], 0
+    decode_batch(batch, texts)
+    return [texts[payload] for payload in payloads]
+
+
+def decode_batch(batch, texts):
+    starts = [0]
+    for payload in batch:
+        texts[payload] = []
+        starts.append(starts[-1] + len(payload))
+    for line in common.decode(b''.join(batch).hex())[1:]:
+        indent, place, rest = re.match(r'( *)(\d+)(.*)', line, re.S).groups()
+        at = bisect.bisect_right(starts, int(place)) - 1
+        texts[batch[at]].append(f'{indent}{int(place) - starts[at]}{rest}')
+    for payload in batch:
+        texts[payload].insert(0, f'tlvs {sum(not line.startswith(" ") for line in texts[payload])}')
+
+
+class Told(captures.Datagram):
+    """A datagram whose text is known."""
+
+    lines = None
+
+
+# judge
+
+def judged(datagrams):
+    made = judge(datagrams)
+    return made, {finding.rule for finding in made.findings}
+
+
+def renumbered(node, more):
+    """The sound home with greater numbers of a node; they wrap."""
+    sound = faults.Plant()
+    before = sound.versions()
+    networks = faults.network_hashes(before, before, {node: more})
+    for each in sound.datagrams:
+        found = []
+        for kind, value in faults.tlvs(each.payload):
+            if kind == faults.NODE_STATE and struct.unpack('>I', value[:4])[0] == node:
+                number = (struct.unpack('>I', value[4:8])[0] + more) % 2 ** 32
+                value = value[:4] + struct.pack('>I', number) + value[8:]
+            elif kind == faults.NETWORK_STATE:
+                value = networks.get(value, value)
+            found.append((kind, value))
+        sound.put(each, faults.spelled(found))
+    return sound.datagrams
+
+
+def check_sound():
+    """Nothing is found in the sound capture, in its fronts and rests, and where numbers wrap."""
+    sound = homes.home()
+    step = len(sound) // WHOLE
+    others = [sound[place:] for place in range(step, len(sound), step)] + [sound[:place] for place in range(step, len(sound), step)]
+    wraps = next(number for number, (_, data) in sorted(faults.Plant().versions()[1].items()) if data) + 1
+    for name, datagrams in [('the sound capture', sound), ('numbers that wrap', renumbered(1, 2 ** 32 - wraps)),
+                            *((f'a part of {len(each)}', each) for each in others)]:
+        made = judge(datagrams)
+        must(not made.findings, f'in {name}: {next(iter(made.findings), "")}')
+    return len(others) + 2
+
+
+def check_faults():
+    """Each fault is found where it was planted, and nothing but what follows from it."""
+    for name, rules, plant in faults.FAULTS:
+        sound = faults.Plant()
+        planted = plant(sound)
+        made, found = judged(sound.datagrams)
+        must(found == set(rules.split()), f'{name}: found {" ".join(sorted(found)) or "nothing"}, and not {rules}')
+        frames = {finding.frame for finding in made.findings if finding.rule == rules.split()[0]}
+        must(planted is None or planted.frame in frames, f'{name}: in the frames {sorted(frames)}, and not {planted and planted.frame}')
+        must(all('RFC ' in finding.sections for finding in made.findings), f'{name}: without a section')
+    return len(faults.FAULTS)
+
+
+def check_mutants():
+    """No mutants of datagrams, addresses, ports and moments give a traceback, and each judgement has its text."""
+    chance = random.Random(SEED)
+    sound = homes.home()
+    pool = [each.payload for each in sound] + [data for data in samples.stored() if len(data) <= 600]
+    payloads = [samples.mutant(chance, pool) for _ in range(MUTANTS)]
+    texts = decode_all(payloads)
+    for place in range(0, MUTANTS, MUTANTS // 200):
+        must_be(texts[place], common.decode(payloads[place].hex()), f'{payloads[place].hex()}: decoded with others')
+        must(items.first_fault(payloads[place]) == fault_of(payloads[place]), f'{payloads[place].hex()}: another fault')
+    addresses = [*dict.fromkeys(each.source for each in sound), 'ff02::11', 'ff02::1', '2001:db8::1', '10.0.0.1', '']
+    known, items.first_fault = items.first_fault, fault_of
+    found = 0
+    try:
+        for first in range(0, MUTANTS, TOGETHER):
+            made = Judgement()
+            for payload, lines in zip(payloads[first:first + TOGETHER], texts[first:first + TOGETHER]):
+                base = chance.choice(sound)
+                source, destination = (chance.choice(addresses) if chance.randrange(8) == 0 else end for end in (base.source, base.destination))
+                port = chance.choice([8231, 8231, 8231, 50000])
+                datagram = Told(base.frame, base.moment, '0', source, 8231, destination, port, payload, len(payload) + (chance.randrange(50) == 0))
+                datagram.lines = lines
+                made.take(datagram)
+            made.close()
+            found += len(made.findings)
+            must(len(list(text_of(made, True))) >= len(made.findings), 'a finding is not shown')
+    finally:
+        items.first_fault = known
+    must(found >= MUTANTS, f'only {found} findings in mutants')
+    return MUTANTS
+
+
+def check_captures(folder):
+    """By tshark the same is found: in the sound capture, with a fault of each kind of address, and in bad captures."""
+    path = os.path.join(folder, 'home.pcap')
+    homes.write(path, homes.home())
+    text = lines_of('judge', path)
+    must(text[0].startswith('capture: 165 datagrams of 4 sources') and 'not proved: 0' in text[2], f'the sound capture: {text[:3]}')
+    wanted = {'a source that is not link-local', 'HNCP over IPv4', 'one link with two prefixes', 'a multicast again after 50 ms'}
+    for name, _, plant in faults.FAULTS:
+        if name in wanted:
+            sound = faults.Plant()
+            plant(sound)
+            homes.write(path, sound.datagrams)
+            shown = {line.strip() for line in lines_of('judge', path, status=3) if line.startswith('  frame ')}
+            must(shown == {str(finding) for finding in judge(sound.datagrams).findings}, f'{name}: by a capture {shown}')
+    with open(path, 'rb') as file:
+        octets = file.read()
+    for name, kept, said in [('cut short', octets[:-9], 'cut short'), ('without HNCP', octets[:24], 'has no HNCP'), ('that is none', b'nothing' * 20, 'capture file')]:
+        with open(path, 'wb') as file:
+            file.write(kept)
+        status, _, messages = run('judge', path)
+        must(status == 1 and said in messages and messages.count('\n') == 1, f'a capture {name}: status {status}, {messages}')
+
+
+def check_judge(folder):
+    sound, planted, mutants = check_sound(), check_faults(), check_mutants()
+    if shutil.which('tshark'):
+        check_captures(folder)
+    more = '' if shutil.which('tshark') else '; no capture files, as there is no tshark'
+    return f'nothing in {sound} sound captures, each of {planted} faults, {mutants} mutants{more}'

@@ -1,0 +1,44 @@
+"""The text of a judgement."""
+import collections
+
+from judging import rules
+
+SHOWN = 3        # findings of one name, source and node, unless all are asked for
+
+
+def listed(findings, every):
+    """The lines of findings: of each name, source and node the first ones, and how many more there are."""
+    counts = collections.Counter()
+    last = {}
+    for finding in findings:
+        key = finding.rule, finding.source, finding.node
+        counts[key] += 1
+        last[key] = finding
+        if every or counts[key] <= SHOWN:
+            yield f'  {finding}'
+    for key, count in counts.items():
+        if not every and count > SHOWN:
+            rule, source, node = key
+            of = f' node={node}' if node else ''
+            yield f'  {count - SHOWN} more {rule} of {source}{of}, the last in frame {last[key].frame}'
+
+
+def text_of(made, every):
+    """The lines on a judgement."""
+    sources = {source for (_, source), sender in made.senders.known.items() if sender.ports}
+    yield f'capture: {made.count} datagrams of {len(sources)} sources, the last at {made.end:.6f}'
+    for datagram in made.cut:
+        yield f'frame {datagram.frame} {datagram.source} cut: the capture has {len(datagram.payload)} of {datagram.length} bytes; not judged'
+    for title, wanted in [('by hncp decode, whose text is proved', rules.BY_DECODE), ('computed by judge, not proved', rules.BY_JUDGE)]:
+        found = [finding for finding in made.findings if finding.rule in wanted]
+        yield f'findings {title}: {len(found)}'
+        yield from listed(found, every)
+    yield f'the home at the end, computed by judge from what hncp decode says{"" if made.home.is_whole else "; not all of it was captured"}:'
+    for line in made.home.lines():
+        yield f'  {line}'
+
+
+def rule_lines():
+    for title, found in [('by hncp decode', rules.BY_DECODE), ('computed by judge', rules.BY_JUDGE)]:
+        for name, (sections, meaning) in found.items():
+            yield f'{name}: {meaning} ({sections}); {title}'

@@ -5,7 +5,7 @@ import itertools
 import items
 from judging.rules import Finding
 from judging.senders import KEEP_ALIVE
-from judging.states import ENDLESS, shown
+from judging.states import ENDLESS, shown, walk
 
 SILENCE = 2.1     # keep-alive intervals after which a peer is gone (RFC 7788, section 3)
 REST = 10.0       # seconds after which an assignment is applied, if nobody objects (RFC 7695, section 4.3; RFC 7788, section 6.3.3)
@@ -179,6 +179,9 @@ class Home:
                 yield f'  delegated {shown(text)} valid={seconds(valid)} preferred={seconds(preferred)}'
         for words in data.named('address') if data else []:
             yield f'  address {shown(words["address"])} endpoint={words["endpoint"]}'
+        for item in walk(data.below) if data else []:
+            if item.name == 'bad':
+                yield f'  a TLV of type {item.kind} that does not decode, at place {item.place} of frame {data.state.frame}: what it says is not used'
 
     def network_lines(self):
         parts = [self.latest[node].part for node in self.reached if node in self.latest]

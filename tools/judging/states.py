@@ -147,7 +147,7 @@ class States:
     def take_age(self, state):
         origin, first = state.moment - state.age, self.origins.setdefault(state.version, state)
         off, since = origin - (first.moment - first.age), abs(state.moment - first.moment)
-        if abs(off) > AGE_SLACK + AGE_DRIFT * since:
+        if abs(off) > AGE_SLACK + self.senders.slack + AGE_DRIFT * since:
             way = 'less' if off > 0 else 'more'
             text = (f'number {state.number} is {state.age:.3f} s old, {abs(off):.3f} s {way} than frame {first.frame} says '
                     f'({first.age:.3f} s, {state.moment - first.moment:.3f} s before)')

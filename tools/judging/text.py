@@ -3,24 +3,22 @@ import collections
 
 from judging import rules
 
-SHOWN = 3        # findings of one name, source and node, unless all are asked for
+SHOWN = 3        # findings of one name and node, or source, unless all are asked for
 
 
 def listed(findings, every):
-    """The lines of findings: of each name, source and node the first ones, and how many more there are."""
+    """The lines of findings: of each name and node, or source, the first ones, and how many more there are."""
     counts = collections.Counter()
     last = {}
     for finding in findings:
-        key = finding.rule, finding.source, finding.node
+        key = finding.rule, f'node={finding.node}' if finding.node else finding.source
         counts[key] += 1
         last[key] = finding
         if every or counts[key] <= SHOWN:
             yield f'  {finding}'
     for key, count in counts.items():
         if not every and count > SHOWN:
-            rule, source, node = key
-            of = f' node={node}' if node else ''
-            yield f'  {count - SHOWN} more {rule} of {source}{of}, the last in frame {last[key].frame}'
+            yield f'  {count - SHOWN} more {key[0]} of {key[1]}, the last in frame {last[key].frame}'
 
 
 def text_of(made, every):

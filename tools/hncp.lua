@@ -5,6 +5,8 @@
 -- A datagram is a list of TLVs (RFC 7787, section 7; RFC 7788, section 10). The text of each TLV is that of `hncp decode`
 -- (docs/FORMATS.md), and so are the levels. An expert item marks what `hncp decode` refuses: a datagram that is no list of
 -- TLVs (hncp.malformed), a TLV that decodes to no item (hncp.bad), and a Node State whose data have no lines (hncp.body).
+-- What that text has not stands behind it in parentheses, and in fields of its own: the names of further types, user agents as
+-- text, and IPv4-mapped prefixes and addresses as IPv4.
 
 local hncp = Proto("hncp", "Home Networking Control Protocol")
 
@@ -28,7 +30,11 @@ local LAYOUTS = {
 -- How many bytes a field takes, if not 4. Of two fields in one byte the first takes none.
 local SIZES = { hash = 8, address = 16, reserved = 2, m = 0, p = 1, h = 0, l = 1, priority = 1, agent = 0, prefix = 0 }
 
-local NAMES = {}
+-- Types without an item: RFC 7787, section 8.3, and RFC 7788, section 10.
+local NAMES = {
+  [10] = "Trust-Verdict", [37] = "DHCPv4-Data", [38] = "DHCPv6-Data", [39] = "DNS-Delegated-Zone", [40] = "Domain-Name",
+  [41] = "Node-Name", [42] = "Managed-PSK", [43] = "Prefix-Policy",
+}
 for kind, layout in pairs(LAYOUTS) do
   NAMES[kind] = layout[1]
 end
@@ -64,11 +70,14 @@ local field = {
   h = ProtoField.uint8("hncp.version.h", "H (host addresses)", base.DEC, nil, 0xf0),
   l = ProtoField.uint8("hncp.version.l", "L (IPv4 addresses)", base.DEC, nil, 0x0f),
   agent = ProtoField.bytes("hncp.version.agent", "User agent"),
+  agent_text = ProtoField.string("hncp.version.agent.text", "User agent as text"),
   valid = ProtoField.uint32("hncp.delegated.valid", "Valid lifetime (s)"),
   preferred = ProtoField.uint32("hncp.delegated.preferred", "Preferred lifetime (s)"),
   priority = ProtoField.uint8("hncp.assigned.priority", "Priority", base.DEC, nil, 0x0f),
   prefix = ProtoField.string("hncp.prefix", "Prefix"),
+  prefix_ipv4 = ProtoField.string("hncp.prefix.ipv4", "Prefix of IPv4"),
   address = ProtoField.ipv6("hncp.address", "Address"),
+  address_ipv4 = ProtoField.ipv4("hncp.address.ipv4", "Address of IPv4"),
 }
 local list = {}
 for _, each in pairs(field) do
@@ -80,9 +89,12 @@ local expert_of = {
   malformed = ProtoExpert.new("hncp.malformed", "The datagram is no list of TLVs", expert.group.MALFORMED, expert.severity.ERROR),
   bad = ProtoExpert.new("hncp.bad", "The TLV decodes to no item", expert.group.MALFORMED, expert.severity.ERROR),
   body = ProtoExpert.new("hncp.body", "The node data have no lines", expert.group.MALFORMED, expert.severity.WARN),
-  cut = ProtoExpert.new("hncp.cut", "The capture has only a part of the datagram", expert.group.UNDECODED, expert.severity.NOTE),
+  cut = ProtoExpert.new("hncp.cut", "The frame has only a part of the datagram", expert.group.UNDECODED, expert.severity.NOTE),
 }
 hncp.experts = { expert_of.malformed, expert_of.bad, expert_of.body, expert_of.cut }
+
+local udp_length = Field.new("udp.length")
+local UDP_HEADER = 8 -- bytes, which udp.length counts
 
 local tvb, bytes -- the datagram that is dissected, and its bytes as a string
 
@@ -285,14 +297,49 @@ local function item_of(layout, at, after)
   return text, fields
 end
 
-local function add_fields(tree, fields)
-  for _, each in ipairs(fields) do
-    if each.which == "prefix" then
-      tree:add(field.prefix, tvb(each.at, each.size), each.said)
-    elseif each.size > 0 then
-      tree:add(field[each.which], tvb(each.at, each.size))
+-- Bytes as text; what is no printable ASCII, and no part of a longer character, is escaped.
+local function readable(from, to)
+  return (bytes:sub(from + 1, to):gsub("[%z\1-\31\127\"\\]", function(c) return string.format("\\x%02x", c:byte()) end))
+end
+
+-- The IPv4 address of a mapped one (RFC 4291, section 2.5.5.2), of which bytes may be missing at the end; or nothing.
+local function ipv4_text(from, to)
+  for i = 0, 11 do
+    if from + i >= to or byte(from + i) ~= (i < 10 and 0 or 0xff) then
+      return nil
     end
   end
+  local parts = {}
+  for i = 0, 3 do
+    parts[#parts + 1] = string.format("%d", from + 12 + i < to and byte(from + 12 + i) or 0)
+  end
+  return table.concat(parts, ".")
+end
+
+-- Adds the fields of an item, and gives what a reader wants to know beside its text, or nothing.
+local function add_fields(tree, fields)
+  local beside
+  for _, each in ipairs(fields) do
+    local from, to = each.at, each.at + each.size
+    if each.which == "prefix" then
+      tree:add(field.prefix, tvb(from, each.size), each.said)
+      local ipv4 = byte(from) >= 96 and ipv4_text(from + 1, to)
+      if ipv4 then
+        beside = ipv4 .. "/" .. string.format("%d", byte(from) - 96)
+        tree:add(field.prefix_ipv4, tvb(from, each.size), beside)
+      end
+    elseif each.size > 0 then
+      tree:add(field[each.which], tvb(from, each.size))
+      if each.which == "agent" then
+        beside = '"' .. readable(from, to) .. '"'
+        tree:add(field.agent_text, tvb(from, each.size), readable(from, to))
+      elseif each.which == "address" and ipv4_text(from, to) then
+        beside = ipv4_text(from, to)
+        tree:add(field.address_ipv4, tvb(from + 12, 4))
+      end
+    end
+  end
+  return beside
 end
 
 local function add_bytes(tree, which, from, to)
@@ -324,10 +371,10 @@ local function dissect_tlv(tree, at, level)
     text = text .. (rest == "data" and " body=" or " subs=") .. hex(within, to)
   end
   local node = tree:add(field.tlv, tvb(at, after - at), text)
-  node:set_text(text)
   node:add(field.kind, tvb(at, 2))
   node:add(field.length, tvb(at + 2, 2))
-  add_fields(node, fields)
+  local beside = add_fields(node, fields) or not layout and NAMES[kind]
+  node:set_text(text .. (beside and " (" .. beside .. ")" or ""))
   if has_lines then
     dissect_list(node, within, to, level + 1)
   else
@@ -365,7 +412,9 @@ function hncp.dissector(buffer, pinfo, root)
   tvb, bytes = buffer, buffer:raw()
   pinfo.cols.protocol = "HNCP"
   local tree = root:add(hncp, buffer())
-  if buffer:len() < buffer:reported_len() then
+  local lengths = { udp_length() }
+  local length = #lengths > 0 and lengths[#lengths].value - UDP_HEADER or 0
+  if buffer:len() < math.max(buffer:reported_len(), length) then
     tree:add_proto_expert_info(expert_of.cut)
     return
   end

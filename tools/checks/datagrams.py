@@ -2,26 +2,34 @@
 import collections
 import os
 import re
+import struct
 import subprocess
 
 import common
 from checks import samples
-from checks.helpers import SEED, Missing, lines_of, must, must_be, need, short
+from checks.helpers import SEED, Missing, lines_of, must, must_be, need, run, short
 
 
 # hncp.lua
 
-def dissected(path):
-    """Of each frame what hncp.lua says: the texts of its TLVs, and the messages of its expert items."""
-    words = ['tshark', '-n', '-X', 'lua_script:' + os.path.join(common.HERE, 'hncp.lua'), '-r', path, '-T', 'fields',
-             '-E', 'separator=/t', '-E', 'aggregator=|']
-    flags = ['hncp.malformed', 'hncp.bad', 'hncp.body']
-    for field in ['hncp.tlv', '_ws.expert.message'] + flags:
-        words += ['-e', field]
+def shown(path, *words):
+    """What tshark writes with hncp.lua, as lines."""
+    words = ['tshark', '-n', '-X', 'lua_script:' + os.path.join(common.HERE, 'hncp.lua'), '-r', path, *words]
     done = subprocess.run(words, stdout=subprocess.PIPE, stderr=subprocess.PIPE)
     must(done.returncode == 0, f'tshark ended with status {done.returncode}: {done.stderr.decode()[-200:]}')
-    for line in done.stdout.decode().split('\n')[:-1]:
-        texts, messages, *flagged = line.split('\t')
+    return done.stdout.decode().split('\n')[:-1]
+
+
+def fields_of(path, *fields):
+    """The values of fields in each frame."""
+    words = [word for field in fields for word in ('-e', field)]
+    return [line.split('\t') for line in shown(path, '-T', 'fields', '-E', 'separator=/t', '-E', 'aggregator=|', *words)]
+
+
+def dissected(path):
+    """Of each frame what hncp.lua says: the texts of its TLVs, and the messages of its expert items."""
+    flags = ['hncp.malformed', 'hncp.bad', 'hncp.body']
+    for texts, messages, *flagged in fields_of(path, 'hncp.tlv', '_ws.expert.message', *flags):
         yield texts.split('|') if texts else [], messages.split('|') if messages else [], {
             name for name, value in zip(flags, flagged) if value}
 
@@ -47,10 +55,10 @@ def check_lua(folder):
     datagrams = [data for data in samples.mutants(SEED, 700) if data]
     path = os.path.join(folder, 'lua.pcap')
     samples.write_capture(path, [samples.ipv6(17, samples.udp(data)) for data in datagrams])
-    shown = list(dissected(path))
-    must(len(shown) == len(datagrams), f'{len(shown)} frames and not {len(datagrams)}')
+    frames = list(dissected(path))
+    must(len(frames) == len(datagrams), f'{len(frames)} frames and not {len(datagrams)}')
     counts = collections.Counter()
-    for data, (texts, messages, flags) in zip(datagrams, shown):
+    for data, (texts, messages, flags) in zip(datagrams, frames):
         text = common.decode(data.hex())
         expected = refused_by(text)
         counts.update(expected or ['nothing'])
@@ -63,7 +71,25 @@ def check_lua(folder):
         must_be(texts, [re.sub(r'^ *\d+ \d+ \d+ ', '', line) for line in text[1:]], f'{data.hex()}: TLVs')
         must_be([each.split(':')[0] for each in messages if each.startswith('bad ')], bads(text), f'{data.hex()}: messages')
     must(min(counts[name] for name in ['hncp.malformed', 'hncp.bad', 'hncp.body', 'nothing']) >= 20, f'too few of a kind: {counts}')
+    check_readable(os.path.join(folder, 'readable.pcap'))
     return f'{len(datagrams)} datagrams: {counts["hncp.malformed"]} malformed, {counts["hncp.bad"]} bad, {counts["hncp.body"]} body'
+
+
+def check_readable(path):
+    """Beside the text of TLVs: names of types, user agents, IPv4, and datagrams of which the frame has a part."""
+    address, prefix = samples.packed('::ffff:192.0.2.1'), b'\x68' + samples.packed('::ffff:10.0.0.0')[:13]
+    kinds = {10: 'Trust-Verdict', 37: 'DHCPv4-Data', 38: 'DHCPv6-Data', 39: 'DNS-Delegated-Zone', 40: 'Domain-Name', 41: 'Node-Name',
+             42: 'Managed-PSK', 43: 'Prefix-Policy'}
+    named = samples.tlv(32, b'\0\0\4\5a"\xc3\xbc\0') + samples.tlv(36, bytes(4) + address) + samples.tlv(35, bytes(5) + prefix)
+    datagram = samples.udp(named + b''.join(samples.tlv(kind, b'x') for kind in kinds))
+    whole = samples.ipv6(17, datagram)
+    longer = samples.ipv6(17, datagram[:4] + struct.pack('>H', len(datagram) + 1) + datagram[6:])
+    samples.write_capture(path, [whole, (whole[:-9], len(whole)), longer])
+    found = fields_of(path, 'hncp.version.agent.text', 'hncp.prefix.ipv4', 'hncp.address.ipv4', 'hncp.cut')
+    must_be(found, [['a\\x22\u00fc\\x00', '10.0.0.0/8', '192.0.2.1', ''], ['', '', '', '1'], ['', '', '', '1']], 'fields for readers')
+    text = shown(path, '-V')
+    for kind, name in kinds.items():
+        must(any(line.strip() == f'Type: {name} ({kind})' for line in text), f'type {kind} is not named {name}')
 
 
 # decode-capture
@@ -91,6 +117,10 @@ def check_capture(folder):
     path = os.path.join(folder, 'frames.pcap')
     samples.write_capture(path, frames)
     must_be(lines_of('decode-capture', path), expected, 'decode-capture')
+    both = lines_of('decode-capture', '-p', '8231', '-p', '8232', path)
+    must(both[:len(expected) - 2] == expected[:-2] and len(both) > len(expected), 'two ports show no more than one')
+    status, text, messages = run('decode-capture', '-p', '9', path)
+    must(status == 1 and not text and 'has no HNCP' in messages, f'a capture without HNCP: status {status}, {messages}')
     return f'{len(frames)} frames, {len(expected)} lines'
 
 

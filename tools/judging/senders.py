@@ -4,7 +4,7 @@ import ipaddress
 
 from judging.rules import Finding
 
-GROUP = 'ff02::11'                        # All-Homenet-Nodes (RFC 7788, section 14)
+GROUP = 'ff02::11'                        # All-Homenet-Nodes (RFC 7788, section 13)
 IMIN, IMAX = 0.2, 25.6                    # seconds: Imin, and Imin after 7 doublings (RFC 7788, section 3)
 LAG = 0.1                                 # seconds that a gateway may begin an interval late
 DELAY = IMIN / 2                          # how late a keep-alive or a reply by multicast may come (RFC 7787, sections 4.4, 6.1.2)

@@ -3,6 +3,8 @@
 A tool ends with status 0 when it is done, 1 when its input or the program is not as it has to be, 2 on bad arguments.
 """
 import argparse
+import collections
+import concurrent.futures
 import os
 import shutil
 import subprocess
@@ -101,6 +103,28 @@ def read_script(path):
 def play(texts):
     """The transcript of a script of these lines, as lines."""
     return call('lab', ''.join(text + '\n' for text in texts).encode('latin-1'))[0]
+
+
+def processors():
+    """How many processors this process may use."""
+    return len(os.sched_getaffinity(0)) if hasattr(os, 'sched_getaffinity') else os.cpu_count() or 1
+
+
+def in_order(function, values):
+    """The function of each value, in order. As many calls run at once as there are processors; they wait for programs mostly."""
+    pool = concurrent.futures.ThreadPoolExecutor(processors())
+    waiting = collections.deque()
+    try:
+        for value in values:
+            waiting.append(pool.submit(function, value))
+            if len(waiting) > 2 * processors():
+                yield waiting.popleft().result()
+        while waiting:
+            yield waiting.popleft().result()
+    finally:
+        for each in waiting:
+            each.cancel()
+        pool.shutdown()
 
 
 def refusal(transcript):

@@ -86,18 +86,22 @@ def first_fault(octets):
 
 
 def fields_end(kind, value):
-    """Where the fields of a value end, which are all there."""
-    at = FIXED[kind]
-    return at + 1 + (value[at] + 7) // 8 if kind in PREFIXED else at
+    """Where the fields of a value end, or None where they are not all there, or nobody knows the type."""
+    end = FIXED.get(kind)
+    if kind in PREFIXED:
+        end = end + 1 + (value[end] + 7) // 8 if end < len(value) else None
+    return None if end is None or end > len(value) else end
 
 
 def inner_fault(kind, value):
-    """Of a value that is `bad why=2`: the place within it, and the cause as of a datagram. Sub-TLVs begin at a multiple of 4,
-    after zeros (RFC 7787, section 7)."""
+    """Of a value that is `bad why=2`: the place within it, and the cause as of a datagram; None of any other. Sub-TLVs begin at a
+    multiple of 4, after zeros (RFC 7787, section 7)."""
     end = fields_end(kind, value)
+    if end is None:
+        return None
     start = end + -end % 4
-    for place in range(end, start):
+    for place in range(end, start if end < len(value) else end):
         if place >= len(value) or value[place]:
             return place, 3 if place >= len(value) else 4
-    place, why = first_fault(value[start:])
-    return start + place, why
+    fault = first_fault(value[start:])
+    return fault and (start + fault[0], fault[1])

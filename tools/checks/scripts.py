@@ -4,9 +4,11 @@ import os
 import random
 import re
 import shutil
+import struct
 import subprocess
 
 import common
+import items
 from checks import samples
 from checks.helpers import SEED, is_static, lines_of, must, must_be, need, run, short
 
@@ -223,11 +225,40 @@ def check_explain(folder):
     # The page is read each time: a copy of the tool beside another page says what that page says.
     for name in ['tools', 'docs']:
         os.mkdir(os.path.join(folder, name))
-    for name in ['common.py', 'explain']:
+    for name in ['common.py', 'items.py', 'explain']:
         shutil.copy(os.path.join(common.HERE, name), os.path.join(folder, 'tools'))
     with open(os.path.join(folder, 'docs', 'FORMATS.md'), 'w') as file:
         file.write('## Scripts\n\n| Code | Refused if |\n|---|---|\n| 77 | the `page` is another |\n')
     done = subprocess.run([os.path.join(folder, 'tools', 'explain'), '3', '77'], stdout=subprocess.PIPE, stderr=subprocess.PIPE)
     must(done.stdout == b'refused 3 77: the page is another\n', f'of another page: {done.stdout} {done.stderr}')
     lines_of('explain', '1', '99', status=1)
-    return f'{len(explained)} codes'
+    return f'{len(explained)} codes, {check_causes(page)} causes, {check_places()} places within values'
+
+
+def check_causes(page):
+    """Each cause W of a datagram and of a TLV is explained in the words of the page."""
+    heads = [place for place, text in enumerate(page) if text == '| W | Cause |']
+    rows = [row.split('|')[1:3] for place in heads for row in page[place + 2:place + 6]]
+    for place, (why, meaning) in enumerate(rows):
+        word = 'bad' if place < 4 else 'malformed'
+        first = lines_of('explain', f'{word} why={why.strip()}')[0]
+        must(first == f'{word} why={why.strip()}: {meaning.strip()}', f'{word} {why}: {first}')
+    must(len(rows) == 8, f'{len(rows)} causes and not 8')
+    lines_of('explain', 'why=9', status=1)
+    return len(rows)
+
+
+def check_places():
+    """Of a value that is bad by cause 2 the place of the fault is that of a datagram of the TLVs in the value."""
+    chance, tried = random.Random(SEED), 0
+    for kind, size in [(33, 0), (3, 8), (9, 8), (36, 20)]:
+        for fault in [b'\2\x58\0\1x', b'\2\x58\0\1x\0\1\0', b'\2\x58\0\4x', b'\0']:
+            front = samples.tlv(600, chance.randbytes(chance.randrange(9))) * chance.randrange(3)
+            datagram = samples.tlv(1, b'') + struct.pack('>HH', kind, size + len(front + fault)) + bytes(size) + front + fault
+            line = common.decode((datagram + bytes(-len(datagram) % 4)).hex())[-1]
+            at, why = re.match(r'malformed place=(\d+) why=(\d)', common.decode((front + fault).hex())[0]).groups()
+            text = lines_of('explain', line)
+            said = f'place {size + int(at)} of the value, {8 + size + int(at)} of the datagram: {items.MALFORMED[int(why)]}'
+            must(said in text, f'{line}: {text[2:3]}, and not {said}')
+            tried += 1
+    return tried

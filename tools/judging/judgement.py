@@ -60,8 +60,9 @@ class Judgement:
         why, sections = int(item.words['why']), TYPES[item.kind]
         text = f'place={item.place} type={item.kind} why={why}: {items.BAD[why]}'
         self.find('bad', datagram, text, node=node, sections=f'RFC 7787, section 7; {sections}' if why == 2 else sections)
-        if why == 2:
-            place, cause = items.inner_fault(item.kind, value)
+        fault = items.inner_fault(item.kind, value) if why == 2 else None
+        if fault:
+            place, cause = fault
             where = f'place {place} of the value, {item.place + HEAD + place} of the datagram'
             if cause == 3 and place == len(value):
                 text = f'the length {item.length} of the TLV of type {item.kind} ends before the padding of its last sub-TLV: {where}'

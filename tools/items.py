@@ -40,6 +40,7 @@ class Item:
                 self.fail(f'{word} is no field')
             self.words[key] = value
         self.below = []
+        self.is_padded = False  # whether it is read with a padding that it has not
 
     def fail(self, text):
         raise Problem(f'line {self.number}: {text}')

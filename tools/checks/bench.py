@@ -166,7 +166,7 @@ def check_captures(folder):
     path = os.path.join(folder, 'home.pcap')
     homes.write(path, homes.home())
     text = lines_of('judge', path)
-    must(text[0].startswith('capture: 165 datagrams of 4 sources') and 'not proved: 0' in text[2], f'the sound capture: {text[:3]}')
+    must(text[0].startswith('capture datagrams=165 sources=4 ') and 'not proved: 0' in text[2], f'the sound capture: {text[:3]}')
     wanted = {'a source that is not link-local', 'HNCP over IPv4', 'one link with two prefixes', 'a multicast again after 50 ms'}
     for name, _, plant in faults.FAULTS:
         if name in wanted:
@@ -263,4 +263,4 @@ def check_relay(folder):
     # A busy machine may delay what a relay hands on, so moments count for little here.
     text = lines_of('judge', '--slack', '5000', path)
     must(any('peer 00000001/1 - 00000002/1 mutual=yes' in line for line in text), f'judge shows no peers: {text}')
-    return f'two nodes reach each other over {text[0].split()[1]} datagrams, in which judge finds nothing'
+    return f'two nodes reach each other over {text[0].split()[1][10:]} datagrams, in which judge finds nothing'

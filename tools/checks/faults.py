@@ -286,7 +286,7 @@ FAULTS = [
     ('a pad byte before sub-TLVs is not zero', 'bad', published(C, with_more(tlv(35, struct.pack('>IB', 9, 2) + b'\x08\x20\1' + REQUEST)))),
     ('a bit past the prefix length', 'bad', published(C, with_more(tlv(35, struct.pack('>IB', 9, 2) + b'\x3f' + DEN[:7] + b'\1')))),
     ('a user agent that is not in UTF-8', 'bad no-version', published(C, on_kind(32, lambda value: value[:4] + b'\xff'))),
-    ('a sub-TLV without padding inside the enclosing TLV', 'no-padding bad inside-nothing', published(A, unpadded)),
+    ('a sub-TLV without padding inside the enclosing TLV', 'no-padding bad', published(A, unpadded)),
     ('node data that are no list of TLVs', 'body', published(C, with_more(bytes(2)))),
     ('a source that is not link-local', 'far-source', added(40.0, '2001:db8::9', HERE, endpoint(9, 1) + REQUEST)),
     ('HNCP over IPv4', 'far-source far-destination', added(40.0, '10.0.0.9', '10.0.0.1', endpoint(9, 1) + REQUEST)),

@@ -180,7 +180,10 @@ class Home:
         for words in data.named('address') if data else []:
             yield f'  address {shown(words["address"])} endpoint={words["endpoint"]}'
         for item in walk(data.below) if data else []:
-            if item.name == 'bad':
+            if item.is_padded:
+                yield (f'  an External-Connection without its last padding, at place {item.place} of frame {data.state.frame}: '
+                       'hncp does not use what it says; here it is read')
+            elif item.name == 'bad':
                 yield f'  a TLV of type {item.kind} that does not decode, at place {item.place} of frame {data.state.frame}: what it says is not used'
 
     def network_lines(self):
@@ -188,10 +191,11 @@ class Home:
         if not parts:
             return
         made = items.hash_of(items.network_state(parts)).hex()
+        yield f'network state hash {made} of the {len(parts)} node(s) that are reached'
         said = {name(sender.endpoint): sender.said[-1][1] for sender in self.senders.known.values()
                 if sender.said and sender.endpoint in self.heard}
-        yield f'hash {made} of these {len(parts)} reached node(s); said last:' + ''.join(
-            f' {post}={"the same" if digest == made else digest}' for post, digest in sorted(said.items()))
+        for post, digest in sorted(said.items()):
+            yield f'  {post} said last {digest}, which is {"the same" if digest == made else "another"}'
 
 
 def finding(rule, state, text):

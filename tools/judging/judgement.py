@@ -9,6 +9,7 @@ from judging.senders import Senders
 from judging.states import HEAD, States, walk
 
 SLACK = 0.01    # seconds that moments may be off
+EXTERNAL = 33   # the type of an External-Connection
 
 
 class Judgement:
@@ -67,8 +68,18 @@ class Judgement:
             if cause == 3 and place == len(value):
                 text = f'the length {item.length} of the TLV of type {item.kind} ends before the padding of its last sub-TLV: {where}'
                 self.find('no-padding', datagram, text, node=node)
+                self.read_padded(item, value)
             else:
                 self.findings[-1].text += f'; {where}: {items.MALFORMED[cause]}'
+
+    @staticmethod
+    def read_padded(item, value):
+        """An External-Connection whose last padding is missing is read as if it stood there: its sender means what it says."""
+        if item.kind == EXTERNAL:
+            item.name, item.is_padded = 'external', True
+            item.below = items.tree(enumerate(captures.decoded(value + bytes(-len(value) % 4))[1:], 2))
+            for each in walk(item.below):
+                each.place += item.place + HEAD
 
     def close(self):
         """Ends it: the home as it is then is judged too, and the findings come in the order of frames."""

@@ -24,7 +24,7 @@ def listed(findings, every):
 def text_of(made, every):
     """The lines on a judgement."""
     sources = {source for (_, source), sender in made.senders.known.items() if sender.ports}
-    yield f'capture: {made.count} datagrams of {len(sources)} sources, the last at {made.end:.6f}'
+    yield f'capture datagrams={made.count} sources={len(sources)} end={made.end:.6f}'
     for datagram in made.cut:
         yield f'frame {datagram.frame} {datagram.source} cut: the capture has {len(datagram.payload)} of {datagram.length} bytes; not judged'
     for title, wanted in [('by hncp decode, whose text is proved', rules.BY_DECODE), ('computed by judge, not proved', rules.BY_JUDGE)]:

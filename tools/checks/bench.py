@@ -15,6 +15,7 @@ from checks.helpers import SEED, Missing, lines_of, must, must_be, need, run
 from judging.judgement import Judgement, judge
 from judging.text import text_of
 
+PAGE = os.path.join(common.HERE, '..', 'docs', 'BESIDE-REAL-GATEWAYS.md')
 MUTANTS = 10000
 TOGETHER = 100         # mutants that are judged as one capture
 BATCH = 2 ** 18        # bytes that are decoded by one call
@@ -190,6 +191,25 @@ def check_judge(folder):
         check_captures(folder)
     more = '' if shutil.which('tshark') else '; no capture files, as there is no tshark'
     return f'nothing in {sound} sound captures, each of {planted} faults, {mutants} mutants{more}'
+
+
+def check_page(_):
+    """docs/BESIDE-REAL-GATEWAYS.md: after a line of bytes each line that decode is said to say is one that it says."""
+    octets = said = 0
+    lines = []
+    for text in common.read(PAGE):
+        if re.fullmatch('`[0-9a-f ]+`', text):
+            lines = common.decode(text.strip('`'))
+            octets += 1
+        for shown in re.findall('`(\\d+ \\d+ \\d+ [^`]*)`', text):
+            must(shown in lines, f'"{shown}" is not what decode says: {lines}')
+            said += 1
+        place = re.search(r'`tools/explain` with this line says: (.*)\.', text)
+        if place:
+            must(any(line.startswith(place.group(1)) for line in lines_of('explain', lines[-1])), f'explain does not say {place.group(1)}')
+            said += 1
+    must(octets >= 5 and said >= 6, f'only {octets} byte texts, and {said} lines on them')
+    return f'{octets} byte texts, {said} lines on them'
 
 
 # relay

@@ -4,7 +4,6 @@ A tool ends with status 0 when it is done, 1 when its input or the program is no
 """
 import argparse
 import collections
-import concurrent.futures
 import os
 import shutil
 import subprocess
@@ -112,7 +111,8 @@ def processors():
 
 def in_order(function, values):
     """The function of each value, in order. As many calls run at once as there are processors; they wait for programs mostly."""
-    pool = concurrent.futures.ThreadPoolExecutor(processors())
+    from concurrent import futures  # it takes a while to load, and few tools need it
+    pool = futures.ThreadPoolExecutor(processors())
     waiting = collections.deque()
     try:
         for value in values:

@@ -201,7 +201,7 @@ def check_page(_):
         if re.fullmatch('`[0-9a-f ]+`', text):
             lines = common.decode(text.strip('`'))
             octets += 1
-        for shown in re.findall('`(\\d+ \\d+ \\d+ [^`]*)`', text):
+        for shown in re.findall(r'`(\d+ \d+ \d+ [^`]*)`', text):
             must(shown in lines, f'"{shown}" is not what decode says: {lines}')
             said += 1
         place = re.search(r'`tools/explain` with this line says: (.*)\.', text)

@@ -3,6 +3,7 @@
 Reports are no events and draw no random words, so the play stays the same. This is tested each time: what the script's own
 lines write must be the same with the looks and without them.
 """
+import bisect
 import re
 
 import common
@@ -13,6 +14,7 @@ MOST_REPORTS = 150000     # with so many reports in all each round is looked at
 MOST_BYTES = 2 ** 24      # of a script
 SECOND = 1000
 FOREVER = 4294967295      # as a lifetime: it never ends
+MOST_AUDITED = 16         # in a home of more routers those with one hash are asked for one audit
 
 REPORTS = set('show hash used prefixes elect advert audit compare mail addresses addressed ulas'.split())
 LISTS = set('used prefixes addresses'.split())     # a line with a count, and then a line for each
@@ -23,6 +25,7 @@ UNMARKED = REPORTS | set('run time flow'.split())
 SETTING = set('router link attach seed'.split())
 
 LIFETIMES = re.compile(r'(valid|preferred)=(\d+)')
+REACH = re.compile(r' reach=(\d+) ')
 
 
 def rounds_of(start, stop, step, line):
@@ -110,6 +113,10 @@ class Runs:
     def pairs(self):
         return list(zip(self.starts, self.values))
 
+    def at(self, look):
+        """The value at a look."""
+        return self.values[bisect.bisect_right(self.starts, look) - 1]
+
 
 class Falling:
     """A text with numbers of seconds that fall with time. What is kept is when each of them is 0.
@@ -187,9 +194,20 @@ class Play:
         self.own = common.play(line.text for line in lines)
         common.must_be_played(self.own)
         self.refused = common.refusal(self.own)
-        self.home = Home()
         self.happen = played_lines(lines, self.refused)
         self.every = every or self.interval()
+        self.audited = None      # of each look the routers that are asked for an audit; nothing where all are
+        if sum(line.word == 'router' for line in self.happen) > MOST_AUDITED:
+            self.audited = []
+            self.play_with_looks()
+            self.audited = [list(groups) for groups in self.alike()]
+        self.play_with_looks()
+        if self.audited is not None:
+            self.share_audits()
+
+    def play_with_looks(self):
+        """Puts the looks in, plays, and keeps what is said."""
+        self.home = Home()
         self.texts = []          # the script with the looks
         self.owners = []         # of each text: the number of its line, or None for a report
         self.asked = []          # the looks: (moment, line before, place of the first text, place after the last, attachments)
@@ -220,6 +238,43 @@ class Play:
         self.texts.append(text)
         self.owners.append(owner)
 
+    def is_audited(self, name):
+        if self.audited is None:
+            return True
+        return len(self.asked) < len(self.audited) and name in self.audited[len(self.asked)]
+
+    def alike(self):
+        """Of each look the routers by groups, under the first of each. Those with one hash that reach others reach the same
+        ones, since node data have the peers' identifiers; so an audit says the same of each."""
+        columns = {name: (self.runs.get(('hash', name)), self.runs[('show', name)]) for name in self.home.routers if ('show', name) in self.runs}
+        at, now = {name: [0, 0] for name in columns}, {name: [None, None] for name in columns}
+        for look in range(len(self.looks)):
+            groups, firsts = {}, {}
+            for name, pair in columns.items():
+                for side, runs in enumerate(pair):
+                    if runs and at[name][side] < len(runs.starts) and runs.starts[at[name][side]] == look:
+                        now[name][side] = runs.values[at[name][side]]
+                        at[name][side] += 1
+                digest, shown = now[name]
+                if digest:
+                    reach = REACH.search(shown).group(1)
+                    key = (digest.split(' ')[2], reach) if reach != '1' else name
+                    groups.setdefault(firsts.setdefault(key, name), []).append(name)
+            yield groups
+
+    def share_audits(self):
+        """Gives each router the answer of the first of its group."""
+        said = {name: Runs() for name in self.home.routers}
+        for look, groups in enumerate(self.alike()):
+            given = {}
+            for first, names in groups.items():
+                text = self.runs[('audit', first)].at(look)
+                for name in names:
+                    given[name] = text and text.replace(f' {first} ', f' {name} ', 1)
+            for name, runs in said.items():
+                runs.add(look, given.get(name))
+        self.runs.update({('audit', name): runs for name, runs in said.items()})
+
     def look(self, line):
         """Puts reports in, of all routers."""
         start = len(self.texts)
@@ -227,7 +282,8 @@ class Play:
             self.put(f'show {name}', None)
             if runs:
                 for word in ('hash', 'audit', 'used', 'prefixes'):
-                    self.put(f'{word} {name}', None)
+                    if word != 'audit' or self.is_audited(name):
+                        self.put(f'{word} {name}', None)
                 for endpoint in self.home.endpoints_of(name):
                     self.put(f'advert {name} {endpoint}', None)
         self.put('mail', None)

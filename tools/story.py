@@ -31,7 +31,7 @@ class Story:
         self.changes = []                # (moment, line, order, of whom, what)
         self.links = list(hosts.prefixes_of_links(play))
         self.lanes = hosts.hosts_of_links(play, self.links)
-        self.copies, self.injected, self.peers = [], [], []
+        self.copies, self.injected = [], []
         self.missing = self.read_wire(path)
         self.tell_marks()
         self.tell_routers()
@@ -138,7 +138,11 @@ class Story:
         """Peers as nodes publish them, when their data come by for the first time."""
         names, known = {node: name for name, node in self.play.home.routers.items()}, {}
         heard = [(moment, copy.number, copy.data) for copy in self.copies for moment, fate in copy.fates if fate == 'deliver' and copy.data]
+        starts = [(moment, self.play.home.routers[self.play.lines[line - 1].words[1]]) for moment, line in self.play.marks
+                  if self.play.lines[line - 1].word == 'start']
         for moment, _, data in sorted(heard, key=lambda each: each[:2]):
+            while starts and starts[0][0] <= moment:
+                known.pop(starts.pop(0)[1], None)    # it has no peers, and begins with number 1
             for node, number, peers in published(data):
                 last, before = known.get(node, (None, set()))
                 if last is not None and (number - last) % 2 ** 32 >= 2 ** 31 or peers == before:
@@ -146,9 +150,7 @@ class Story:
                 known[node] = number, peers
                 for word, some in (('lost', before - peers), ('gained', peers - before)):
                     for peer, far, own in sorted(some):
-                        what = f'peer {word}: {names.get(peer, peer)} {far} by endpoint {own}'
-                        self.add(moment, LAST, names.get(node, node), what)
-                        self.peers.append((moment, names.get(node, node), what))
+                        self.add(moment, LAST, names.get(node, node), f'peer {word}: {names.get(peer, peer)} {far} by endpoint {own}')
 
 
 def side(endpoint):

@@ -35,6 +35,7 @@ class Copy:
         self.multicast = False
         self.data = None          # its bytes, where it was delivered once
         self.datagram = number    # the number of the first copy of its datagram
+        self.link = None          # the link that it goes over
         self.fates = []           # (moment, deliver or drop)
 
     def give(self, sender, receiver, multicast, datagram):
@@ -44,9 +45,11 @@ class Copy:
 class Injected:
     """A datagram that the script injects."""
 
-    def __init__(self, moment, receiver, way, data):
+    def __init__(self, moment, after, receiver, link, way, data):
         self.moment = moment
+        self.after = after        # how many copies were made before
         self.receiver = receiver
+        self.link = link
         self.way = way
         self.data = data
 
@@ -219,7 +222,9 @@ class Wire:
                 copy.fates.append((event.moment, line.word))
             elif line.word == 'inject':
                 data = b'' if line.words[4] == '-' else bytes.fromhex(line.words[4])
-                self.injected.append(Injected(event.moment, (line.words[1], int(line.words[2])), line.words[3], data))
+                receiver = line.words[1], int(line.words[2])
+                link = event.attached[receiver]
+                self.injected.append(Injected(event.moment, len(self.copies), receiver, link, line.words[3], data))
         return events
 
     def attribute(self, event):
@@ -236,6 +241,8 @@ class Wire:
                 copy.give(cause.receiver, cause.sender, False, copy.number)
         elif word != 'sync' and event.copies:
             raise Problem(f'nobody knows who sent copy {event.copies[0].number}')
+        for copy in event.copies:
+            copy.link = event.attached.get(copy.sender)
 
     def attribute_multicasts(self, event, name):
         """A tick sends at most one datagram by each endpoint, in ascending order. Where the bytes of some are not known,

@@ -58,7 +58,8 @@ def unrolled(path):
     """The script without `run` and `flow`, as lines, by tools/trace."""
     done = subprocess.run([sys.executable, os.path.join(common.HERE, 'trace'), path], stdout=subprocess.PIPE, stderr=subprocess.PIPE)
     if done.returncode != 0:
-        raise Problem(done.stderr.decode('utf-8', 'replace').strip().split(': ', 1)[-1])
+        messages = done.stderr.decode('utf-8', 'replace').strip()
+        raise Problem('tools/trace cannot unroll the script' if 'Traceback' in messages else messages.split(': ', 1)[-1])
     return [common.Line(place + 1, text) for place, text in enumerate(done.stdout.decode('latin-1').split('\n')[:-1])]
 
 

@@ -1,0 +1,254 @@
+"""The check of timeline: its text, its page in a browser, what hosts hold, and that it shows nothing where a play changes."""
+import json
+import os
+import random
+import re
+
+import common
+import hosts
+import looks
+from checks import samples
+from checks.browser import Browser
+from checks.helpers import SEED, Missing, lines_of, must, must_be, run, short
+
+LOOKED = 'two_routers_meet.script'          # each round of it is played by itself
+PAGES = ['a_power_cut.script', 'hosts_are_told_of_a_new_prefix.script', 'a_lossy_home.script', 'a_forging_guest.script']
+LARGE = 32
+OPENS = 3                                   # seconds
+CLICKS = 3                                  # at each page
+MOST_BYTES = 20 * 2 ** 20
+
+
+def path_of(name):
+    return os.path.join(samples.DATA, name)
+
+
+def front_of(lines, moment):
+    """A script up to the end of a moment, without its reports; what lies in the midst of a `run` is cut there."""
+    texts, now = [lines[0].text], 0
+    for line in lines[1:]:
+        if line.word in looks.REPORTS:
+            continue
+        if line.word in ('run', 'time'):
+            now = int(line.words[1])
+            if now > moment:
+                return texts + ([f'run {moment} {line.words[2]}'] if line.word == 'run' else [])
+        texts.append(line.text)
+    return texts
+
+
+def reports_at(lines, moment):
+    """What all reports say at the end of a moment, by a play of its own."""
+    texts, home = front_of(lines, moment), looks.Home()
+    for text in texts[1:]:
+        words = text.split()
+        if words and not words[0].startswith('#'):
+            home.play(words)
+    asked = []
+    for name, runs in home.running.items():
+        asked.append(f'show {name}')
+        if runs:
+            asked += [f'{word} {name}' for word in ('hash', 'audit', 'used', 'prefixes')]
+            asked += [f'advert {name} {endpoint}' for endpoint in home.endpoints_of(name)]
+    asked.append('mail')
+    before = len(common.play(texts))
+    return common.play(texts + asked)[before:]
+
+
+def compare_text():
+    """The lines of routers in the text are those of plays up to each round."""
+    lines = common.read_script(path_of(LOOKED))
+    found = [line.split('\t') for line in lines_of('timeline', path_of(LOOKED))]
+    must(all(len(each) == 3 for each in found), 'a line has not three columns')
+    moments = [0, 100] + [moment for moment in range(200, 2001, 100)]
+    expected, before = [], {}
+    for moment in moments:
+        said = [line for line in reports_at(lines, moment) if line.startswith(('hash ', 'audit '))]
+        for line in said:
+            word, name, rest = line.split(' ', 2)
+            if before.get((word, name)) != rest:
+                before[word, name] = rest
+                expected.append((str(moment), name, word, rest))
+    # Of one moment the text may have more than the play up to its end: the looks within it.
+    told = [(moment, name, *what.split(',')[0].split(' ', 1)) for moment, name, what in found if what.startswith(('hash ', 'audit '))]
+    missing = [each for each in expected if each not in told]
+    must(not missing and len(expected) >= 6, f'{LOOKED}: the text has not {missing[:1]}')
+    return len(expected)
+
+
+# What a host holds (RFC 4862, section 5.5.3): the moments in seconds, lifetimes of what comes, and what is held then as
+# seconds that are left, preferred and valid.
+HOSTS = [
+    ([(0, 7200, 3600)], 10, (3590, 7190)),                  # a new prefix
+    ([(0, 0, 0)], 0, None),                                 # a new one that has ended makes no address: (d)
+    ([(0, 3600, 7200)], 0, None),                           # preferred longer than valid: (c)
+    ([(0, 9000, 3600), (100, 8000, 50)], 100, (50, 8000)),  # above two hours: as told, (e) 1
+    ([(0, 600, 300), (100, 700, 300)], 100, (300, 700)),    # above what is left: as told, (e) 1
+    ([(0, 7000, 3600), (100, 120, 0)], 100, (0, 6900)),     # two hours or less are left: valid stays, (e) 2
+    ([(0, 7200, 3600), (0, 60, 60)], 0, (60, 7200)),        # exactly two hours are left: it stays too
+    ([(0, 90000, 80000), (100, 120, 0)], 100, (0, 7200)),   # more than two hours are left: two hours, (e) 3
+    ([(0, 90000, 80000), (100, 0, 0)], 100, (0, 7200)),     # also where it is told to end at once
+    ([(0, 100, 50), (200, 100, 50)], 210, (40, 90)),        # it ended, and comes anew
+    ([(0, 100, 50)], 100, None),                            # it ends
+    ([(0, looks.FOREVER, looks.FOREVER)], 10 ** 9, (hosts.ENDLESS, hosts.ENDLESS)),
+]
+
+
+def advert_of(valid, preferred, flags=0xc0, length=64, prefix='20010db8000000010000000000000000'):
+    return looks.Advert(f'8600000040000708{"0" * 16}0304{length:02x}{flags:02x}{valid:08x}{preferred:08x}00000000{prefix}')
+
+
+def compare_hosts():
+    for told, at, expected in HOSTS:
+        host = hosts.Host()
+        for moment, valid, preferred in told:
+            host.hear(moment * 1000, advert_of(valid, preferred))
+        held = host.held.get('2001:db8:0:1::/64')
+        state = held and held.state(at * 1000)
+        left = (max(0, held.preferred / 1000 - at), held.valid / 1000 - at) if state else None
+        must(left == expected, f'a host that was told {told} holds {left} at {at} s, and not {expected}')
+        must(not state or (state == 'preferred') == (left[0] > 0), f'{told}: {state}')
+    for words in ({'flags': 0x80}, {'length': 56}, {'prefix': 'fe80' + '0' * 28}):
+        host = hosts.Host()
+        host.hear(0, advert_of(7200, 3600, **words))
+        must(not host.held, f'a host takes an address from an option with {words}')
+    return len(HOSTS) + 3
+
+
+def compare_honesty(folder):
+    """A program that writes something else where reports were put in: nothing may be shown."""
+    known, path = os.environ['HNCP'], os.path.join(folder, 'liar')
+    script = path_of(LOOKED)
+    with open(path, 'w') as file:
+        file.write(f'#!/bin/sh\ncat > "{folder}/in"\nif [ $(wc -l < "{folder}/in") -gt {len(common.read(script))} ]; then\n'
+                   f'"{known}" "$@" < "{folder}/in" | sed "s/^show B id=00000002 number=2/show B id=00000002 number=3/"\n'
+                   f'else "{known}" "$@" < "{folder}/in"; fi\n')
+    os.chmod(path, 0o755)
+    os.environ['HNCP'] = path
+    try:
+        status, text, messages = run('timeline', script)
+    finally:
+        os.environ['HNCP'] = known
+    must(status == 1 and not text and 'says something else' in messages, f'with another play it writes {text[:60]}, status {status}')
+
+
+def compare_plays():
+    """Each third script of the repository is played with looks, and says the same."""
+    played = 0
+    for path in samples.scripts()[::3]:
+        transcript = samples.transcript_of(path)
+        refused = common.refusal(transcript)
+        if len(common.read(path)) > 300 or refused and refused[1] in common.CODES_BEFORE_PLAY | {9, 16}:
+            continue
+        play = looks.Play(common.read_script(path))
+        must(play.own == transcript, f'{short(path)}: the transcript is another')
+        played += len(play.looks)
+    must(played > 2000, f'too few looks: {played}')
+    return played
+
+
+# The page
+
+def data_of(path):
+    """What the page has."""
+    with open(path, encoding='utf-8') as file:
+        text = file.read()
+    must(not re.search(r'(src|href)=|https?://(?!www\.w3\.org)|@import|url\((?!#)', text), f'{short(path)} names something outside of itself')
+    return json.loads(re.search(r'^const D = (.*);$', text, re.M).group(1))
+
+
+def compare_copies(name, data):
+    """The page's copies are those that tools/trace treats; what they say is what `hncp decode` says."""
+    status, text, _ = run('trace', path_of(name))
+    if status:
+        must(data['missing'] and not data['copies'], f'{name}: copies, though trace refuses it')
+        return 0
+    treated = [line.split() for line in text.splitlines() if line.startswith(('deliver ', 'drop '))]
+    expected = sorted((int(copy), 0 if word == 'deliver' else 2) for word, copy in treated)
+    must_be(sorted((each[8], each[6]) for each in data['copies'] if each[8]), expected, f'{name}: copies')
+    injected = [common.decode('' if digits == '-' else digits) for digits in samples.injected(path_of(name))]
+    found = [data['texts'][each[7]].split('\n') for each in data['copies'] if not each[8]]
+    must_be(found, injected, f'{name}: injected datagrams')
+    return len(expected)
+
+
+def check_page(browser, path, name, chance):
+    """Opens the page, and clicks at moments: the reports have to be those of plays up to them."""
+    seconds = browser.open(path)
+    must(seconds < OPENS, f'{name}: the page took {seconds:.1f} s')
+    image = browser.screenshot(os.path.join(os.path.dirname(path), 'page.png'))
+    must(image[:4] == b'\x89PNG' and len(image) > 20000, f'{name}: the screenshot has {len(image)} bytes')
+    must(browser.value('document.querySelectorAll("#chart rect").length') > 20, f'{name}: no bands are drawn')
+    lines, end = common.read_script(path_of(name)), browser.value('END')
+    for moment in [100] + [chance.randrange(2, end // 100) * 100 for _ in range(CLICKS - 1)]:
+        x, y = browser.value(f'setWindow({moment} - 1000, {moment} + 1000), (box => [box.left + X({moment}) + 1, box.top + 60])'
+                             '(byId("chart").getBoundingClientRect())')
+        browser.click(x, y)
+        must(browser.value('chosen') == moment, f'{name}: a click at {moment} ms chooses {browser.value("chosen")}')
+        must_be(browser.value('byId("reports").textContent').split('\n'), reports_at(lines, moment), f'{name}: reports at {moment} ms')
+    browser.value('setWindow(0, END)')
+    browser.drag(500, y, 900)
+    must(0 < browser.value('to - from') < end, f'{name}: a drag does not zoom')
+    return CLICKS
+
+
+def check_arrows(browser, path):
+    """In a window there is an arrow for each copy; one that is clicked shows what its datagram says."""
+    browser.open(path)
+    browser.value('setWindow(70150, 70700); byId("view").scrollTop = 1e6; drawRows()')
+    shown = browser.value('document.querySelectorAll("#chart .arrow").length')
+    expected = browser.value('D.copies.filter(each => each[0] >= 70150 && each[0] < 70700).length')
+    must(shown == expected > 10, f'{shown} arrows, and not {expected}')
+    at = browser.value('(() => { const box = document.querySelector("#chart .arrow circle").getBoundingClientRect();'
+                       ' return [box.left + box.width / 2, box.top + box.height / 2]; })()')
+    browser.mouse('mouseMoved', *at)
+    tip = browser.value('byId("tip").style.display + byId("tip").textContent')
+    must(tip.startswith('blockcopy') and 'node-endpoint' in tip, f'hover shows "{tip[:60]}"')
+    browser.click(*at)
+    must('node-endpoint' in browser.value('byId("held").textContent'), 'a click on an arrow shows no datagram')
+    return shown
+
+
+def large_script(path):
+    """A tree of routers, of which each has a link of its own, for a minute and a half. With a loss, so without
+    datagrams."""
+    texts = ['hncp 2', 'seed 1', 'loss 1'] + [f'link l{k}' for k in range(1, LARGE + 1)]
+    for k in range(1, LARGE + 1):
+        texts += [f'router r{k} {k:08x}', f'attach r{k} 2 l{k}'] + ([f'attach r{k} 1 l{k // 2}'] if k > 1 else [])
+    with open(path, 'w') as file:
+        file.write('\n'.join(texts + ['external r1 2001:db8::/56 7200 3600', 'run 90000 1000', 'audit r1', 'mail', '']))
+
+
+def check_timeline(folder):
+    told = compare_text()
+    cases = compare_hosts()
+    compare_honesty(folder)
+    played = compare_plays()
+    pages, copies = {}, 0
+    for name in PAGES:
+        pages[name] = os.path.join(folder, name + '.html')
+        lines_of('timeline', '--html', pages[name], path_of(name))
+        copies += compare_copies(name, data_of(pages[name]))
+    script, large = os.path.join(folder, 'large.script'), os.path.join(folder, 'large.html')
+    large_script(script)
+    lines_of('timeline', '--every', '1000', '--html', large, script)
+    must(os.path.getsize(large) < MOST_BYTES / 8, f'the page of {LARGE} routers has {os.path.getsize(large)} bytes')
+    text = f'{told} changes by plays of their own, {played} looks, {cases} cases of hosts, {copies} copies'
+    return f'{text}, {in_browser(folder, pages, large)}'
+
+
+def in_browser(folder, pages, large):
+    try:
+        browser = Browser(os.path.join(folder, 'profile'))
+    except Missing as missing:
+        return f'and no page was opened: {missing}'
+    try:
+        chance = random.Random(SEED)
+        clicks = sum(check_page(browser, path, name, chance) for name, path in pages.items())
+        arrows = check_arrows(browser, pages[PAGES[0]])
+        seconds = browser.open(large)
+        must(seconds < OPENS and browser.value('D.routers.length') == LARGE, f'the page of {LARGE} routers took {seconds:.1f} s')
+        must(not browser.errors(), f'the console has: {browser.errors()[:1]}')
+    finally:
+        browser.close()
+    return f'{len(pages)} pages with {clicks} clicks, {arrows} arrows'

@@ -64,9 +64,6 @@ class Assigned:
         self.members = []
         self.applied = []
 
-    def key(self):
-        return tuple(self.publishers), tuple(self.members), tuple(self.applied)
-
 
 def assigned(text, known={}):
     """The assignments that a report `prefixes` tells, as (endpoint, delegated prefix, prefix, priority or no, applied)."""

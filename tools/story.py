@@ -7,6 +7,7 @@ import wire
 from common import Problem
 
 MOST_COPIES = 12000       # with more of them datagrams are left out
+MOST_COUNTED = 200000     # with more of them it is not counted how many were lost
 MOST_TEXT = 8000000       # characters of decoded datagrams
 AT_ONCE = 400             # so many datagrams are decoded by one call
 
@@ -31,7 +32,7 @@ class Story:
         self.changes = []                # (moment, line, order, of whom, what)
         self.links = list(hosts.prefixes_of_links(play))
         self.lanes = hosts.hosts_of_links(play, self.links)
-        self.copies, self.injected = [], []
+        self.copies, self.injected, self.delivered = [], [], None
         self.missing = self.read_wire(path)
         self.tell_marks()
         self.tell_routers()
@@ -55,10 +56,13 @@ class Story:
 
     def read_wire(self, path):
         """Reads the datagrams. The answer says why there are none, or nothing."""
-        made = self.made()[0]
+        made, waiting = self.made()
         if self.play.losses:
-            return (f'The script has a loss of {max(self.play.losses)} %. Which copies were lost, and what the others say, hncp '
-                    'does not tell: only a script without loss can be unrolled.')
+            self.delivered = self.count_delivered()
+            text = f'The script has a loss of {max(self.play.losses)} %.'
+            if self.delivered is not None:
+                text += f' Of {made} copies {self.delivered} were delivered, and {made - waiting - self.delivered} lost.'
+            return f'{text} Which ones hncp does not tell: only a script without loss can be unrolled.'
         if made > MOST_COPIES:
             return f'There are {made} copies. With more than {MOST_COPIES} they are left out.'
         try:
@@ -67,6 +71,17 @@ class Story:
             return f'There are no datagrams: {problem}.'
         self.copies, self.injected = found.copies, found.injected
         return None
+
+    def count_delivered(self):
+        """How many copies were delivered in a script with loss: those that come over the loopback. Nothing where it cannot be
+        known."""
+        if self.made()[0] > MOST_COUNTED or any(line.word in ('deliver', 'sync') for line in self.play.happen):
+            return None
+        try:
+            transcript, heard = wire.play_over_loopback([line.text for line in self.play.lines])
+        except Problem:
+            return None
+        return len(heard) if transcript == self.play.own else None
 
     # What changed
 
@@ -128,7 +143,9 @@ class Story:
         made, waiting = self.made()
         told = f'{made} made, {waiting} waiting'
         if self.play.losses:
-            told += f', with a loss of {max(self.play.losses)} %: which of them were lost is not told'
+            told += f', with a loss of {max(self.play.losses)} %'
+            if self.delivered is not None:
+                told += f', {self.delivered} delivered, {made - waiting - self.delivered} lost'
         elif self.missing is None:
             lost = sum(bool(copy.fates) and all(fate == 'drop' for _, fate in copy.fates) for copy in self.copies)
             told += f', {lost} dropped'

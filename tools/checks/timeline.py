@@ -162,7 +162,7 @@ def compare_copies(name, data):
     status, text, _ = run('trace', path_of(name))
     if status:
         must(data['missing'] and not data['copies'], f'{name}: copies, though trace refuses it')
-        return 0
+        return compare_losses(name, data)
     treated = [line.split() for line in text.splitlines() if line.startswith(('deliver ', 'drop '))]
     expected = sorted((int(copy), 0 if word == 'deliver' else 2) for word, copy in treated)
     must_be(sorted((each[8], each[6]) for each in data['copies'] if each[8]), expected, f'{name}: copies')
@@ -170,6 +170,17 @@ def compare_copies(name, data):
     found = [data['texts'][each[7]].split('\n') for each in data['copies'] if not each[8]]
     must_be(found, injected, f'{name}: injected datagrams')
     return len(expected)
+
+
+def compare_losses(name, data):
+    """Of a script with loss: as many copies are lost as its loss makes likely, five standard deviations aside."""
+    found = re.search(r'loss of (\d+) %. Of (\d+) copies (\d+) were delivered, and (\d+) lost', data['missing'])
+    if not found:
+        return 0     # the loopback cannot be heard
+    loss, made, delivered, lost = map(int, found.groups())
+    must(abs(lost - made * loss / 100) < 5 * (made * loss / 100 * (1 - loss / 100)) ** 0.5, f'{name}: {lost} of {made} lost, by {loss} %')
+    must(delivered + lost == made, f'{name}: {delivered} and {lost} are not {made}')
+    return made
 
 
 def check_page(browser, path, name, chance):
@@ -234,10 +245,21 @@ def check_timeline(folder):
     lines_of('timeline', '--every', '1000', '--html', large, script)
     must(os.path.getsize(large) < MOST_BYTES / 8, f'the page of {LARGE} routers has {os.path.getsize(large)} bytes')
     text = f'{told} changes by plays of their own, {played} looks, {cases} cases of hosts, {copies} copies'
-    return f'{text}, {in_browser(folder, pages, large)}'
+    return f'{text}, {in_browser(folder, pages, script, large)}'
 
 
-def in_browser(folder, pages, large):
+def check_large(browser, script, page):
+    """The page of a large home, where one router of those with one hash is asked for an audit: each has the answer that it
+    gives itself."""
+    seconds = browser.open(page)
+    must(seconds < OPENS and browser.value('D.shared && D.routers.length') == LARGE, f'the page of {LARGE} routers took {seconds:.1f} s')
+    lines = common.read_script(script)
+    for moment in (9000, 30000, 80000):
+        browser.value(f'choose({moment})')
+        must_be(browser.value('byId("reports").textContent').split('\n'), reports_at(lines, moment), f'{LARGE} routers: reports at {moment} ms')
+
+
+def in_browser(folder, pages, script, large):
     try:
         browser = Browser(os.path.join(folder, 'profile'))
     except Missing as missing:
@@ -246,9 +268,8 @@ def in_browser(folder, pages, large):
         chance = random.Random(SEED)
         clicks = sum(check_page(browser, path, name, chance) for name, path in pages.items())
         arrows = check_arrows(browser, pages[PAGES[0]])
-        seconds = browser.open(large)
-        must(seconds < OPENS and browser.value('D.routers.length') == LARGE, f'the page of {LARGE} routers took {seconds:.1f} s')
+        check_large(browser, script, large)
         must(not browser.errors(), f'the console has: {browser.errors()[:1]}')
     finally:
         browser.close()
-    return f'{len(pages)} pages with {clicks} clicks, {arrows} arrows'
+    return f'{len(pages) + 1} pages with {clicks + 3} moments, {arrows} arrows'

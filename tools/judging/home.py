@@ -5,7 +5,7 @@ import itertools
 import items
 from judging.rules import Finding
 from judging.senders import KEEP_ALIVE
-from judging.states import ENDLESS, shown, walk
+from judging.states import ENDLESS, FLOODING, shown, walk
 
 SILENCE = 2.1     # keep-alive intervals after which a peer is gone (RFC 7788, section 3)
 REST = 10.0       # seconds after which an assignment is applied, if nobody objects (RFC 7695, section 4.3; RFC 7788, section 6.3.3)
@@ -113,7 +113,7 @@ class Home:
         """What ended after the last Node State that told the age."""
         for text, node, valid, _ in self.delegated:
             state = self.latest[node]
-            if valid <= 0 and ('ended', state.version, text) not in self.states.told:
+            if valid <= -FLOODING and ('ended', state.version, text) not in self.states.told:
                 yield finding('ended', state, f'{shown(text)} ended {-valid:.3f} s before the end of the capture')
 
     def judge_inside(self):

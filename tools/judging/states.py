@@ -10,6 +10,7 @@ TOGETHER = 0.1                       # seconds within which the parts of one ans
 ENDLESS = 2 ** 32 - 1                # a lifetime that never ends
 OLDEST = 2 ** 32 - 2 ** 15           # milliseconds (RFC 7787, section 4.6)
 AGE_SLACK, AGE_DRIFT = 1.0, 0.002    # seconds that an age may be off, and by how much of the time that went by
+FLOODING = 5.0                       # seconds until new data are everywhere, and nobody shows the old ones any more
 RESERVED_CAPABILITY = 8
 HOME_KINDS = 32                      # types from here on count beside an HNCP-Version alone (RFC 7788, section 4)
 
@@ -150,7 +151,7 @@ class States:
         if abs(off) > AGE_SLACK + self.senders.slack + AGE_DRIFT * since:
             way = 'less' if off > 0 else 'more'
             text = (f'number {state.number} is {state.age:.3f} s old, {abs(off):.3f} s {way} than frame {first.frame} says '
-                    f'({first.age:.3f} s, {state.moment - first.moment:.3f} s before)')
+                    f'({first.age:.3f} s, {state.moment - first.moment:.3f} s before)' + ('; or it was published twice' if off > 0 else ''))
             self.find('age', state, text)
             self.origins[state.version] = state
 
@@ -203,7 +204,7 @@ class States:
         known = self.data.get(state.version)
         for prefix, valid, _ in known.delegated() if known else []:
             left = valid - state.age
-            if valid != ENDLESS and left <= 0:
+            if valid != ENDLESS and left <= -FLOODING:
                 text = f'{shown(prefix)} was valid for {valid} s, and number {state.number} is {state.age:.3f} s old: it ended {-left:.3f} s ago'
                 self.once('ended', state, text, prefix)
 

@@ -1,8 +1,9 @@
 -- Elements at their places.
-use Rattle.std.proofs.Common.{◌≡◌, ◌∙◌, ◌<◌, ℕ, zero, suc, Bool, true, false, List, [], ◌∷◌, ◌++◌, cond, length, get_or, Option, Some, None, find, position, slice_get, slice_set, nat_lt, refl, sym, subst, ap}
+use Rattle.std.proofs.Common.{◌≡◌, ◌∙◌, ◌<◌, ℕ, zero, suc, Bool, true, false, List, [], ◌∷◌, ◌++◌, cond, length, get_or, map, filter, take, ◌+◌, Option, Some, None, find, position, slice_get, slice_set, nat_lt, refl, sym, subst, ap}
 use Rattle.std.specs.List.{position_or_len}
 use Rattle.std.proofs.lemmas.List.Folds.{find_at}
-use Rattle.std.proofs.lemmas.List.{length-set}
+use Rattle.std.proofs.lemmas.List.{append-nil, length-set, map-append}
+use Rattle.std.proofs.lemmas.List.Elements.{filter_more}
 use Rattle.std.proofs.lemmas.List.Folds.{position_or_len-set}
 use Rattle.std.proofs.lemmas.List.Quantifiers.{position-Some}
 use Rattle.std.proofs.lemmas.Option.{get_or_from_slice_get, slice_get_read}
@@ -50,3 +51,27 @@ position_is p xs i found = by_test (nat_lt (position_or_len p xs) (length xs)) f
 
 pub found_at : {A : Type 0} (p : A → Bool) (xs : List A) (i : ℕ) (x : A) → position p xs ≡ Some i → slice_get xs i ≡ Some x → find p xs ≡ Some x
 found_at p xs i x found at = find_at p xs ∙ ap (slice_get xs) (position_is p xs i found) ∙ at
+
+-- what is picked of those that pass, one by one, where the list was read
+module _ {A B : Type 0} (f : A → B) (p : A → Bool) where
+  picked_more : (xs : List A) (i : ℕ) (d : A) → i < length xs → d ≡ get_or xs i d
+      → map f (filter p (take (i + 1) xs)) ≡ map f (filter p (take i xs)) ++ map f (cond (p d) (d ∷ []) [])
+  picked_more xs i d lt is =
+      ap (map f) (filter_more p xs i d lt)
+      ∙ map-append f (filter p (take i xs)) (cond (p (get_or xs i d)) (get_or xs i d ∷ []) [])
+      ∙ ap (λ (x : A). map f (filter p (take i xs)) ++ map f (cond (p x) (x ∷ []) [])) (sym is)
+
+  -- with one that passes, and with one that fails
+  pub with_one : (xs ys : List A) (i : ℕ) (d : A) (before after : List B) → xs ≡ ys → i < length xs → d ≡ get_or xs i d → p d ≡ true
+      → before ≡ map f (filter p (take i ys)) → after ≡ before ++ f d ∷ [] → after ≡ map f (filter p (take (i + 1) ys))
+  with_one xs ys i d before after same lt is passes before_is after_is =
+      after_is ∙ ap (λ (bs : List B). bs ++ f d ∷ []) (before_is ∙ ap (λ (zs : List A). map f (filter p (take i zs))) (sym same))
+      ∙ ap (λ (b : Bool). map f (filter p (take i xs)) ++ map f (cond b (d ∷ []) [])) (sym passes)
+      ∙ sym (picked_more xs i d lt is) ∙ ap (λ (zs : List A). map f (filter p (take (i + 1) zs))) same
+
+  pub without_one : (xs ys : List A) (i : ℕ) (d : A) (before after : List B) → xs ≡ ys → i < length xs → d ≡ get_or xs i d → p d ≡ false
+      → before ≡ map f (filter p (take i ys)) → after ≡ before → after ≡ map f (filter p (take (i + 1) ys))
+  without_one xs ys i d before after same lt is fails before_is after_is =
+      after_is ∙ before_is ∙ ap (λ (zs : List A). map f (filter p (take i zs))) (sym same) ∙ sym (append-nil (map f (filter p (take i xs))))
+      ∙ ap (λ (b : Bool). map f (filter p (take i xs)) ++ map f (cond b (d ∷ []) [])) (sym fails)
+      ∙ sym (picked_more xs i d lt is) ∙ ap (λ (zs : List A). map f (filter p (take (i + 1) zs))) same

@@ -1,13 +1,15 @@
 -- The endpoints that are attached to a link.
-use Rattle.std.proofs.Common.{◌≡◌, ℕ, zero, suc, ◌+◌, ◌<◌, Bool, false, List, [], ◌∷◌, ◌++◌, length, get_or, take, map, filter, find, Option, Some, refl, sym, ◌∙◌, ap, arith, add-one, append_assoc}
+use Rattle.std.proofs.Common.{◌≡◌, ℕ, zero, suc, ◌+◌, ◌<◌, Bool, true, false, cond, List, [], ◌∷◌, ◌++◌, length, get_or, take, map, filter, find, Option, Some, refl, sym, ◌∙◌, ap, arith, add-one, append_assoc}
 use Rattle.std.specs.Prelude.{◌==◌}
 use Rattle.std.specs.List.{list_any}
 use Rattle.std.specs.Option.{option_map, option_map_or}
 use Rattle.std.proofs.lemmas.Bool.{cond_both, or_parts}
-use Rattle.std.proofs.lemmas.List.{append-nil}
+use Rattle.std.proofs.lemmas.List.{append-nil, map-append, take_more}
 use Rattle.std.proofs.lemmas.List.Elements.{filter-append}
 use Rattle.hn_base.specs.declared.ids.EpId.{EpId}
+use Rattle.hn_dncp.specs.declared.port.Port.{Port}
 use Rattle.hn_own.specs.Ports.{endpoints_of}
+use Rattle.hn_world.specs.declared.copies.MailCopy.{MailCopy}
 use Rattle.hn_world.specs.declared.copies.Target.{Target}
 use Rattle.hn_world.specs.declared.member.Attachment.{Attachment}
 use Rattle.hn_world.specs.Names.{is_of, is_on}
@@ -36,6 +38,49 @@ on_link-more link i xs d lt =
 pub getting-more : (p : Target → Bool) (link i : ℕ) (xs : List Member) (d : Member) → i < length xs
     → filter p (on_link link 0 (take (i + 1) xs)) ≡ filter p (on_link link 0 (take i xs)) ++ filter p (on_link_at link i (get_or xs i d))
 getting-more p link i xs d lt = ap (filter p) (on_link-more link i xs d lt) ∙ filter-append p (on_link link 0 (take i xs)) (on_link_at link i (get_or xs i d))
+
+-- ---- the endpoints of a router, one by one
+
+module _ (copy : Target → MailCopy) (gets : Target → Bool) (to : EpId → Target) (on : EpId → Bool) where
+  -- the copies for endpoints
+  abbrev copies_for : List EpId → List MailCopy
+  copies_for es = map copy (filter gets (map to (filter on es)))
+
+  copies_for-append : (es fs : List EpId) → copies_for (es ++ fs) ≡ copies_for es ++ copies_for fs
+  copies_for-append es fs =
+      ap (λ (xs : List EpId). map copy (filter gets (map to xs))) (filter-append on es fs)
+      ∙ ap (λ (ts : List Target). map copy (filter gets ts)) (map-append to (filter on es) (filter on fs))
+      ∙ ap (map copy) (filter-append gets (map to (filter on es)) (map to (filter on fs)))
+      ∙ map-append copy (filter gets (map to (filter on es))) (filter gets (map to (filter on fs)))
+
+  copies_for-more : (ports : List Port) (i : ℕ) (d : Port) → i < length ports → d ≡ get_or ports i d
+      → copies_for (map (λ (q : Port). q.id) (take (i + 1) ports)) ≡ copies_for (map (λ (q : Port). q.id) (take i ports)) ++ copies_for (d.id ∷ [])
+  copies_for-more ports i d lt is =
+      let ids : List Port → List EpId = map (λ (q : Port). q.id) in
+      ap (λ (qs : List Port). copies_for (ids qs)) (take_more ports i d lt ∙ ap (λ (q : Port). take i ports ++ q ∷ []) (sym is))
+      ∙ ap copies_for (map-append (λ (q : Port). q.id) (take i ports) (d ∷ []))
+      ∙ copies_for-append (ids (take i ports)) (d.id ∷ [])
+
+  -- with one that is on the link, and with one that is not
+  pub with_port : (ports : List Port) (i : ℕ) (d : Port) (base before after : List MailCopy) → i < length ports → d ≡ get_or ports i d → on d.id ≡ true
+      → before ≡ base ++ map copy (filter gets (map to (filter on (map (λ (q : Port). q.id) (take i ports))))) → after ≡ before ++ map copy (filter gets (to d.id ∷ []))
+      → after ≡ base ++ map copy (filter gets (map to (filter on (map (λ (q : Port). q.id) (take (i + 1) ports)))))
+  with_port ports i d base before after lt is passes before_is after_is =
+      let past = copies_for (map (λ (q : Port). q.id) (take i ports)) in
+      let one : copies_for (d.id ∷ []) ≡ map copy (filter gets (to d.id ∷ [])) = ap (λ (b : Bool). map copy (filter gets (map to (cond b (d.id ∷ []) [])))) passes in
+      after_is ∙ ap (λ (cs : List MailCopy). cs ++ map copy (filter gets (to d.id ∷ []))) before_is
+      ∙ append_assoc base past (map copy (filter gets (to d.id ∷ [])))
+      ∙ ap (λ (cs : List MailCopy). base ++ (past ++ cs)) (sym one)
+      ∙ ap (λ (cs : List MailCopy). base ++ cs) (sym (copies_for-more ports i d lt is))
+
+  pub without_port : (ports : List Port) (i : ℕ) (d : Port) (base before after : List MailCopy) → i < length ports → d ≡ get_or ports i d → on d.id ≡ false
+      → before ≡ base ++ map copy (filter gets (map to (filter on (map (λ (q : Port). q.id) (take i ports))))) → after ≡ before
+      → after ≡ base ++ map copy (filter gets (map to (filter on (map (λ (q : Port). q.id) (take (i + 1) ports)))))
+  without_port ports i d base before after lt is fails before_is after_is =
+      let past = copies_for (map (λ (q : Port). q.id) (take i ports)) in
+      let none : copies_for (d.id ∷ []) ≡ [] = ap (λ (b : Bool). map copy (filter gets (map to (cond b (d.id ∷ []) [])))) fails in
+      after_is ∙ before_is
+      ∙ ap (λ (cs : List MailCopy). base ++ cs) (sym (copies_for-more ports i d lt is ∙ ap (λ (cs : List MailCopy). past ++ cs) none ∙ append-nil past))
 
 -- ---- a router with no attachment to a link
 

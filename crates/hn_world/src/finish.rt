@@ -73,7 +73,11 @@ fn with_room(
         → copies.new ≡ copies.old ++ copies_of members.now place m plan.done.sends) }
     ensures err { OnErr result (copies.new ≡ copies.old) }
 {
-    make_room(alloc, members, place, &plan, published, trace, copies)?;
+    if let Err(error) = make_room(alloc, members, place, &plan, published, trace, copies) {
+        // An exit that drops a plan is dear to prove, and a call is not.
+        drop(plan);
+        return Err(error);
+    }
     Ok(plan)
 }
 

@@ -112,7 +112,9 @@ impl Parts {
         let (member, publication) = new_member(alloc, name, id, self.moment.get(), limit)?;
         self.members.items.push_reserved(member);
         self.published.items.push_reserved(publication);
-        self.trace.items.push_reserved(without_words(alloc, WEvent::Router { name, id }));
+        self.trace
+            .items
+            .push_reserved(without_words(alloc, WEvent::Router { name, id }));
         self.trace.injected = injected;
         Ok(())
     }
@@ -124,10 +126,7 @@ impl Parts {
         ensures err { OnErr result (self.new ≡ self.old) }
     {
         self.links.items.reserve(1)?;
-        enter(
-            &mut self.trace,
-            without_words(alloc, WEvent::Link { name }),
-        )?;
+        enter(&mut self.trace, without_words(alloc, WEvent::Link { name }))?;
         self.links.items.push_reserved(name);
         Ok(())
     }

@@ -1,0 +1,21 @@
+use Rattle.std.proofs.Common.{◌≡◌, ◌∙◌, Vec, Global, ap}
+use Rattle.hn_base.specs.declared.name.Name.{Name}
+use Rattle.hn_world.specs.declared.member.Member.{Member}
+use Rattle.hn_world.specs.declared.parts.Parts.{Parts}
+use Rattle.hn_world.proofs.Places.{with_one, without_one}
+use Rattle.hn_world.proofs.world.World.running_names.Goals.{then-member+in_ok-push, else-member}
+use Rattle.hn_world.proofs.world.World.running_names.Goals as goal
+
+pub loop-member-preserved : goal.loop-member-preserved
+loop-member-preserved c =
+    let xs = c.as_slice-member-items.result.now in
+    let ys = c.args.self.now.members in
+    let same : xs ≡ ys = c.as_slice-member-items.ensures ∙ ap (λ (w : Parts). w.members) c.self.view_is in
+    elim c.if-member.branch [
+      | then-member+in_ok-push w ↦
+          with_one (λ (m : Member). m.name) (λ (m : Member). m.running) xs ys c.loop-member.member-index c.member-item.result c.loop-member.names.items c.if-member.names.items
+          same c.loop-member-test.true c.member-item.is w.if-member.true c.loop-member.invariant (ap (λ (v : Vec Name Global). v.items) w.names-is ∙ w.in_ok-push.ensures.items)
+      | else-member w ↦
+          without_one (λ (m : Member). m.name) (λ (m : Member). m.running) xs ys c.loop-member.member-index c.member-item.result c.loop-member.names.items c.if-member.names.items
+          same c.loop-member-test.true c.member-item.is w.if-member.false c.loop-member.invariant (ap (λ (v : Vec Name Global). v.items) w.names-is)
+    ]

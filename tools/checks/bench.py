@@ -150,7 +150,8 @@ def check_mutants():
                 base = chance.choice(sound)
                 source, destination = (chance.choice(addresses) if chance.randrange(8) == 0 else end for end in (base.source, base.destination))
                 port = chance.choice([8231, 8231, 8231, 50000])
-                datagram = Told(base.frame, base.moment, '0', source, 8231, destination, port, payload, len(payload) + (chance.randrange(50) == 0))
+                moment = base.moment + chance.choice([0, 0, 0, 0, 0, 0, 10 ** 9, -10 ** 9])
+                datagram = Told(base.frame, moment, '0', source, 8231, destination, port, payload, len(payload) + (chance.randrange(50) == 0))
                 datagram.lines = lines
                 made.take(datagram)
             made.close()

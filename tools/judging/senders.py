@@ -2,7 +2,7 @@
 import functools
 import ipaddress
 
-from judging.rules import Finding
+from judging.rules import HNCP, Finding
 
 GROUP = 'ff02::11'                        # All-Homenet-Nodes (RFC 7788, section 13)
 IMIN, IMAX = 0.2, 25.6                    # seconds: Imin, and Imin after 7 doublings (RFC 7788, section 3)
@@ -10,7 +10,8 @@ LAG = 0.1                                 # seconds that a gateway may begin an 
 DELAY = IMIN / 2                          # how late a keep-alive or a reply by multicast may come (RFC 7787, sections 4.4, 6.1.2)
 MOST_BYTES = 4000                         # that a node has to be able to receive (RFC 7788, section 3)
 KEEP_ALIVE = 20.0                         # seconds, unless the node says otherwise (RFC 7788, section 3)
-DATA_KINDS = (8, 9, *range(32, 44))       # types that have their place within node data alone
+FIRST_OF_HNCP = 32                        # the types from here to 43 are those of RFC 7788
+DATA_KINDS = (8, 9, *range(FIRST_OF_HNCP, 44))    # types that have their place within node data alone
 
 
 @functools.lru_cache(maxsize=4096)
@@ -57,23 +58,25 @@ class Trickle:
 
     def __init__(self, moment, digest):
         self.digest = digest
-        self.start, self.length = moment - IMIN / 2, IMIN
+        self.start, self.length = moment - IMIN / 2, IMIN    # of the interval: the latest start, the least length
         self.next = 2 * IMIN       # the interval of the next multicast, at least
         self.early = 0.0           # how much earlier it may come
 
     def least(self, moment):
         """How long after the last multicast one at this moment comes, at least."""
-        while self.start + self.length + LAG <= moment:
+        while self.length < IMAX and self.start + self.length + LAG <= moment:
             self.start += self.length + LAG
             self.length = min(2 * self.length, IMAX)
         return max(self.length, self.next) / 2 - self.early
 
     def sent(self, moment, maybe_keep_alive):
-        self.length = max(self.length, IMIN if maybe_keep_alive else self.next)
         if maybe_keep_alive:
             self.start, self.next, self.early = moment, self.length, DELAY
-        else:
-            self.next, self.early = min(2 * self.length, IMAX), 0.0
+            return
+        if self.next > self.length:
+            # The interval that this multicast came in is as long, and half of it or more was over.
+            self.start, self.length = moment - self.next / 2, self.next
+        self.next, self.early = min(2 * self.length, IMAX), 0.0
 
 
 class Senders:
@@ -116,7 +119,8 @@ class Senders:
         self.take_endpoints(sender, datagram, found)
         for item in found:
             if item.kind in DATA_KINDS:
-                self.find('misplaced', datagram, f'a TLV of type {item.kind} at place {item.place} of the datagram, outside of node data')
+                text = f'a TLV of type {item.kind} at place {item.place} of the datagram, outside of node data'
+                self.find('misplaced', datagram, text, sections=f'{HNCP}, section 10' if item.kind >= FIRST_OF_HNCP else None)
         states = [item.words['hash'] for item in found if item.name == 'network-state']
         if states:
             self.take_state(sender, datagram, states[-1])

@@ -2,7 +2,7 @@
 import re
 
 import items
-from judging.rules import DNCP, HNCP, TYPES, Finding
+from judging.rules import DNCP, HNCP, Finding
 from judging.senders import DATA_KINDS, is_multicast
 
 HEAD, FIELDS = 4, 20                 # bytes of type and length, and of the fields of a Node State
@@ -12,7 +12,7 @@ OLDEST = 2 ** 32 - 2 ** 15           # milliseconds (RFC 7787, section 4.6)
 AGE_SLACK, AGE_DRIFT = 1.0, 0.002    # seconds that an age may be off, and by how much of the time that went by
 FLOODING = 5.0                       # seconds until new data are everywhere, and nobody shows the old ones any more
 RESERVED_CAPABILITY = 8
-HOME_KINDS = 32                      # types from here on count beside an HNCP-Version alone (RFC 7788, section 4)
+LAST_OF_ALL = 32                     # types above this count beside an HNCP-Version alone (RFC 7788, section 4)
 
 
 def is_older(one, other):
@@ -169,7 +169,7 @@ class States:
     def take_items(self, datagram, state):
         """What the items within the data say, each found once."""
         below = state.item.below
-        counted = [item.kind for item in below if item.kind > HOME_KINDS and item.kind in DATA_KINDS]
+        counted = [item.kind for item in below if item.kind > LAST_OF_ALL and item.kind in DATA_KINDS]
         if not any(item.name == 'version' for item in below):
             ignored = f'; others ignore its TLVs of the types {", ".join(map(str, sorted(set(counted))))}' if counted else ''
             self.once('no-version', state, f'number {state.number} has no HNCP-Version{ignored}', '')

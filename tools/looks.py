@@ -302,7 +302,7 @@ class Play:
                 self.put(line.text, line.number)
                 continue
             ahead = words[0] in ('run', 'time') and int(words[1]) > home.moment
-            if ahead and changed:
+            if changed and (ahead or not is_played):
                 self.look(before)
                 changed = False
             if words[0] in ('run', 'flow') and home.loss:

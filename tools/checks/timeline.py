@@ -1,4 +1,5 @@
 """The check of timeline: its text, its page in a browser, what hosts hold, and that it shows nothing where a play changes."""
+import ipaddress
 import json
 import os
 import random
@@ -13,6 +14,7 @@ from checks.helpers import SEED, Missing, lines_of, must, must_be, run, short
 
 LOOKED = 'two_routers_meet.script'          # each round of it is played by itself
 PAGES = ['a_power_cut.script', 'hosts_are_told_of_a_new_prefix.script', 'a_lossy_home.script', 'a_forging_guest.script']
+SENT = 'hosts_are_told_of_a_new_prefix.script'
 LARGE = 32
 OPENS = 3                                   # seconds
 CLICKS = 3                                  # at each page
@@ -113,6 +115,22 @@ def compare_hosts():
         host.hear(0, advert_of(7200, 3600, **words))
         must(not host.held, f'a host takes an address from an option with {words}')
     return len(HOSTS) + 3
+
+
+def compare_sent():
+    """Where a script sends advertisements, hosts of that link know of a prefix from the first one on that has it."""
+    path = path_of(SENT)
+    told, known, expected = lines_of('timeline', path), set(), []
+    for line in samples.transcript_of(path):
+        if line.startswith('ra '):
+            _, _, _, moment, data = line.split(' ')
+            for each in looks.Advert(data).prefixes:
+                prefix = str(ipaddress.IPv6Network((each[0], each[1])))
+                if prefix not in known:
+                    known.add(prefix)
+                    expected.append(f'{moment}\thosts of hosts\t{prefix} preferred')
+    must_be([line for line in told if '\thosts of hosts\t' in line and line.endswith(' preferred')], expected, f'{SENT}: hosts')
+    must(len(expected) >= 2, f'{SENT} tells nothing')
 
 
 def compare_honesty(folder):
@@ -233,6 +251,7 @@ def large_script(path):
 def check_timeline(folder):
     told = compare_text()
     cases = compare_hosts()
+    compare_sent()
     compare_honesty(folder)
     played = compare_plays()
     pages, copies = {}, 0

@@ -20,21 +20,36 @@ const OTHERS_BETWEEN: &str = "86001234ffff000000007530000003e8\
     05010000000005dc\
     03040020000000000000000100000000ffffffffffffffffffffffffffffffff";
 
+/// An advertisement for 1,800 s of nothing.
+const NO_PREFIX: &str = "86000000400007080000000000000000";
+
+/// What an advertisement says but for its options: both flags, and the lifetime.
+type Head = (bool, bool, u16);
+
+/// A message is read as these.
+fn is_read(
+    rt: &impl Abort,
+    alloc: Global,
+    digits: &str,
+    head: Head,
+    infos: &[Info],
+) -> Result<(), Fail> {
+    let advert = read(alloc, &bytes(alloc, digits)?)?;
+    assert!(rt;
+        (advert.managed, advert.other, advert.lifetime) == head,
+        "{digits}"
+    );
+    assert!(rt; advert.infos.as_slice() == infos, "{digits}");
+    Ok(())
+}
+
 #[test]
 fn messages_are_read(rt: HostRuntime) -> Result<(), Fail> {
-    let advert = read(rt.alloc(), &bytes(rt.alloc(), ONE_PREFIX)?)?;
-    assert!(rt; !advert.managed && !advert.other && advert.lifetime == 1800);
-    assert!(rt; advert.infos.as_slice() == [info("2001:db8:0:1::/64", 1790, 890)?].as_slice());
-    let advert = read(rt.alloc(), &bytes(rt.alloc(), OTHERS_BETWEEN)?)?;
-    assert!(rt; advert.managed && advert.other && advert.lifetime == 0);
+    let infos = [info("2001:db8:0:1::/64", 1790, 890)?];
+    is_read(&rt, rt.alloc(), ONE_PREFIX, (false, false, 1800), &infos)?;
     let infos = [info("2001:db8::/60", u32::MAX, 86400)?, info("::/0", 0, 1)?];
-    assert!(rt; advert.infos.as_slice() == infos.as_slice());
-    let advert = read(
-        rt.alloc(),
-        &bytes(rt.alloc(), "86000000400007080000000000000000")?,
-    )?;
-    assert!(rt; advert.infos.is_empty());
-    Ok(())
+    is_read(&rt, rt.alloc(), OTHERS_BETWEEN, (true, true, 0), &infos)?;
+    is_read(&rt, rt.alloc(), NO_PREFIX, (false, false, 1800), &[])
 }
 
 fn info(prefix: &str, valid: u32, preferred: u32) -> Result<Info, Fail> {
@@ -53,11 +68,16 @@ fn a_message_is_written(rt: HostRuntime) -> Result<(), Fail> {
     Ok(())
 }
 
-/// The fault of a message. The case has how many of its bytes there are, the place of one that is changed, and its new value.
-fn fault_of(alloc: Global, digits: &str, case: &[u8]) -> Result<RaFault, Fail> {
-    let [len, at, value, ..] = *case else {
-        return Err("a case".into());
-    };
+/// The four bytes of a case.
+fn case_of(alloc: Global, digits: &str) -> Result<[u8; 4], Fail> {
+    match *bytes(alloc, digits)? {
+        [len, at, value, place] => Ok([len, at, value, place]),
+        _ => Err("a case".into()),
+    }
+}
+
+/// The fault of a message of which this many bytes are there, and of which the one at a place is changed.
+fn fault_of(alloc: Global, digits: &str, len: u8, at: u8, value: u8) -> Result<RaFault, Fail> {
     let mut message = bytes(alloc, digits)?;
     if let Some(byte) = message.get_mut(usize::from(at)) {
         *byte = value;
@@ -78,13 +98,12 @@ fn are_refused(
     cases: &str,
     why: u8,
 ) -> Result<(), Fail> {
-    for digits_of_case in cases.split(',') {
-        let case = bytes(alloc, digits_of_case)?;
-        let fault = fault_of(alloc, digits, &case)?;
-        let place = case.last().copied().map(usize::from);
+    for case in cases.split(',') {
+        let [len, at, value, place] = case_of(alloc, case)?;
+        let fault = fault_of(alloc, digits, len, at, value)?;
         assert!(rt;
-            place == Some(fault.place) && fault.why == why,
-            "{digits_of_case}"
+            fault.place == usize::from(place) && fault.why == why,
+            "{case}"
         );
     }
     Ok(())

@@ -1,3 +1,4 @@
+use crate::cases::says;
 use hn_advert::{PREFIX_TOO_LONG, RaFault, ReadFault};
 use hn_base::{Bytes, Name, NoMemory, NodeId, NodeIds, Shared, sort_to_set};
 use hn_script::ScriptFault;
@@ -5,14 +6,25 @@ use hn_tlv::{ListFault, PADDING_NOT_ZERO, TlvFault};
 use hn_typed::{ItemFault, NO_TEXT};
 use std::test::Fail;
 
-/// Each call that takes memory.
+// Each call that takes memory.
+
 #[test]
-fn lists_and_shared_values(rt: HostRuntime) -> Result<(), Fail> {
+fn bytes_are_copied(rt: HostRuntime) -> Result<(), Fail> {
     assert!(rt; Bytes::copy_of(rt.alloc(), b"hncp")?.as_slice() == b"hncp".as_slice());
+    Ok(())
+}
+
+#[test]
+fn a_list_of_nodes_is_copied(rt: HostRuntime) -> Result<(), Fail> {
     let mut nodes = vec![in rt.alloc(); NodeId(7), NodeId(3), NodeId(7)]?;
     sort_to_set(&mut nodes);
     let ids = NodeIds::from(nodes).copy(rt.alloc())?;
     assert!(rt; ids.as_slice() == [NodeId(3), NodeId(7)].as_slice());
+    Ok(())
+}
+
+#[test]
+fn a_value_is_shared(rt: HostRuntime) -> Result<(), Fail> {
     let shared = Shared::new(rt.alloc(), 7u32)?;
     assert!(rt; *shared.clone()?.get() == 7);
     Ok(())
@@ -22,24 +34,29 @@ fn lists_and_shared_values(rt: HostRuntime) -> Result<(), Fail> {
 #[test]
 fn texts(rt: HostRuntime) -> Result<(), Fail> {
     let name = Name::new(b"Living-room_2").ok_or("a name")?;
-    assert!(rt; name.to_string(rt.alloc())?.as_str() == "Living-room_2");
-    assert!(rt; NoMemory.to_string(rt.alloc())?.as_str() == "out of memory");
+    says(&rt, rt.alloc(), &name, "Living-room_2")?;
+    says(&rt, rt.alloc(), &NoMemory, "out of memory")?;
     let (place, why) = (7, PADDING_NOT_ZERO);
     let fault = ListFault::Malformed(TlvFault { place, why });
-    assert!(rt;
-        fault.to_string(rt.alloc())?.as_str() == "TLV list at byte 7: a pad byte is not zero"
-    );
+    says(
+        &rt,
+        rt.alloc(),
+        &fault,
+        "TLV list at byte 7: a pad byte is not zero",
+    )?;
     let (kind, why) = (32, NO_TEXT);
     let fault = ItemFault { kind, why };
-    assert!(rt;
-        fault.to_string(rt.alloc())?.as_str() == "TLV of type 32: the user agent is not in UTF-8"
-    );
+    says(
+        &rt,
+        rt.alloc(),
+        &fault,
+        "TLV of type 32: the user agent is not in UTF-8",
+    )?;
     let (place, why) = (18, PREFIX_TOO_LONG);
     let fault = ReadFault::Ra(RaFault { place, why });
     let text = "Router Advertisement at byte 18: a prefix length is above 128";
-    assert!(rt; fault.to_string(rt.alloc())?.as_str() == text);
+    says(&rt, rt.alloc(), &fault, text)?;
     let (line, code) = (4, 2);
     let fault = ScriptFault { line, code };
-    assert!(rt; fault.to_string(rt.alloc())?.as_str() == "line 4 has a fault of code 2");
-    Ok(())
+    says(&rt, rt.alloc(), &fault, "line 4 has a fault of code 2")
 }

@@ -114,19 +114,26 @@ fn rewritten(alloc: Global, datagram: &[u8]) -> Result<Vec<u8>, Fail> {
     Ok(out)
 }
 
-/// The fault of bytes that are no list of TLVs.
-fn fault_of(alloc: Global, digits: &str) -> Result<Option<ListFault>, Fail> {
-    Ok(decode(alloc, &bytes(alloc, digits)?).err())
+/// These bytes are no list of TLVs, for a reason at a place.
+fn is_no_list(
+    rt: &impl Abort,
+    alloc: Global,
+    digits: &str,
+    place: usize,
+    why: u8,
+) -> Result<(), Fail> {
+    let fault = decode(alloc, &bytes(alloc, digits)?).err();
+    let wanted = Some(ListFault::Malformed(TlvFault { place, why }));
+    assert!(rt; fault == wanted, "{digits}");
+    Ok(())
 }
 
 #[test]
 fn no_lists(rt: HostRuntime) -> Result<(), Fail> {
-    let at = |place, why| Some(ListFault::Malformed(TlvFault { place, why }));
-    assert!(rt; fault_of(rt.alloc(), "000100")? == at(0, HEADER_CUT));
-    assert!(rt; fault_of(rt.alloc(), "0001FFFF00000000")? == at(0, VALUE_CUT));
-    assert!(rt; fault_of(rt.alloc(), "007B000178")? == at(5, PADDING_CUT));
-    assert!(rt; fault_of(rt.alloc(), "007B000178000001")? == at(7, PADDING_NOT_ZERO));
-    Ok(())
+    is_no_list(&rt, rt.alloc(), "000100", 0, HEADER_CUT)?;
+    is_no_list(&rt, rt.alloc(), "0001FFFF00000000", 0, VALUE_CUT)?;
+    is_no_list(&rt, rt.alloc(), "007B000178", 5, PADDING_CUT)?;
+    is_no_list(&rt, rt.alloc(), "007B000178000001", 7, PADDING_NOT_ZERO)
 }
 
 /// The type of a TLV, and a value in hexadecimal digits that has too few bytes: for the fixed fields, or for the prefix,
@@ -168,16 +175,21 @@ const OTHER_PREFIX: &str = "35 8181818181818181818181818181818181818181818181\n\
      34 00000001000000010140\n\
      34 00000001000000010140EE";
 
+/// Why the value of a line is no item.
+fn reason(alloc: Global, line: &str) -> Result<u8, Fail> {
+    let (kind, digits) = parts(line)?;
+    let kind = u16::try_from(number(kind.as_bytes(), 10, 2).ok_or("a type")?)?;
+    let value = &bytes(alloc, digits)?;
+    match read(&Tlv { kind, value }) {
+        Ok(_) => Err("an item".into()),
+        Err(fault) => Ok(fault.why),
+    }
+}
+
 /// Each of these values is no item for this reason.
 fn are_refused(rt: &impl Abort, alloc: Global, lines: &str, why: u8) -> Result<(), Fail> {
     for line in lines.lines() {
-        let (kind, digits) = parts(line)?;
-        let kind = u16::try_from(number(kind.as_bytes(), 10, 2).ok_or("a type")?)?;
-        let value = &bytes(alloc, digits)?;
-        let Err(fault) = read(&Tlv { kind, value }) else {
-            return Err("an item".into());
-        };
-        assert!(rt; fault.why == why, "{line}");
+        assert!(rt; reason(alloc, line)? == why, "{line}");
     }
     Ok(())
 }

@@ -73,13 +73,26 @@ fn agreed(alloc: Global, one: &str, other: &str) -> Result<Agreement, Fail> {
 
 #[test]
 fn agreements(rt: HostRuntime) -> Result<(), Fail> {
-    let [one, other] = COLLIDING;
+    let [one, _] = COLLIDING;
     assert!(rt; matches!(agreed(rt.alloc(), one, one)?, Agreement::Same));
     assert!(rt; matches!(agreed(rt.alloc(), one, "61")?, Agreement::Differ));
-    let Agreement::Collide { left, right } = agreed(rt.alloc(), one, other)? else {
-        panic!(rt; "they collide")
-    };
-    assert!(rt; left.as_slice() == bytes(rt.alloc(), one)?.as_slice());
-    assert!(rt; right.as_slice() == bytes(rt.alloc(), other)?.as_slice());
+    Ok(())
+}
+
+/// Whether these are the data that two nodes collide by.
+fn are_colliding(agreement: &Agreement, one: &[u8], other: &[u8]) -> bool {
+    match agreement {
+        Agreement::Collide { left, right } => left.as_slice() == one && right.as_slice() == other,
+        _ => false,
+    }
+}
+
+#[test]
+fn a_collision(rt: HostRuntime) -> Result<(), Fail> {
+    let [one, other] = COLLIDING;
+    let left = bytes(rt.alloc(), one)?;
+    let right = bytes(rt.alloc(), other)?;
+    let agreement = agreed(rt.alloc(), one, other)?;
+    assert!(rt; are_colliding(&agreement, &left, &right), "they collide");
     Ok(())
 }

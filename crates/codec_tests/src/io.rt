@@ -110,15 +110,30 @@ fn a_sink_calls_its_writer(rt: HostRuntime) {
     assert!(rt; first == b'v');
 }
 
+/// Whether a read gives this answer, and the buffer has these bytes then.
+fn reads(
+    source: &mut MemSource,
+    buf: &mut [u8; 4],
+    answer: Result<usize, IoFault>,
+    bytes: &[u8; 4],
+) -> bool {
+    source.read(buf) == answer && *buf == *bytes
+}
+
 #[test]
-fn in_memory(rt: HostRuntime) -> Result<(), Fail> {
+fn a_source_in_memory(rt: HostRuntime) -> Result<(), Fail> {
     let bytes = b"router".to_vec(rt.alloc())?;
     let mut source = MemSource::new(bytes, vec![in rt.alloc(); 2]?);
     let mut buf = [0; 4];
-    assert!(rt; source.read(&mut buf) == Ok(4) && buf == *b"rout");
-    assert!(rt; source.read(&mut buf) == Err(IoFault::Failed));
-    assert!(rt; source.read(&mut buf) == Ok(2) && buf == *b"erut");
-    assert!(rt; source.read(&mut buf) == Ok(0));
+    assert!(rt; reads(&mut source, &mut buf, Ok(4), b"rout"));
+    assert!(rt; reads(&mut source, &mut buf, Err(IoFault::Failed), b"rout"));
+    assert!(rt; reads(&mut source, &mut buf, Ok(2), b"erut"));
+    assert!(rt; reads(&mut source, &mut buf, Ok(0), b"erut"));
+    Ok(())
+}
+
+#[test]
+fn a_sink_in_memory(rt: HostRuntime) -> Result<(), Fail> {
     let mut sink = MemSink::new(rt.alloc(), vec![in rt.alloc(); 2]?);
     assert!(rt; sink.write(b"show ") == Ok(5));
     assert!(rt; sink.write(b"lost") == Err(IoFault::Failed));

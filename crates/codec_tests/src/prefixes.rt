@@ -1,4 +1,4 @@
-use crate::cases::parts;
+use crate::cases::{parts, says};
 use hn_base::number;
 use hn_prefix::{Prefix, address_text, parse_address};
 use std::test::Fail;
@@ -33,11 +33,8 @@ fn addresses_are_read_and_written(rt: HostRuntime) -> Result<(), Fail> {
         let (read, rest) = parts(line)?;
         let (digits, written) = parts(rest)?;
         let ip = parse_address(read.as_bytes())?;
-        assert!(rt; number(digits.as_bytes(), 16, 32) == Some(ip));
-        assert!(rt;
-            address_text(ip).to_string(rt.alloc())?.as_str() == written,
-            "{line}"
-        );
+        assert!(rt; number(digits.as_bytes(), 16, 32) == Some(ip), "{line}");
+        says(&rt, rt.alloc(), &address_text(ip), written)?;
     }
     Ok(())
 }
@@ -80,10 +77,7 @@ fn prefixes_are_read_and_written(rt: HostRuntime) -> Result<(), Fail> {
     for line in PREFIXES.lines() {
         let (read, written) = parts(line)?;
         let prefix = Prefix::parse(read.as_bytes())?;
-        assert!(rt;
-            prefix.text().to_string(rt.alloc())?.as_str() == written,
-            "{line}"
-        );
+        says(&rt, rt.alloc(), &prefix.text(), written)?;
     }
     Ok(())
 }

@@ -103,21 +103,30 @@ fn reprinted(alloc: Global, text: &str) -> Result<Bytes, Fail> {
     Ok(print(alloc, &script)?)
 }
 
-#[test]
-fn scripts_are_read_and_printed(rt: HostRuntime) -> Result<(), Fail> {
-    let flow = "hncp 1\nflow\nmail\nshow A\n";
-    assert!(rt; reprinted(rt.alloc(), WORDS)?.as_slice() == WORDS.as_bytes());
-    assert!(rt; reprinted(rt.alloc(), LATER_WORDS)?.as_slice() == LATER_WORDS.as_bytes());
-    assert!(rt; reprinted(rt.alloc(), HOME_OF_TWO)?.as_slice() == HOME_OF_TWO.as_bytes());
-    assert!(rt; reprinted(rt.alloc(), WRITTEN)?.as_slice() == PRINTED.as_bytes());
-    assert!(rt; reprinted(rt.alloc(), NUMBERED)?.as_slice() == flow.as_bytes());
-    assert!(rt; reprinted(rt.alloc(), "hncp 1")?.as_slice() == b"hncp 1\n".as_slice());
-    assert!(rt; reprinted(rt.alloc(), "hncp 2\n mail")?.as_slice() == b"hncp 2\nmail\n".as_slice());
+/// The script that a text is, is printed as another text.
+fn is_printed(rt: &impl Abort, alloc: Global, text: &str, printed: &str) -> Result<(), Fail> {
     assert!(rt;
-        reprinted(rt.alloc(), "hncp 2\nprivate A  064")?.as_slice()
-            == b"hncp 2\nprivate A 64\n".as_slice()
+        reprinted(alloc, text)?.as_slice() == printed.as_bytes(),
+        "{text}"
     );
     Ok(())
+}
+
+#[test]
+fn scripts_are_read_and_printed(rt: HostRuntime) -> Result<(), Fail> {
+    is_printed(&rt, rt.alloc(), WORDS, WORDS)?;
+    is_printed(&rt, rt.alloc(), LATER_WORDS, LATER_WORDS)?;
+    is_printed(&rt, rt.alloc(), HOME_OF_TWO, HOME_OF_TWO)?;
+    is_printed(&rt, rt.alloc(), WRITTEN, PRINTED)?;
+    is_printed(&rt, rt.alloc(), NUMBERED, "hncp 1\nflow\nmail\nshow A\n")?;
+    is_printed(&rt, rt.alloc(), "hncp 1", "hncp 1\n")?;
+    is_printed(&rt, rt.alloc(), "hncp 2\n mail", "hncp 2\nmail\n")?;
+    is_printed(
+        &rt,
+        rt.alloc(),
+        "hncp 2\nprivate A  064",
+        "hncp 2\nprivate A 64\n",
+    )
 }
 
 const NUMBERED: &str = "hncp 1\n\nflow\n# a comment\n   \nmail\n  # another\nshow A";
@@ -238,25 +247,43 @@ fn fault_of(alloc: Global, text: &str, len: usize, byte: u8) -> Result<Option<Sc
     Ok(first_fault(&bytes))
 }
 
+/// A text that is filled up to this length has this fault.
+fn is_faulty(
+    rt: &impl Abort,
+    alloc: Global,
+    text: &str,
+    filled: (usize, u8),
+    fault: Option<ScriptFault>,
+) -> Result<(), Fail> {
+    let (len, byte) = filled;
+    assert!(rt; fault_of(alloc, text, len, byte)? == fault, "{text}");
+    Ok(())
+}
+
 /// Lines of 16,384 bytes, and of one byte more.
 #[test]
 fn lines_and_scripts_are_measured(rt: HostRuntime) -> Result<(), Fail> {
-    assert!(rt; fault_of(rt.alloc(), "hncp 1\nmail", 16_391, b' ')?.is_none());
-    assert!(rt; fault_of(rt.alloc(), "hncp 1\n# a comment", 16_391, b' ')?.is_none());
+    is_faulty(&rt, rt.alloc(), "hncp 1\nmail", (16_391, b' '), None)?;
+    is_faulty(&rt, rt.alloc(), "hncp 1\n# a comment", (16_391, b' '), None)?;
     let (line, code) = (2, 2);
     let unknown = Some(ScriptFault { line, code });
-    assert!(rt; fault_of(rt.alloc(), "hncp 1\nfly", 16_391, b' ')? == unknown);
+    is_faulty(&rt, rt.alloc(), "hncp 1\nfly", (16_391, b' '), unknown)?;
     let code = 5;
     let long = Some(ScriptFault { line, code });
     let texts =
         "hncp 1\nmail|hncp 1\n# a comment|hncp 1\n|hncp 1\nfly|hncp 1\ntick|hncp 1\nloss 101|hncp 1\n\t";
     for text in texts.split('|') {
-        assert!(rt; fault_of(rt.alloc(), text, 16_392, b' ')? == long, "{text}");
+        is_faulty(&rt, rt.alloc(), text, (16_392, b' '), long)?;
     }
     let (line, code) = (0, 15);
     let large = Some(ScriptFault { line, code });
-    assert!(rt; fault_of(rt.alloc(), "hncp 2\t", SOURCE_LIMIT + 1, b'\n')? == large);
-    Ok(())
+    is_faulty(
+        &rt,
+        rt.alloc(),
+        "hncp 2\t",
+        (SOURCE_LIMIT + 1, b'\n'),
+        large,
+    )
 }
 
 /// A soak of six routers with the seed 1.

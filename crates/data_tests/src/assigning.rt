@@ -113,22 +113,38 @@ fn are_past(now: Moment, assigned: &[Assigned]) -> bool
     assigned.iter().all(|c| c.since <= now)
 }
 
-/// Runs the subroutine at a moment, over what is said and these wishes. The words are this one, one greater by 10, and one
-/// greater by 20.
-fn run(alloc: Global, held: &Held, now: u32, words: &str) -> Result<Ran, Fail> {
-    let (word, rest) = parts(words)?;
-    let (wished, said) = parts(rest)?;
+/// The wishes that a word says, with commas between them; a hyphen is none.
+fn wishes_of(alloc: Global, said: &str) -> Result<Wishes, Fail> {
     let mut wishes = Wishes::new(alloc);
-    for wish in wished.split(',') {
+    for wish in said.split(',') {
         if wish != "-" {
             add_wish(alloc, &mut wishes, wish)?;
         }
     }
-    let nodes = network(alloc, said)?;
+    Ok(wishes)
+}
+
+/// A word, one greater by 10, and one greater by 20.
+fn words_from(alloc: Global, word: u32) -> Result<Listed, Fail> {
+    let words = vec![in alloc; word, word.saturating_add(10), word.saturating_add(20)]?;
+    Ok(Listed::new(words))
+}
+
+/// Runs the subroutine at a moment over these nodes and wishes, with such words.
+fn run_over(
+    alloc: Global,
+    nodes: &[Entry],
+    wishes: &Wishes,
+    held: &Held,
+    now: u32,
+    word: u32,
+) -> Result<Ran, Fail>
+    requires { IsNetwork 5 nodes.now }
+{
     let view = View {
         own: NodeId(5),
         now: Moment::from(now),
-        nodes: &nodes,
+        nodes,
     };
     let (inside, past) = (
         are_inside(held.assigned.as_slice()),
@@ -137,21 +153,38 @@ fn run(alloc: Global, held: &Held, now: u32, words: &str) -> Result<Ran, Fail> {
     if !inside || !past {
         return Err("what was not held before".into());
     }
-    let word = short(word)?;
-    let mut draw = Listed::new(vec![in alloc;
-        word,
-        word.saturating_add(10),
-        word.saturating_add(20),
-    ]?);
-    Ok(subroutine(alloc, &view, &wishes, held, &mut draw)?)
+    let mut draw = words_from(alloc, word)?;
+    Ok(subroutine(alloc, &view, wishes, held, &mut draw)?)
 }
 
-/// What is held after these steps, each a moment, a word, wishes and what is said.
+/// Runs the subroutine at a moment, with such words, over what is said and these wishes.
+fn run(
+    alloc: Global,
+    held: &Held,
+    now: u32,
+    word: &str,
+    wished: &str,
+    said: &str,
+) -> Result<Ran, Fail> {
+    let word = short(word)?;
+    let wishes = wishes_of(alloc, wished)?;
+    let nodes = network(alloc, said)?;
+    run_over(alloc, &nodes, &wishes, held, now, word)
+}
+
+/// What is held after a step: a moment, a word, wishes and what is said.
+fn after_step(alloc: Global, held: &Held, step: &str) -> Result<Held, Fail> {
+    let (now, rest) = parts(step)?;
+    let (word, rest) = parts(rest)?;
+    let (wished, said) = parts(rest)?;
+    Ok(run(alloc, held, short(now)?, word, wished, said)?.held)
+}
+
+/// What is held after these steps.
 fn set_up(alloc: Global, steps: &str) -> Result<Held, Fail> {
     let mut held = Held::new(alloc);
     for step in steps.split_terminator(';') {
-        let (now, words) = parts(step)?;
-        held = run(alloc, &held, short(now)?, words)?.held;
+        held = after_step(alloc, &held, step)?;
     }
     Ok(held)
 }
@@ -184,7 +217,32 @@ fn has(alloc: Global, held: &Held, said: &str) -> Result<bool, Fail> {
     Ok(due.is_none() && is_published && is_made && c.applied == (applied == "applied"))
 }
 
-/// Each line is what is said at 20,000, after the word, and what comes of it: how many words are taken, and what pairs have.
+/// Each pair of a line has what it says.
+fn have(rt: &impl Abort, alloc: Global, held: &Held, pairs: &str, line: &str) -> Result<(), Fail> {
+    for pair in pairs.split(',') {
+        assert!(rt; has(alloc, held, pair.trim_start())?, "{line}");
+    }
+    Ok(())
+}
+
+/// A line is what is said at 20,000, after the word, and what comes of it: how many words are taken, and what pairs have.
+fn line_holds(
+    rt: &impl Abort,
+    alloc: Global,
+    held: &Held,
+    wishes: &str,
+    line: &str,
+) -> Result<(), Fail> {
+    let (run_words, wanted) = line.split_once(" = ").ok_or("a result")?;
+    let (word, said) = parts(run_words)?;
+    let (count, pairs) = wanted.split_once(", ").ok_or("a pair")?;
+    let count = usize::try_from(number_of(count)?)?;
+    let ran = run(alloc, held, 20_000, word, wishes, said)?;
+    assert!(rt; ran.words.len() == count, "{line}");
+    have(rt, alloc, &ran.held, pairs, line)
+}
+
+/// Each line holds after the steps.
 fn hold(
     rt: &impl Abort,
     alloc: Global,
@@ -194,18 +252,7 @@ fn hold(
 ) -> Result<(), Fail> {
     let held = set_up(alloc, steps)?;
     for line in lines.lines() {
-        let (run_words, wanted) = line.split_once(" = ").ok_or("a result")?;
-        let (word, said) = parts(run_words)?;
-        let words = format!(in alloc; "{word} {wishes} {said}")?;
-        let ran = run(alloc, &held, 20_000, words.as_str())?;
-        let (count, pairs) = wanted.split_once(", ").ok_or("a pair")?;
-        assert!(rt;
-            ran.words.len() == usize::try_from(number_of(count)?)?,
-            "{line}"
-        );
-        for pair in pairs.split(',') {
-            assert!(rt; has(alloc, &ran.held, pair.trim_start())?, "{line}");
-        }
+        line_holds(rt, alloc, &held, wishes, line)?;
     }
     Ok(())
 }

@@ -38,18 +38,29 @@ fn add_piece(alloc: Global, pieces: &mut Vec<Bytes>, digits: &str) -> Result<(),
 const OWN: &str = "0008000C0000000200000001000000010008000C000000030000000200000001\
      0020000800000440686E6370002100140022001000001C2000000E103820010DB8000000";
 
+/// Adds them in another order, and the version twice.
+fn add_all(alloc: Global, pieces: &mut Vec<Bytes>) -> Result<(), Fail>
+    requires { All IsEncoded pieces.old.items }
+    ensures { OnOk result (All IsEncoded pieces.new.items) }
+{
+    add_piece(alloc, pieces, EXTERNAL)?;
+    add_piece(alloc, pieces, VERSION)?;
+    add_piece(alloc, pieces, "0008000C000000030000000200000001")?;
+    add_piece(alloc, pieces, VERSION)?;
+    add_piece(alloc, pieces, "0008000C000000020000000100000001")
+}
+
+const VERSION: &str = "0020000800000440686E6370";
+
+const EXTERNAL: &str = "002100140022001000001C2000000E103820010DB8000000";
+
 #[test]
 fn own_data_in_order(rt: HostRuntime) -> Result<(), Fail> {
-    let version = "0020000800000440686E6370";
-    let external = "002100140022001000001C2000000E103820010DB8000000";
+    let own = bytes(rt.alloc(), OWN)?;
     let mut pieces = Vec::new(rt.alloc());
-    add_piece(rt.alloc(), &mut pieces, external)?;
-    add_piece(rt.alloc(), &mut pieces, version)?;
-    add_piece(rt.alloc(), &mut pieces, "0008000C000000030000000200000001")?;
-    add_piece(rt.alloc(), &mut pieces, version)?;
-    add_piece(rt.alloc(), &mut pieces, "0008000C000000020000000100000001")?;
+    add_all(rt.alloc(), &mut pieces)?;
     let data = NodeData::from_items(rt.alloc(), &pieces)?;
-    assert!(rt; data.bytes() == bytes(rt.alloc(), OWN)?.as_slice());
+    assert!(rt; data.bytes() == own.as_slice());
     assert!(rt; data.peers().len() == 2 && data.delegations().len() == 1 && data.has_external());
     Ok(())
 }
@@ -72,6 +83,11 @@ fn version_and_intervals(rt: HostRuntime) -> Result<(), Fail> {
         panic!(rt; "the first version of four bytes")
     };
     assert!(rt; keep_alive(&data, EpId(3)) == 7000 && keep_alive(&data, EpId(1)) == 5000);
+    Ok(())
+}
+
+#[test]
+fn no_version_and_no_interval(rt: HostRuntime) -> Result<(), Fail> {
     let nothing = data_of(rt.alloc(), "")?;
     assert!(rt; version(&nothing).is_none() && keep_alive(&nothing, EpId(3)) == 20_000);
     Ok(())

@@ -45,24 +45,35 @@ fn node(alloc: Global, id: u32, name: &str, said: &str) -> Result<Entry, Fail> {
 /// A usable prefix, with its valid and its preferred lifetime in milliseconds.
 type Left = (Prefix, u64, u64);
 
-/// The usable prefixes of nodes 3, 4 and 5. The data of node 3 have this age, those of the others are new.
-fn usable(alloc: Global, age: u64, said: &str) -> Result<Vec<Left>, Fail> {
+/// Nodes 3, 4 and 5. The data of node 3 have this age, those of the others are new.
+fn network(alloc: Global, age: u64, said: &str) -> Result<[Entry; 3], Fail> {
     let mut nodes = [
         node(alloc, 3, "3 ", said)?,
         node(alloc, 4, "4 ", said)?,
         node(alloc, 5, "5 ", said)?,
     ];
     nodes[0].age = age;
+    Ok(nodes)
+}
+
+/// The usable prefixes of these nodes.
+fn usable_of(alloc: Global, nodes: &[Entry]) -> Result<Vec<Left>, Fail> {
     let view = View {
         own: NodeId(5),
         now: 0,
-        nodes: &nodes,
+        nodes,
     };
     let mut lefts = Vec::new(alloc);
     for found in used(alloc, &view)?.as_slice() {
         lefts.push((found.prefix, found.valid, found.preferred))?;
     }
     Ok(lefts)
+}
+
+/// The usable prefixes of nodes 3, 4 and 5.
+fn usable(alloc: Global, age: u64, said: &str) -> Result<Vec<Left>, Fail> {
+    let nodes = network(alloc, age, said)?;
+    usable_of(alloc, &nodes)
 }
 
 /// The usable prefixes that a text says.
@@ -142,14 +153,20 @@ fn usable_prefixes(rt: HostRuntime) -> Result<(), Fail> {
     are_usable(&rt, rt.alloc(), ORDERED)
 }
 
-/// Of more than 32 the first 32, after those inside others are left out.
-#[test]
-fn first_thirty_two(rt: HostRuntime) -> Result<(), Fail> {
-    let mut said = String::new(rt.alloc());
+/// A prefix of 64 bits, and 33 of 56, of which the first has it inside.
+fn thirty_four(alloc: Global) -> Result<String, Fail> {
+    let mut said = String::new(alloc);
     said.push_str("3 10 5 1/64")?;
     for place in 0..33u32 {
         write!(said, ",3 10 5 {place:x}00/56")?;
     }
+    Ok(said)
+}
+
+/// Of more than 32 the first 32, after those inside others are left out.
+#[test]
+fn first_thirty_two(rt: HostRuntime) -> Result<(), Fail> {
+    let said = thirty_four(rt.alloc())?;
     let found = usable(rt.alloc(), 0, said.as_str())?;
     assert!(rt; found.len() == 32);
     for (left, place) in found.iter().zip(0..32u128) {

@@ -74,26 +74,35 @@ fn plain_first(list: &[Prefix], outer: &Prefix, start: u128, len: u8) -> Option<
     first_free(outer, start, list, len)
 }
 
-/// Whether each call of the index answers as the plain call does, on one list.
-fn answers_alike(alloc: Global, draw: &mut Pcg) -> Result<bool, Fail> {
-    let list = some_list(alloc, draw)?;
-    let index = Index::of(alloc, &list)?;
-    let taken = list.iter().map(|a| a.prefix).collect::<Vec<Prefix>>(alloc)?;
-    let d = some_prefix(draw);
-    let c = Assigned {
-        delegated: d,
+/// What a delegated prefix has on endpoint 1.
+fn some_assigned(draw: &mut Pcg, delegated: Prefix) -> Assigned {
+    Assigned {
+        delegated,
         endpoint: EpId(1),
         prefix: some_prefix(draw),
         published: None,
         since: 0,
         applied: false,
-    };
+    }
+}
+
+/// Whether each call of the index of a list answers as the plain call does. These are the list's prefixes.
+fn are_alike(index: &Index, list: &[Advertised], taken: &[Prefix], draw: &mut Pcg) -> bool {
+    let d = some_prefix(draw);
+    let c = some_assigned(draw, d);
     let start = u128::from(draw.next());
     let len = if below(draw, 2) == 0 { 64 } else { 62 };
-    let alike = index.best(OWN, &LINK, &d) == best(&list, OWN, &LINK, &d)
-        && index.valid(OWN, &LINK, &c) == valid(&list, OWN, &LINK, &c)
-        && index.first_free(&d, start, len) == plain_first(&taken, &d, start, len);
-    Ok(alike)
+    index.best(OWN, &LINK, &d) == best(list, OWN, &LINK, &d)
+        && index.valid(OWN, &LINK, &c) == valid(list, OWN, &LINK, &c)
+        && index.first_free(&d, start, len) == plain_first(taken, &d, start, len)
+}
+
+/// Whether the index answers as the plain calls do, on one list.
+fn answers_alike(alloc: Global, draw: &mut Pcg) -> Result<bool, Fail> {
+    let list = some_list(alloc, draw)?;
+    let index = Index::of(alloc, &list)?;
+    let taken = list.iter().map(|a| a.prefix).collect::<Vec<Prefix>>(alloc)?;
+    Ok(are_alike(&index, &list, &taken, draw))
 }
 
 #[test]

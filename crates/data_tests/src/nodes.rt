@@ -28,6 +28,14 @@ pub fn entry(alloc: Global, id: u32, data: &[u8]) -> Result<Entry, Fail>
     aged_entry(alloc, id, data, 0)
 }
 
+/// A node with its part of these links, and data of this age.
+fn linked(alloc: Global, id: u32, digit: u8, links: &str, age: u64) -> Result<Entry, Fail>
+    ensures { IfOk result (λ node. node.id.0 ≡ id) }
+{
+    let data = peers(alloc, digit, links)?;
+    aged_entry(alloc, id, &data, age)
+}
+
 /// Nodes 1 to 4 with these links, and data of these ages.
 pub fn aged_network(alloc: Global, links: &str, ages: [u64; 4]) -> Result<[Entry; 4], Fail>
     ensures first { IfOk result (λ nodes. IsNetwork 1 nodes) }
@@ -35,10 +43,10 @@ pub fn aged_network(alloc: Global, links: &str, ages: [u64; 4]) -> Result<[Entry
 {
     let [first, second, third, fourth] = ages;
     let nodes = [
-        aged_entry(alloc, 1, &peers(alloc, b'1', links)?, first)?,
-        aged_entry(alloc, 2, &peers(alloc, b'2', links)?, second)?,
-        aged_entry(alloc, 3, &peers(alloc, b'3', links)?, third)?,
-        aged_entry(alloc, 4, &peers(alloc, b'4', links)?, fourth)?,
+        linked(alloc, 1, b'1', links, first)?,
+        linked(alloc, 2, b'2', links, second)?,
+        linked(alloc, 3, b'3', links, third)?,
+        linked(alloc, 4, b'4', links, fourth)?,
     ];
     Ok(nodes)
 }

@@ -3,6 +3,7 @@ use hn_dncp::{Greet, Port, pack};
 use hn_io::Listed;
 use hn_typed::{Item, write};
 use std::alloc::Global;
+use std::process::Abort;
 use std::test::Fail;
 
 /// The link-local address with this last number, and port 8231.
@@ -36,16 +37,22 @@ fn ninth(port: &Port) -> Option<(Moment, u128)> {
     Some((peer.contact, peer.addr.ip))
 }
 
+/// Greetings of a full endpoint.
+fn greetings(rt: &impl Abort, port: &mut Port) -> Result<(), Fail> {
+    assert!(rt; greeted(port, 64, 1, false)? == Greet::Full);
+    assert!(rt; greeted(port, 9, 2, false)? == Greet::Full);
+    assert!(rt; greeted(port, 64, 1, true)? == Greet::Unknown);
+    assert!(rt; greeted(port, 9, 1, true)? == Greet::Known);
+    assert!(rt; ninth(port) == Some((5, addr(1).ip)));
+    assert!(rt; greeted(port, 9, 1, false)? == Greet::Known);
+    assert!(rt; ninth(port) == Some((7, addr(2).ip)));
+    Ok(())
+}
+
 #[test]
 fn peers_are_greeted(rt: HostRuntime) -> Result<(), Fail> {
     let mut port = full(rt.alloc())?;
-    assert!(rt; greeted(&mut port, 64, 1, false)? == Greet::Full);
-    assert!(rt; greeted(&mut port, 9, 2, false)? == Greet::Full);
-    assert!(rt; greeted(&mut port, 64, 1, true)? == Greet::Unknown);
-    assert!(rt; greeted(&mut port, 9, 1, true)? == Greet::Known);
-    assert!(rt; ninth(&port) == Some((5, addr(1).ip)));
-    assert!(rt; greeted(&mut port, 9, 1, false)? == Greet::Known);
-    assert!(rt; ninth(&port) == Some((7, addr(2).ip)));
+    greetings(&rt, &mut port)?;
     let mut copy = port.clone()?;
     assert!(rt; copy.peers.len() == 64);
     assert!(rt; copy.peers.remove_at(9).node.0 == 9);
@@ -83,20 +90,36 @@ fn ticked(alloc: Global, age: u32, silence: u32, heard: bool) -> Result<(Told, M
     Ok((told, port.trickle.fire))
 }
 
+const QUIET: Told = (false, 0, [0, 0]);
+
+const SENT: Told = (true, 0, [0, 0]);
+
+const NEXT: Told = (false, 1, [7, 0]);
+
+const ALIVE: Told = (true, 1, [7, 0]);
+
+const BOTH: Told = (true, 2, [7, 9]);
+
+/// How old the interval and the last Network State are, whether one was heard, what a tick makes, and when the timer fires.
+const TICKS: [(u32, u32, bool, Told, Moment); 10] = [
+    (99, 19_999, false, QUIET, 100_001),
+    (99, 20_000, false, ALIVE, 100_107),
+    (100, 19_999, false, SENT, 100_000),
+    (100, 20_000, false, SENT, 100_000),
+    (100, 19_999, true, QUIET, 100_000),
+    (100, 20_000, true, ALIVE, 100_107),
+    (199, 19_999, true, QUIET, 99_901),
+    (200, 19_999, true, NEXT, 100_207),
+    (200, 20_000, false, ALIVE, 100_207),
+    (200, 20_000, true, BOTH, 100_209),
+];
+
 #[test]
 fn ticks(rt: HostRuntime) -> Result<(), Fail> {
-    let (quiet, sent) = ((false, 0, [0, 0]), (true, 0, [0, 0]));
-    let (next, alive) = ((false, 1, [7, 0]), (true, 1, [7, 0]));
-    assert!(rt; ticked(rt.alloc(), 99, 19_999, false)? == (quiet, 100_001));
-    assert!(rt; ticked(rt.alloc(), 99, 20_000, false)? == (alive, 100_107));
-    assert!(rt; ticked(rt.alloc(), 100, 19_999, false)? == (sent, 100_000));
-    assert!(rt; ticked(rt.alloc(), 100, 20_000, false)? == (sent, 100_000));
-    assert!(rt; ticked(rt.alloc(), 100, 19_999, true)? == (quiet, 100_000));
-    assert!(rt; ticked(rt.alloc(), 100, 20_000, true)? == (alive, 100_107));
-    assert!(rt; ticked(rt.alloc(), 199, 19_999, true)? == (quiet, 99_901));
-    assert!(rt; ticked(rt.alloc(), 200, 19_999, true)? == (next, 100_207));
-    assert!(rt; ticked(rt.alloc(), 200, 20_000, false)? == (alive, 100_207));
-    assert!(rt; ticked(rt.alloc(), 200, 20_000, true)? == ((true, 2, [7, 9]), 100_209));
+    for (age, silence, heard, told, fire) in TICKS.iter() {
+        let made = ticked(rt.alloc(), *age, *silence, *heard)?;
+        assert!(rt; made == (*told, *fire), "{age} {silence} {heard}");
+    }
     Ok(())
 }
 
@@ -108,33 +131,49 @@ fn tlv(alloc: Global, size: u16) -> Result<Bytes, Fail> {
     Ok(Bytes::from(bytes))
 }
 
-/// The lengths of the datagrams of TLVs of these sizes. Each datagram begins with a Node Endpoint.
-fn packed(alloc: Global, sizes: &[u16]) -> Result<Vec<usize>, Fail> {
+/// The TLVs of these sizes.
+fn tlvs(alloc: Global, sizes: &[u16]) -> Result<Vec<Bytes>, Fail> {
     let mut tlvs = Vec::new(alloc);
     for size in sizes {
         tlvs.push(tlv(alloc, *size)?)?;
     }
+    Ok(tlvs)
+}
+
+/// The length of a datagram, which begins with a Node Endpoint.
+fn length(alloc: Global, datagram: &[u8]) -> Result<usize, Fail> {
+    let begin = datagram.get(..12).ok_or("a Node Endpoint")?;
+    if begin != hex::decode(alloc, "000300080102030400000005")?.as_slice() {
+        return Err("another Node Endpoint".into());
+    }
+    Ok(datagram.len())
+}
+
+/// The lengths of datagrams.
+fn lengths(alloc: Global, datagrams: &[Bytes]) -> Result<Vec<usize>, Fail> {
     let mut lengths = Vec::new(alloc);
-    for datagram in pack(alloc, NodeId(0x0102_0304), EpId(5), &tlvs)?.as_slice() {
-        let begin = datagram.as_slice().get(..12).ok_or("a Node Endpoint")?;
-        if begin != hex::decode(alloc, "000300080102030400000005")?.as_slice() {
-            return Err("another Node Endpoint".into());
-        }
-        lengths.push(datagram.len())?;
+    for datagram in datagrams {
+        lengths.push(length(alloc, datagram.as_slice())?)?;
     }
     Ok(lengths)
 }
 
+/// The datagrams of TLVs of these sizes have these lengths.
+fn are_packed(rt: &impl Abort, alloc: Global, sizes: &[u16], wanted: &[usize]) -> Result<(), Fail> {
+    let tlvs = tlvs(alloc, sizes)?;
+    let datagrams = pack(alloc, NodeId(0x0102_0304), EpId(5), &tlvs)?;
+    assert!(rt;
+        lengths(alloc, datagrams.as_slice())?.as_slice() == wanted,
+        "{sizes:?}"
+    );
+    Ok(())
+}
+
 #[test]
 fn datagrams(rt: HostRuntime) -> Result<(), Fail> {
-    assert!(rt; packed(rt.alloc(), &[])?.is_empty());
-    let lengths = packed(rt.alloc(), &[1_988, 1_996, 4])?;
-    assert!(rt; lengths.as_slice() == [4_000].as_slice());
-    let lengths = packed(rt.alloc(), &[1_988, 2_000, 4])?;
-    assert!(rt; lengths.as_slice() == [4_000, 16].as_slice());
-    let lengths = packed(rt.alloc(), &[1_992, 2_000, 1_988])?;
-    assert!(rt; lengths.as_slice() == [2_004, 4_000].as_slice());
-    let lengths = packed(rt.alloc(), &[8, 4_000, 8, 4])?;
-    assert!(rt; lengths.as_slice() == [20, 4_012, 24].as_slice());
-    Ok(())
+    are_packed(&rt, rt.alloc(), &[], &[])?;
+    are_packed(&rt, rt.alloc(), &[1_988, 1_996, 4], &[4_000])?;
+    are_packed(&rt, rt.alloc(), &[1_988, 2_000, 4], &[4_000, 16])?;
+    are_packed(&rt, rt.alloc(), &[1_992, 2_000, 1_988], &[2_004, 4_000])?;
+    are_packed(&rt, rt.alloc(), &[8, 4_000, 8, 4], &[20, 4_012, 24])
 }

@@ -1,5 +1,5 @@
 use crate::cases::bytes;
-use hn_base::NodeId;
+use hn_base::{Moment, NodeId, NodeIds};
 use hn_store::{LARGE_LIMIT, OwnLeaf, State, Table, Took};
 use std::alloc::Global;
 use std::process::Abort;
@@ -53,34 +53,47 @@ fn put(
     take(alloc, table, (node, number), hash, &bytes(alloc, digits)?)
 }
 
+/// A node state, as its node, number, hash, and data in hexadecimal digits; and what comes of it.
+type Case = (u32, u32, u64, &'static str, Took);
+
 /// Each of the nine answers (RFC 7787, section 4.4), and which of two decides.
+const CASES: [Case; 18] = [
+    // A node that is not held, without data and with them; empty data are data where the hash is theirs.
+    (9, 1, ABC, "", Took::Ask),
+    (9, 1, EMPTY, "", Took::Kept),
+    (9, 1, EMPTY, "", Took::Stale),
+    (9, 0, EMPTY, "", Took::Stale),
+    // The number that is held, with another hash.
+    (9, 1, ABC, "", Took::Ask),
+    (9, 1, TLV_HASH, TLV, Took::Kept),
+    // A newer number with the hash that is held, and with another.
+    (9, 2, TLV_HASH, "", Took::Renumbered),
+    (9, 3, ABC, "", Took::Ask),
+    // A number exactly 2^31 away.
+    (9, 2_147_483_650, TLV_HASH, "", Took::Renumbered),
+    (9, 2, TLV_HASH, "", Took::Renumbered),
+    (9, 2_147_483_651, TLV_HASH, "", Took::Stale),
+    // Data that are no list of TLVs, and data with a wrong hash.
+    (7, 1, ABC, "616263", Took::BadBody),
+    (7, 1, EMPTY, "616263", Took::BadHash),
+    // The router's own identifier.
+    (1, 5, EMPTY, "", Took::Stale),
+    (1, 5, ABC, "", Took::Own),
+    (1, 6, EMPTY, "", Took::Own),
+    (1, 6, ABC, "616263", Took::Own),
+    (1, 6, EMPTY, "616263", Took::BadHash),
+];
+
 #[test]
 fn answers(rt: HostRuntime) -> Result<(), Fail> {
     let mut table = Table::new(rt.alloc());
-    // A node that is not held, without data and with them; empty data are data where the hash is theirs.
-    assert!(rt; put(rt.alloc(), &mut table, 9, 1, ABC, "")? == Took::Ask);
-    assert!(rt; put(rt.alloc(), &mut table, 9, 1, EMPTY, "")? == Took::Kept);
-    assert!(rt; put(rt.alloc(), &mut table, 9, 1, EMPTY, "")? == Took::Stale);
-    assert!(rt; put(rt.alloc(), &mut table, 9, 0, EMPTY, "")? == Took::Stale);
-    // The number that is held, with another hash.
-    assert!(rt; put(rt.alloc(), &mut table, 9, 1, ABC, "")? == Took::Ask);
-    assert!(rt; put(rt.alloc(), &mut table, 9, 1, TLV_HASH, TLV)? == Took::Kept);
-    // A newer number with the hash that is held, and with another.
-    assert!(rt; put(rt.alloc(), &mut table, 9, 2, TLV_HASH, "")? == Took::Renumbered);
-    assert!(rt; put(rt.alloc(), &mut table, 9, 3, ABC, "")? == Took::Ask);
-    // A number exactly 2^31 away.
-    assert!(rt; put(rt.alloc(), &mut table, 9, 2_147_483_650, TLV_HASH, "")? == Took::Renumbered);
-    assert!(rt; put(rt.alloc(), &mut table, 9, 2, TLV_HASH, "")? == Took::Renumbered);
-    assert!(rt; put(rt.alloc(), &mut table, 9, 2_147_483_651, TLV_HASH, "")? == Took::Stale);
-    // Data that are no list of TLVs, and data with a wrong hash.
-    assert!(rt; put(rt.alloc(), &mut table, 7, 1, ABC, "616263")? == Took::BadBody);
-    assert!(rt; put(rt.alloc(), &mut table, 7, 1, EMPTY, "616263")? == Took::BadHash);
-    // The router's own identifier.
-    assert!(rt; put(rt.alloc(), &mut table, 1, 5, EMPTY, "")? == Took::Stale);
-    assert!(rt; put(rt.alloc(), &mut table, 1, 5, ABC, "")? == Took::Own);
-    assert!(rt; put(rt.alloc(), &mut table, 1, 6, EMPTY, "")? == Took::Own);
-    assert!(rt; put(rt.alloc(), &mut table, 1, 6, ABC, "616263")? == Took::Own);
-    assert!(rt; put(rt.alloc(), &mut table, 1, 6, EMPTY, "616263")? == Took::BadHash);
+    for (place, (node, number, hash, digits, took)) in CASES.iter().enumerate() {
+        let answer = put(rt.alloc(), &mut table, *node, *number, *hash, digits)?;
+        assert!(rt;
+            answer == *took,
+            "case {place}: node {node}, number {number}"
+        );
+    }
     assert!(rt; table.len() == 1);
     Ok(())
 }
@@ -97,18 +110,34 @@ fn long_data(rt: HostRuntime) -> Result<(), Fail> {
     Ok(())
 }
 
+/// The identifiers that a copy of a table holds.
+fn copied_ids(alloc: Global, table: &Table) -> Result<NodeIds, Fail> {
+    Ok(table.copy()?.ids(alloc)?)
+}
+
 /// Fills a table up to a last identifier, the greatest of the others first, and then tries one more.
-fn fill(rt: &impl Abort, alloc: Global, mut table: Table, last: u32) -> Result<(), Fail> {
-    let longer = vec![in alloc; 0; 60_001]?;
+fn fill(rt: &impl Abort, alloc: Global, table: &mut Table, last: u32) -> Result<(), Fail> {
     for id in (2..last).rev() {
-        take(alloc, &mut table, (id, 1), EMPTY, b"")?;
+        take(alloc, table, (id, 1), EMPTY, b"")?;
     }
     let more = last.saturating_add(1);
-    assert!(rt; take(alloc, &mut table, (last, 1), EMPTY, b"")? == Took::Kept);
-    assert!(rt; take(alloc, &mut table, (more, 1), EMPTY, b"")? == Took::Full);
-    assert!(rt; take(alloc, &mut table, (more, 1), EMPTY, &longer)? == Took::Full);
-    assert!(rt; take(alloc, &mut table, (last, 2), EMPTY, b"")? == Took::Kept);
-    let ids = table.copy()?.ids(alloc)?;
+    assert!(rt; take(alloc, table, (last, 1), EMPTY, b"")? == Took::Kept);
+    assert!(rt; take(alloc, table, (more, 1), EMPTY, b"")? == Took::Full);
+    assert!(rt; take_longer(alloc, table, more)? == Took::Full);
+    assert!(rt; take(alloc, table, (last, 2), EMPTY, b"")? == Took::Kept);
+    Ok(())
+}
+
+/// What comes of a node state whose data are too long.
+fn take_longer(alloc: Global, table: &mut Table, node: u32) -> Result<Took, Fail> {
+    let longer = vec![in alloc; 0; 60_001]?;
+    take(alloc, table, (node, 1), EMPTY, &longer)
+}
+
+/// A table that is filled so has each identifier from 2 on.
+fn is_full(rt: &impl Abort, alloc: Global, mut table: Table, last: u32) -> Result<(), Fail> {
+    fill(rt, alloc, &mut table, last)?;
+    let ids = copied_ids(alloc, &table)?;
     assert!(rt; ids.len() == table.limit());
     for (id, expected) in ids.as_slice().iter().zip(2..) {
         assert!(rt; id.0 == expected, "{expected}");
@@ -118,19 +147,30 @@ fn fill(rt: &impl Abort, alloc: Global, mut table: Table, last: u32) -> Result<(
 
 #[test]
 fn full_tables(rt: HostRuntime) -> Result<(), Fail> {
-    fill(&rt, rt.alloc(), Table::new(rt.alloc()), 257)?;
-    fill(&rt, rt.alloc(), Table::sized(rt.alloc(), LARGE_LIMIT), 1025)
+    is_full(&rt, rt.alloc(), Table::new(rt.alloc()), 257)?;
+    is_full(&rt, rt.alloc(), Table::sized(rt.alloc(), LARGE_LIMIT), 1025)
+}
+
+/// Nodes 2 and 3 are taken and marked at two moments, of which node 2 is lost at the first; and node 2 is taken anew.
+fn lose(alloc: Global, table: &mut Table) -> Result<(), Fail> {
+    take(alloc, table, (3, 1), EMPTY, b"")?;
+    take(alloc, table, (2, 1), EMPTY, b"")?;
+    table.mark(&[NodeId(1), NodeId(3)], 1000);
+    table.mark(&[NodeId(1)], 2000);
+    take(alloc, table, (2, 2), EMPTY, b"")?;
+    Ok(())
+}
+
+/// Since when a node that is held is lost.
+fn lost(table: &Table, node: u32) -> Option<Moment> {
+    table.get(NodeId(node))?.lost
 }
 
 #[test]
 fn lost_nodes(rt: HostRuntime) -> Result<(), Fail> {
     let mut table = Table::new(rt.alloc());
-    take(rt.alloc(), &mut table, (3, 1), EMPTY, b"")?;
-    take(rt.alloc(), &mut table, (2, 1), EMPTY, b"")?;
-    table.mark(&[NodeId(1), NodeId(3)], 1000);
-    table.mark(&[NodeId(1)], 2000);
-    take(rt.alloc(), &mut table, (2, 2), EMPTY, b"")?;
-    assert!(rt; table.get(NodeId(2)).ok_or("held")?.lost == Some(1000));
+    lose(rt.alloc(), &mut table)?;
+    assert!(rt; lost(&table, 2) == Some(1000));
     assert!(rt; table.needs_mark(&[NodeId(3), NodeId(1)]));
     table.mark(&[NodeId(3), NodeId(1)], 4000);
     assert!(rt; !table.needs_mark(&[NodeId(3), NodeId(1)]));

@@ -9,3 +9,5 @@ mod loopback;
 mod memory;
 #[cfg(test)]
 mod nodes;
+#[cfg(test)]
+mod wires;

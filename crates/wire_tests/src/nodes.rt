@@ -18,45 +18,68 @@ fn begun(alloc: Global, id: u32, now: u64, draw: &mut Pcg) -> Result<Router, Fai
     Ok(router)
 }
 
-/// What came of three turns of node 1, and whether a datagram waits then for its peer.
-type Turns = (Served, bool);
+/// So many turns of a node at a port, with a peer at another, from a moment that its clock has come to.
+fn turned<C: Clock>(
+    alloc: Global,
+    router: Router,
+    ports: (u16, u16),
+    wire: &mut MemWire,
+    clock: &mut C,
+    draw: &mut Pcg,
+    now: u64,
+    turns: u32,
+) -> Result<Served, Fail>
+    requires own { ports.0 ≤ 65534 }
+    requires peer { ports.1 ≤ 65534 }
+    requires now { now ≤ C.last clock.old }
+{
+    if router.moment() > now || !router.attached(EpId(1)) {
+        return Err("a router that cannot be served".into());
+    }
+    Ok(serve(alloc, router, ports.0, &[ports.1], wire, clock, draw, turns)?)
+}
 
-/// Three turns of node 1 at port 9000, with a peer at 9002, over a wire of which these calls fail.
-fn three_turns(alloc: Global, fails: Vec<u64>) -> Result<Turns, Fail> {
-    let mut wire = MemWire::new(alloc, fails);
+/// Three turns of node 1 at port 9000, with a peer at 9002, over a wire.
+fn three_turns(alloc: Global, wire: &mut MemWire) -> Result<Served, Fail> {
     let mut clock = MemClock::new(vec![in alloc; 0, 0, 200, 399]?);
     let mut draw = Pcg::new(0);
     let now = clock.now();
     let router = begun(alloc, 1, now, &mut draw)?;
-    if router.moment() != now || !router.attached(EpId(1)) {
-        return Err("a router without its endpoint".into());
-    }
-    let served = serve(
+    turned(
         alloc,
         router,
-        9000,
-        &[9002],
-        &mut wire,
+        (9000, 9002),
+        wire,
         &mut clock,
         &mut draw,
+        now,
         3,
-    )?;
-    Ok((served, wire.waits(9003, 0).is_some()))
+    )
 }
 
 #[test]
 fn a_node_alone_sends_once(rt: HostRuntime) -> Result<(), Fail> {
-    let (served, waits) = three_turns(rt.alloc(), Vec::new(rt.alloc()))?;
-    assert_eq!(rt; served.end, ServeEnd::Turns);
-    assert_eq!(rt; (served.taken, served.sent), (0, 1));
-    assert_eq!(rt; served.log.len(), 3);
-    assert_eq!(rt;
-        (served.router.number(), served.router.reach().len()),
-        (1, 1)
-    );
-    assert_eq!(rt; served.router.moment(), 399);
-    assert!(rt; waits);
+    let mut wire = MemWire::new(rt.alloc(), Vec::new(rt.alloc()));
+    let served = three_turns(rt.alloc(), &mut wire)?;
+    assert!(rt; served.end == ServeEnd::Turns);
+    assert!(rt; served.taken == 0 && served.sent == 1);
+    assert!(rt; served.log.len() == 3);
+    assert!(rt; served.router.number() == 1 && served.router.reach().len() == 1);
+    assert!(rt; served.router.moment() == 399);
+    assert!(rt; wire.waits(9003, 0).is_some());
     Ok(())
+}
+
+/// What came of three turns: whether they end by a fault of the wire, how many entries the log has, and how many datagrams
+/// were sent.
+type Ended = (bool, usize, u64);
+
+/// Three turns where this call of the wire fails.
+fn failed_at(alloc: Global, call: u64) -> Result<Ended, Fail> {
+    let mut wire = MemWire::new(alloc, vec![in alloc; call]?);
+    let served = three_turns(alloc, &mut wire)?;
+    let by_fault = served.end == ServeEnd::WireFault;
+    Ok((by_fault, served.log.len(), served.sent))
 }
 
 /// Of each call of the wire that fails: how many entries the log has, and how many datagrams were sent. The fifth call is
@@ -65,14 +88,12 @@ const ENDS: [(usize, u64); 7] = [(0, 0), (0, 0), (1, 0), (1, 0), (2, 0), (2, 1),
 
 #[test]
 fn each_call_of_the_wire_may_fail(rt: HostRuntime) -> Result<(), Fail> {
-    for (place, ends) in ENDS.iter().enumerate() {
-        let call = place as u64 + 1;
-        let (served, _) = three_turns(rt.alloc(), vec![in rt.alloc(); call]?)?;
-        assert_eq!(rt; served.end, ServeEnd::WireFault);
-        assert_eq!(rt; (served.log.len(), served.sent), *ends);
+    for (place, (entries, sent)) in ENDS.iter().enumerate() {
+        let ended = failed_at(rt.alloc(), place as u64 + 1)?;
+        assert!(rt; ended == (true, *entries, *sent), "call {place}");
     }
-    let (served, _) = three_turns(rt.alloc(), vec![in rt.alloc(); 8]?)?;
-    assert_eq!(rt; served.end, ServeEnd::Turns);
+    let (by_fault, _, _) = failed_at(rt.alloc(), 8)?;
+    assert!(rt; !by_fault);
     Ok(())
 }
 
@@ -102,38 +123,71 @@ impl Clock for Steady {
     }
 }
 
-/// The router after one turn of its node.
-fn turned(
-    alloc: Global,
+/// A node with its clock and its random words.
+#[derive(Drop)]
+struct Node {
     router: Router,
+    clock: Steady,
+    draw: Pcg,
+}
+
+/// A node that begins at 0.
+fn begun_node(alloc: Global, id: u32, seed: u64) -> Result<Node, Fail> {
+    let mut draw = Pcg::new(seed);
+    let router = begun(alloc, id, 0, &mut draw)?;
+    let clock = Steady { readings: 0 };
+    Ok(Node {
+        router,
+        clock,
+        draw,
+    })
+}
+
+/// A node after one turn.
+fn after_turn(
+    alloc: Global,
+    node: Node,
     ports: (u16, u16),
     wire: &mut MemWire,
-    clock: &mut Steady,
-    draw: &mut Pcg,
-) -> Result<Router, Fail>
+) -> Result<Node, Fail>
     requires own { ports.0 ≤ 65534 }
     requires peer { ports.1 ≤ 65534 }
 {
-    if router.moment() > clock.last() || !router.attached(EpId(1)) {
-        return Err("a router that cannot be served".into());
-    }
-    let served = serve(alloc, router, ports.0, &[ports.1], wire, clock, draw, 1)?;
-    Ok(served.router)
+    let Node {
+        router,
+        mut clock,
+        mut draw,
+    } = node;
+    let now = clock.last();
+    let served = turned(alloc, router, ports, wire, &mut clock, &mut draw, now, 1)?;
+    Ok(Node {
+        router: served.router,
+        clock,
+        draw,
+    })
+}
+
+/// Two nodes after one turn of each.
+fn after_turns(alloc: Global, a: Node, b: Node, wire: &mut MemWire) -> Result<(Node, Node), Fail> {
+    let a = after_turn(alloc, a, (9000, 9002), wire)?;
+    let b = after_turn(alloc, b, (9002, 9000), wire)?;
+    Ok((a, b))
+}
+
+/// Whether the first reaches two nodes, and both have one network hash.
+fn agree(a: &Router, b: &Router) -> bool {
+    a.reach().len() == 2 && a.net() == b.net()
 }
 
 #[test]
 fn two_nodes_come_to_agree(rt: HostRuntime) -> Result<(), Fail> {
-    let alloc = rt.alloc();
-    let mut wire = MemWire::new(alloc, Vec::new(alloc));
-    let (mut clock, mut second) = (Steady { readings: 0 }, Steady { readings: 0 });
-    let (mut draw, mut other) = (Pcg::new(1), Pcg::new(2));
-    let mut a = begun(alloc, 1, 0, &mut draw)?;
-    let mut b = begun(alloc, 2, 0, &mut other)?;
+    let mut wire = MemWire::new(rt.alloc(), Vec::new(rt.alloc()));
+    let mut a = begun_node(rt.alloc(), 1, 1)?;
+    let mut b = begun_node(rt.alloc(), 2, 2)?;
     for _ in 0..20 {
-        a = turned(alloc, a, (9000, 9002), &mut wire, &mut clock, &mut draw)?;
-        b = turned(alloc, b, (9002, 9000), &mut wire, &mut second, &mut other)?;
-        if a.reach().len() == 2 && a.net() == b.net() {
-            assert_eq!(rt; b.reach().len(), 2);
+        (a, b) = after_turns(rt.alloc(), a, b, &mut wire)?;
+        if agree(&a.router, &b.router) {
+            assert!(rt; b.router.reach().len() == 2);
             return Ok(());
         }
     }

@@ -28,21 +28,31 @@ fn holds(router: &Router, prefix: &Prefix) -> (usize, usize, bool) {
     )
 }
 
-#[test]
-fn ticks_before_something_is_due_do_nothing(rt: HostRuntime) -> Result<(), Fail> {
+/// The first of two routers with a delegated prefix, after 20 s.
+fn settled(alloc: Global) -> Result<Router, Fail> {
     let outer = Prefix::parse(b"2001:db8::/56")?;
-    let link = Prefix::parse(b"2001:db8::/64")?;
-    let mut two = TwoRouters::new(rt.alloc(), outer)?;
-    two.run(rt.alloc(), 200)?;
-    let mut router = two.first;
+    let mut two = TwoRouters::new(alloc, outer)?;
+    two.run(alloc, 200)?;
+    Ok(two.first)
+}
+
+/// Nothing changes in a router by ticks at one moment.
+fn stays(rt: &impl Abort, alloc: Global, router: &mut Router, prefix: &Prefix) -> Result<(), Fail> {
     let net = router.net();
-    assert_eq!(rt; (router.number(), router.reach().len()), (5, 2));
-    assert_eq!(rt; holds(&router, &link), (1, 0, true));
+    assert!(rt; router.number() == 5 && router.reach().len() == 2);
+    assert!(rt; holds(router, prefix) == (1, 0, true));
     for _ in 0..40 {
-        is_idle_at(&rt, rt.alloc(), &mut router, 20_000)?;
-        assert_eq!(rt; (router.number(), router.reach().len()), (5, 2));
-        assert_eq!(rt; holds(&router, &link), (1, 0, true));
+        is_idle_at(rt, alloc, router, 20_000)?;
+        assert!(rt; router.number() == 5 && router.reach().len() == 2);
+        assert!(rt; holds(router, prefix) == (1, 0, true));
         assert!(rt; router.net() == net);
     }
     Ok(())
+}
+
+#[test]
+fn ticks_before_something_is_due_do_nothing(rt: HostRuntime) -> Result<(), Fail> {
+    let link = Prefix::parse(b"2001:db8::/64")?;
+    let mut router = settled(rt.alloc())?;
+    stays(&rt, rt.alloc(), &mut router, &link)
 }

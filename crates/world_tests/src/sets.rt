@@ -43,7 +43,7 @@ fn names_in_script(alloc: Global, name: &str) -> Result<Option<String>, Fail> {
 fn a_set_is_of_running_routers_in_order_of_definition(rt: HostRuntime) -> Result<(), Fail> {
     for (name, expected) in [("A", "C A "), ("C", "C A "), ("D", "D ")] {
         let names = names_in_script(rt.alloc(), name)?;
-        assert_eq!(rt; names.as_deref(), Some(expected));
+        assert!(rt; names.as_deref() == Some(expected), "{name}");
     }
     Ok(())
 }

@@ -52,21 +52,47 @@ pub fn act(
 impl TwoRouters {
     /// The first has a delegated prefix.
     pub fn new(alloc: Global, prefix: Prefix) -> Result<TwoRouters, NoMemory> {
-        let mut two = TwoRouters {
-            first: Router::new(alloc, NodeId(1), 0)?,
-            second: Router::new(alloc, NodeId(2), 0)?,
+        let mut two = TwoRouters::apart(alloc)?;
+        two.begin(alloc, prefix)?;
+        Ok(two)
+    }
+
+    /// Two routers on no link.
+    fn apart(alloc: Global) -> Result<TwoRouters, NoMemory> {
+        let first = Router::new(alloc, NodeId(1), 0)?;
+        let second = Router::new(alloc, NodeId(2), 0)?;
+        Ok(TwoRouters {
+            first,
+            second,
             letters: Vec::new(alloc),
-        };
+        })
+    }
+
+    /// Both come to the link, and the first gets a delegated prefix.
+    fn begin(&mut self, alloc: Global, prefix: Prefix) -> Result<(), NoMemory> {
         let attach = Event::Attach { endpoint: ENDPOINT };
         let external = Event::External {
             prefix,
             valid: 7200,
             preferred: 3600,
         };
-        two.happens(alloc, false, &attach, 0)?;
-        two.happens(alloc, true, &attach, 0)?;
-        two.happens(alloc, false, &external, 0)?;
-        Ok(two)
+        self.happens(alloc, false, &attach, 0)?;
+        self.happens(alloc, true, &attach, 0)?;
+        self.happens(alloc, false, &external, 0)
+    }
+
+    /// What comes of an event at one of them.
+    fn act(
+        &mut self,
+        alloc: Global,
+        at_second: bool,
+        event: &Event<'_>,
+        now: Moment,
+    ) -> Result<Done, NoMemory> {
+        if at_second {
+            return act(alloc, &mut self.second, event, now);
+        }
+        act(alloc, &mut self.first, event, now)
     }
 
     /// An event happens at one of them, and what it sends is on its way to the other.
@@ -77,14 +103,19 @@ impl TwoRouters {
         event: &Event<'_>,
         now: Moment,
     ) -> Result<(), NoMemory> {
-        let router = if at_second {
-            &mut self.second
-        } else {
-            &mut self.first
-        };
-        let done = act(alloc, router, event, now)?;
-        for send in done.sends.as_slice() {
-            self.send(alloc, !at_second, send)?;
+        let done = self.act(alloc, at_second, event, now)?;
+        self.send_all(alloc, !at_second, done.sends.as_slice())
+    }
+
+    /// Datagrams are on their way.
+    fn send_all(
+        &mut self,
+        alloc: Global,
+        to_second: bool,
+        sends: &[Outgoing],
+    ) -> Result<(), NoMemory> {
+        for send in sends {
+            self.send(alloc, to_second, send)?;
         }
         Ok(())
     }
@@ -95,12 +126,24 @@ impl TwoRouters {
         if send.to.is_some_and(|to| to.ip != there.ip) {
             return Ok(());
         }
+        let bytes = Bytes::copy_of(alloc, send.bytes.as_slice())?;
         self.letters.push(Letter {
             to_second,
             multicast: send.to.is_none(),
-            bytes: Bytes::copy_of(alloc, send.bytes.as_slice())?,
+            bytes,
         })?;
         Ok(())
+    }
+
+    /// A datagram arrives.
+    fn arrives(&mut self, alloc: Global, letter: &Letter, now: Moment) -> Result<(), NoMemory> {
+        let arrive = Event::Arrive {
+            endpoint: ENDPOINT,
+            from: address(!letter.to_second),
+            multicast: letter.multicast,
+            bytes: letter.bytes.as_slice(),
+        };
+        self.happens(alloc, letter.to_second, &arrive, now)
     }
 
     /// What is on its way arrives, and what is sent then, the first first.
@@ -110,13 +153,7 @@ impl TwoRouters {
                 return Ok(());
             }
             let letter = self.letters.remove(0);
-            let arrive = Event::Arrive {
-                endpoint: ENDPOINT,
-                from: address(!letter.to_second),
-                multicast: letter.multicast,
-                bytes: letter.bytes.as_slice(),
-            };
-            self.happens(alloc, letter.to_second, &arrive, now)?;
+            self.arrives(alloc, &letter, now)?;
         }
         Err(NoMemory)
     }

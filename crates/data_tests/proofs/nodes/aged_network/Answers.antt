@@ -9,12 +9,12 @@ one_to_four_ascend = ((refl, (refl, (refl, tt))), ((refl, (refl, tt)), ((refl, t
 
 pub returns-clause-first : goal.returns-clause-first
 returns-clause-first c = record {
-  ascending = rw (c.in_ok-aged_entry.ensures, c.in_ok-aged_entry-2.ensures, c.in_ok-aged_entry-3.ensures, c.in_ok-aged_entry-4.ensures) one_to_four_ascend;
-  own_is_there = (0, omega arith, c.in_ok-aged_entry.ensures);
+  ascending = rw (c.in_ok-linked.ensures, c.in_ok-linked-2.ensures, c.in_ok-linked-3.ensures, c.in_ok-linked-4.ensures) one_to_four_ascend;
+  own_is_there = (0, omega arith, c.in_ok-linked.ensures);
 }
 
 pub returns-clause-second : goal.returns-clause-second
 returns-clause-second c = record {
-  ascending = rw (c.in_ok-aged_entry.ensures, c.in_ok-aged_entry-2.ensures, c.in_ok-aged_entry-3.ensures, c.in_ok-aged_entry-4.ensures) one_to_four_ascend;
-  own_is_there = (1, omega arith, c.in_ok-aged_entry-2.ensures);
+  ascending = rw (c.in_ok-linked.ensures, c.in_ok-linked-2.ensures, c.in_ok-linked-3.ensures, c.in_ok-linked-4.ensures) one_to_four_ascend;
+  own_is_there = (1, omega arith, c.in_ok-linked-2.ensures);
 }

@@ -41,7 +41,10 @@ class Datagram:
 @functools.lru_cache(maxsize=4096)
 def decoded(payload):
     """The lines of `hncp decode` for these bytes; a capture has many datagrams more than once."""
-    return common.decode(payload.hex())
+    lines = common.decode(payload.hex())
+    if not lines or lines[0].split()[:1] not in (['tlvs'], ['malformed']):
+        raise Problem(f'{common.program()} decode writes "{"".join(lines[:1])[:60]}"; it is no hncp')
+    return lines
 
 
 def ports_of(given, parsed):

@@ -179,11 +179,29 @@ def check_captures(folder):
             must(shown == {str(finding) for finding in judge(sound.datagrams).findings}, f'{name}: by a capture {shown}')
     with open(path, 'rb') as file:
         octets = file.read()
+    check_programs(path)
+    sound = [homes.frame_of(each) for each in homes.home()[:9]]
+    samples.write_capture(path, sound + [(sound[0][:-9], len(sound[0]))])
+    status, text, messages = run('judge', path)
+    must(status == 1 and 'cut: the capture has 15 of 24 bytes' in text and '1 of 10' in messages, f'a cut frame: status {status}, {text} {messages}')
     for name, kept, said in [('cut short', octets[:-9], 'cut short'), ('without HNCP', octets[:24], 'has no HNCP'), ('that is none', b'nothing' * 20, 'capture file')]:
         with open(path, 'wb') as file:
             file.write(kept)
         status, _, messages = run('judge', path)
         must(status == 1 and said in messages and messages.count('\n') == 1, f'a capture {name}: status {status}, {messages}')
+
+
+def check_programs(path):
+    """A program that is no hncp is told."""
+    known = os.environ['HNCP']
+    try:
+        for program in ['/bin/true', '/bin/cat', '/bin/echo']:
+            os.environ['HNCP'] = program
+            for tool in ['judge', 'decode-capture']:
+                status, _, messages = run(tool, path)
+                must(status == 1 and messages.count('\n') == 1, f'{tool} with {program}: status {status}, {messages[-200:]}')
+    finally:
+        os.environ['HNCP'] = known
 
 
 def check_judge(folder):

@@ -1,6 +1,6 @@
 """The home at the end of a capture: which nodes, peers, links and prefixes, and what does not fit."""
+import functools
 import ipaddress
-import itertools
 
 import items
 from judging.rules import Finding
@@ -11,6 +11,7 @@ SILENCE = 2.1     # keep-alive intervals after which a peer is gone (RFC 7788, s
 REST = 10.0       # seconds after which an assignment is applied, if nobody objects (RFC 7695, section 4.3; RFC 7788, section 6.3.3)
 
 
+@functools.lru_cache(maxsize=4096)
 def network(text):
     return ipaddress.ip_network(text)
 
@@ -23,6 +24,17 @@ class Assigned:
         self.post = data.state.node, int(words['endpoint'])
         self.text, self.priority = words['prefix'], words['priority']
         self.prefix = network(words['prefix'])
+
+
+def nested(assigned):
+    """The pairs of assigned prefixes that overlap, which is that one is inside the other or the same."""
+    around = []
+    for each in sorted(assigned, key=lambda each: (each.prefix, each.post)):
+        while around and not each.prefix.subnet_of(around[-1].prefix):
+            around.pop()
+        for one in around:
+            yield one, each
+        around.append(each)
 
 
 class Home:
@@ -40,6 +52,7 @@ class Home:
         self.links = self.find_links()
         self.assigned = [Assigned(data, words) for node, data in self.data.items() if node in self.reached for words in data.named('assigned')]
         self.delegated = self.find_delegated()
+        self.by_size = sorted({text for text, _, _, _ in self.delegated}, key=lambda text: network(text).prefixlen)
         self.young = []      # what does not fit, in a home that changed too lately to be judged
 
     def is_silent(self, endpoint, last):
@@ -92,8 +105,7 @@ class Home:
 
     def around(self, prefix):
         """The delegated prefixes that have a prefix inside, the largest first."""
-        inside = {text for text, _, _, _ in self.delegated if prefix.subnet_of(network(text))}
-        return sorted(inside, key=lambda text: network(text).prefixlen)
+        return [text for text in self.by_size if prefix.subnet_of(network(text))]
 
     # Findings
 
@@ -122,16 +134,23 @@ class Home:
                 yield finding('inside-nothing', each.state, f'{shown(each.text)} of endpoint {each.post[1]} is inside no delegated prefix')
 
     def judge_pairs(self):
-        for one, other in itertools.combinations(self.assigned, 2):
-            if other.state.frame < one.state.frame:
-                one, other = other, one
-            where = f'{shown(other.text)} of {name(other.post)}, and {shown(one.text)} of {name(one.post)} (frame {one.state.frame})'
-            same = other.post in self.links.get(one.post, {one.post})
-            if not same and one.prefix.overlaps(other.prefix):
-                yield finding('overlap', other.state, f'{where} overlap, on two links')
-            both = [text for text in self.around(one.prefix) if text in self.around(other.prefix)]
-            if same and one.prefix != other.prefix and both:
-                yield finding('two-prefixes', other.state, f'{where} are on one link, and both inside {shown(both[0])}')
+        for one, other in nested(self.assigned):
+            if other.post not in self.links.get(one.post, {one.post}):
+                yield self.clash('overlap', one, other, 'overlap, on two links')
+        first = {}
+        for each in sorted(self.assigned, key=lambda each: each.state.frame):
+            link = min(self.links.get(each.post, {each.post}))
+            for text in self.around(each.prefix)[:1]:
+                one = first.setdefault((link, text), each)
+                if one.prefix != each.prefix:
+                    yield self.clash('two-prefixes', one, each, f'are on one link, and both inside {shown(text)}')
+
+    @staticmethod
+    def clash(rule, one, other, how):
+        if other.state.frame < one.state.frame:
+            one, other = other, one
+        where = f'{shown(other.text)} of {name(other.post)}, and {shown(one.text)} of {name(one.post)} (frame {one.state.frame})'
+        return finding(rule, other.state, f'{where} {how}')
 
     def judge_addresses(self):
         first = {}

@@ -11,7 +11,7 @@ import captures
 import common
 import items
 from checks import faults, homes, samples
-from checks.helpers import SEED, Missing, lines_of, must, must_be, need, run
+from checks.helpers import SEED, Missing, lines_of, must, must_be, need, run, short
 from judging.judgement import Judgement, judge
 from judging.text import text_of
 
@@ -21,6 +21,7 @@ TOGETHER = 100         # mutants that are judged as one capture
 BATCH = 2 ** 18        # bytes that are decoded by one call
 TURNS = 4000           # of a node behind a relay: five seconds, and more on a busy machine
 PATIENCE = 120         # seconds until such a node has to have ended
+SOUND_HOMES = ['a_home_with_an_uplink.script', 'a_triangle_of_gateways.script', 'an_uplink_that_flaps.script']
 WHOLE = 20             # how many shorter captures of the sound home are judged
 
 
@@ -204,10 +205,23 @@ def check_programs(path):
         os.environ['HNCP'] = known
 
 
+def check_simulated(folder):
+    """What tools/capture makes of homes in which nothing goes wrong is sound. Where it makes nothing, nothing is judged."""
+    path, count = os.path.join(folder, 'simulated.pcap'), 0
+    for script in samples.scripts():
+        if short(script) in SOUND_HOMES and os.path.exists(os.path.join(common.HERE, 'capture')):
+            if run('capture', script, path)[0] == 0:
+                text = lines_of('judge', path)
+                must('not proved: 0' in text[2], f'{short(script)}: {text[2]}')
+                count += 1
+    return count
+
+
 def check_judge(folder):
     sound, planted, mutants = check_sound(), check_faults(), check_mutants()
     if shutil.which('tshark'):
         check_captures(folder)
+        sound += check_simulated(folder)
     more = '' if shutil.which('tshark') else '; no capture files, as there is no tshark'
     return f'nothing in {sound} sound captures, each of {planted} faults, {mutants} mutants{more}'
 

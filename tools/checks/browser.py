@@ -5,9 +5,10 @@ import os
 import select
 import shutil
 import subprocess
+import tempfile
 import time
 
-from checks.helpers import Missing, must
+from checks.helpers import Missing, Wrong, must
 
 NAMES = ('chromium', 'chromium-browser', 'google-chrome')
 FLAGS = ['--headless', '--remote-debugging-pipe', '--disable-gpu', '--hide-scrollbars', '--no-first-run', '--disable-extensions',
@@ -25,37 +26,46 @@ def program():
 class Browser:
     """A page of so many points, until `close`."""
 
-    def __init__(self, folder, width=1500, height=1000):
+    def __init__(self, width=1500, height=1000):
+        path = program()
+        self.profile = tempfile.mkdtemp()
+        self.left, self.number, self.session = b'', 0, None
+        self.events = []
+        self.start([path, *FLAGS, *['--no-sandbox'] * (os.getuid() == 0), f'--user-data-dir={self.profile}',
+                    f'--window-size={width},{height}', 'about:blank'])
+        try:
+            targets = self.ask('Target.getTargets')['targetInfos']
+            page = next(each['targetId'] for each in targets if each['type'] == 'page')
+            self.session = self.ask('Target.attachToTarget', targetId=page, flatten=True)['sessionId']
+            for name in ('Page', 'Runtime', 'Log', 'Network'):
+                self.ask(f'{name}.enable')
+            self.ask('Emulation.setDeviceMetricsOverride', width=width, height=height, deviceScaleFactor=1, mobile=False)
+        except (Wrong, OSError) as error:
+            self.close()
+            raise Missing(f'{os.path.basename(path)} does not start: {error}')
+
+    def start(self, words):
+        """Starts the program, which reads at 3 and writes at 4."""
         to_browser, self.writing = os.pipe()
         self.reading, from_browser = os.pipe()
-        flags = FLAGS + ['--no-sandbox'] * (os.getuid() == 0)
 
         def hand_over():
-            # The browser reads at 3 and writes at 4. The ends are put out of the way first.
-            ends = os.dup(to_browser), os.dup(from_browser)
-            high = [os.dup2(end, 100 + place) for place, end in enumerate(ends)]
+            # The ends are put out of the way first.
+            high = [os.dup2(end, 100 + place) for place, end in enumerate((to_browser, from_browser))]
             os.dup2(high[0], 3)
             os.dup2(high[1], 4)
 
-        self.child = subprocess.Popen([program(), *flags, f'--user-data-dir={folder}', f'--window-size={width},{height}', 'about:blank'],
-                                      stdin=subprocess.DEVNULL, stdout=subprocess.DEVNULL, stderr=subprocess.DEVNULL, close_fds=False,
+        self.child = subprocess.Popen(words, stdin=subprocess.DEVNULL, stdout=subprocess.DEVNULL, stderr=subprocess.DEVNULL, close_fds=False,
                                       preexec_fn=hand_over)
         os.close(to_browser)
         os.close(from_browser)
-        self.left, self.number, self.session = b'', 0, None
-        self.events = []
-        targets = self.ask('Target.getTargets')['targetInfos']
-        page = next(each['targetId'] for each in targets if each['type'] == 'page')
-        self.session = self.ask('Target.attachToTarget', targetId=page, flatten=True)['sessionId']
-        for name in ('Page', 'Runtime', 'Log', 'Network'):
-            self.ask(f'{name}.enable')
-        self.ask('Emulation.setDeviceMetricsOverride', width=width, height=height, deviceScaleFactor=1, mobile=False)
 
     def close(self):
         os.close(self.writing)
         os.close(self.reading)
         self.child.terminate()
         self.child.wait()
+        shutil.rmtree(self.profile, ignore_errors=True)    # its own children may still write there
 
     def receive(self, until):
         """The next message."""

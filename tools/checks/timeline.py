@@ -272,7 +272,7 @@ def check_timeline(folder):
     lines_of('timeline', '--every', '1000', '--html', large, script)
     must(os.path.getsize(large) < MOST_BYTES / 8, f'the page of {LARGE} routers has {os.path.getsize(large)} bytes')
     text = f'{told} changes by plays of their own, {played} looks, {cases} cases of hosts, {copies} copies'
-    return f'{text}, {in_browser(folder, pages, script, large)}'
+    return f'{text}, {in_browser(pages, script, large)}'
 
 
 def check_large(browser, script, page):
@@ -286,9 +286,9 @@ def check_large(browser, script, page):
         must_be(browser.value('byId("reports").textContent').split('\n'), reports_at(lines, moment), f'{LARGE} routers: reports at {moment} ms')
 
 
-def in_browser(folder, pages, script, large):
+def in_browser(pages, script, large):
     try:
-        browser = Browser(os.path.join(folder, 'profile'))
+        browser = Browser()
     except Missing as missing:
         return f'and no page was opened: {missing}'
     try:

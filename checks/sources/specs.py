@@ -58,17 +58,19 @@ class Uses:
 
 
 class Definition:
-    """A definition: its comments, and the lines of it, each at its place in the file."""
+    """A definition: its comments, and its lines. In the file it stands from the line `first` to the line `last`."""
 
-    def __init__(self, name: str, kind: str, comments: List[str], indent: int) -> None:
+    def __init__(self, name: str, kind: str, indent: int, first: int) -> None:
         self.name = name
         self.kind = kind
         self.indent = indent
-        self.text: List[str] = list(comments)
+        self.first = self.last = first
+        self.text: List[str] = []
 
-    def add(self, line: str) -> None:
-        """Adds a line."""
+    def add(self, line: str, at: int) -> None:
+        """Adds the line of the file at a place."""
         self.text.append(line)
+        self.last = at
 
     @property
     def code(self) -> List[str]:
@@ -111,42 +113,43 @@ class SpecFile:
 
     def __init__(self, text: str) -> None:
         self.uses = Uses()
+        self.lines = text.split('\n')
         self.definitions: Dict[str, Definition] = {}
         self.unread: List[str] = []
         self._around: List[Token] = []
-        self._read(text.split('\n'))
+        self._read(self.lines)
         self.owners = {name: found.name for found in self.definitions.values() for name in found.constructors}
 
     def _read(self, lines: List[str]) -> None:
         """Reads each line into the definition that it belongs to."""
         base, comments, current = 0, [], None
-        for line in lines:
+        for at, line in enumerate(lines):
             indent = len(line) - len(line.lstrip())
-            if not line.strip():
+            if not line.strip() or line.startswith('pub mod ') or self.uses.read(line):
                 comments = []
             elif indent <= base and line.lstrip().startswith('--'):
                 comments.append(line)
             elif line.startswith('module '):
-                base, self._around = 2, tokens(line)
-            elif not self.uses.read(line) and not line.startswith('pub mod '):
+                base, comments, self._around = 2, [], tokens(line)
+            else:
                 if indent == base and line.lstrip().startswith(MARKS):
-                    current = self._begin(line, comments, base)
-                self._extend(current, line, comments)
+                    current = self._begin(line, base, at - len(comments))
+                self._extend(current, comments + [line], at)
                 comments = []
 
-    def _begin(self, line: str, comments: List[str], base: int) -> Definition:
+    def _begin(self, line: str, base: int, first: int) -> Definition:
         kind, name = HEAD.match(line).groups()
-        found = Definition(name, kind or '', comments, base)
-        comments.clear()
+        found = Definition(name, kind or '', base, first)
         self.definitions[name] = found
         return found
 
-    def _extend(self, current: Optional[Definition], line: str, comments: List[str]) -> None:
+    def _extend(self, current: Optional[Definition], lines: List[str], at: int) -> None:
+        """Adds lines, the last of which is at a place. Where there is no definition yet, they are not understood."""
         if current is None:
-            self.unread.append(line)
+            self.unread.append(lines[-1])
             return
-        for text in comments + [line]:
-            current.add(text)
+        for line in lines:
+            current.add(line, at)
 
     def is_constructor(self, token: str) -> bool:
         """Whether a token in a pattern is a constructor, and binds nothing."""

@@ -1,0 +1,1 @@
+"""The commands that print what the sources have: definitions, clauses, and the files that name something."""

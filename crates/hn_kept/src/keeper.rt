@@ -1,0 +1,78 @@
+ghost use Rattle.std.specs.Prelude.{◌≡◌, ◌≤◌, ◌^◌, OnOk, OnErr, IfOk};
+ghost use Rattle.hn_router.specs.Act.{plain_event};
+ghost use Rattle.hn_router.specs.New.{IsNew};
+ghost use Rattle.hn_rules.specs.Done.{nothing};
+ghost use Rattle.hn_kept.specs.Kept.{Acts};
+
+use crate::words::ChaChaWords;
+use hn_base::{Moment, NoMemory, NodeId};
+use hn_router::{Event, Router};
+use hn_rules::Done;
+use std::alloc::Global;
+use std::marker::Model;
+
+/// A router with its random words and what its last event came to. Contracts see the router and that.
+#[derive(Drop)]
+pub struct Keeper {
+    router: Router,
+    done: Done,
+    words: ChaChaWords,
+}
+
+impl Model for Keeper {
+    ghost use Rattle.hn_kept.specs.Kept.{Kept};
+
+    ghost Value = { Kept };
+
+    ghost view = { λ k. record { router = k.router; done = k.done } };
+}
+
+impl Keeper {
+    /// A new router, which may hold 256 other nodes, with random words of a seed. Nothing has happened to it.
+    ///
+    /// # Errors
+    ///
+    /// Out of memory.
+    pub fn new(alloc: Global, id: NodeId, now: Moment, seed: [u8; 32]) -> Result<Keeper, NoMemory>
+        requires { now ≤ 2 ^ 48 }
+        ensures router { IfOk result (λ keeper. IsNew id 256 now keeper.router) }
+        ensures nothing { IfOk result (λ keeper. keeper.done ≡ nothing) }
+    {
+        let router = Router::new(alloc, id, now)?;
+        Ok(Keeper {
+            router,
+            done: Done::new(alloc),
+            words: ChaChaWords::new(seed),
+        })
+    }
+
+    /// An event happens to the router at a moment.
+    ///
+    /// # Errors
+    ///
+    /// Out of memory; the router, and what its last event came to, is as before then.
+    pub fn act(&mut self, alloc: Global, event: &Event<'_>, now: Moment) -> Result<(), NoMemory>
+        requires not_before { self.old.router.moment ≤ now }
+        requires in_range { now ≤ 2 ^ 48 }
+        ensures ok { OnOk result (Acts now (plain_event event.now) self.old self.new) }
+        ensures err { OnErr result (self.new ≡ self.old) }
+    {
+        let done = self.router.act(alloc, event, now, &mut self.words)?;
+        self.done = done;
+        Ok(())
+    }
+
+    /// The router. Never allocates.
+    pub fn router(&self) -> &Router
+        ensures { result.now ≡ self.now.router }
+    {
+        &self.router
+    }
+
+    /// What its last event came to. Never allocates.
+    pub fn done(&self) -> &Done
+        ensures { result.now ≡ self.now.done }
+    {
+        &self.done
+    }
+}

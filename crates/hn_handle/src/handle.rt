@@ -1,0 +1,83 @@
+ghost use Rattle.std.specs.Prelude.{◌≡◌, Option, Some, None, IsSome};
+ghost use Rattle.hn_handle.specs.Held.{held_at};
+ghost use Rattle.hn_kept.specs.Kept.{Kept};
+
+use crate::parted::Parted;
+use hn_kept::Keeper;
+use std::alloc::Global;
+use std::marker::Model;
+use std::mem::replace;
+
+/// Where a router is, which C keeps: nothing, or a router on the heap and the right to free it.
+#[repr(C)]
+#[derive(Drop)]
+pub struct Handle {
+    at: *mut u8,
+    pub ghost held: { Option Kept },
+}
+
+impl Model for Handle {
+    ghost also_owns = { λ h. held_at h.at h.held };
+}
+
+// No place.
+fn null() -> *mut u8 {
+    std::ptr::null_mut()
+}
+
+impl Handle {
+    fn none_at(at: *mut u8) -> Handle
+        ensures { result.held ≡ None }
+    {
+        Handle { at }
+    }
+
+    fn none() -> Handle
+        ensures { result.held ≡ None }
+    {
+        Handle::none_at(null())
+    }
+
+    fn wrap(parted: Parted<Keeper, Global>) -> Handle
+        ensures { result.held ≡ Some parted.value }
+    {
+        let Parted { alloc, at } = parted;
+        let _alloc = alloc;
+        Handle { at: at as *mut u8 }
+    }
+
+    fn unwrap(self, alloc: Global) -> Parted<Keeper, Global>
+        requires { IsSome self.held }
+        ensures { self.held ≡ Some result.value }
+    {
+        let Handle { at } = self;
+        Parted {
+            alloc,
+            at: at as *mut Keeper,
+        }
+    }
+
+    /// Of a router, which stays where it is.
+    pub fn of(keeper: Box<Keeper>) -> Handle
+        ensures { result.held ≡ Some keeper.value }
+    {
+        Handle::wrap(Parted::part(keeper))
+    }
+
+    // The router of a handle that has one.
+    fn into_box(self, alloc: Global) -> Box<Keeper>
+        requires { IsSome self.held }
+        ensures { self.held ≡ Some result.value }
+    {
+        self.unwrap(alloc).join()
+    }
+
+    /// Takes the router, and leaves none.
+    pub fn take(&mut self, alloc: Global) -> Box<Keeper>
+        requires { IsSome self.old.held }
+        ensures taken { self.old.held ≡ Some result.value }
+        ensures none { self.new.held ≡ None }
+    {
+        replace(self, Handle::none()).into_box(alloc)
+    }
+}

@@ -1,0 +1,6 @@
+use Rattle.std.proofs.Common.{arith}
+use Rattle.hn_router_c.proofs.Refusals.{not_acted}
+use Rattle.hn_router_c.proofs.events.hn_router_withdraw.Goals as goal
+
+pub returns-in_default-clause-acted : goal.returns-in_default-clause-acted
+returns-in_default-clause-acted c = not_acted _ _ _ _ c.requires (omega arith)

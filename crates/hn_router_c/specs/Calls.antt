@@ -1,0 +1,92 @@
+-- What a call of C comes to, by its status: 0 done, 1 out of memory, 2 a value is out of range.
+use Rattle.std.specs.Prelude.{◌≡◌, ◌≢◌, ℕ, ◌^◌, Bool, ◌||◌, nat_lt, Option, Some, List, ◌++◌, drop, length, slice_get}
+use Rattle.hn_router.specs.Act.{PlainEvent}
+use Rattle.hn_base.specs.declared.ids.EpId.{EpId}
+use Rattle.hn_base.specs.declared.ids.NodeId.{NodeId}
+use Rattle.hn_base.specs.declared.letter.Letter.{Letter}
+use Rattle.hn_deleg.specs.declared.delegated.Delegated.{Delegated}
+use Rattle.hn_deleg.specs.Used.{AreUsable}
+use Rattle.hn_rules.specs.declared.state.State.{State}
+use Rattle.hn_rules.specs.declared.done.Outgoing.{Outgoing}
+use Rattle.hn_rules.specs.declared.done.Note as noted
+use Rattle.hn_assign.specs.declared.assigned.Assigned as assign
+use Rattle.hn_rules.specs.Seen.{seen_by, IsElectedAt}
+use Rattle.hn_router.specs.Advertising.{IsAdvertBytes}
+use Rattle.hn_kept.specs.Kept.{Kept, Acts}
+use Rattle.hn_router_c.specs.declared.kinds.Sent.{Sent}
+use Rattle.hn_router_c.specs.declared.kinds.Assigned.{Assigned}
+use Rattle.hn_router_c.specs.declared.kinds.Note.{Note}
+use Rattle.hn_router_c.specs.declared.kinds.Used.{Used}
+use Rattle.hn_router_c.specs.declared.kinds.Elected.{Elected}
+use Rattle.hn_router_c.specs.Kinds.{sent_of, assigned_of, note_of, used_of, elected_of, letter_of}
+
+-- the handle has a router, of which this holds
+pub record Has (held : Option Kept) (Holds : Kept → Type 0) : Type 0 where
+  pub router : Kept
+  pub is : held ≡ Some router
+  pub holds : Holds router
+
+-- a moment that no event of a router may have: before that of its last event, or after 2^48
+abbrev pub is_outside : ℕ → State → Bool
+is_outside now s = nat_lt now s.moment || nat_lt (2 ^ 48) now
+
+-- the handle had a router and has one: with status 0 the event happened to it at the moment, and else it is as it was
+pub record Acted (now : ℕ) (event : PlainEvent) (held held_after : Option Kept) (status : ℕ) : Type 0 where
+  pub before : Kept
+  pub had : held ≡ Some before
+  pub after : Kept
+  pub has : held_after ≡ Some after
+  pub happened : status ≡ 0 → Acts now event before after
+  pub as_before : status ≢ 0 → after ≡ before
+
+-- so many bytes are at the front of a room, and the rest of it is as it was
+pub record IsWritten (bytes : List ℕ) (count : ℕ) (room room_after : List ℕ) : Type 0 where
+  pub count_is : count ≡ length bytes
+  pub written : room_after ≡ bytes ++ drop (length bytes) room
+
+-- where the datagram at a place goes, and its bytes
+pub record IsSent (sends : List Outgoing) (place : ℕ) (sent : Sent) (count : ℕ) (room room_after : List ℕ) : Type 0 where
+  pub outgoing : Outgoing
+  pub at : slice_get sends place ≡ Some outgoing
+  pub to : sent ≡ sent_of outgoing
+  pub bytes : IsWritten outgoing.bytes count room room_after
+
+-- what was noted at a place
+pub record IsNoted (notes : List noted.Note) (place : ℕ) (out : Note) : Type 0 where
+  pub note : noted.Note
+  pub at : slice_get notes place ≡ Some note
+  pub is : out ≡ note_of note
+
+-- the assignment at a place
+pub record IsAssignedAt (all : List assign.Assigned) (place : ℕ) (out : Assigned) : Type 0 where
+  pub assigned : assign.Assigned
+  pub at : slice_get all place ≡ Some assigned
+  pub is : out ≡ assigned_of assigned
+
+-- the node at a place
+pub record IsNodeAt (nodes : List NodeId) (place id : ℕ) : Type 0 where
+  pub node : NodeId
+  pub at : slice_get nodes place ≡ Some node
+  pub is : id ≡ node.0
+
+-- the delegated prefix at a place of those that a router uses
+pub record IsUsedAt (s : State) (place : ℕ) (used : Used) : Type 0 where
+  pub all : List Delegated
+  pub are_usable : AreUsable (seen_by s) all
+  pub delegated : Delegated
+  pub at : slice_get all place ≡ Some delegated
+  pub is : used ≡ used_of delegated
+
+-- who is elected for a service on an endpoint
+pub record IsElectedFor (s : State) (at : EpId) (number : ℕ) (elected : Elected) : Type 0 where
+  pub letter : Letter
+  pub is_letter : letter_of number ≡ Some letter
+  pub who : Option NodeId
+  pub is_elected : IsElectedAt s at letter who
+  pub is : elected ≡ elected_of who
+
+-- the bytes of the advertisement on an endpoint
+pub record IsAdvertised (s : State) (at : EpId) (count : ℕ) (room room_after : List ℕ) : Type 0 where
+  pub bytes : List ℕ
+  pub are : IsAdvertBytes s at bytes
+  pub written : IsWritten bytes count room room_after

@@ -1,0 +1,11 @@
+//! A router for C, behind a pointer (`include/hn_router.h`). Each event is a call, and each report is one.
+#![tactic(auto)]
+
+mod events;
+mod happening;
+mod kinds;
+mod life;
+mod reports;
+mod state;
+
+pub use kinds::{Address, Assigned, Elected, Note, Sent, Used};

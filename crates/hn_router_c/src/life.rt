@@ -1,0 +1,45 @@
+ghost use Rattle.std.specs.Prelude.{◌≡◌, ◌≢◌, None, IsSome};
+ghost use Rattle.hn_router.specs.New.{IsNew};
+ghost use Rattle.hn_rules.specs.Done.{nothing};
+ghost use Rattle.hn_router_c.specs.Calls.{Has};
+
+use crate::happening::{DONE, LAST_MOMENT, NO_MEMORY, OUT_OF_RANGE};
+use hn_base::NodeId;
+use hn_handle::Handle;
+use hn_kept::Keeper;
+use std::alloc::Global;
+
+/// Makes a router that begins at a moment, with an identifier and a seed of its random words. The handle has none before.
+#[unsafe(no_mangle)]
+pub extern "C" fn hn_router_new(
+    alloc: Global,
+    router: &mut Handle,
+    id: u32,
+    now: u64,
+    seed: &[u8; 32],
+) -> u8
+    requires { router.old.held ≡ None }
+    ensures made { result ≡ 0 → Has router.new.held (λ made. IsNew (record { 0 = id }) 256 now made.router) }
+    ensures none { result ≢ 0 → router.new.held ≡ None }
+{
+    if LAST_MOMENT < now {
+        return OUT_OF_RANGE;
+    }
+    let Ok(keeper) = Keeper::new(alloc, NodeId(id), now, *seed) else {
+        return NO_MEMORY;
+    };
+    let Ok(keeper) = Box::new(alloc, keeper) else {
+        return NO_MEMORY;
+    };
+    *router = Handle::of(keeper);
+    DONE
+}
+
+/// Gives the router up. The handle has none after.
+#[unsafe(no_mangle)]
+pub extern "C" fn hn_router_free(alloc: Global, router: &mut Handle)
+    requires { IsSome router.old.held }
+    ensures { router.new.held ≡ None }
+{
+    drop(router.take(alloc));
+}

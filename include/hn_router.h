@@ -1,0 +1,186 @@
+/* A home router with HNCP (RFC 7787, RFC 7788) as a library: libhn_router_c.a, made by `rt lib` in crates/hn_router_c and
+ * linked with include/hn_heap.c. x86-64 alone. docs/EMBED.md shows its use.
+ *
+ * The library opens no socket, reads no clock and starts no thread. The caller tells it each event at its moment, sends the
+ * datagrams that come of it, and calls again at the moment that hn_router_due says.
+ *
+ * A router is held by a struct hn_router. Set it to zero, hand it to hn_router_new, and hand it to no other call before that
+ * returned 0, nor after hn_router_free. Never copy it, and use it in one thread at a time. No pointer may be null, also
+ * where a length is 0; pointers of one call may not overlap, unless both are only read. The library is proved, and this file
+ * is not: checks/embed compares its names, their order and types with the source.
+ *
+ * A call that returns uint8_t returns
+ *
+ *     0   done
+ *     1   out of memory: what was to happen did not, and the router is as it was
+ *     2   a value is out of range, or there is nothing at that place: the router is as it was
+ *
+ * A moment is in milliseconds, from 0 to 2^48, by a clock that never goes back: never before the moment of the router's last
+ * event. Addresses and prefixes are 16 bytes in the order of the network; a prefix has no bit set past its length, which is
+ * in bits, 0 to 128. An endpoint is a link of the router, under a number from 1 on that the caller chooses. */
+#ifndef HN_ROUTER_H
+#define HN_ROUTER_H
+
+#include <stdbool.h>
+#include <stddef.h>
+#include <stdint.h>
+
+#ifdef __cplusplus
+extern "C" {
+#endif
+
+typedef struct {
+    void *at;
+} hn_router;
+
+/* Where a datagram goes: out of the link of `endpoint`, from port 8231, to `port` of `to`. */
+typedef struct {
+    uint32_t endpoint;
+    uint8_t unicast; /* 0: to the group ff02::11 and port 8231 */
+    uint16_t port;
+    uint8_t to[16];
+} hn_sent;
+
+/* A prefix that is assigned to the link of an endpoint. */
+typedef struct {
+    uint32_t endpoint; /* 0: of the private link */
+    uint8_t length;
+    uint8_t applied; /* 1: it was kept long enough to be used on the link, and 0 before */
+    uint8_t prefix[16];
+    uint8_t delegated[16]; /* the delegated prefix that it lies in */
+    uint8_t delegated_length;
+} hn_assigned;
+
+/* A delegated prefix that is used, with what is left of its lifetimes in milliseconds; 2^64 - 1 never ends. */
+typedef struct {
+    uint64_t valid;
+    uint64_t preferred;
+    uint8_t length;
+    uint8_t prefix[16];
+} hn_used;
+
+/* Who is elected for a service on a link. */
+typedef struct {
+    uint32_t id; /* 0 where nobody is */
+    uint8_t some; /* 1 where a node is elected */
+} hn_elected;
+
+/* Something worth noting in a log. By `kind`: 1 a datagram came from an address that is not link-local; 2 a datagram is no
+ * list of TLVs, from the byte `number` on, for the reason `why`; 3 a TLV of the kind `number` was not followed; 4 the state
+ * of the node `number` came, and `why` says what became of it (0 kept, 1 renumbered, 2 to be asked for, 3 stale, 4 its hash
+ * is wrong, 5 its data are no TLVs, 6 they are too long, 7 no room for one more node, 8 it claims the own identifier); 5
+ * another node claims the own identifier, with the sequence number `number`; 6 no room for one more peer; 7 the event was
+ * refused: see each call. */
+typedef struct {
+    uint64_t number;
+    uint8_t kind;
+    uint8_t why;
+} hn_note;
+
+/* An address of the router, on the link of an endpoint. */
+typedef struct {
+    uint32_t endpoint;
+    uint8_t address[16];
+} hn_address;
+
+/* Makes a router, with a number of 32 bits under which others know it (one's own: draw it once and keep it) and 32 bytes
+ * that nobody can guess, of which all its random choices are made. It has no endpoints, and may know 256 other nodes. Out of
+ * range: `now` is after 2^48. */
+uint8_t hn_router_new(hn_router *router, uint32_t id, uint64_t now, const uint8_t seed[32]);
+
+/* Gives the router up, with its memory. */
+void hn_router_free(hn_router *router);
+
+/* Events. Each may change all that is reported below. Out of range, here and in each of them: `now` is before the moment of
+ * the last event, or after 2^48. After a call that is done send each datagram (hn_router_sends, hn_router_send) before the
+ * next event. A refused event is done: only its moment counts, and the note 7 tells it. */
+
+/* Time has passed. Does nothing before hn_router_due. */
+uint8_t hn_router_tick(hn_router *router, uint64_t now);
+
+/* An endpoint is attached to a link. Refused: endpoint 0, one that is attached, a seventeenth. */
+uint8_t hn_router_attach(hn_router *router, uint64_t now, uint32_t endpoint);
+
+/* An endpoint is detached, with its peers and addresses. Refused: one that is not attached. */
+uint8_t hn_router_detach(hn_router *router, uint64_t now, uint32_t endpoint);
+
+/* A datagram of HNCP arrived on an endpoint: whether it was sent to ff02::11, its source address and port, and its bytes.
+ * Refused: at an endpoint that is not attached. One from an address that is not link-local is noted, and no more. */
+uint8_t hn_router_arrive(hn_router *router, uint64_t now, uint32_t endpoint, bool multicast, const uint8_t source[16], uint16_t port, const uint8_t *bytes, size_t bytes_length);
+
+/* A prefix is delegated to the router, or again, with its lifetimes in seconds from now on; 2^32 - 1 never ends. Out of
+ * range: no prefix. Refused: a ninth. */
+uint8_t hn_router_external(hn_router *router, uint64_t now, const uint8_t prefix[16], uint8_t length, uint32_t valid, uint32_t preferred);
+
+/* A prefix is delegated no longer. What is assigned of it goes at the next tick, which is due. Out of range: no prefix. */
+uint8_t hn_router_withdraw(hn_router *router, uint64_t now, const uint8_t prefix[16], uint8_t length);
+
+/* How well the router does what a link elects one node for, 0 (not at all) to 15: mDNS proxy, prefix delegation by DHCPv6,
+ * addresses by DHCPv6, addresses by DHCPv4. Out of range: above 15. */
+uint8_t hn_router_caps(hn_router *router, uint64_t now, uint8_t m, uint8_t p, uint8_t h, uint8_t l);
+
+/* The router has a private link, of which the prefixes have this length, 1 to 64; or has none, with 0. Out of range: above
+ * 64. */
+uint8_t hn_router_private(hn_router *router, uint64_t now, uint8_t length);
+
+/* The router has these addresses, and no others. Refused: where they do not strictly ascend by endpoint and then address, or
+ * are more than 64, or one is of an endpoint that is not attached. */
+uint8_t hn_router_addresses(hn_router *router, uint64_t now, const hn_address *list, size_t list_length);
+
+/* The router begins anew, with its identifier, endpoints and delegated prefixes. */
+uint8_t hn_router_restart(hn_router *router, uint64_t now);
+
+/* Reports. The router stays as it is. What is written to stays as it is unless the call is done, but for `count`. */
+
+/* The moment up to which each tick does nothing; it may be past. 2^49 where nothing is due. */
+uint64_t hn_router_due(hn_router *router);
+
+/* The moment of the last event. */
+uint64_t hn_router_moment(hn_router *router);
+
+/* The identifier. It changes where another node has it: read it after each event, and keep it. */
+uint32_t hn_router_identifier(hn_router *router);
+
+/* The sequence number of what the router published last. */
+uint32_t hn_router_number(hn_router *router);
+
+/* A hash of what all reachable nodes publish: nodes that agree have the same. */
+void hn_router_network_hash(hn_router *router, uint8_t hash[8]);
+
+/* How many datagrams the last event sends, and the one at a place from 0 on: where it goes, how many bytes it has, and these.
+ * A room of 65507 bytes is enough for each. Out of range: nothing at that place, or no room for it (`sent` and `count` tell
+ * of it then). */
+size_t hn_router_sends(hn_router *router);
+uint8_t hn_router_send(hn_router *router, size_t place, hn_sent *sent, size_t *count, uint8_t *room, size_t room_length);
+
+/* How much the last event noted, and the note at a place from 0 on. */
+size_t hn_router_notes(hn_router *router);
+uint8_t hn_router_note(hn_router *router, size_t place, hn_note *note);
+
+/* How many assignments there are, and the one at a place from 0 on. */
+size_t hn_router_assignments(hn_router *router);
+uint8_t hn_router_assigned(hn_router *router, size_t place, hn_assigned *assigned);
+
+/* How many nodes are reachable, the router itself among them, and the identifier of the one at a place, from 0 on in
+ * ascending order. */
+size_t hn_router_nodes(hn_router *router);
+uint8_t hn_router_node(hn_router *router, size_t place, uint32_t *id);
+
+/* The delegated prefix at a place, from 0 on in ascending order, of those that are used in the home; at most 32. What is left
+ * of its lifetimes is as of the moment of the last event. */
+uint8_t hn_router_used(hn_router *router, size_t place, hn_used *used);
+
+/* Who is elected on the link of an endpoint for a service: 0 mDNS proxy, 1 prefix delegation by DHCPv6, 2 addresses by
+ * DHCPv6, 3 addresses by DHCPv4. Out of range: another service. */
+uint8_t hn_router_elected(hn_router *router, uint32_t endpoint, uint8_t service, hn_elected *elected);
+
+/* How many bytes the Router Advertisement on an endpoint has (RFC 4861, section 4.2, from its type on, with a checksum of 0,
+ * which the system fills in), and these. What is left of lifetimes is as of the moment of the last event: tick before. Out of
+ * range: no room for it (`count` tells how much is wanted then). */
+uint8_t hn_router_advert(hn_router *router, uint32_t endpoint, size_t *count, uint8_t *room, size_t room_length);
+
+#ifdef __cplusplus
+}
+#endif
+
+#endif

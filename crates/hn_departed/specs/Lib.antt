@@ -1,0 +1,2 @@
+pub mod Departed
+pub mod Laws

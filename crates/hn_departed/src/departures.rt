@@ -1,0 +1,175 @@
+ghost use Rattle.std.specs.Prelude.{◌≡◌, ◌++◌, [], map, IfOk, OnOk, OnErr};
+ghost use Rattle.hn_departed.specs.Departed.{until_of, left_of, told_of, deprecated, is_among, departed, with_departed, told_after};
+
+use hn_advert::{Info, Infos};
+use hn_base::{Moment, NoMemory, Sequence};
+use hn_prefix::Prefix;
+use std::alloc::Global;
+use std::marker::Model;
+
+/// A lifetime in seconds that never ends (RFC 4861, section 4.6.2).
+const NEVER_ENDS: u32 = 4_294_967_295;
+
+/// The moment at which such a lifetime ends.
+const NEVER: u64 = 18_446_744_073_709_551_615;
+
+/// A prefix that was advertised.
+#[derive(Clone, Copy, PartialEq, Eq)]
+pub struct Told {
+    pub prefix: Prefix,
+    /// When its valid lifetime ends, in milliseconds; 2^64 - 1 where it never does.
+    pub until: u64,
+}
+
+/// When a lifetime ends that begins now, in seconds.
+fn until_of(now: Moment, valid: u32) -> u64
+    ensures { result ≡ until_of now valid }
+{
+    if valid == NEVER_ENDS {
+        NEVER
+    } else {
+        now.saturating_add(1000 * u64::from(valid))
+    }
+}
+
+/// What is left of a lifetime, in whole seconds, rounded down.
+fn left_of(now: Moment, until: u64) -> u32
+    ensures { result ≡ left_of now until }
+{
+    if until == NEVER {
+        return NEVER_ENDS;
+    }
+    (until.saturating_sub(now) / 1000).min(4_294_967_294) as u32
+}
+
+/// What is told of a prefix that is advertised now.
+fn told_of(now: Moment, info: &Info) -> Told
+    ensures { result ≡ told_of now info.now }
+{
+    Told {
+        prefix: info.prefix,
+        until: until_of(now, info.valid),
+    }
+}
+
+/// A prefix that is told, and is not to be preferred.
+fn deprecated(now: Moment, told: &Told) -> Info
+    ensures { result ≡ deprecated now told.now }
+{
+    Info {
+        prefix: told.prefix,
+        valid: left_of(now, told.until),
+        preferred: 0,
+    }
+}
+
+/// Whether a prefix is among those.
+fn is_among(prefix: Prefix, infos: &[Info]) -> bool
+    ensures { result ≡ is_among prefix infos.now }
+{
+    infos.iter().any(|info| info.prefix == prefix)
+}
+
+/// Those that were told, whose valid lifetime has not ended, and that are not among those.
+fn departed(
+    alloc: Global,
+    now: Moment,
+    infos: &[Info],
+    told: &[Told],
+) -> Result<Vec<Told>, NoMemory>
+    ensures { IfOk result (λ gone. gone.items ≡ departed now infos.now told.now) }
+{
+    Ok(
+        told.iter()
+            .copied()
+            .filter(|told| now < told.until && !is_among(told.prefix, infos))
+            .collect(alloc)?,
+    )
+}
+
+/// The ones that are gone, which are not to be preferred.
+fn deprecated_of(alloc: Global, now: Moment, gone: &[Told]) -> Result<Vec<Info>, NoMemory>
+    ensures { IfOk result (λ infos. infos.items ≡ map (deprecated now) gone.now) }
+{
+    Ok(
+        gone.iter()
+            .map(|told| deprecated(now, told))
+            .collect(alloc)?,
+    )
+}
+
+/// Those, and after them the ones that are gone, which are not to be preferred.
+fn all_of(alloc: Global, now: Moment, infos: &[Info], gone: &[Told]) -> Result<Vec<Info>, NoMemory>
+    ensures { IfOk result (λ all. all.items ≡ infos.now ++ map (deprecated now) gone.now) }
+{
+    let mut after = deprecated_of(alloc, now, gone)?;
+    let mut all = Vec::from_slice(alloc, infos)?;
+    all.append(&mut after)?;
+    Ok(all)
+}
+
+/// What is told of those.
+fn told_of_all(alloc: Global, now: Moment, infos: &[Info]) -> Result<Vec<Told>, NoMemory>
+    ensures { IfOk result (λ told. told.items ≡ map (told_of now) infos.now) }
+{
+    Ok(infos.iter().map(|info| told_of(now, info)).collect(alloc)?)
+}
+
+/// What is told of those, and after it what is told of the ones that are gone.
+fn told_with(
+    alloc: Global,
+    now: Moment,
+    infos: &[Info],
+    gone: &[Told],
+) -> Result<Vec<Told>, NoMemory>
+    ensures { IfOk result (λ told. told.items ≡ map (told_of now) infos.now ++ gone.now) }
+{
+    let mut told = told_of_all(alloc, now, infos)?;
+    let mut after = Vec::from_slice(alloc, gone)?;
+    told.append(&mut after)?;
+    Ok(told)
+}
+
+/// What was advertised on an endpoint and whose valid lifetime has not ended, in no order. Contracts see the list.
+#[derive(Drop)]
+pub struct Departures {
+    told: Vec<Told>,
+}
+
+impl Model for Departures {
+    ghost use Rattle.std.specs.Prelude.{List};
+    ghost use Rattle.hn_departed.specs.declared.departures.Told.{Told};
+
+    ghost Value = { List Told };
+
+    ghost view = { λ d. d.told.items };
+}
+
+impl Departures {
+    /// Nothing was advertised. Never allocates.
+    pub fn new(alloc: Global) -> Departures
+        ensures { result ≡ [] }
+    {
+        Departures {
+            told: Vec::new(alloc),
+        }
+    }
+
+    /// The prefixes of an advertisement that is sent now: those that are to be advertised, and after them each that was
+    /// and is not among them, with a preferred lifetime of 0 and what is left of its valid one.
+    ///
+    /// # Errors
+    ///
+    /// Out of memory; nothing is advertised then.
+    pub fn next(&mut self, alloc: Global, now: Moment, infos: &[Info]) -> Result<Infos, NoMemory>
+        ensures infos { IfOk result (λ all. all ≡ with_departed now infos.now self.old) }
+        ensures told { OnOk result (self.new ≡ told_after now infos.now self.old) }
+        ensures err { OnErr result (self.new ≡ self.old) }
+    {
+        let gone = departed(alloc, now, infos, self.told.as_slice())?;
+        let all = all_of(alloc, now, infos, gone.as_slice())?;
+        let told = told_with(alloc, now, infos, gone.as_slice())?;
+        self.told = told;
+        Ok(Sequence::from(all))
+    }
+}

@@ -104,7 +104,7 @@ class ClausesHere(unittest.TestCase):
 
 def _head(line: str) -> str:
     """A line that begins a public function, without the bracket that begins a body; else nothing."""
-    return re.sub(r' \{\}?$', '', line.strip()) if re.match(r' *pub( \w+)* fn ', line) else ''
+    return re.sub(r' \{\}?$', '', line.strip()) if re.match(r' *pub( \w+| "\w+")* fn ', line) else ''
 
 
 def _by_lines(lines: List[str]) -> List[int]:
@@ -113,7 +113,7 @@ def _by_lines(lines: List[str]) -> List[int]:
     around, is_on, is_counted = '', False, False
     for line in lines:
         clause = re.match(r' +(requires|ensures)', line)
-        begins = re.match(r' *(pub(?:\(.*\))? )?(?:const |unsafe )?fn ', line)
+        begins = re.match(r' *(pub(?:\(.*\))? )?(?:const |unsafe |extern "C" )*fn ', line)
         if re.match(r'[a-z]', line):
             around = 'trait' if line.startswith('pub trait') else 'impl' if re.match('impl.* for ', line) else ''
         if begins:

@@ -87,9 +87,9 @@ class Sources:
     def imported(self, module: str, name: str) -> Optional[Node]:
         """What a `use` line brings in by a name of a module. It is nothing if it is of the kit."""
         parts = module.split('.')
-        crate = parts[1]
-        if not self.has_crate(crate) or parts[2] != 'specs':
+        if parts[0] != 'Rattle' or not self.has_crate(parts[1]) or parts[2] != 'specs':
             return None
+        crate = parts[1]
         if parts[3] in ('declared', 'contracts'):
             return self._declared(crate, parts[4:], module, name)
         return self._defined(crate, parts[3:], module, name)

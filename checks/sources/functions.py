@@ -184,6 +184,9 @@ class _Reader:
             self.advance()
             if self.word == '(':
                 self.skip()
+        if self.word == 'extern' and self.next_word().startswith('"'):
+            self.advance()
+            self.advance()
         while self.word in BEFORE and self.next_word() in BEFORE + CONTAINERS + ('fn',):
             self.advance()
         if self.word == 'fn':

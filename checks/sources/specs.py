@@ -5,7 +5,7 @@ from typing import Dict, Iterator, List, NamedTuple, Optional
 from sources.lexing import Token, depth, tokens
 from sources.scopes import Cited, Scope, cited_in_clause, cited_in_term
 
-USE = re.compile(r'\s*(pub )?(?:ghost )?use (Rattle\.[\w.]+?)(?:\.\{(.*)\}| as (\w+))?;?\s*$')
+USE = re.compile(r'\s*(pub )?(?:ghost )?use (\w+\.[\w.]+?)(?:\.\{(.*)\}| as (\w+))?;?\s*$')
 HEAD = re.compile(r'\s*(?:(?:abbrev|unfoldable|pub) )*(?:(record|data) )?([^\s(){}.;,@"«»]+)')
 MARKS = ('abbrev ', 'unfoldable ', 'pub ', 'record ', 'data ')
 KIT_CONSTRUCTORS = {'[]', '◌∷◌', 'true', 'false', 'zero', 'suc', 'Some', 'None', 'Ok', 'Err'}

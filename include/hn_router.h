@@ -1,5 +1,5 @@
 /* A home router with HNCP (RFC 7787, RFC 7788) as a library: libhn_router_c.a, made by `rt lib` in crates/hn_router_c and
- * linked with include/hn_heap.c. x86-64 alone. docs/EMBED.md shows its use.
+ * linked with include/hn_heap.c. It is made for x86-64 and for aarch64. docs/EMBED.md shows its use.
  *
  * The library opens no socket, reads no clock and starts no thread. The caller tells it each event at its moment, sends the
  * datagrams that come of it, and calls again at the moment that hn_router_due says.
@@ -178,6 +178,12 @@ uint8_t hn_router_elected(hn_router *router, uint32_t endpoint, uint8_t service,
  * which the system fills in), and these. What is left of lifetimes is as of the moment of the last event: tick before. Out of
  * range: no room for it (`count` tells how much is wanted then). */
 uint8_t hn_router_advert(hn_router *router, uint32_t endpoint, size_t *count, uint8_t *room, size_t room_length);
+
+/* As hn_router_advert, for an advertisement that is to be sent now: after the prefixes of that one stands each prefix that was
+ * advertised so on this endpoint before, is not among them, and whose valid lifetime has not ended, with a preferred lifetime
+ * of 0 and what is left of its valid one (RFC 9096, section 3.5). If the call is done, the router keeps what was told, over
+ * detach and restart too: send it, and give an endpoint number to one link for good. */
+uint8_t hn_router_advertise(hn_router *router, uint32_t endpoint, size_t *count, uint8_t *room, size_t room_length);
 
 #ifdef __cplusplus
 }

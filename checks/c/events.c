@@ -85,6 +85,55 @@ static void advertisement_of(hn_router *router)
     CHECK(room[16] == 3 && room[17] == 4 && room[18] == 64 && memcmp(room + 32, assigned.prefix, 16) == 0);
 }
 
+static uint32_t number_at(const uint8_t *bytes)
+{
+    return (uint32_t)bytes[0] << 24 | (uint32_t)bytes[1] << 16 | (uint32_t)bytes[2] << 8 | bytes[3];
+}
+
+/* Whether the next advertisement on an endpoint has a prefix, and its lifetimes. */
+static bool is_told(hn_router *router, uint32_t endpoint, const uint8_t prefix[16], uint32_t *valid, uint32_t *preferred)
+{
+    size_t count = 0;
+    CHECK(hn_router_advertise(router, endpoint, &count, room, sizeof room) == 0);
+    for (size_t at = 16; at + 32 <= count; at += 32) {
+        if (room[at] == 3 && memcmp(room + at + 16, prefix, 16) == 0) {
+            *valid = number_at(room + at + 4);
+            *preferred = number_at(room + at + 8);
+            return true;
+        }
+    }
+    return false;
+}
+
+/* A prefix that was advertised and is no longer is told without preference until its valid lifetime has ended. */
+static void departed_prefix(struct home *home)
+{
+    hn_router *router = &home->routers[0];
+    hn_assigned assigned;
+    uint32_t valid = 0, preferred = 0;
+    size_t count = 0, wanted = 0;
+    CHECK(hn_router_assigned(router, 0, &assigned) == 0);
+    CHECK(is_told(router, LINK, assigned.prefix, &valid, &preferred) && 0 < preferred && preferred <= valid);
+    CHECK(hn_router_advert(router, LINK, &wanted, room, sizeof room) == 0 && wanted == 48);
+
+    CHECK(hn_router_withdraw(router, home->now, some_prefix, 48) == 0);
+    hn_used used;
+    CHECK(hn_router_used(router, 0, &used) == 2 && hn_router_due(router) <= home->now);
+    live(home, home->now + 10 * 1000);
+    CHECK(hn_router_assignments(router) == 0);
+    CHECK(hn_router_advert(router, LINK, &wanted, room, sizeof room) == 0 && wanted == 16);
+    CHECK(hn_router_advertise(router, LINK, &count, room, 47) == 2 && count == 48);
+    CHECK(!is_told(router, LINK + 1, assigned.prefix, &valid, &preferred));
+    CHECK(is_told(router, LINK, assigned.prefix, &valid, &preferred) && preferred == 0 && 0 < valid && valid < 3600);
+    uint32_t left = valid;
+    live(home, home->now + 60 * 1000);
+    CHECK(is_told(router, LINK, assigned.prefix, &valid, &preferred) && preferred == 0 && valid == left - 60);
+    CHECK(hn_router_restart(router, home->now) == 0);
+    CHECK(is_told(router, LINK, assigned.prefix, &valid, &preferred) && preferred == 0);
+    live(home, home->now + (valid + 1) * UINT64_C(1000));
+    CHECK(!is_told(router, LINK, assigned.prefix, &valid, &preferred));
+}
+
 int main(void)
 {
     struct home home;
@@ -126,10 +175,7 @@ int main(void)
     live(&home, 150 * 1000);
     CHECK(agree(&home) && hn_router_nodes(&home.routers[1]) == 2);
 
-    CHECK(hn_router_withdraw(&home.routers[0], home.now, some_prefix, 48) == 0);
-    hn_used used;
-    CHECK(hn_router_used(&home.routers[0], 0, &used) == 2 && hn_router_due(&home.routers[0]) <= home.now);
-    CHECK(hn_router_tick(&home.routers[0], home.now) == 0 && hn_router_assignments(&home.routers[0]) == 0);
+    departed_prefix(&home);
     CHECK(hn_router_detach(&home.routers[0], home.now, LINK) == 0);
     CHECK(hn_router_nodes(&home.routers[0]) == 1);
     end(&home);

@@ -37,8 +37,10 @@ static size_t mutate(uint8_t *bytes)
 {
     size_t sample = below(sample_count), count = lengths[sample];
     memcpy(bytes, samples[sample], count);
-    for (size_t changes = below(4); changes > 0 && count > 0; changes--)
-        bytes[below(count)] = (uint8_t)below(256);
+    for (size_t changes = below(4); changes > 0 && count > 0; changes--) {
+        size_t at = below(count);
+        bytes[at] = (uint8_t)below(256);
+    }
     return below(8) == 0 && count > 0 ? below(count) : count;
 }
 
@@ -88,7 +90,9 @@ int main(int count, char **words)
         size_t length = mutate(bytes);
         now += below(50);
         link_local(source, below(5));
-        uint8_t status = hn_router_arrive(&router, now, (uint32_t)(1 + below(3)), below(2) == 0, source, 8231, bytes, length);
+        uint32_t endpoint = (uint32_t)(1 + below(3));
+        bool multicast = below(2) == 0;
+        uint8_t status = hn_router_arrive(&router, now, endpoint, multicast, source, 8231, bytes, length);
         CHECK(status == 0);
         taken += hn_router_notes(&router) == 0;
         add_report(&router);

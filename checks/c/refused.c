@@ -85,12 +85,13 @@ static void each_refusal_of_a_report(hn_router *router)
     hn_used used;
     hn_elected elected;
     size_t count, length = state_of(router, before);
-    for (int report = 0; report < 3; report++) {
+    for (int report = 0; report < 4; report++) {
         for (long at = 1;; at++) {
             refuse_at = at;
             uint8_t status = report == 0 ? hn_router_used(router, 0, &used)
                 : report == 1 ? hn_router_elected(router, LINK, 2, &elected)
-                              : hn_router_advert(router, LINK, &count, room, sizeof room);
+                : report == 2 ? hn_router_advert(router, LINK, &count, room, sizeof room)
+                              : hn_router_advertise(router, LINK, &count, room, sizeof room);
             if (status == 0)
                 break;
             CHECK(stayed(router, status, length));

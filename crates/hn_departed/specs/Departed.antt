@@ -2,6 +2,7 @@
 use Rattle.std.specs.Prelude.{ℕ, ◌+◌, ◌-◌, ◌*◌, ◌/◌, ◌==◌, ◌&&◌, not, nat_lt, min, Bool, List, ◌++◌, map, if◌then◌else◌}
 use Rattle.std.specs.List.{filter, list_any}
 use Rattle.hn_base.specs.Prefix.{PlainPrefix}
+use Rattle.hn_base.specs.declared.ids.EpId.{EpId}
 use Rattle.hn_advert.specs.declared.advert.Info.{Info}
 use Rattle.hn_departed.specs.declared.departures.Told.{Told}
 
@@ -40,3 +41,14 @@ with_departed now infos told = infos ++ map (deprecated now) (departed now infos
 -- what is told after it
 abbrev pub told_after : ℕ → List Info → List Told → List Told
 told_after now infos told = map (told_of now) infos ++ departed now infos told
+
+-- what was told on an endpoint, and on the others
+abbrev pub told_at : EpId → List (EpId × Told) → List Told
+told_at at told = map (λ t. t.1) (filter (λ t. t.0.0 == at.0) told)
+
+abbrev pub told_beside : EpId → List (EpId × Told) → List (EpId × Told)
+told_beside at told = filter (λ t. not (t.0.0 == at.0)) told
+
+-- this is what was told on the endpoint now
+abbrev pub with_told : EpId → List Told → List (EpId × Told) → List (EpId × Told)
+with_told at here told = told_beside at told ++ map (λ t. (at, t)) here

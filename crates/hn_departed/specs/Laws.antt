@@ -1,8 +1,9 @@
 -- Laws of departed prefixes.
-use Rattle.std.specs.Prelude.{◌≡◌, ℕ, ◌<◌, false, List, [], ◌∷◌, All, Contains}
+use Rattle.std.specs.Prelude.{◌≡◌, ◌≢◌, ℕ, ◌<◌, false, List, [], ◌∷◌, All, Contains}
+use Rattle.hn_base.specs.declared.ids.EpId.{EpId}
 use Rattle.hn_advert.specs.declared.advert.Info.{Info}
 use Rattle.hn_departed.specs.declared.departures.Told.{Told}
-use Rattle.hn_departed.specs.Departed.{until_of, deprecated, told_of, is_among, with_departed, told_after}
+use Rattle.hn_departed.specs.Departed.{until_of, deprecated, told_of, is_among, with_departed, told_after, told_at, with_told}
 
 -- at a moment an advertisement is sent that is to have these prefixes
 pub record Turn : Type 0 where
@@ -28,3 +29,10 @@ DepartedAreTold =
     (told : List Told) (now : ℕ) (infos : List Info) (info : Info) (turns : List Turn)
     → Contains infos info → All (λ turn. (turn.now < until_of now info.valid) × (is_among info.prefix turn.infos ≡ false)) turns
     → All (IsDeprecatedIn info) (sent_in turns (told_after now infos told))
+
+-- What is told on an endpoint is what was told there last.
+abbrev pub EndpointsKeepTheirs : Type 0
+EndpointsKeepTheirs =
+    (at : EpId) (here : List Told) (told : List (EpId × Told))
+    → (told_at at (with_told at here told) ≡ here)
+    × ((other : EpId) → other ≢ at → told_at other (with_told at here told) ≡ told_at other told)

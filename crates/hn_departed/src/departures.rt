@@ -1,8 +1,8 @@
 ghost use Rattle.std.specs.Prelude.{◌≡◌, ◌++◌, [], map, IfOk, OnOk, OnErr};
-ghost use Rattle.hn_departed.specs.Departed.{until_of, left_of, told_of, deprecated, is_among, departed, with_departed, told_after};
+ghost use Rattle.hn_departed.specs.Departed.{until_of, left_of, told_of, deprecated, is_among, departed, with_departed, told_after, told_at, told_beside, with_told};
 
 use hn_advert::{Info, Infos};
-use hn_base::{Moment, NoMemory, Sequence};
+use hn_base::{EpId, Moment, NoMemory, Sequence};
 use hn_prefix::Prefix;
 use std::alloc::Global;
 use std::marker::Model;
@@ -130,17 +130,68 @@ fn told_with(
     Ok(told)
 }
 
-/// What was advertised on an endpoint and whose valid lifetime has not ended, in no order. Contracts see the list.
+/// What was told on an endpoint.
+fn told_at(alloc: Global, at: EpId, told: &[(EpId, Told)]) -> Result<Vec<Told>, NoMemory>
+    ensures { IfOk result (λ here. here.items ≡ told_at at told.now) }
+{
+    Ok(
+        told.iter()
+            .filter(|told| told.0 == at)
+            .map(|told| told.1)
+            .collect(alloc)?,
+    )
+}
+
+/// What was told on the others.
+fn told_beside(
+    alloc: Global,
+    at: EpId,
+    told: &[(EpId, Told)],
+) -> Result<Vec<(EpId, Told)>, NoMemory>
+    ensures { IfOk result (λ beside. beside.items ≡ told_beside at told.now) }
+{
+    Ok(
+        told.iter()
+            .copied()
+            .filter(|told| told.0 != at)
+            .collect(alloc)?,
+    )
+}
+
+/// What was told on an endpoint, with that endpoint.
+fn with_endpoint(alloc: Global, at: EpId, here: &[Told]) -> Result<Vec<(EpId, Told)>, NoMemory>
+    ensures { IfOk result (λ told. told.items ≡ map (λ t. (at, t)) here.now) }
+{
+    Ok(here.iter().map(|told| (at, *told)).collect(alloc)?)
+}
+
+/// What was told on all, where this is what was told on an endpoint now.
+fn with_told(
+    alloc: Global,
+    at: EpId,
+    here: &[Told],
+    told: &[(EpId, Told)],
+) -> Result<Vec<(EpId, Told)>, NoMemory>
+    ensures { IfOk result (λ all. all.items ≡ with_told at here.now told.now) }
+{
+    let mut after = with_endpoint(alloc, at, here)?;
+    let mut all = told_beside(alloc, at, told)?;
+    all.append(&mut after)?;
+    Ok(all)
+}
+
+/// What was advertised on endpoints and whose valid lifetime has not ended. Contracts see the list.
 #[derive(Drop)]
 pub struct Departures {
-    told: Vec<Told>,
+    told: Vec<(EpId, Told)>,
 }
 
 impl Model for Departures {
     ghost use Rattle.std.specs.Prelude.{List};
+    ghost use Rattle.hn_base.specs.declared.ids.EpId.{EpId};
     ghost use Rattle.hn_departed.specs.declared.departures.Told.{Told};
 
-    ghost Value = { List Told };
+    ghost Value = { List (EpId × Told) };
 
     ghost view = { λ d. d.told.items };
 }
@@ -155,21 +206,28 @@ impl Departures {
         }
     }
 
-    /// The prefixes of an advertisement that is sent now: those that are to be advertised, and after them each that was
-    /// and is not among them, with a preferred lifetime of 0 and what is left of its valid one.
+    /// The prefixes of an advertisement that is sent on an endpoint now: those that are to be advertised, and after them
+    /// each that was and is not among them, with a preferred lifetime of 0 and what is left of its valid one. And what was
+    /// advertised once it is sent.
     ///
     /// # Errors
     ///
-    /// Out of memory; nothing is advertised then.
-    pub fn next(&mut self, alloc: Global, now: Moment, infos: &[Info]) -> Result<Infos, NoMemory>
-        ensures infos { IfOk result (λ all. all ≡ with_departed now infos.now self.old) }
-        ensures told { OnOk result (self.new ≡ told_after now infos.now self.old) }
-        ensures err { OnErr result (self.new ≡ self.old) }
+    /// Out of memory.
+    pub fn next(
+        &self,
+        alloc: Global,
+        now: Moment,
+        at: EpId,
+        infos: &[Info],
+    ) -> Result<(Infos, Departures), NoMemory>
+        ensures infos { IfOk result (λ next. next.0 ≡ with_departed now infos.now (told_at at self.now)) }
+        ensures told { IfOk result (λ next. next.1 ≡ with_told at (told_after now infos.now (told_at at self.now)) self.now) }
     {
-        let gone = departed(alloc, now, infos, self.told.as_slice())?;
+        let here = told_at(alloc, at, self.told.as_slice())?;
+        let gone = departed(alloc, now, infos, here.as_slice())?;
+        let after = told_with(alloc, now, infos, gone.as_slice())?;
+        let told = with_told(alloc, at, after.as_slice(), self.told.as_slice())?;
         let all = all_of(alloc, now, infos, gone.as_slice())?;
-        let told = told_with(alloc, now, infos, gone.as_slice())?;
-        self.told = told;
-        Ok(Sequence::from(all))
+        Ok((Sequence::from(all), Departures { told }))
     }
 }

@@ -6,4 +6,4 @@ mod departures;
 mod laws;
 
 pub use departures::{Departures, Told};
-pub use laws::departed_are_told;
+pub use laws::{departed_are_told, endpoints_keep_theirs};

@@ -9,6 +9,9 @@ use std::marker::Model;
 use std::mem::replace;
 
 /// Where a router is, which C keeps: nothing, or a router on the heap and the right to free it.
+///
+/// A handle that is dropped frees nothing: a router that it has stays on the heap, and nobody may free it any more. So take
+/// the router first (`take`), and drop that.
 #[repr(C)]
 #[derive(Drop)]
 pub struct Handle {

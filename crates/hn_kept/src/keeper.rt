@@ -1,21 +1,24 @@
-ghost use Rattle.std.specs.Prelude.{◌≡◌, ◌≤◌, ◌^◌, OnOk, OnErr, IfOk};
+ghost use Rattle.std.specs.Prelude.{◌≡◌, ◌≤◌, ◌^◌, [], OnOk, OnErr, IfOk};
 ghost use Rattle.hn_router.specs.Act.{plain_event};
 ghost use Rattle.hn_router.specs.New.{IsNew};
 ghost use Rattle.hn_rules.specs.Done.{nothing};
-ghost use Rattle.hn_kept.specs.Kept.{Acts};
+ghost use Rattle.hn_kept.specs.Kept.{Acts, IsNextAdvert};
 
 use crate::words::ChaChaWords;
-use hn_base::{Moment, NoMemory, NodeId};
+use hn_advert::{Advert, bytes};
+use hn_base::{Bytes, EpId, Moment, NoMemory, NodeId};
+use hn_departed::Departures;
 use hn_router::{Event, Router};
 use hn_rules::Done;
 use std::alloc::Global;
 use std::marker::Model;
 
-/// A router with its random words and what its last event came to. Contracts see the router and that.
+/// A router with its random words, what its last event came to, and what it advertised. Contracts see all but the words.
 #[derive(Drop)]
 pub struct Keeper {
     router: Router,
     done: Done,
+    departures: Departures,
     words: ChaChaWords,
 }
 
@@ -24,7 +27,7 @@ impl Model for Keeper {
 
     ghost Value = { Kept };
 
-    ghost view = { λ k. record { router = k.router; done = k.done } };
+    ghost view = { λ k. record { router = k.router; done = k.done; told = k.departures } };
 }
 
 impl Keeper {
@@ -37,11 +40,13 @@ impl Keeper {
         requires { now ≤ 2 ^ 48 }
         ensures router { IfOk result (λ keeper. IsNew id 256 now keeper.router) }
         ensures nothing { IfOk result (λ keeper. keeper.done ≡ nothing) }
+        ensures untold { IfOk result (λ keeper. keeper.told ≡ []) }
     {
         let router = Router::new(alloc, id, now)?;
         Ok(Keeper {
             router,
             done: Done::new(alloc),
+            departures: Departures::new(alloc),
             words: ChaChaWords::new(seed),
         })
     }
@@ -74,5 +79,35 @@ impl Keeper {
         ensures { result.now ≡ self.now.done }
     {
         &self.done
+    }
+
+    /// The bytes of an advertisement that is to be sent on an endpoint now, with the prefixes that were advertised there and
+    /// are no longer; and what was advertised once it is sent, which is to be told (`tell`).
+    ///
+    /// # Errors
+    ///
+    /// Out of memory.
+    pub fn next_advert(&self, alloc: Global, at: EpId) -> Result<(Bytes, Departures), NoMemory>
+        ensures { IfOk result (λ next. IsNextAdvert self.now at next.0 next.1) }
+    {
+        let advert = self.router.advertisement(alloc, at)?;
+        let now = self.router.moment();
+        let (infos, departures) = self
+            .departures
+            .next(alloc, now, at, advert.infos.as_slice())?;
+        let whole = Advert {
+            managed: advert.managed,
+            other: advert.other,
+            lifetime: advert.lifetime,
+            infos,
+        };
+        Ok((bytes(alloc, &whole)?, departures))
+    }
+
+    /// This is what was advertised. Never allocates.
+    pub fn tell(&mut self, departures: Departures)
+        ensures { self.new ≡ record self.old { told = departures } }
+    {
+        self.departures = departures;
     }
 }

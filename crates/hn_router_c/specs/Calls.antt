@@ -1,5 +1,5 @@
 -- What a call of C comes to, by its status: 0 done, 1 out of memory, 2 a value is out of range.
-use Rattle.std.specs.Prelude.{◌≡◌, ◌≢◌, ℕ, ◌^◌, Bool, ◌||◌, nat_lt, Option, Some, List, ◌++◌, drop, length, slice_get}
+use Rattle.std.specs.Prelude.{◌≡◌, ◌≢◌, ◌⊎◌, ℕ, ◌^◌, ◌<◌, ◌≤◌, Bool, ◌||◌, nat_lt, Option, Some, List, ◌++◌, drop, length, slice_get}
 use Rattle.hn_router.specs.Act.{PlainEvent}
 use Rattle.hn_base.specs.declared.ids.EpId.{EpId}
 use Rattle.hn_base.specs.declared.ids.NodeId.{NodeId}
@@ -12,7 +12,8 @@ use Rattle.hn_rules.specs.declared.done.Note as noted
 use Rattle.hn_assign.specs.declared.assigned.Assigned as assign
 use Rattle.hn_rules.specs.Seen.{seen_by, IsElectedAt}
 use Rattle.hn_router.specs.Advertising.{IsAdvertBytes}
-use Rattle.hn_kept.specs.Kept.{Kept, Acts}
+use Rattle.hn_departed.specs.declared.departures.Told.{Told}
+use Rattle.hn_kept.specs.Kept.{Kept, Acts, IsNextAdvert}
 use Rattle.hn_router_c.specs.declared.kinds.Sent.{Sent}
 use Rattle.hn_router_c.specs.declared.kinds.Assigned.{Assigned}
 use Rattle.hn_router_c.specs.declared.kinds.Note.{Note}
@@ -44,12 +45,23 @@ pub record IsWritten (bytes : List ℕ) (count : ℕ) (room room_after : List �
   pub count_is : count ≡ length bytes
   pub written : room_after ≡ bytes ++ drop (length bytes) room
 
+-- so many bytes are more than a room has
+pub record HasNoRoom (bytes : List ℕ) (count : ℕ) (room : List ℕ) : Type 0 where
+  pub count_is : count ≡ length bytes
+  pub longer : length room < count
+
 -- where the datagram at a place goes, and its bytes
 pub record IsSent (sends : List Outgoing) (place : ℕ) (sent : Sent) (count : ℕ) (room room_after : List ℕ) : Type 0 where
   pub outgoing : Outgoing
   pub at : slice_get sends place ≡ Some outgoing
   pub to : sent ≡ sent_of outgoing
   pub bytes : IsWritten outgoing.bytes count room room_after
+
+-- there is no datagram at a place, or no room for the bytes of the one that is
+abbrev pub IsUnsent : List Outgoing → ℕ → Sent → ℕ → List ℕ → Type 0
+IsUnsent sends place sent count room =
+    (length sends ≤ place)
+    ⊎ ((outgoing : Outgoing) × (slice_get sends place ≡ Some outgoing) × (sent ≡ sent_of outgoing) × HasNoRoom outgoing.bytes count room)
 
 -- what was noted at a place
 pub record IsNoted (notes : List noted.Note) (place : ℕ) (out : Note) : Type 0 where
@@ -77,6 +89,12 @@ pub record IsUsedAt (s : State) (place : ℕ) (used : Used) : Type 0 where
   pub at : slice_get all place ≡ Some delegated
   pub is : used ≡ used_of delegated
 
+-- a router uses fewer delegated prefixes than that
+pub record UsesFewer (s : State) (place : ℕ) : Type 0 where
+  pub all : List Delegated
+  pub are_usable : AreUsable (seen_by s) all
+  pub fewer : length all ≤ place
+
 -- who is elected for a service on an endpoint
 pub record IsElectedFor (s : State) (at : EpId) (number : ℕ) (elected : Elected) : Type 0 where
   pub letter : Letter
@@ -90,3 +108,34 @@ pub record IsAdvertised (s : State) (at : EpId) (count : ℕ) (room room_after :
   pub bytes : List ℕ
   pub are : IsAdvertBytes s at bytes
   pub written : IsWritten bytes count room room_after
+
+-- there is no room for them
+pub record IsUnadvertised (s : State) (at : EpId) (count : ℕ) (room : List ℕ) : Type 0 where
+  pub bytes : List ℕ
+  pub are : IsAdvertBytes s at bytes
+  pub no_room : HasNoRoom bytes count room
+
+-- the bytes of the advertisement that is to be sent on an endpoint now are written, and what was advertised is kept
+pub record Advertises (at : EpId) (before after : Kept) (count : ℕ) (room room_after : List ℕ) : Type 0 where
+  pub bytes : List ℕ
+  pub told : List (EpId × Told)
+  pub is_next : IsNextAdvert before at bytes told
+  pub kept : after ≡ record before { told = told }
+  pub written : IsWritten bytes count room room_after
+
+-- there is no room for them
+pub record HasNoRoomFor (k : Kept) (at : EpId) (count : ℕ) (room : List ℕ) : Type 0 where
+  pub bytes : List ℕ
+  pub told : List (EpId × Told)
+  pub is_next : IsNextAdvert k at bytes told
+  pub no_room : HasNoRoom bytes count room
+
+-- the handle had a router and has one: with status 0 it advertises, with 2 there was no room, and without 0 it is as it was
+pub record Advertised (at : EpId) (held held_after : Option Kept) (count : ℕ) (room room_after : List ℕ) (status : ℕ) : Type 0 where
+  pub before : Kept
+  pub had : held ≡ Some before
+  pub after : Kept
+  pub has : held_after ≡ Some after
+  pub advertises : status ≡ 0 → Advertises at before after count room room_after
+  pub no_room : status ≡ 2 → HasNoRoomFor before at count room
+  pub as_before : status ≢ 0 → after ≡ before

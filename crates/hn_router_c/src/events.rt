@@ -7,7 +7,7 @@ ghost use Rattle.hn_base.specs.Caps.{plain_caps};
 ghost use Rattle.hn_base.specs.Prefix.{IsPrefix};
 ghost use Rattle.hn_base.specs.declared.caps.Caps.{Caps};
 
-use crate::happening::{NO_MEMORY, OUT_OF_RANGE, happens};
+use crate::happening::{NO_MEMORY, OUT_OF_RANGE, happens, is_outside_of};
 use crate::kinds::{Address, own_address};
 use hn_base::{Addr, Caps, EpId, LinkLength, NoMemory};
 use hn_handle::Handle;
@@ -231,9 +231,12 @@ pub extern "C" fn hn_router_addresses(
     requires { IsSome router.old.held }
     ensures live { IsSome router.new.held }
     ensures acted { Acted now (Addresses (map own_address list.now)) router.old.held router.new.held result }
-    ensures ranged { Has router.old.held (λ kept. result ≡ 2 → IsTrue (is_outside now kept.router)) }
+    ensures ranged { Has router.old.held (λ kept. result ≡ 2 ↔ IsTrue (is_outside now kept.router)) }
     ensures status { result ≤ 2 }
 {
+    if is_outside_of(alloc, router, now) {
+        return OUT_OF_RANGE;
+    }
     let Ok(list) = own_addresses(alloc, list) else {
         return NO_MEMORY;
     };

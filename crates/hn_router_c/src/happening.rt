@@ -6,7 +6,7 @@ ghost use Rattle.hn_router_c.specs.Calls.{Acted, Has, is_outside};
 use hn_base::Moment;
 use hn_handle::Handle;
 use hn_kept::Keeper;
-use hn_router::Event;
+use hn_router::{Event, Router};
 use std::alloc::Global;
 
 /// The last moment, 2^48.
@@ -21,6 +21,25 @@ pub(crate) const NO_MEMORY: u8 = 1;
 /// A value is out of range.
 pub(crate) const OUT_OF_RANGE: u8 = 2;
 
+/// Whether no event of a router may have a moment.
+fn is_outside(router: &Router, now: Moment) -> bool
+    ensures { result ≡ is_outside now router.now }
+{
+    now < router.moment() || LAST_MOMENT < now
+}
+
+/// The same of the router of a handle.
+pub(crate) fn is_outside_of(alloc: Global, handle: &mut Handle, now: Moment) -> bool
+    requires { IsSome handle.old.held }
+    ensures kept { handle.new.held ≡ handle.old.held }
+    ensures outside { Has handle.old.held (λ kept. result ≡ is_outside now kept.router) }
+{
+    let keeper = handle.take(alloc);
+    let outside = is_outside(keeper.router(), now);
+    *handle = Handle::of(keeper);
+    outside
+}
+
 /// An event happens to a router at a moment, which is to be none before the router's own and at most 2^48.
 fn act(alloc: Global, keeper: &mut Keeper, event: &Event<'_>, now: Moment) -> u8
     ensures happened { result ≡ 0 → Acts now (plain_event event.now) keeper.old keeper.new }
@@ -28,7 +47,7 @@ fn act(alloc: Global, keeper: &mut Keeper, event: &Event<'_>, now: Moment) -> u8
     ensures ranged { result ≡ 2 ↔ IsTrue (is_outside now keeper.old.router) }
     ensures status { result ≤ 2 }
 {
-    if now < keeper.router().moment() || LAST_MOMENT < now {
+    if is_outside(keeper.router(), now) {
         return OUT_OF_RANGE;
     }
     match keeper.act(alloc, event, now) {

@@ -1,5 +1,6 @@
-ghost use Rattle.std.specs.Prelude.{◌≡◌, ◌≢◌, ◌↔◌, ◌≤◌, IsSome, IsTrue, false, length};
-ghost use Rattle.hn_router_c.specs.Calls.{Has, IsWritten, IsSent, IsNoted, IsAssignedAt, IsNodeAt, IsUsedAt, IsElectedFor, IsAdvertised};
+ghost use Rattle.std.specs.Prelude.{◌≡◌, ◌≢◌, ◌↔◌, ◌<◌, ◌≤◌, None, IsSome, IsTrue, false, length};
+ghost use Rattle.hn_router_c.specs.Calls.{Has, HasNoRoom, IsWritten, IsSent, IsUnsent, IsNoted, IsAssignedAt, IsNodeAt, IsUsedAt, UsesFewer, IsElectedFor, IsAdvertised, IsUnadvertised, Advertises, HasNoRoomFor, Advertised};
+ghost use Rattle.hn_router_c.specs.Kinds.{letter_of};
 
 use crate::happening::{DONE, NO_MEMORY, OUT_OF_RANGE};
 use crate::kinds::{
@@ -8,6 +9,7 @@ use crate::kinds::{
 };
 use hn_base::{EpId, NodeId};
 use hn_handle::Handle;
+use hn_kept::Keeper;
 use hn_router::Router;
 use hn_rules::Outgoing;
 use std::alloc::Global;
@@ -16,6 +18,7 @@ use std::alloc::Global;
 fn write(bytes: &[u8], count: &mut usize, room: &mut [u8]) -> bool
     ensures fits { IsTrue result ↔ (length bytes.now ≤ length room.old) }
     ensures written { IsTrue result → IsWritten bytes.now count.new room.old room.new }
+    ensures no_room { result ≡ false → HasNoRoom bytes.now count.new room.old }
     ensures as_before { result ≡ false → room.new ≡ room.old }
 {
     *count = bytes.len();
@@ -29,6 +32,7 @@ fn write(bytes: &[u8], count: &mut usize, room: &mut [u8]) -> bool
 /// The datagram at a place.
 fn send(sends: &[Outgoing], place: usize, sent: &mut Sent, count: &mut usize, room: &mut [u8]) -> u8
     ensures sent { result ≡ 0 → IsSent sends.now place sent.new count.new room.old room.new }
+    ensures unsent { result ≢ 0 → IsUnsent sends.now place sent.new count.new room.old }
     ensures as_before { result ≢ 0 → room.new ≡ room.old }
 {
     let Some(outgoing) = sends.get(place) else {
@@ -45,6 +49,7 @@ fn send(sends: &[Outgoing], place: usize, sent: &mut Sent, count: &mut usize, ro
 /// What was noted at a place.
 fn noted(notes: &[hn_rules::Note], place: usize, out: &mut Note) -> u8
     ensures noted { result ≡ 0 → IsNoted notes.now place out.new }
+    ensures there { result ≡ 0 ↔ place < length notes.now }
     ensures as_before { result ≢ 0 → out.new ≡ out.old }
 {
     let Some(noted) = notes.get(place) else {
@@ -57,6 +62,7 @@ fn noted(notes: &[hn_rules::Note], place: usize, out: &mut Note) -> u8
 /// The assignment at a place.
 fn assigned_at(all: &[hn_assign::Assigned], place: usize, out: &mut Assigned) -> u8
     ensures assigned { result ≡ 0 → IsAssignedAt all.now place out.new }
+    ensures there { result ≡ 0 ↔ place < length all.now }
     ensures as_before { result ≢ 0 → out.new ≡ out.old }
 {
     let Some(assigned) = all.get(place) else {
@@ -69,6 +75,7 @@ fn assigned_at(all: &[hn_assign::Assigned], place: usize, out: &mut Assigned) ->
 /// The node at a place.
 fn node_at(nodes: &[NodeId], place: usize, out: &mut u32) -> u8
     ensures node { result ≡ 0 → IsNodeAt nodes.now place out.new }
+    ensures there { result ≡ 0 ↔ place < length nodes.now }
     ensures as_before { result ≢ 0 → out.new ≡ out.old }
 {
     let Some(node) = nodes.get(place) else {
@@ -81,6 +88,8 @@ fn node_at(nodes: &[NodeId], place: usize, out: &mut u32) -> u8
 /// The delegated prefix at a place of those that the router uses.
 fn used_at(alloc: Global, router: &Router, place: usize, used: &mut Used) -> u8
     ensures used { result ≡ 0 → IsUsedAt router.now place used.new }
+    ensures fewer { result ≡ 2 → UsesFewer router.now place }
+    ensures status { result ≤ 2 }
     ensures as_before { result ≢ 0 → used.new ≡ used.old }
 {
     let Ok(all) = router.used(alloc) else {
@@ -96,6 +105,8 @@ fn used_at(alloc: Global, router: &Router, place: usize, used: &mut Used) -> u8
 /// Who is elected for the service of a number on an endpoint.
 fn elected_for(alloc: Global, router: &Router, at: EpId, number: u8, out: &mut Elected) -> u8
     ensures elected { result ≡ 0 → IsElectedFor router.now at number out.new }
+    ensures no_service { result ≡ 2 ↔ letter_of number ≡ None }
+    ensures status { result ≤ 2 }
     ensures as_before { result ≢ 0 → out.new ≡ out.old }
 {
     let Some(letter) = letter_of(number) else {
@@ -111,6 +122,8 @@ fn elected_for(alloc: Global, router: &Router, at: EpId, number: u8, out: &mut E
 /// The bytes of the advertisement on an endpoint.
 fn advert(alloc: Global, router: &Router, at: EpId, count: &mut usize, room: &mut [u8]) -> u8
     ensures advert { result ≡ 0 → IsAdvertised router.now at count.new room.old room.new }
+    ensures no_room { result ≡ 2 → IsUnadvertised router.now at count.new room.old }
+    ensures status { result ≤ 2 }
     ensures as_before { result ≢ 0 → room.new ≡ room.old }
 {
     let Ok(bytes) = router.advert(alloc, at) else {
@@ -136,6 +149,7 @@ pub extern "C" fn hn_router_send(
     requires { IsSome router.old.held }
     ensures kept { router.new.held ≡ router.old.held }
     ensures sent { result ≡ 0 → Has router.old.held (λ kept. IsSent kept.done.sends place sent.new count.new room.old room.new) }
+    ensures unsent { result ≢ 0 → Has router.old.held (λ kept. IsUnsent kept.done.sends place sent.new count.new room.old) }
     ensures as_before { result ≢ 0 → room.new ≡ room.old }
 {
     let keeper = router.take(alloc);
@@ -155,6 +169,7 @@ pub extern "C" fn hn_router_note(
     requires { IsSome router.old.held }
     ensures kept { router.new.held ≡ router.old.held }
     ensures noted { result ≡ 0 → Has router.old.held (λ kept. IsNoted kept.done.notes place note.new) }
+    ensures there { Has router.old.held (λ kept. result ≡ 0 ↔ place < length kept.done.notes) }
     ensures as_before { result ≢ 0 → note.new ≡ note.old }
 {
     let keeper = router.take(alloc);
@@ -174,6 +189,7 @@ pub extern "C" fn hn_router_assigned(
     requires { IsSome router.old.held }
     ensures kept { router.new.held ≡ router.old.held }
     ensures assigned { result ≡ 0 → Has router.old.held (λ kept. IsAssignedAt kept.router.held.assigned place assigned.new) }
+    ensures there { Has router.old.held (λ kept. result ≡ 0 ↔ place < length kept.router.held.assigned) }
     ensures as_before { result ≢ 0 → assigned.new ≡ assigned.old }
 {
     let keeper = router.take(alloc);
@@ -193,6 +209,7 @@ pub extern "C" fn hn_router_node(
     requires { IsSome router.old.held }
     ensures kept { router.new.held ≡ router.old.held }
     ensures node { result ≡ 0 → Has router.old.held (λ kept. IsNodeAt kept.router.reach place id.new) }
+    ensures there { Has router.old.held (λ kept. result ≡ 0 ↔ place < length kept.router.reach) }
     ensures as_before { result ≢ 0 → id.new ≡ id.old }
 {
     let keeper = router.take(alloc);
@@ -212,6 +229,8 @@ pub extern "C" fn hn_router_used(
     requires { IsSome router.old.held }
     ensures kept { router.new.held ≡ router.old.held }
     ensures used { result ≡ 0 → Has router.old.held (λ kept. IsUsedAt kept.router place used.new) }
+    ensures fewer { result ≡ 2 → Has router.old.held (λ kept. UsesFewer kept.router place) }
+    ensures status { result ≤ 2 }
     ensures as_before { result ≢ 0 → used.new ≡ used.old }
 {
     let keeper = router.take(alloc);
@@ -232,6 +251,8 @@ pub extern "C" fn hn_router_elected(
     requires { IsSome router.old.held }
     ensures kept { router.new.held ≡ router.old.held }
     ensures elected { result ≡ 0 → Has router.old.held (λ kept. IsElectedFor kept.router (record { 0 = endpoint }) service elected.new) }
+    ensures no_service { result ≡ 2 ↔ letter_of service ≡ None }
+    ensures status { result ≤ 2 }
     ensures as_before { result ≢ 0 → elected.new ≡ elected.old }
 {
     let keeper = router.take(alloc);
@@ -252,10 +273,52 @@ pub extern "C" fn hn_router_advert(
     requires { IsSome router.old.held }
     ensures kept { router.new.held ≡ router.old.held }
     ensures advert { result ≡ 0 → Has router.old.held (λ kept. IsAdvertised kept.router (record { 0 = endpoint }) count.new room.old room.new) }
+    ensures no_room { result ≡ 2 → Has router.old.held (λ kept. IsUnadvertised kept.router (record { 0 = endpoint }) count.new room.old) }
+    ensures status { result ≤ 2 }
     ensures as_before { result ≢ 0 → room.new ≡ room.old }
 {
     let keeper = router.take(alloc);
     let status = advert(alloc, keeper.router(), EpId(endpoint), count, room);
+    *router = Handle::of(keeper);
+    status
+}
+
+/// The bytes of the advertisement that is to be sent on an endpoint now, where there is room; what was advertised is kept.
+fn advertise(alloc: Global, keeper: &mut Keeper, at: EpId, count: &mut usize, room: &mut [u8]) -> u8
+    ensures advertises { result ≡ 0 → Advertises at keeper.old keeper.new count.new room.old room.new }
+    ensures no_room { result ≡ 2 → HasNoRoomFor keeper.old at count.new room.old }
+    ensures as_before { result ≢ 0 → keeper.new ≡ keeper.old }
+    ensures unwritten { result ≢ 0 → room.new ≡ room.old }
+    ensures status { result ≤ 2 }
+{
+    let Ok((bytes, departures)) = keeper.next_advert(alloc, at) else {
+        return NO_MEMORY;
+    };
+    if !write(bytes.as_slice(), count, room) {
+        return OUT_OF_RANGE;
+    }
+    keeper.tell(departures);
+    DONE
+}
+
+/// How many bytes the Router Advertisement has that is to be sent on an endpoint now, with the prefixes that were advertised
+/// there and are no longer, and these, where there is room.
+#[unsafe(no_mangle)]
+pub extern "C" fn hn_router_advertise(
+    alloc: Global,
+    router: &mut Handle,
+    endpoint: u32,
+    count: &mut usize,
+    room: &mut [u8],
+) -> u8
+    requires { IsSome router.old.held }
+    ensures live { IsSome router.new.held }
+    ensures advertised { Advertised (record { 0 = endpoint }) router.old.held router.new.held count.new room.old room.new result }
+    ensures as_before { result ≢ 0 → room.new ≡ room.old }
+    ensures status { result ≤ 2 }
+{
+    let mut keeper = router.take(alloc);
+    let status = advertise(alloc, &mut keeper, EpId(endpoint), count, room);
     *router = Handle::of(keeper);
     status
 }

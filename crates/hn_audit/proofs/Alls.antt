@@ -1,19 +1,9 @@
--- What `all` and `any` answer, as a fact of elements.
-use Rattle.std.proofs.Common.{◌≡◌, ◌↔◌, ℕ, ◌<◌, Bool, true, false, IsTrue, All, Contains, List, [], ◌∷◌, length, get_or, refl, arith}
+-- What `any` answers, as a fact of elements.
+use Rattle.std.proofs.Common.{◌↔◌, ℕ, ◌<◌, Bool, true, false, IsTrue, Contains, List, [], ◌∷◌, length, get_or, arith}
 use Rattle.std.specs.Bool.{MatchBool}
 use Rattle.std.specs.List.{AllWithin, HoldsAt}
-use Rattle.std.proofs.lemmas.Iterator.Search.{true_from_All, true_from_Any}
-use Rattle.std.proofs.lemmas.List.Elements.{All-from_all_within, Contains-get_or}
-
--- the answer, where each call of the closure said whether the fact holds
-pub all_decides : {X : Type 0} (P : X → Type 0) (r : Bool) (xs : List X)
-    → MatchBool r (AllWithin P xs 0 (length xs)) ((k : ℕ) × (k < length xs) × HoldsAt (λ x. ¬ (P x)) xs k)
-    → IsTrue r ↔ All P xs
-all_decides {X} P r xs said = (yes r said, true_from_All P (λ x. ¬ (P x)) r xs (λ x p q. q p) said)
-  where
-    yes : (b : Bool) → MatchBool b (AllWithin P xs 0 (length xs)) ((k : ℕ) × (k < length xs) × HoldsAt (λ x. ¬ (P x)) xs k) → IsTrue b → All P xs
-    yes true all is = All-from_all_within P xs all
-    yes false all is = absurd (cc)
+use Rattle.std.proofs.lemmas.Iterator.Search.{true_from_Any}
+use Rattle.std.proofs.lemmas.List.Elements.{Contains-get_or}
 
 -- what `any` answers, as one element with the fact
 pub any_decides : {X : Type 0} (P : X → Type 0) (r : Bool) (xs : List X)
@@ -28,10 +18,3 @@ any_decides {X} P r xs said = (yes r said, λ found. true_from_Any P (λ x. ¬ (
     yes : (b : Bool) → MatchBool b ((k : ℕ) × (k < length xs) × HoldsAt P xs k) (AllWithin (λ x. ¬ (P x)) xs 0 (length xs)) → IsTrue b → (x : X) × Contains xs x × P x
     yes true (k, within, at) is = let d = some xs k within in (get_or xs k d, Contains-get_or xs k d within, at d)
     yes false none is = absurd (cc)
-
--- what a closure says, by its contract
-pub so : {P : Type 0} → IsTrue true ↔ P → P
-so h = h.0 refl
-
-pub not_so : {P : Type 0} → IsTrue false ↔ P → ¬ P
-not_so h p = let yes : false ≡ true = h.1 p in absurd cc

@@ -12,13 +12,16 @@ mod BridgeUsed
 mod BridgeVersions
 mod BridgeViews
 mod BridgeWorlds
+mod Disturbing
 mod FixedPoints
 mod FrontWorlds
 mod Judging
 mod Lists
+mod Onlys
 mod QuietSets
 mod Restings
 mod Sames
+mod Searching
 mod Settling
 mod Spotting
 mod StayingRests

@@ -2,7 +2,6 @@
 -- nothing. And the router of a name runs.
 use Rattle.std.proofs.Common.{◌≡◌, ◌↔◌, ℕ, Bool, false, IsTrue, List, Option, Some, All, sym, subst}
 use Rattle.std.specs.Option.{option_map_or}
-use Rattle.std.specs.Borrow.{Bor}
 use Rattle.std.proofs.lemmas.List.Elements.{All-contains, All-nil}
 use Rattle.hn_rules.specs.Router.{IsRouter}
 use Rattle.hn_world.specs.declared.member.Member.{Member}
@@ -11,32 +10,28 @@ use Rattle.hn_world.specs.Names.{is_named, member_named}
 use Rattle.hn_world.specs.Replay.{IsSound, IsSoundMember}
 use Rattle.hn_audit.specs.Fixed.{ChangesNothing, IsFixed, MayChangeNothing}
 use Rattle.hn_audit.specs.Laws.{RestChangesNothing, RestHasARun, UnchangedIsAtRest}
-use Rattle.hn_audit.specs.Quiet.{IsRouterAtRest}
+use Rattle.hn_audit.specs.Quiet.{IsQuiet}
 use Rattle.hn_audit.specs.Reached.{runs, IsRunning, IsReached}
-use Rattle.hn_audit.proofs.Settling.{IsSet, each_of_set}
 use Rattle.hn_base.proofs.Elements.{found_passes}
 
-module _ (w : Parts) (r : Member) (set : List (Bor Member)) (is : IsSet w r set) (sound : IsSound w) (answer : Bool) where
-  router_of : (s : Member) → IsReached w r s → IsRouter s.router
-  router_of s reached = (All-contains (IsSoundMember w.moment) w.members s sound reached.runs.there).router
+-- a router of a sound world
+pub router_of : (w : Parts) (r s : Member) → IsSound w → IsReached w r s → IsRouter s.router
+router_of w r s sound reached = (All-contains (IsSoundMember w.moment) w.members s sound reached.runs.there).router
 
-  pub quiet_changes_nothing : RestChangesNothing → IsTrue answer ↔ All (λ s. IsRouterAtRest s.now.router) set → IsTrue answer → ChangesNothing w r
-  quiet_changes_nothing law rest quiet s ran reached run =
-      law s.router ran (router_of s reached) run ((each_of_set w r set is (λ (m : Member). IsRouterAtRest m.router)).0 (rest.0 quiet) s reached)
+module _ (w : Parts) (r : Member) (sound : IsSound w) (answer : Bool) (quiet : IsTrue answer ↔ IsQuiet w r) where
+  pub quiet_changes_nothing : RestChangesNothing → IsTrue answer → ChangesNothing w r
+  quiet_changes_nothing law is s ran reached run = law s.router ran (router_of w r s sound reached) run (quiet.0 is s reached)
 
-  pub unchanged_is_quiet : UnchangedIsAtRest → IsTrue answer ↔ All (λ s. IsRouterAtRest s.now.router) set → MayChangeNothing w r → IsTrue answer
-  unchanged_is_quiet law rest may =
-      rest.1
-      ((each_of_set w r set is (λ (m : Member). IsRouterAtRest m.router)).1
-      (λ s reached. let found = may s reached in law s.router found.0 (router_of s reached) found.1 found.2))
+  pub unchanged_is_quiet : UnchangedIsAtRest → MayChangeNothing w r → IsTrue answer
+  unchanged_is_quiet law may = quiet.1 (λ s reached. let found = may s reached in law s.router found.0 (router_of w r s sound reached) found.1 found.2)
 
   -- it is quiet if and only if the subroutine, with zeros for random words, comes to something that changes nothing
-  pub quiet_is_fixed : RestHasARun → UnchangedIsAtRest → IsTrue answer ↔ All (λ s. IsRouterAtRest s.now.router) set → IsTrue answer ↔ IsFixed w r
-  quiet_is_fixed law unchanged rest = (to_fixed, λ fixed. unchanged_is_quiet unchanged rest (may fixed))
+  pub quiet_is_fixed : RestHasARun → UnchangedIsAtRest → IsTrue answer ↔ IsFixed w r
+  quiet_is_fixed law unchanged = (to_fixed, λ fixed. unchanged_is_quiet unchanged (may fixed))
     where
       to_fixed : IsTrue answer → IsFixed w r
-      to_fixed quiet s reached =
-          let found = law s.router (router_of s reached) ((each_of_set w r set is (λ (m : Member). IsRouterAtRest m.router)).0 (rest.0 quiet) s reached) in
+      to_fixed is s reached =
+          let found = law s.router (router_of w r s sound reached) (quiet.0 is s reached) in
           (found.0, found.1, subst (All (λ (word : ℕ). word ≡ 0)) (sym found.3) (All-nil (λ (word : ℕ). word ≡ 0)), found.2)
 
       may : IsFixed w r → MayChangeNothing w r

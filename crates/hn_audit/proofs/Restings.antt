@@ -1,5 +1,5 @@
 -- Routers at rest: their lists and their wishes are one.
-use Rattle.std.proofs.Common.{◌≡◌, ◌↔◌, Bool, IsTrue, List, All, subst}
+use Rattle.std.proofs.Common.{◌≡◌, List, All, subst}
 use Rattle.std.specs.Cmp.{IsTotalOrder}
 use Rattle.std.specs.Ordering.{on}
 use Rattle.std.proofs.lemmas.Cmp.{on_total}
@@ -26,7 +26,7 @@ pub advertised_same : (view : PlainView) (assigned : List Assigned) (a b : List 
 advertised_same view assigned a b same are x = let both = same x in let here = are x in (λ h. here.0 (both.0 h), λ h. both.1 (here.1 h))
 
 -- a router asks one list of wishes
-one_wishes : IsTotalOrder pair_cmp → (s : State) (usable : List Delegated) (a b : List Wish) → AreAsked s usable a → AreAsked s usable b → a ≡ b
+pub one_wishes : IsTotalOrder pair_cmp → (s : State) (usable : List Delegated) (a b : List Wish) → AreAsked s usable a → AreAsked s usable b → a ≡ b
 one_wishes total s usable a b h k =
     ascending_unique (on wish_pair pair_cmp) (on_total wish_pair total) a b h.ascending k.ascending
     (λ wish. let p = h.exact wish in let q = k.exact wish in (λ x. q.1 (p.0 x), λ y. p.1 (q.0 y)))
@@ -52,22 +52,3 @@ module _ (unique : UsableIsUnique) (total : IsTotalOrder pair_cmp) (s : State) (
       law rest.advertised adv s.id.0 wish wish.common c
       (λ a. (λ h. (are a).1 ((rest.are_advertised a).0 h), λ h. (rest.are_advertised a).1 ((are a).0 h)))
       (λ at. (λ h. h, λ h. h)) (rests_there wish there c has)
-
--- whether a router is at rest, by these lists
-pub router_decides : UsableIsUnique → IsTotalOrder pair_cmp → RestKnowsNoOrder → (s : State) (usable : List Delegated) (wishes : List Wish) (adv : List Advertised) (answer : Bool)
-    → AreUsable (seen_by s) usable → AreAsked s usable wishes → AreAdvertised (seen_by s) s.held.assigned adv
-    → IsTrue answer ↔ (All (λ c. IsWished wishes (assigned_pair c)) s.held.assigned × AreAtRest adv s.id.0 wishes s.held.assigned)
-    → IsTrue answer ↔ IsRouterAtRest s
-router_decides unique total law s usable wishes adv answer are_usable are_asked are said = (
-  λ yes. record {
-    usable = usable;
-    are_usable = are_usable;
-    wishes = wishes;
-    are_asked = are_asked;
-    advertised = adv;
-    are_advertised = are;
-    wished = (said.0 yes).0;
-    at_rest = (said.0 yes).1;
-  },
-  λ rest. said.1 (wished_there unique total s usable are_usable wishes are_asked rest, rests_in_order unique total s usable are_usable wishes are_asked rest law adv are),
-)

@@ -1,17 +1,13 @@
 -- Lists that are equal place by place, and routers that use the same.
-use Rattle.std.proofs.Common.{◌≡◌, ◌↔◌, ◌<◌, ℕ, suc, List, [], ◌∷◌, length, slice_get, All, Contains, refl, sym, ◌∙◌, ap, subst, arith}
-use Rattle.std.specs.Borrow.{Bor}
+use Rattle.std.proofs.Common.{◌≡◌, ◌↔◌, ◌<◌, ℕ, suc, List, [], ◌∷◌, length, slice_get, refl, sym, ◌∙◌, ap, subst, arith}
 use Rattle.std.proofs.lemmas.List.{length-map}
-use Rattle.std.proofs.lemmas.List.Elements.{All-contains}
 use Rattle.std.proofs.lemmas.Option.{same_Some, slice_get_within}
-use Rattle.hn_base.proofs.Elements.{all_of}
 use Rattle.hn_base.specs.Prefix.{PlainPrefix}
 use Rattle.hn_deleg.specs.declared.delegated.Delegated.{Delegated}
 use Rattle.hn_deleg.specs.Used.{AreUsable, prefixes_of}
 use Rattle.hn_deleg.specs.Laws.{UsableIsUnique}
 use Rattle.hn_rules.specs.declared.state.State.{State}
 use Rattle.hn_rules.specs.Seen.{seen_by}
-use Rattle.hn_world.specs.declared.member.Member.{Member}
 use Rattle.hn_audit.specs.Set.{AreSameAt}
 use Rattle.hn_audit.specs.Settled.{AreSame, UseSame}
 
@@ -71,13 +67,3 @@ use_these once r s used other is_used is_other = (
   λ same. record { one = used; is_one = is_used; other = other; is_other = is_other; same = same },
   λ h. subst (λ (a : List Delegated). AreSame a other) (once (seen_by r) h.one used h.is_one is_used) (subst (λ (b : List Delegated). AreSame h.one b) (once (seen_by s) h.other other h.is_other is_other) h.same),
 )
-
--- all of a set use the same if and only if each uses the same as one of them
-pub all_use_same : UsableIsUnique → (set : List (Bor Member)) (r : Bor Member) → Contains set r
-    → All (λ s. UseSame r.now.router s.now.router) set ↔ All (λ s. All (λ u. UseSame s.now.router u.now.router) set) set
-all_use_same once set r there =
-    let as_r : Bor Member → Type 0 = λ s. UseSame r.now.router s.now.router in
-    let as_each : Bor Member → Type 0 = λ s. All (λ (u : Bor Member). UseSame s.now.router u.now.router) set in (
-      λ all. all_of as_each set (λ s one. all_of (λ (u : Bor Member). UseSame s.now.router u.now.router) set (λ u other. use_same_too once r.now.router s.now.router u.now.router (All-contains as_r set s all one) (All-contains as_r set u all other))),
-      λ all. All-contains as_each set r all there,
-    )

@@ -1,25 +1,25 @@
 -- The attached endpoints of a set, and what is found of them.
-use Rattle.std.proofs.Common.{◌≡◌, ◌↔◌, ◌<◌, ℕ, ◌+◌, List, [], ◌∷◌, ◌++◌, All, Contains, Option, Some, None, length, take, get_or, find, refl, sym, ◌∙◌, ap, subst, append_assoc}
-use Rattle.std.specs.Borrow.{Bor}
+use Rattle.std.proofs.Common.{◌≡◌, ◌↔◌, ◌<◌, ℕ, ◌+◌, List, [], ◌∷◌, ◌++◌, All, Contains, Option, Some, None, length, take, get_or, find, refl, sym, ◌∙◌, ap, subst, append_assoc, inl, inr}
 use Rattle.std.specs.List.{filter_map}
 use Rattle.std.specs.Option.{option_map}
-use Rattle.std.proofs.lemmas.Bool.{eqb-true}
+use Rattle.std.proofs.lemmas.Bool.{cases_Bool, eqb-true, false≢true}
 use Rattle.std.proofs.lemmas.List.Elements.{All-contains}
 use Rattle.hn_base.specs.declared.ids.EpId.{EpId}
-use Rattle.hn_base.proofs.AscendingLists.{Contains-map, Contains-from_map}
 use Rattle.hn_base.proofs.Keys.{same_id}
-use Rattle.hn_data.specs.Peers.{peer_link}
+use Rattle.hn_data.specs.Peers.{HasPeer, peer_link}
+use Rattle.hn_data.specs.declared.said.PeerLink.{PeerLink}
 use Rattle.hn_world.specs.declared.member.Attachment.{Attachment}
 use Rattle.hn_world.specs.declared.member.Member.{Member}
 use Rattle.hn_world.specs.declared.parts.Parts.{Parts}
 use Rattle.hn_world.specs.Names.{is_of, link_of}
-use Rattle.hn_audit.specs.declared.spots.Spot.{Spot}
+use Rattle.hn_audit.specs.First.{IsFirstFound}
+use Rattle.hn_audit.specs.FirstWitness.{FindsNear, FindsOfPeers, FindsStranger, FindsUnseen, IsSeen, IsTrueOf, RunsOutside}
 use Rattle.hn_audit.specs.Reached.{IsRunning, IsReached, IsOnLink, AreOnOneLink}
-use Rattle.hn_audit.specs.Set.{PlainSpot, plain_spot, plain_spots, members_of, spot_at, spots_at, spots_in, IsNoStranger, IsSeen, TellsTrue}
+use Rattle.hn_audit.specs.Set.{PlainSpot, is_in_set, set_of, spot_at, spots_at, spots_in}
 use Rattle.hn_audit.specs.Settled.{AreLinked, IsSameEndpoint}
-use Rattle.hn_base.proofs.Elements.{all_of, given_next, in_filter_map, from_filter_map, passed_next, found_passes}
+use Rattle.hn_base.proofs.Elements.{given_next, in_filter_map, from_filter_map, passed_next, found_passes}
 use Rattle.hn_audit.proofs.Lists.{in_flat_map, from_flat_map}
-use Rattle.hn_audit.proofs.Settling.{IsSet, set_has, in_set, each_two}
+use Rattle.hn_audit.proofs.Settling.{set_has, in_set}
 
 -- ---- lists that grow
 
@@ -70,81 +70,61 @@ spot_of ms spot = (
       (subst (Contains ms) (sym is.0) m.1, is.1),
   λ h.
       let a = attachment_of spot.member spot.endpoint spot.link h.1 in
-      let gives : spot_at spot.member a.0 ≡ Some spot = subst (λ (e : EpId). option_map (λ link. record { member = spot.member; endpoint = e; link = link }) (link_of e spot.member) ≡ Some spot) (sym a.2)
+      let gives : spot_at spot.member a.0 ≡ Some spot =
+      subst (λ (e : EpId). option_map (λ link. record { member = spot.member; endpoint = e; link = link }) (link_of e spot.member) ≡ Some spot) (sym a.2)
       (ap (λ (o : Option ℕ). option_map (λ link. record { member = spot.member; endpoint = spot.endpoint; link = link }) o) h.1) in
       in_flat_map spots_at ms spot.member spot h.0 (in_filter_map (spot_at spot.member) spot.member.attachments a.0 spot a.1 gives),
 )
 
 -- ---- what is found of them
 
--- the list of a set's attached endpoints
-abbrev pub AreSpots : Parts → Member → List (Bor Member) → List Spot → Type 0
-AreSpots w r set spots = plain_spots spots ≡ spots_in (members_of set)
+-- the attached endpoints of the set of r
+abbrev pub spots_of_set : Parts → Member → List PlainSpot
+spots_of_set w r = spots_in (set_of w r)
 
-pub spot_is : (w : Parts) (r : Member) (set : List (Bor Member)) (spots : List Spot) → IsSet w r set → AreSpots w r set spots → (spot : PlainSpot)
-    → Contains (plain_spots spots) spot ↔ (IsReached w r spot.member × IsOnLink spot.link spot.member spot.endpoint)
-spot_is w r set spots is are spot =
-    let of = spot_of (members_of set) spot in
-    let has = set_has w r set is spot.member in (
-      λ there. let h = of.0 (subst (λ (ps : List PlainSpot). Contains ps spot) are there) in (has.0 h.0, h.1),
-      λ h. subst (λ (ps : List PlainSpot). Contains ps spot) (sym are) (of.1 (has.1 h.0, h.1)),
-    )
+pub spot_is : (w : Parts) (r : Member) (spot : PlainSpot) → Contains (spots_of_set w r) spot ↔ (IsReached w r spot.member × IsOnLink spot.link spot.member spot.endpoint)
+spot_is w r spot =
+    let of = spot_of (set_of w r) spot in
+    let has = set_has w r spot.member in
+    (λ there. let h = of.0 there in (has.0 h.0, h.1), λ h. of.1 (has.1 h.0, h.1))
 
 abbrev pub HaveNoStrangers : Parts → Member → Type 0
 HaveNoStrangers w r = (m s : Member) (e f : EpId) → IsRunning w m → IsReached w r s → AreOnOneLink m e s f → IsReached w r m
 
-pub no_strangers_are : (w : Parts) (r : Member) (set : List (Bor Member)) (spots : List Spot) → IsSet w r set → AreSpots w r set spots
-    → All (IsNoStranger r.router.reach (plain_spots spots)) w.members ↔ HaveNoStrangers w r
-no_strangers_are w r set spots is are = (
-  λ all m s e f runs reached one.
-      let spot : PlainSpot = record { member = s; endpoint = f; link = one.link } in
-      let there = (spot_is w r set spots is are spot).1 (reached, one.other) in
-      let found = All-contains (IsNoStranger r.router.reach (plain_spots spots)) w.members m all runs.there runs.running (e, one.link, one.one, (spot, there, refl)) in
-      record { runs = runs; reached = ((in_set r.router.reach m).0 found).1 },
-  λ none. all_of (IsNoStranger r.router.reach (plain_spots spots)) w.members (λ m there running (e, link, on, (spot, has, same)).
-      let h = (spot_is w r set spots is are spot).0 has in
-      let reached = none m spot.member e spot.endpoint (record { there = there; running = running }) h.0 (record { link = link; one = on; other = subst (λ (l : ℕ). IsOnLink l spot.member spot.endpoint) same h.1 }) in
-      (in_set r.router.reach m).1 (running, reached.reached)),
-)
-
-abbrev pub SeeEachOther : List Spot → Type 0
-SeeEachOther spots = All (λ a. All (λ b. IsSeen (plain_spot a) (plain_spot b)) spots) spots
-
-abbrev pub TellTrue : List (Bor Member) → Type 0
-TellTrue set = All (λ s. All (λ u. TellsTrue s.now u.now) set) set
+pub no_strangers_are : (w : Parts) (r : Member) → IsFirstFound (FindsStranger r.router.reach (spots_of_set w r)) w.members None → HaveNoStrangers w r
+no_strangers_are w r all m s e f runs reached one =
+    elim (cases_Bool (is_in_set r.router.reach m)) [
+      | inl in_it ↦ record { runs = runs; reached = ((in_set r.router.reach m).0 in_it).1 }
+      | inr not_in_it ↦
+          let spot : PlainSpot = record { member = s; endpoint = f; link = one.link } in
+          let there = (spot_is w r spot).1 (reached, one.other) in
+          let a = attachment_of m e one.link one.one in
+          let outside : RunsOutside r.router.reach m = (runs.running, λ yes. false≢true (sym not_in_it ∙ yes)) in
+          let none = All-contains (λ (x : Member). FindsStranger r.router.reach (spots_of_set w r) x None) w.members m all runs.there outside in
+          let here = All-contains (λ (x : Attachment). FindsNear (spots_of_set w r) m x None) m.attachments a.0 none a.1 in
+          absurd (here (one.link, subst (IsOnLink one.link m) (sym a.2) one.one, (spot, there, refl)))
+    ]
 
 abbrev pub AreLinkedOnLinks : Parts → Member → Type 0
 AreLinkedOnLinks w r =
     (s u : Member) (e f : EpId) → IsReached w r s → IsReached w r u → ¬ IsSameEndpoint s.router e u.router f
     → AreLinked s.router e u.router f ↔ AreOnOneLink s e u f
 
-seen_of : (spots : List Spot) → SeeEachOther spots → (a b : PlainSpot) → Contains (plain_spots spots) a → Contains (plain_spots spots) b → IsSeen a b
+seen_of : (spots : List PlainSpot) → IsFirstFound (λ a. IsFirstFound (FindsUnseen a) spots) spots None → (a b : PlainSpot) → Contains spots a → Contains spots b → IsSeen a b
 seen_of spots all a b one other =
-    let x = Contains-from_map plain_spot spots a one in
-    let y = Contains-from_map plain_spot spots b other in
-    let here = All-contains (λ (q : Spot). IsSeen (plain_spot x.0) (plain_spot q)) spots y.0 (All-contains (λ (p : Spot). All (λ q. IsSeen (plain_spot p) (plain_spot q)) spots) spots x.0 all x.1) y.1 in
-    subst (λ (p : PlainSpot). IsSeen p b) x.2 (subst (IsSeen (plain_spot x.0)) y.2 here)
+    All-contains (IsSeen a) spots b (All-contains (λ (p : PlainSpot). All (IsSeen p) spots) spots a all one) other
 
-to_seen : (spots : List Spot) → ((a b : PlainSpot) → Contains (plain_spots spots) a → Contains (plain_spots spots) b → IsSeen a b) → SeeEachOther spots
-to_seen spots each =
-    all_of (λ (p : Spot). All (λ q. IsSeen (plain_spot p) (plain_spot q)) spots) spots (λ p one.
-    all_of (λ (q : Spot). IsSeen (plain_spot p) (plain_spot q)) spots (λ q other. each (plain_spot p) (plain_spot q) (Contains-map plain_spot spots p one) (Contains-map plain_spot spots q other)))
+told_of : (set : List Member) (s u : Member) (peer : PeerLink) → IsFirstFound (FindsOfPeers set) set None → Contains set s → Contains set u → HasPeer s.router.own.body peer → IsTrueOf s peer u
+told_of set s u peer all one other has =
+    let of = All-contains (λ (x : Member). FindsOfPeers set x None) set s all one in
+    All-contains (IsTrueOf s peer) set u (All-contains (λ (p : PeerLink). All (IsTrueOf s p) set) of.peers peer of.found ((of.are_said.exact peer).1 has)) other
 
-pub linked_are : (w : Parts) (r : Member) (set : List (Bor Member)) (spots : List Spot) → IsSet w r set → AreSpots w r set spots
-    → (SeeEachOther spots × TellTrue set) ↔ AreLinkedOnLinks w r
-linked_are w r set spots is are = (
-  λ (sees, tells) s u e f one other apart. (
-    λ linked. (each_two w r set is TellsTrue).0 tells s u one other (peer_link u.router.id.0 f.0 e.0) linked.there refl apart linked,
-    λ on.
-        let here : PlainSpot = record { member = s; endpoint = e; link = on.link } in
-        let there : PlainSpot = record { member = u; endpoint = f; link = on.link } in
-        seen_of spots sees here there ((spot_is w r set spots is are here).1 (one, on.one)) ((spot_is w r set spots is are there).1 (other, on.other)) refl apart,
-  ),
-  λ each. (
-    to_seen spots (λ a b one other same apart.
-        let x = (spot_is w r set spots is are a).0 one in
-        let y = (spot_is w r set spots is are b).0 other in
-        (each a.member b.member a.endpoint b.endpoint x.0 y.0 apart).1 (record { link = a.link; one = x.1; other = subst (λ (l : ℕ). IsOnLink l b.member b.endpoint) (sym same) y.1 })),
-    (each_two w r set is TellsTrue).1 (λ s u one other peer has is_it apart linked. (each s u peer.endpoint peer.peer_endpoint one other apart).0 linked),
-  ),
+pub linked_are : (w : Parts) (r : Member) → IsFirstFound (λ a. IsFirstFound (FindsUnseen a) (spots_of_set w r)) (spots_of_set w r) None
+    → IsFirstFound (FindsOfPeers (set_of w r)) (set_of w r) None → AreLinkedOnLinks w r
+linked_are w r sees tells s u e f one other apart = (
+  λ linked. told_of (set_of w r) s u (peer_link u.router.id.0 f.0 e.0) tells ((set_has w r s).1 one) ((set_has w r u).1 other) linked.there refl apart linked,
+  λ on.
+      let here : PlainSpot = record { member = s; endpoint = e; link = on.link } in
+      let there : PlainSpot = record { member = u; endpoint = f; link = on.link } in
+      seen_of (spots_of_set w r) sees here there ((spot_is w r here).1 (one, on.one)) ((spot_is w r there).1 (other, on.other)) refl apart,
 )

@@ -16,6 +16,11 @@ use Rattle.hn_audit.specs.Settled.{IsSettled}
 use Rattle.hn_audit.specs.Quiet.{IsQuiet, IsRouterAtRest}
 use Rattle.hn_audit.specs.Fixed.{IsRunAnew}
 use Rattle.hn_audit.specs.Sound.{IsSound}
+use Rattle.hn_audit.specs.declared.witness.Unquiet.{Unquiet}
+use Rattle.hn_audit.specs.declared.witness.Unsettled.{Unsettled}
+use Rattle.hn_audit.specs.First.{FindsOne}
+use Rattle.hn_audit.specs.FirstWitness.{IsFirstUnsettled, IsFirstUnquiet}
+use Rattle.hn_audit.specs.Witness.{Refutes, Disturbs}
 
 -- In a replayed world a running router that is settled and quiet is sound.
 abbrev pub SettledAndQuietIsSound : Type 0
@@ -75,3 +80,19 @@ abbrev pub RestHasARun : Type 0
 RestHasARun =
     (s : State) → IsRouter s → IsRouterAtRest s
     → (ran : Ran) × IsRunAnew s ran × IsUnchanged s.held.assigned ran.held.assigned × (ran.words ≡ [])
+
+-- What a witness says refutes that a router is settled.
+abbrev pub WitnessRefutesSettled : Type 0
+WitnessRefutesSettled = (w : Parts) (r : Member) (witness : Unsettled) → Refutes w r witness → ¬ IsSettled w r
+
+-- And that it is quiet.
+abbrev pub WitnessRefutesQuiet : Type 0
+WitnessRefutesQuiet = (w : Parts) (r : Member) (witness : Unquiet) → Disturbs w r witness → ¬ IsQuiet w r
+
+-- At most one answer is the first witness by which a router is not settled: a witness, or none.
+abbrev pub UnsettledIsOne : Type 0
+UnsettledIsOne = (w : Parts) (r : Member) → FindsOne (IsFirstUnsettled w r)
+
+-- And by which it is not quiet, in a replayed world.
+abbrev pub UnquietIsOne : Type 0
+UnquietIsOne = (w : Parts) (r : Member) → IsReplayed w → FindsOne (IsFirstUnquiet w r)

@@ -4,5 +4,8 @@ pub mod Settled
 pub mod Quiet
 pub mod Fixed
 pub mod Sound
+pub mod First
+pub mod Witness
+pub mod FirstWitness
 pub mod Laws
 pub mod Staying

@@ -1,20 +1,23 @@
-ghost use Rattle.std.specs.Prelude.{◌≡◌, ◌↔◌, IsTrue, IfOk, Some, All, filter, map};
+ghost use Rattle.std.specs.Prelude.{◌≡◌, ◌↔◌, IsTrue, IfOk, IfSome, Some, None, filter, map};
 ghost use Rattle.hn_base.specs.Name.{name_text};
 ghost use Rattle.hn_world.specs.declared.member.Member.{Member};
 ghost use Rattle.hn_world.specs.declared.parts.Parts.{Parts};
 ghost use Rattle.hn_world.specs.Names.{member_named};
-ghost use Rattle.hn_audit.specs.Reached.{runs, IsOfOne};
+ghost use Rattle.hn_audit.specs.FirstWitness.{IsFirstUnsettled, IsFirstUnquiet};
+ghost use Rattle.hn_audit.specs.Fixed.{ChangesNothing, IsFixed, MayChangeNothing};
+ghost use Rattle.hn_audit.specs.Quiet.{IsQuiet};
+ghost use Rattle.hn_audit.specs.Reached.{runs};
 ghost use Rattle.hn_audit.specs.Set.{is_in_set};
 ghost use Rattle.hn_audit.specs.Settled.{IsSettled};
-ghost use Rattle.hn_audit.specs.Fixed.{ChangesNothing, IsFixed, MayChangeNothing};
-ghost use Rattle.hn_audit.specs.Quiet.{IsQuiet, IsRouterAtRest};
 ghost use Rattle.hn_audit.specs.Sound.{IsSound};
+ghost use Rattle.hn_audit.specs.Witness.{Refutes, Disturbs};
 
-use crate::knowing::know_each_other;
-use crate::laws::{rest_is_the_fixed_point, settled_and_quiet_is_sound};
-use crate::reached::{are_known, names_of, set_of};
-use crate::resting::rests;
-use crate::spots::{are_on_their_links, spots_of};
+use crate::knowing::first_unlike;
+use crate::laws::{rest_is_the_fixed_point, settled_and_quiet_is_sound, witness_refutes};
+use crate::reached::{first_unknown, names_of, set_of};
+use crate::resting::first_acting;
+use crate::spots::{first_on_links, spots_of};
+use crate::witness::{Unquiet, Unsettled};
 use hn_base::{Name, NoMemory};
 use hn_world::{Member, World, always_sound};
 use std::alloc::Global;
@@ -33,6 +36,21 @@ pub trait Audit {
         ensures { IfOk result (λ names. (r : Member) → member_named (name_text name.now) (parts self.now) ≡ Some r
             → names.items ≡ map (λ m. m.name) (filter (is_in_set r.router.reach) (parts self.now).members)) };
 
+    /// Why a running router is not settled: the first witness in the order of the definition; `None` if and only if it
+    /// is settled.
+    ///
+    /// # Errors
+    ///
+    /// Out of memory.
+    fn unsettled(&self, alloc: Global, name: &Name) -> Result<Option<Unsettled>, NoMemory>
+        requires { IsTrue (runs (name_text name.now) (parts self.now)) }
+        ensures none { IfOk result (λ witness. (r : Member) → member_named (name_text name.now) (parts self.now) ≡ Some r
+            → (witness ≡ None) ↔ IsSettled (parts self.now) r) }
+        ensures some { IfOk result (λ witness. (r : Member) → member_named (name_text name.now) (parts self.now) ≡ Some r
+            → IfSome witness (Refutes (parts self.now) r)) }
+        ensures first { IfOk result (λ witness. (r : Member) → member_named (name_text name.now) (parts self.now) ≡ Some r
+            → IsFirstUnsettled (parts self.now) r witness) };
+
     /// Whether a running router is settled: those that it reaches know each other as they are.
     ///
     /// # Errors
@@ -42,6 +60,20 @@ pub trait Audit {
         requires { IsTrue (runs (name_text name.now) (parts self.now)) }
         ensures { IfOk result (λ answer. (r : Member) → member_named (name_text name.now) (parts self.now) ≡ Some r
             → IsTrue answer ↔ IsSettled (parts self.now) r) };
+
+    /// Why a running router is not quiet: the first witness in the order of its set; `None` if and only if it is quiet.
+    ///
+    /// # Errors
+    ///
+    /// Out of memory.
+    fn unquiet(&self, alloc: Global, name: &Name) -> Result<Option<Unquiet>, NoMemory>
+        requires { IsTrue (runs (name_text name.now) (parts self.now)) }
+        ensures none { IfOk result (λ witness. (r : Member) → member_named (name_text name.now) (parts self.now) ≡ Some r
+            → (witness ≡ None) ↔ IsQuiet (parts self.now) r) }
+        ensures some { IfOk result (λ witness. (r : Member) → member_named (name_text name.now) (parts self.now) ≡ Some r
+            → IfSome witness (Disturbs (parts self.now) r)) }
+        ensures first { IfOk result (λ witness. (r : Member) → member_named (name_text name.now) (parts self.now) ≡ Some r
+            → IsFirstUnquiet (parts self.now) r witness) };
 
     /// Whether a running router is quiet: it and those that it reaches would make, change and destroy no assignment. So
     /// it is if and only if the assignment subroutine, run once more on each of them with a due backoff for each pair
@@ -66,30 +98,29 @@ pub trait Audit {
             → IsTrue answer → IsSettled (parts self.now) r → IsSound (parts self.now) r) };
 }
 
-/// Whether each router of a set is at rest.
-fn rest(alloc: Global, set: &[&Member]) -> Result<bool, NoMemory>
-    ensures { IfOk result (λ answer. IsTrue answer ↔ All (λ s. IsRouterAtRest s.now.router) set.now) }
-{
-    for s in set {
-        if !rests(alloc, &s.router)? {
-            return Ok(false);
-        }
-    }
-    Ok(true)
-}
-
-/// Whether a router whose nodes are known is settled.
-fn is_settled(alloc: Global, world: &World, r: &Member) -> Result<bool, NoMemory>
-    requires { All (IsOfOne world.now) r.now.router.reach }
-    ensures { IfOk result (λ answer. IsTrue answer ↔ IsSettled world.now r.now) }
+/// The first witness by which a router is not settled, if it is not.
+fn first_unsettled(alloc: Global, world: &World, r: &Member) -> Result<Option<Unsettled>, NoMemory>
+    ensures { IfOk result (IsFirstUnsettled world.now r.now) }
 {
     let reach = r.router.reach();
+    if let Some(found) = first_unknown(world, reach) {
+        return Ok(Some(found));
+    }
     let set = set_of(alloc, world, reach)?;
-    if !know_each_other(alloc, set.as_slice(), reach)? {
-        return Ok(false);
+    let unlike = first_unlike(alloc, set.as_slice(), reach)?;
+    if let Some(found) = unlike {
+        return Ok(Some(found));
     }
     let spots = spots_of(alloc, set.as_slice())?;
-    Ok(are_on_their_links(world, reach, set.as_slice(), spots.as_slice()))
+    Ok(first_on_links(world, reach, set.as_slice(), spots.as_slice()))
+}
+
+/// The first witness by which a router is not quiet, if it is not.
+fn first_unquiet(alloc: Global, world: &World, r: &Member) -> Result<Option<Unquiet>, NoMemory>
+    ensures { IfOk result (IsFirstUnquiet world.now r.now) }
+{
+    let set = set_of(alloc, world, r.router.reach())?;
+    first_acting(alloc, set.as_slice())
 }
 
 impl Audit for World {
@@ -103,14 +134,25 @@ impl Audit for World {
         names_of(alloc, set.as_slice())
     }
 
-    fn settled(&self, alloc: Global, name: &Name) -> Result<bool, NoMemory> {
+    fn unsettled(&self, alloc: Global, name: &Name) -> Result<Option<Unsettled>, NoMemory> {
         let Some(r) = self.member(name) else {
             unreachable!()
         };
-        if !are_known(self, r.router.reach()) {
-            return Ok(false);
-        }
-        is_settled(alloc, self, r)
+        let found = first_unsettled(alloc, self, r)?;
+        Ok(found)
+    }
+
+    fn settled(&self, alloc: Global, name: &Name) -> Result<bool, NoMemory> {
+        Ok(self.unsettled(alloc, name)?.is_none())
+    }
+
+    fn unquiet(&self, alloc: Global, name: &Name) -> Result<Option<Unquiet>, NoMemory> {
+        witness_refutes();
+        let Some(r) = self.member(name) else {
+            unreachable!()
+        };
+        let found = first_unquiet(alloc, self, r)?;
+        Ok(found)
     }
 
     fn quiet(&self, alloc: Global, name: &Name) -> Result<bool, NoMemory> {
@@ -118,10 +160,6 @@ impl Audit for World {
         rest_is_the_fixed_point();
         settled_and_quiet_is_sound();
         self.is_replayed();
-        let Some(r) = self.member(name) else {
-            unreachable!()
-        };
-        let set = set_of(alloc, self, r.router.reach())?;
-        rest(alloc, set.as_slice())
+        Ok(self.unquiet(alloc, name)?.is_none())
     }
 }

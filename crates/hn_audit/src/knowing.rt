@@ -1,12 +1,16 @@
-//! Whether the routers of a set know each other as they are.
+//! Whether the routers of a set know each other as they are, and the first that does not.
 
-ghost use Rattle.std.specs.Prelude.{◌≡◌, ◌≢◌, ◌↔◌, ◌<◌, length, IsTrue, IfOk, All};
+ghost use Rattle.std.specs.Prelude.{◌≡◌, ◌≢◌, ◌↔◌, ◌<◌, length, IsTrue, IfOk};
 ghost use Rattle.hn_deleg.specs.Used.{AreUsable};
 ghost use Rattle.hn_rules.specs.declared.state.State.{State};
 ghost use Rattle.hn_rules.specs.Seen.{seen_by};
-ghost use Rattle.hn_audit.specs.Set.{AreSameAt, KnowEachOther};
+ghost use Rattle.hn_store.specs.Nodes.{held};
+ghost use Rattle.hn_audit.specs.First.{IsFirstFound};
+ghost use Rattle.hn_audit.specs.FirstWitness.{unheld_of, FindsReach, FindsHeld, FindsUsed, FindsAlike};
+ghost use Rattle.hn_audit.specs.Set.{AreSameAt, members_of};
 ghost use Rattle.hn_audit.specs.Settled.{AreSame, Holds, UseSame};
 
+use crate::witness::Unsettled;
 use hn_base::{NoMemory, NodeId};
 use hn_deleg::{Delegated, usable_is_unique, wanted};
 use hn_router::Router;
@@ -20,11 +24,16 @@ fn reaches(s: &Router, reach: &[NodeId]) -> bool
     *s.reach() == *reach
 }
 
-/// Whether each router of a set reaches these nodes.
-pub(crate) fn reach_same(set: &[&Member], reach: &[NodeId]) -> bool
-    ensures { IsTrue result ↔ All (λ s. s.now.router.reach ≡ reach.now) set.now }
+/// The first router of a set that reaches other nodes than these.
+fn first_of_other_reach(set: &[&Member], reach: &[NodeId]) -> Option<Unsettled>
+    ensures { IsFirstFound (FindsReach reach.now) (members_of set.now) result }
 {
-    set.iter().all(|s| reaches(&s.router, reach))
+    for s in set {
+        if !reaches(&s.router, reach) {
+            return Some(Unsettled::OtherReach { router: s.name });
+        }
+    }
+    None
 }
 
 /// Whether a router holds exactly the sequence number and the node data of another one.
@@ -44,19 +53,47 @@ fn holds_other(s: &Router, u: &Router) -> bool
     s.id() == u.id() || holds(s, u)
 }
 
-/// Whether a router holds each other one of a set.
-fn holds_each(s: &Router, set: &[&Member]) -> bool
-    ensures { IsTrue result ↔ All (λ u. s.now.id ≢ u.now.router.id → Holds s.now u.now.router) set.now }
+/// What is wrong with what a router holds of another one.
+fn unheld(s: &Member, u: &Member) -> Unsettled
+    ensures { result ≡ unheld_of s.now u.now (held s.now.router.table.entries u.now.router.id.0) }
 {
-    set.iter().all(|u| holds_other(s, &u.router))
+    let node = u.router.id();
+    match s.router.table().get(node) {
+        Some(stored) => Unsettled::OldData {
+            router: s.name,
+            node,
+            holds: stored.number,
+            current: u.router.number(),
+        },
+        None => Unsettled::NotHeld {
+            router: s.name,
+            node,
+        },
+    }
 }
 
-/// Whether each router of a set holds each other one.
-pub(crate) fn hold_each_other(set: &[&Member]) -> bool
-    ensures { IsTrue result
-        ↔ All (λ s. All (λ u. s.now.router.id ≢ u.now.router.id → Holds s.now.router u.now.router) set.now) set.now }
+/// The first other one of a set that a router does not hold.
+fn first_unheld(s: &Member, set: &[&Member]) -> Option<Unsettled>
+    ensures { IsFirstFound (FindsHeld s.now) (members_of set.now) result }
 {
-    set.iter().all(|s| holds_each(&s.router, set))
+    for u in set {
+        if !holds_other(&s.router, &u.router) {
+            return Some(unheld(s, u));
+        }
+    }
+    None
+}
+
+/// The first router of a set that does not hold each other one.
+fn first_not_holding(set: &[&Member]) -> Option<Unsettled>
+    ensures { IsFirstFound (λ s. IsFirstFound (FindsHeld s) (members_of set.now)) (members_of set.now) result }
+{
+    for s in set {
+        if let Some(found) = first_unheld(s, set) {
+            return Some(found);
+        }
+    }
+    None
 }
 
 /// Whether at a place two lists of usable prefixes have the same prefix, wanted in both or in none.
@@ -92,40 +129,51 @@ fn uses_these(alloc: Global, used: &[Delegated], s: &Router) -> Result<bool, NoM
     Ok(are_same(used, other.as_slice()))
 }
 
-/// Whether each router of a set uses and wants the same delegated prefixes as this one.
-fn use_same_as(alloc: Global, r: &Router, set: &[&Member]) -> Result<bool, NoMemory>
-    ensures { IfOk result (λ answer. IsTrue answer ↔ All (λ s. UseSame r.now s.now.router) set.now) }
+/// The first router of a set that uses or wants other delegated prefixes than this one.
+fn first_with_others(
+    alloc: Global,
+    r: &Member,
+    set: &[&Member],
+) -> Result<Option<Unsettled>, NoMemory>
+    ensures { IfOk result (IsFirstFound (FindsUsed r.now) (members_of set.now)) }
 {
-    let used = r.used(alloc)?;
+    let used = r.router.used(alloc)?;
     for s in set {
         if !uses_these(alloc, used.as_slice(), &s.router)? {
-            return Ok(false);
+            return Ok(Some(Unsettled::OtherPrefixes {
+                router: r.name,
+                other: s.name,
+            }));
         }
     }
-    Ok(true)
+    Ok(None)
 }
 
-/// Whether all routers of a set use and want the same delegated prefixes: each does as the first one.
-pub(crate) fn use_same(alloc: Global, set: &[&Member]) -> Result<bool, NoMemory>
-    ensures { IfOk result (λ answer. IsTrue answer ↔ All (λ s. All (λ u. UseSame s.now.router u.now.router) set.now) set.now) }
+/// The first two routers of a set that use or want other delegated prefixes. If all do as the first one, there are none.
+fn first_using_others(alloc: Global, set: &[&Member]) -> Result<Option<Unsettled>, NoMemory>
+    ensures { IfOk result (IsFirstFound (λ s. IsFirstFound (FindsUsed s) (members_of set.now)) (members_of set.now)) }
 {
     usable_is_unique();
     match set {
-        [] => Ok(true),
-        [first, ..] => use_same_as(alloc, &first.router, set),
+        [] => Ok(None),
+        [first, ..] => first_with_others(alloc, first, set),
     }
 }
 
-/// Whether the routers of a set reach these nodes, hold each other, and use and want the same delegated prefixes.
-pub(crate) fn know_each_other(
+/// The first router of a set that reaches other nodes than these, or else does not hold each other one, or else uses or
+/// wants other delegated prefixes.
+pub(crate) fn first_unlike(
     alloc: Global,
     set: &[&Member],
     reach: &[NodeId],
-) -> Result<bool, NoMemory>
-    ensures { IfOk result (λ answer. IsTrue answer ↔ KnowEachOther set.now reach.now) }
+) -> Result<Option<Unsettled>, NoMemory>
+    ensures { IfOk result (FindsAlike reach.now (members_of set.now)) }
 {
-    if !reach_same(set, reach) || !hold_each_other(set) {
-        return Ok(false);
+    if let Some(found) = first_of_other_reach(set, reach) {
+        return Ok(Some(found));
     }
-    use_same(alloc, set)
+    if let Some(found) = first_not_holding(set) {
+        return Ok(Some(found));
+    }
+    first_using_others(alloc, set)
 }

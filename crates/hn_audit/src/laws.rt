@@ -1,12 +1,13 @@
 //! Laws of settled and quiet routers. Each is the contract of a function that does nothing.
 
 ghost use Rattle.hn_world.specs.Leaves.{EqualHashesAgree};
-ghost use Rattle.hn_audit.specs.Laws.{SettledAndQuietIsSound, SetIsSoundAlike, SettledSeeEachOther, AlwaysSettledAreSound, IsOfEachFront, SettledAreSound, RestChangesNothing, RestHasARun, UnchangedIsAtRest};
+ghost use Rattle.hn_audit.specs.Laws.{SettledAndQuietIsSound, SetIsSoundAlike, SettledSeeEachOther, AlwaysSettledAreSound, IsOfEachFront, SettledAreSound, RestChangesNothing, RestHasARun, UnchangedIsAtRest, WitnessRefutesSettled, WitnessRefutesQuiet, UnsettledIsOne, UnquietIsOne};
 ghost use Rattle.hn_audit.specs.Staying.{QuietHomesStay, QuietHomesAlwaysStay};
 
 use hn_assign::{
-    advertised_exists, advertised_of_later, advertised_of_unchanged, pairs_are_ordered,
-    rest_changes_nothing, rest_has_a_run, rest_is_unchanged, rest_stays, subroutine_leaves,
+    advertised_exists, advertised_of_later, advertised_of_unchanged, answers_know_no_order,
+    pairs_are_ordered, rest_changes_nothing, rest_has_a_run, rest_is_unchanged, rest_stays,
+    subroutine_leaves,
 };
 use hn_data::items_are_unique;
 use hn_deleg::{usable_is_unique, usable_never_overlap};
@@ -17,7 +18,7 @@ use hn_rules::{
     private_post_is_alone, restful_tick, tick_keeps_the_identifier, used_where_assigned,
     view_is_a_network, view_of_later,
 };
-use hn_sound::{home_at_rest_is_sound, home_rests_as_seen, lists_are_exact};
+use hn_sound::{home_at_rest_is_sound, home_rests_as_seen, lists_are_exact, rest_knows_no_order};
 use hn_world::{always_attached, always_sound, at_most_one_world, each_event_is_a_step};
 
 /// In a replayed world a running router that is settled and quiet is sound: each link of those that it reaches, also each
@@ -134,4 +135,27 @@ pub fn quiet_homes_always_stay()
     at_most_one_world();
     each_event_is_a_step();
     quiet_homes_stay();
+}
+
+/// What a witness says refutes that a router is settled, or that it is quiet.
+pub fn witness_refutes()
+    ensures settled { WitnessRefutesSettled }
+    ensures quiet { WitnessRefutesQuiet }
+{
+    pairs_are_ordered();
+    rest_knows_no_order();
+    usable_is_unique();
+}
+
+/// The first witness is one: at most one answer is the first by which a router is not settled, and in a replayed world
+/// at most one is the first by which it is not quiet.
+pub fn witness_is_unique()
+    ensures settled { UnsettledIsOne }
+    ensures quiet { UnquietIsOne }
+{
+    always_sound();
+    answers_know_no_order();
+    pairs_are_ordered();
+    rest_knows_no_order();
+    usable_is_unique();
 }

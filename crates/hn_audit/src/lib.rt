@@ -1,4 +1,5 @@
-//! Whether a router is settled and quiet, with those that it reaches, and why it is sound then.
+//! Whether a router is settled and quiet, with those that it reaches, and if not, why not; and why it is sound where it
+//! is both.
 #![tactic(auto)]
 
 mod audit;
@@ -7,10 +8,12 @@ mod laws;
 mod reached;
 mod resting;
 mod spots;
+mod witness;
 
 pub use audit::Audit;
 pub use laws::{
     headline_of_each_front, quiet_homes_always_stay, quiet_homes_stay, rest_is_the_fixed_point,
     set_is_sound_alike, settled_and_quiet_is_sound, settled_are_always_sound,
-    settled_see_each_other,
+    settled_see_each_other, witness_is_unique, witness_refutes,
 };
+pub use witness::{Unquiet, Unsettled};

@@ -1,9 +1,12 @@
 //! The set of a router: the running routers that it reaches.
 
-ghost use Rattle.std.specs.Prelude.{◌≡◌, ◌↔◌, IsTrue, IfOk, All, filter, map};
-ghost use Rattle.hn_audit.specs.Reached.{runs_as, IsOfOne};
+ghost use Rattle.std.specs.Prelude.{◌≡◌, IfOk, filter, map, count_by};
+ghost use Rattle.hn_audit.specs.First.{IsFirstFound};
+ghost use Rattle.hn_audit.specs.FirstWitness.{FindsId, FindsKnown};
+ghost use Rattle.hn_audit.specs.Reached.{runs_as};
 ghost use Rattle.hn_audit.specs.Set.{is_in_set, members_of};
 
+use crate::witness::Unsettled;
 use hn_base::{Name, NoMemory, NodeId};
 use hn_world::{Member, World};
 use std::alloc::Global;
@@ -15,19 +18,35 @@ fn runs_as(member: &Member, id: NodeId) -> bool
     member.running && member.router.id() == id
 }
 
-/// Whether the identifier is that of exactly one running router.
-fn is_of_one(world: &World, id: NodeId) -> bool
-    ensures { IsTrue result ↔ IsOfOne world.now id }
+/// How many running routers have the identifier.
+fn count_of(world: &World, id: NodeId) -> usize
+    ensures { result ≡ count_by (runs_as id) world.now.members }
 {
     let members = world.members();
-    members.iter().filter(|m| runs_as(m, id)).count() == 1
+    members.iter().filter(|m| runs_as(m, id)).count()
 }
 
-/// Whether each identifier is that of exactly one running router.
-pub(crate) fn are_known(world: &World, reach: &[NodeId]) -> bool
-    ensures { IsTrue result ↔ All (IsOfOne world.now) reach.now }
+/// Whether the identifier is that of no running router or of more than one.
+fn unknown(world: &World, id: NodeId) -> Option<Unsettled>
+    ensures { FindsId world.now id result }
 {
-    reach.iter().all(|id| is_of_one(world, *id))
+    match count_of(world, id) {
+        0 => Some(Unsettled::Unknown { id }),
+        1 => None,
+        _ => Some(Unsettled::Shared { id }),
+    }
+}
+
+/// The first identifier that is not that of exactly one running router.
+pub(crate) fn first_unknown(world: &World, reach: &[NodeId]) -> Option<Unsettled>
+    ensures { FindsKnown world.now reach.now result }
+{
+    for id in reach {
+        if let Some(found) = unknown(world, *id) {
+            return Some(found);
+        }
+    }
+    None
 }
 
 /// Whether a router runs, and has one of these identifiers.

@@ -1,12 +1,15 @@
 //! Where the routers of a set are attached, and whether they know it.
 
-ghost use Rattle.std.specs.Prelude.{◌≡◌, ◌↔◌, ◌++◌, ℕ, IsTrue, IfOk, OnOk, All};
+ghost use Rattle.std.specs.Prelude.{◌≡◌, ◌↔◌, ◌++◌, IsTrue, IfOk, OnOk, MatchBool};
 ghost use Rattle.std.specs.Option.{option_map};
-ghost use Rattle.hn_audit.specs.Reached.{AreOnOneLink, IsOnLink};
-ghost use Rattle.hn_audit.specs.Set.{members_of, plain_spot, plain_spots, spot_at, spots_at, spots_in, HasOn, Touches, IsNoStranger, IsSeen, IsTrueOf, TellsTrue, AreOnTheirLinks};
+ghost use Rattle.hn_audit.specs.First.{IsFirstFound};
+ghost use Rattle.hn_audit.specs.FirstWitness.{FindsNear, FindsStranger, IsSeen, IsUnseen, FindsUnseen, IsTrueOf, IsUntrueOf, FindsUntrue, FindsOfPeers, FindsOnLinks};
+ghost use Rattle.hn_audit.specs.Reached.{AreOnOneLink};
+ghost use Rattle.hn_audit.specs.Set.{members_of, plain_spot, plain_spots, spot_at, spots_at, spots_in, HasOn, IsNearLink};
 ghost use Rattle.hn_audit.specs.Settled.{AreLinked, IsSameEndpoint};
 
 use crate::reached::is_in_set;
+use crate::witness::Unsettled;
 use hn_base::{EpId, NoMemory, NodeId};
 use hn_data::{PeerLink, linked};
 use hn_router::Router;
@@ -64,39 +67,54 @@ fn is_one_on(spots: &[Spot<'_>], link: usize) -> bool
     spots.iter().any(|spot| spot.link == link)
 }
 
-/// Whether an endpoint of a router is attached to a link of these.
-fn is_near(member: &Member, endpoint: EpId, spots: &[Spot<'_>]) -> bool
-    ensures { IsTrue result ↔ ((link : ℕ) × IsOnLink link member.now endpoint × HasOn (plain_spots spots.now) link) }
+/// The link to which an endpoint of a router is attached, if it is one of these.
+fn near_link(member: &Member, endpoint: EpId, spots: &[Spot<'_>]) -> Option<usize>
+    ensures { IsNearLink (plain_spots spots.now) member.now endpoint result }
 {
-    match member.link_of(endpoint) {
-        Some(link) => is_one_on(spots, link),
-        None => false,
+    let link = member.link_of(endpoint)?;
+    if is_one_on(spots, link) {
+        Some(link)
+    } else {
+        None
     }
 }
 
-/// Whether some endpoint of a router is attached to a link of these.
-fn touches(member: &Member, spots: &[Spot<'_>]) -> bool
-    ensures { IsTrue result ↔ Touches (plain_spots spots.now) member.now }
+/// The first attachment of a router to a link of these.
+fn first_near(member: &Member, spots: &[Spot<'_>]) -> Option<Unsettled>
+    ensures { IsFirstFound (FindsNear (plain_spots spots.now) member.now) member.now.attachments result }
 {
-    let attachments = member.attachments.as_slice();
-    attachments
-        .iter()
-        .any(|a| is_near(member, a.endpoint, spots))
+    for a in member.attachments.as_slice() {
+        if let Some(link) = near_link(member, a.endpoint, spots) {
+            return Some(Unsettled::Stranger {
+                router: member.name,
+                endpoint: a.endpoint,
+                link,
+            });
+        }
+    }
+    None
 }
 
-/// Whether a router does not run, is in the set, or is on no link of these.
-fn is_no_stranger(member: &Member, reach: &[NodeId], spots: &[Spot<'_>]) -> bool
-    ensures { IsTrue result ↔ IsNoStranger reach.now (plain_spots spots.now) member.now }
+/// Whether a router runs, is not in the set, and is on a link of these.
+fn stranger(member: &Member, reach: &[NodeId], spots: &[Spot<'_>]) -> Option<Unsettled>
+    ensures { FindsStranger reach.now (plain_spots spots.now) member.now result }
 {
-    !member.running || is_in_set(member, reach) || !touches(member, spots)
+    if !member.running || is_in_set(member, reach) {
+        return None;
+    }
+    first_near(member, spots)
 }
 
-/// Whether each running router on a link of these is in the set.
-pub(crate) fn have_no_strangers(world: &World, reach: &[NodeId], spots: &[Spot<'_>]) -> bool
-    ensures { IsTrue result ↔ All (IsNoStranger reach.now (plain_spots spots.now)) world.now.members }
+/// The first running router on a link of these that is not in the set.
+fn first_stranger(world: &World, reach: &[NodeId], spots: &[Spot<'_>]) -> Option<Unsettled>
+    ensures { IsFirstFound (FindsStranger reach.now (plain_spots spots.now)) world.now.members result }
 {
-    let members = world.members();
-    members.iter().all(|m| is_no_stranger(m, reach, spots))
+    for m in world.members() {
+        if let Some(found) = stranger(m, reach, spots) {
+            return Some(found);
+        }
+    }
+    None
 }
 
 /// Whether endpoints of two routers are attached to one link.
@@ -125,7 +143,7 @@ fn is_same(s: &Router, e: EpId, u: &Router, f: EpId) -> bool
 
 /// Whether two attached endpoints are linked, if they are two on one link.
 fn is_seen(a: &Spot<'_>, b: &Spot<'_>) -> bool
-    ensures { IsTrue result ↔ IsSeen (plain_spot a.entry.now) (plain_spot b.entry.now) }
+    ensures { MatchBool result (IsSeen (plain_spot a.entry.now) (plain_spot b.entry.now)) (IsUnseen (plain_spot a.entry.now) (plain_spot b.entry.now)) }
 {
     let (s, u) = (&a.member.router, &b.member.router);
     a.link != b.link
@@ -133,28 +151,38 @@ fn is_seen(a: &Spot<'_>, b: &Spot<'_>) -> bool
         || are_linked(s, a.endpoint, u, b.endpoint)
 }
 
-/// Whether each of these on the link of this one is linked with it.
-fn is_seen_by_each(a: &Spot<'_>, spots: &[Spot<'_>]) -> bool
-    ensures { IsTrue result ↔ All (λ b. IsSeen (plain_spot a.entry.now) (plain_spot b)) spots.now }
+/// The first of these on the link of this one that is not linked with it.
+fn first_unseen_by(a: &Spot<'_>, spots: &[Spot<'_>]) -> Option<Unsettled>
+    ensures { IsFirstFound (FindsUnseen (plain_spot a.entry.now)) (plain_spots spots.now) result }
 {
     for b in spots {
         if !is_seen(a, b) {
-            return false;
+            return Some(Unsettled::NotLinked {
+                router: a.member.name,
+                endpoint: a.endpoint,
+                other: b.member.name,
+                other_endpoint: b.endpoint,
+            });
         }
     }
-    true
+    None
 }
 
-/// Whether the attached endpoints on each link are linked.
-pub(crate) fn see_each_other(spots: &[Spot<'_>]) -> bool
-    ensures { IsTrue result ↔ All (λ a. All (λ b. IsSeen (plain_spot a) (plain_spot b)) spots.now) spots.now }
+/// The first two of these that are on one link and not linked.
+fn first_unseen(spots: &[Spot<'_>]) -> Option<Unsettled>
+    ensures { IsFirstFound (λ a. IsFirstFound (FindsUnseen a) (plain_spots spots.now)) (plain_spots spots.now) result }
 {
-    spots.iter().all(|a| is_seen_by_each(a, spots))
+    for a in spots {
+        if let Some(found) = first_unseen_by(a, spots) {
+            return Some(found);
+        }
+    }
+    None
 }
 
 /// Whether a peer of a router, if it is another endpoint of the other router and linked, is on one link with it.
-fn is_true_of(s: &Member, u: &Member, peer: &PeerLink) -> bool
-    ensures { IsTrue result ↔ IsTrueOf s.now u.now peer.now }
+fn is_true_of(s: &Member, peer: &PeerLink, u: &Member) -> bool
+    ensures { MatchBool result (IsTrueOf s.now peer.now u.now) (IsUntrueOf s.now peer.now u.now) }
 {
     let (e, f) = (peer.endpoint, peer.peer_endpoint);
     peer.peer != u.router.id()
@@ -163,36 +191,62 @@ fn is_true_of(s: &Member, u: &Member, peer: &PeerLink) -> bool
         || are_on_one_link(s, e, u, f)
 }
 
-/// Whether a peer of a router is so of each router of a set.
-fn is_true_of_each(s: &Member, set: &[&Member], peer: &PeerLink) -> bool
-    ensures { IsTrue result ↔ All (λ u. IsTrueOf s.now u.now peer.now) set.now }
+/// The first router of a set that is linked by a peer of a router, and not on one link with it.
+fn first_untrue_of(s: &Member, peer: &PeerLink, set: &[&Member]) -> Option<Unsettled>
+    ensures { IsFirstFound (FindsUntrue s.now peer.now) (members_of set.now) result }
 {
-    set.iter().all(|u| is_true_of(s, u, peer))
+    for u in set {
+        if !is_true_of(s, peer, u) {
+            return Some(Unsettled::NotOnOneLink {
+                router: s.name,
+                endpoint: peer.endpoint,
+                other: u.name,
+                other_endpoint: peer.peer_endpoint,
+            });
+        }
+    }
+    None
 }
 
-/// Whether each peer of a router is so of each router of a set.
-fn tells_true(s: &Member, set: &[&Member]) -> bool
-    ensures { IsTrue result ↔ All (λ u. TellsTrue s.now u.now) set.now }
+/// The first peer of a router for which there is such a router.
+fn first_untrue_peer(s: &Member, set: &[&Member]) -> Option<Unsettled>
+    ensures { FindsOfPeers (members_of set.now) s.now result }
 {
-    let peers = s.router.body().peers();
-    peers.iter().all(|peer| is_true_of_each(s, set, peer))
+    for peer in s.router.body().peers() {
+        if let Some(found) = first_untrue_of(s, peer, set) {
+            return Some(found);
+        }
+    }
+    None
 }
 
-/// Whether the linked endpoints of a set are on one link.
-pub(crate) fn tell_true(set: &[&Member]) -> bool
-    ensures { IsTrue result ↔ All (λ s. All (λ u. TellsTrue s.now u.now) set.now) set.now }
+/// The first router of a set with such a peer.
+fn first_untrue(set: &[&Member]) -> Option<Unsettled>
+    ensures { IsFirstFound (FindsOfPeers (members_of set.now)) (members_of set.now) result }
 {
-    set.iter().all(|s| tells_true(s, set))
+    for s in set {
+        if let Some(found) = first_untrue_peer(s, set) {
+            return Some(found);
+        }
+    }
+    None
 }
 
-/// Whether the routers of a set, with these attached endpoints, are alone on their links and know who is there.
-pub(crate) fn are_on_their_links(
+/// The first router that is not in a set and on a link with one that is, or else the first two attached endpoints of
+/// the set that are on one link and not linked, or else the first two that are linked and not on one link.
+pub(crate) fn first_on_links(
     world: &World,
     reach: &[NodeId],
     set: &[&Member],
     spots: &[Spot<'_>],
-) -> bool
-    ensures { IsTrue result ↔ AreOnTheirLinks world.now.members reach.now set.now spots.now }
+) -> Option<Unsettled>
+    ensures { FindsOnLinks world.now.members reach.now (members_of set.now) (plain_spots spots.now) result }
 {
-    have_no_strangers(world, reach, spots) && see_each_other(spots) && tell_true(set)
+    if let Some(found) = first_stranger(world, reach, spots) {
+        return Some(found);
+    }
+    if let Some(found) = first_unseen(spots) {
+        return Some(found);
+    }
+    first_untrue(set)
 }

@@ -35,6 +35,7 @@ pub use law::{
     at_most_one_cut_play, at_most_one_play, broken_text_is_a_front, cut_text_is_a_front,
     mail_delivers, pieces_append,
 };
+pub use notes::note_line;
 pub use output::{write_piece, write_refusal};
 pub use scripts::{
     DONE, NO_MEMORY, Played, REFUSED, SINK_FAILED, SOURCE_FAILED, WIRE_FAILED, lab, play,

@@ -18,6 +18,7 @@ mod published;
 mod receivers;
 mod refusal;
 mod routed;
+mod told;
 mod trace;
 mod world;
 

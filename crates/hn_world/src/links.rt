@@ -1,4 +1,5 @@
-ghost use Rattle.std.specs.Prelude.{◌≡◌, [], length, position};
+ghost use Rattle.std.specs.Prelude.{◌≡◌, [], length, option_copied, position};
+ghost use Rattle.std.specs.List.{slice_get};
 ghost use Rattle.hn_base.specs.Name.{name_text};
 ghost use Rattle.hn_world.specs.Names.{is_link_named};
 
@@ -36,6 +37,13 @@ impl Links {
         ensures { result ≡ length self.now }
     {
         self.items.len()
+    }
+
+    /// The name of the link at a place. Never allocates.
+    pub(crate) fn get(&self, place: usize) -> Option<&Name>
+        ensures { option_copied result ≡ slice_get self.now place }
+    {
+        self.items.get(place)
     }
 
     /// The place of the link of a name. Never allocates.

@@ -1,0 +1,171 @@
+-- What the search for what a set would do finds, as facts of the world: nothing if and only if the router is quiet.
+use Rattle.std.proofs.Common.{◌≡◌, ◌↔◌, Bool, true, false, IsTrue, IfSome, Option, Some, None, Contains, refl, sym, subst, inl, inr}
+use Rattle.std.specs.Cmp.{IsTotalOrder}
+use Rattle.std.proofs.lemmas.Bool.{false≢true}
+use Rattle.std.proofs.lemmas.List.Elements.{All-contains}
+use Rattle.hn_base.specs.Ascending.{HasAt}
+use Rattle.hn_base.proofs.Parts.{contains_at}
+use Rattle.hn_assign.specs.declared.assigned.Advertised.{Advertised}
+use Rattle.hn_assign.specs.declared.assigned.Assigned.{Assigned}
+use Rattle.hn_assign.specs.declared.assigned.Wish.{Wish}
+use Rattle.hn_assign.specs.Best.{IsBestIfAny}
+use Rattle.hn_assign.specs.Fixed.{IsWishAtRest}
+use Rattle.hn_assign.specs.Pair.{IsWished, assigned_pair, pair_cmp, wish_pair}
+use Rattle.hn_assign.specs.Rest.{IsAtRest}
+use Rattle.hn_deleg.specs.Laws.{UsableIsUnique}
+use Rattle.hn_sound.specs.Laws.{RestKnowsNoOrder}
+use Rattle.hn_world.specs.declared.member.Member.{Member}
+use Rattle.hn_world.specs.declared.parts.Parts.{Parts}
+use Rattle.hn_audit.specs.declared.witness.Unquiet.{Unquiet}
+use Rattle.hn_audit.specs.declared.witness.Unquiet.TheVariants as act
+use Rattle.hn_audit.specs.First.{IsFoundOf}
+use Rattle.hn_audit.specs.FirstWitness.{act_of, FindsOfRouter, FindsRestless, FindsUnasked, IsFirstUnquiet}
+use Rattle.hn_audit.specs.Laws.{WitnessRefutesQuiet}
+use Rattle.hn_audit.specs.Quiet.{IsQuiet, IsRouterAtRest}
+use Rattle.hn_audit.specs.Reached.{IsReached}
+use Rattle.hn_audit.specs.Set.{set_of}
+use Rattle.hn_audit.specs.Witness.{AsksFor, Disturbs, IsOfSet, Outlook}
+use Rattle.hn_audit.proofs.Restings.{rests_in_order, wished_there}
+use Rattle.hn_audit.proofs.Settling.{each_of_set, set_has}
+
+-- ---- where nothing is found
+
+router_rests : (s : Member) → FindsOfRouter s None → IsRouterAtRest s.router
+router_rests s h = record {
+  usable = h.outlook.usable;
+  are_usable = h.outlook.are_usable;
+  wishes = h.outlook.wishes;
+  are_asked = h.outlook.are_asked;
+  advertised = h.outlook.advertised;
+  are_advertised = h.outlook.are_advertised;
+  wished = h.found.0;
+  at_rest = λ wish there. All-contains (IsWishAtRest h.outlook.advertised s.router.id.0 s.router.held.assigned) h.outlook.wishes wish h.found.1 there;
+}
+
+pub none_quiets : (w : Parts) (r : Member) → IsFirstUnquiet w r None → IsQuiet w r
+none_quiets w r none s reached = router_rests s ((each_of_set w r (λ (m : Member). FindsOfRouter m None)).0 none s reached)
+
+-- ---- what a witness says
+
+is_wanted : (b : Bool) → ¬ (¬ IsTrue b) → IsTrue b
+is_wanted true not = refl
+is_wanted false not = absurd (not (λ yes. false≢true yes))
+
+module _ (w : Parts) (r s : Member) (reached : IsReached w r s) (outlook : Outlook s.router) where
+  of_set : IsOfSet w r s.name s
+  of_set = record { reached = reached; named = refl }
+
+  unasked_disturbs : (u : Unquiet) → IsFoundOf (FindsUnasked s.name outlook.wishes) s.router.held.assigned u → Disturbs w r u
+  unasked_disturbs u h =
+      subst (Disturbs w r) (sym h.found.0) (record {
+        one = s;
+        of_set = of_set;
+        outlook = outlook;
+        assignment = h.one;
+        has = record { held = contains_at s.router.held.assigned h.place h.one h.at; of_endpoint = refl; of_delegated = refl };
+        of_prefix = refl;
+        unasked = h.found.1;
+      })
+
+  abbrev asks_for : (wish : Wish) (assignment : Option Assigned) → Contains outlook.wishes wish → HasAt assigned_pair (wish_pair wish) assignment s.router.held.assigned
+      → AsksFor w r s.name wish.endpoint wish.delegated assignment
+  asks_for wish assignment there has = record {
+    one = s;
+    of_set = of_set;
+    outlook = outlook;
+    wish = wish;
+    asked = there;
+    of_endpoint = refl;
+    of_delegated = refl;
+    has = has;
+  }
+
+  -- by the assignment of the pair and the best prefix
+  act_disturbs : (wish : Wish) → Contains outlook.wishes wish → (assignment : Option Assigned) (best : Option Advertised)
+      → HasAt assigned_pair (wish_pair wish) assignment s.router.held.assigned
+      → IsBestIfAny outlook.advertised s.router.id.0 wish.common wish.delegated best
+      → ¬ IsAtRest outlook.advertised s.router.id.0 wish assignment
+      → Disturbs w r (act_of s.name wish assignment best)
+  act_disturbs wish there None None has is_best restless = record {
+    pair = asks_for wish None there has;
+    no_best = is_best;
+    wanted = is_wanted wish.wanted (λ unwanted. restless (record { no_best = is_best; nothing_to_do = inl unwanted }));
+    some_free = λ none. restless (record { no_best = is_best; nothing_to_do = inr none });
+  }
+  act_disturbs wish there None (Some best) has is_best restless = record {
+    pair = asks_for wish None there has;
+    advertised = best;
+    is_best = is_best;
+    of_best = refl;
+  }
+  act_disturbs wish there (Some c) None has is_best restless = record {
+    assignment = c;
+    of_prefix = refl;
+    pair = asks_for wish (Some c) there has;
+    no_best = is_best;
+    restless = restless;
+  }
+  act_disturbs wish there (Some c) (Some best) has is_best restless = record {
+    assignment = c;
+    of_prefix = refl;
+    pair = asks_for wish (Some c) there has;
+    advertised = best;
+    is_best = is_best;
+    of_best = refl;
+    restless = restless;
+  }
+
+  restless_disturbs : (u : Unquiet) → IsFoundOf (FindsRestless s.name outlook.advertised s.router.id.0 s.router.held.assigned) outlook.wishes u → Disturbs w r u
+  restless_disturbs u h =
+      let k = h.found in
+      subst (Disturbs w r) (sym k.is) (act_disturbs h.one (contains_at outlook.wishes h.place h.one h.at) k.assignment k.best k.has k.is_best k.restless)
+
+router_disturbs : (w : Parts) (r s : Member) (u : Unquiet) → IsReached w r s → FindsOfRouter s (Some u) → Disturbs w r u
+router_disturbs w r s u reached h =
+    elim h.found [
+      | inl unasked ↦ unasked_disturbs w r s reached h.outlook u unasked
+      | inr restless ↦ restless_disturbs w r s reached h.outlook u restless.1
+    ]
+
+pub first_disturbs : (w : Parts) (r : Member) (u : Unquiet) → IsFirstUnquiet w r (Some u) → Disturbs w r u
+first_disturbs w r u h = router_disturbs w r h.one u ((set_has w r h.one).0 (contains_at (set_of w r) h.place h.one h.at)) h.found
+
+-- ---- what it says refutes that the router is quiet
+
+module _ (unique : UsableIsUnique) (total : IsTotalOrder pair_cmp) (order : RestKnowsNoOrder) (w : Parts) (r : Member) where
+  -- a pair of one of the set that is quiet
+  pair_rests : (s : Member) (outlook : Outlook s.router) (wish : Wish) (assignment : Option Assigned) → IsReached w r s → IsQuiet w r → Contains outlook.wishes wish
+      → HasAt assigned_pair (wish_pair wish) assignment s.router.held.assigned → IsAtRest outlook.advertised s.router.id.0 wish assignment
+  pair_rests s o wish assignment reached quiet there has =
+      rests_in_order unique total s.router o.usable o.are_usable o.wishes o.are_asked (quiet s reached) order o.advertised o.are_advertised wish there assignment has
+
+  pub refutes_quiet : (u : Unquiet) → Disturbs w r u → ¬ IsQuiet w r
+  refutes_quiet (act.Unasked router endpoint delegated prefix) h quiet =
+      let o = h.outlook in
+      let all = wished_there unique total h.one.router o.usable o.are_usable o.wishes o.are_asked (quiet h.one h.of_set.reached) in
+      h.unasked (All-contains (λ (c : Assigned). IsWished o.wishes (assigned_pair c)) h.one.router.held.assigned h.assignment all h.has.held)
+  refutes_quiet (act.Makes router endpoint delegated) h quiet =
+      let p = h.pair in
+      let rest = pair_rests p.one p.outlook p.wish None p.of_set.reached quiet p.asked p.has in
+      elim rest.nothing_to_do [
+        | inl unwanted ↦ unwanted h.wanted
+        | inr none ↦ h.some_free none
+      ]
+  refutes_quiet (act.Takes router endpoint delegated best) h quiet =
+      let p = h.pair in
+      let rest = pair_rests p.one p.outlook p.wish None p.of_set.reached quiet p.asked p.has in
+      rest.no_best h.advertised h.is_best.candidate
+  refutes_quiet (act.Drops router endpoint delegated prefix) h quiet =
+      let p = h.pair in
+      h.restless (pair_rests p.one p.outlook p.wish (Some h.assignment) p.of_set.reached quiet p.asked p.has)
+  refutes_quiet (act.Changes router endpoint delegated prefix best) h quiet =
+      let p = h.pair in
+      h.restless (pair_rests p.one p.outlook p.wish (Some h.assignment) p.of_set.reached quiet p.asked p.has)
+
+-- ---- the facts of an answer
+
+pub first_tells : WitnessRefutesQuiet → (w : Parts) (r : Member) (answer : Option Unquiet) → IsFirstUnquiet w r answer → ((answer ≡ None) ↔ IsQuiet w r) × IfSome answer (Disturbs w r)
+first_tells law w r None first = ((λ none. none_quiets w r first, λ quiet. refl), tt)
+first_tells law w r (Some u) first =
+    let said = first_disturbs w r u first in
+    ((λ none. absurd (cc), λ quiet. absurd (law w r u said quiet)), said)

@@ -1,0 +1,8 @@
+use Rattle.std.proofs.Common.{None, All, take}
+use Rattle.hn_audit.specs.First.{IsFirstFound}
+use Rattle.hn_audit.specs.FirstWitness.{FindsHeld}
+use Rattle.hn_audit.specs.Set.{members_of}
+use Rattle.hn_audit.proofs.knowing.first_not_holding.Given as goal
+
+abbrev pub invariant-loop-s : goal.invariant-loop-s
+invariant-loop-s l = All (λ s. IsFirstFound (FindsHeld s.now) (members_of l.set) None) (take l.s-index l.set)

@@ -1,0 +1,6 @@
+use Rattle.std.proofs.Common.{None, All, take}
+use Rattle.hn_audit.specs.FirstWitness.{FindsReach}
+use Rattle.hn_audit.proofs.knowing.first_of_other_reach.Given as goal
+
+abbrev pub invariant-loop-s : goal.invariant-loop-s
+invariant-loop-s l = All (λ s. FindsReach l.reach s.now None) (take l.s-index l.set)

@@ -1,0 +1,6 @@
+use Rattle.std.proofs.Common.{All, take, None}
+use Rattle.hn_audit.specs.FirstWitness.{FindsId}
+use Rattle.hn_audit.proofs.reached.first_unknown.Given as goal
+
+abbrev pub invariant-loop-id : goal.invariant-loop-id
+invariant-loop-id l = All (λ id. FindsId l.world id None) (take l.id-index l.reach)

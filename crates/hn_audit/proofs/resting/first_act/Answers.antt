@@ -1,0 +1,16 @@
+use Rattle.std.proofs.Common.{Option, inl}
+use Rattle.hn_audit.specs.declared.witness.Unquiet.{Unquiet}
+use Rattle.hn_audit.specs.First.{IsFirstFound}
+use Rattle.hn_audit.specs.FirstWitness.{FindsRestless, FindsUnasked}
+use Rattle.hn_audit.proofs.Searching.{or_else}
+use Rattle.hn_audit.proofs.resting.first_act.Goals as goal
+
+pub returns-in-Some : goal.returns-in-Some
+returns-in-Some c = inl c.in-Some.ensures
+
+pub returns : goal.returns
+returns c =
+    let s = c.args.s.now in
+    let unasked : Option Unquiet → Type 0 = IsFirstFound (FindsUnasked s.name c.args.wishes.now) s.router.held.assigned in
+    let restless : Option Unquiet → Type 0 = IsFirstFound (FindsRestless s.name c.args.known.now s.router.id.0 s.router.held.assigned) c.args.wishes.now in
+    or_else unasked restless c.in_default.ensures c.first_restless.result c.first_restless.ensures

@@ -1,0 +1,9 @@
+use Rattle.std.proofs.Common.{◌≡◌, None, All, take}
+use Rattle.hn_audit.specs.FirstWitness.{FindsUnasked}
+use Rattle.hn_audit.proofs.resting.first_unasked.Given as goal
+
+abbrev pub invariant-loop-c : goal.invariant-loop-c
+invariant-loop-c l = record {
+  all : l.c-items ≡ l.s.router.held.assigned;
+  so_far : All (λ c. FindsUnasked l.s.name l.wishes c None) (take l.c-index l.c-items);
+}

@@ -1,0 +1,11 @@
+use Rattle.std.proofs.Common.{None, All, take}
+use Rattle.hn_audit.specs.First.{IsFirstFound}
+use Rattle.hn_audit.specs.FirstWitness.{FindsUntrue, AreSaid}
+use Rattle.hn_audit.specs.Set.{members_of}
+use Rattle.hn_audit.proofs.spots.first_untrue_peer.Given as goal
+
+abbrev pub invariant-loop-peer : goal.invariant-loop-peer
+invariant-loop-peer l = record {
+  are_said : AreSaid l.s.router.own.body l.peer-items;
+  so_far : All (λ peer. IsFirstFound (FindsUntrue l.s peer) (members_of l.set) None) (take l.peer-index l.peer-items);
+}

@@ -1,0 +1,6 @@
+mod Lists
+mod Streams
+mod Replays
+mod Refusals
+mod Looks
+mod Forms

@@ -1,0 +1,13 @@
+use Rattle.std.proofs.Common.{refl, rules}
+use Rattle.hn_look.proofs.Looks.{status_of_look, without_wire}
+use Rattle.hn_look.proofs.Refusals.{ends_so}
+use Rattle.hn_look.proofs.program.play_and_look.Goals as goal
+
+pub returns-then-played-ne-REFUSED-clause-statuses : goal.returns-then-played-ne-REFUSED-clause-statuses
+returns-then-played-ne-REFUSED-clause-statuses g c = without_wire c.lab-played.result.status c.lab-played.ensures.statuses (c.lab-played.ensures.unwired refl).1
+
+pub look-requires-clause-refused : goal.look-requires-clause-refused
+look-requires-clause-refused g c = λ two. ends_so _ c.lab-played.result.world c.lab-played.result.status _ _ c.held.result.now c.new-transcript.ensures.held c.held.ensures c.lab-played.ensures.lab two
+
+pub returns-clause-statuses : goal.returns-clause-statuses
+returns-clause-statuses g c = rw c.looked_status.ensures (status_of_look c.look.result c.look.ensures.statuses)

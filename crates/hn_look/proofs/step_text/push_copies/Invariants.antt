@@ -1,0 +1,10 @@
+use Rattle.std.proofs.Common.{◌≡◌, ◌-◌, ◌++◌, drop, string_bytes, length}
+use Rattle.hn_look.specs.Steps.{copy_lines}
+use Rattle.hn_look.proofs.step_text.push_copies.Given as goal
+
+-- the copies so far have a line each
+abbrev pub invariant-loop-made : goal.invariant-loop-made
+invariant-loop-made l = string_bytes l.text ++ copy_lines l.world l.made (drop l.made l.world.copies) ≡ string_bytes l.fn.text ++ copy_lines l.world l.first (drop l.first l.world.copies)
+
+abbrev pub decreases-loop-made : goal.decreases-loop-made
+decreases-loop-made l = l.count - l.made

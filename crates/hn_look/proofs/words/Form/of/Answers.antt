@@ -1,0 +1,11 @@
+use Rattle.std.proofs.Common.{arith}
+use Rattle.std.proofs.lemmas.List.{length-map}
+use Rattle.std.specs.Prelude.{string_bytes}
+use Rattle.hn_look.proofs.Forms.{word_at, no_plain_form}
+use Rattle.hn_look.proofs.words.Form.of.Goals as goal
+
+pub returns-in-len2-clause-none : goal.returns-in-len2-clause-none
+returns-in-len2-clause-none c =
+    let words = c.args.words.now in
+    let long = length-map words string_bytes in
+    no_plain_form c.plain.result _ _ (omega arith) (word_at string_bytes words 1 _ _ (omega arith) c.form-item.is c.as_str.ensures.value) c.plain.ensures.none

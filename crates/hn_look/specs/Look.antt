@@ -1,0 +1,86 @@
+-- What a look comes to: a status, and what was written.
+use Rattle.std.specs.Prelude.{◌≡◌, ◌⊎◌, ℕ, List, [], ◌++◌, Option, None, Some, Result, Ok, Err}
+use Rattle.std.specs.Io.KnownBytes.{Appends}
+use Rattle.hn_io.specs.declared.fault.IoFault.{IoFault}
+use Rattle.hn_io.specs.declared.fault.IoFault.TheVariants.{Failed, NoMemory}
+use Rattle.hn_lab.specs.Lab.{IsLabRun}
+use Rattle.hn_lab.specs.Reports.{refused_line}
+use Rattle.hn_lab.specs.Stage.{Mail}
+use Rattle.hn_world.specs.declared.parts.Parts.{Parts}
+use Rattle.hn_look.specs.declared.words.Form.{Form}
+use Rattle.hn_look.specs.declared.words.Form.TheVariants.{Log}
+use Rattle.hn_look.specs.Log.{IsLog}
+use Rattle.hn_look.specs.Output.{AppendsCut}
+
+-- A way to look at a world comes to a status, 0 or 2, and a text: `log`.
+abbrev pub SeesLog : Parts → ℕ → List ℕ → Type 0
+SeesLog w status text = (status ≡ 0) × IsLog w text
+
+-- in the way of a form
+abbrev pub Sees : Form → Parts → ℕ → List ℕ → Type 0
+Sees Log w status text = SeesLog w status text
+
+-- where a script led to no world, there is nothing to see
+abbrev pub SeesOf : (Parts → ℕ → List ℕ → Type 0) → Option Parts → ℕ → List ℕ → Type 0
+SeesOf sees None status text = (status ≡ 0) × (text ≡ [])
+SeesOf sees (Some w) status text = sees w status text
+
+-- a transcript ends with this line, which says that the script was refused
+pub record EndsRefused (transcript line : List ℕ) : Type 0 where
+  pub front : List ℕ
+  pub number : ℕ
+  pub code : ℕ
+  pub transcript_is : transcript ≡ front ++ line
+  pub line_is : line ≡ refused_line number code
+
+-- a script that was refused: what is seen of the world up to there, and then that line
+pub record IsRefusedLook (sees : Parts → ℕ → List ℕ → Type 0) (world : Option Parts) (transcript : List ℕ) (status : ℕ) (text : List ℕ) : Type 0 where
+  pub seen : ℕ
+  pub look : List ℕ
+  pub line : List ℕ
+  pub sees_so : SeesOf sees world seen look
+  pub ends : EndsRefused transcript line
+  pub status_is : status ≡ 2
+  pub text_is : text ≡ look ++ line
+
+-- what is to be written after a play of this status, and with which status
+abbrev pub IsLook : (Parts → ℕ → List ℕ → Type 0) → ℕ → Option Parts → List ℕ → ℕ → List ℕ → Type 0
+IsLook sees played world transcript status text =
+    ((played ≡ 0) × SeesOf sees world status text) ⊎ ((played ≡ 2) × IsRefusedLook sees world transcript status text)
+
+-- it was written; the writing was cut by a fault
+abbrev pub Writes : (ℕ → List ℕ → Type 0) → ℕ → Option (List ℕ) → Option (List ℕ) → Type 0
+Writes IsText status before after = (text : List ℕ) × IsText status text × Appends before after text
+
+abbrev pub Cuts : (ℕ → List ℕ → Type 0) → IoFault → Option (List ℕ) → Option (List ℕ) → Type 0
+Cuts IsText fault before after = (status : ℕ) × (text : List ℕ) × IsText status text × AppendsCut fault before after text
+
+-- by the answer of a call that writes
+abbrev pub Looked : (ℕ → List ℕ → Type 0) → Result ℕ IoFault → Option (List ℕ) → Option (List ℕ) → Type 0
+Looked IsText (Ok status) before after = Writes IsText status before after
+Looked IsText (Err fault) before after = Cuts IsText fault before after
+
+-- the status of such a call
+abbrev pub looked_status : Result ℕ IoFault → ℕ
+looked_status (Ok status) = status
+looked_status (Err Failed) = 4
+looked_status (Err NoMemory) = 6
+
+-- the play ran out of memory, and nothing was written
+abbrev pub IsUnseen : ℕ → ℕ → Option (List ℕ) → Option (List ℕ) → Type 0
+IsUnseen played status before after = (played ≡ 6) × (status ≡ 6) × Appends before after []
+
+-- a look at the world of a play
+pub record IsSeen (sees : Parts → ℕ → List ℕ → Type 0) (played : ℕ) (world : Option Parts) (transcript : List ℕ) (status : ℕ) (before after : Option (List ℕ)) : Type 0 where
+  pub answer : Result ℕ IoFault
+  pub status_is : status ≡ looked_status answer
+  pub looked : Looked (IsLook sees played world transcript) answer before after
+
+-- What a form comes to that looks so, by the bytes that its source has left, where it tells them: the script that they are is
+-- played as `lab` plays it, by mail, with a transcript; and then the world is looked at.
+pub record IsLookRun (sees : Parts → ℕ → List ℕ → Type 0) (left : Option (List ℕ)) (status : ℕ) (before after : Option (List ℕ)) : Type 0 where
+  pub played : ℕ
+  pub world : Option Parts
+  pub transcript : List ℕ
+  pub plays : IsLabRun Mail Mail left played world (Some []) (Some transcript)
+  pub comes : IsUnseen played status before after ⊎ IsSeen sees played world transcript status before after

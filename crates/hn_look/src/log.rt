@@ -1,0 +1,82 @@
+//! The log of a world: its trace, event by event.
+
+ghost use Rattle.std.specs.Prelude.{◌≡◌, ◌++◌, ℕ, List, Err, IfOk, IfErr, OnOk, length, string_bytes};
+ghost use Rattle.std.specs.Io.KnownBytes.{Appends};
+ghost use Rattle.hn_io.specs.Faults.{Counts, IsReliable};
+ghost use Rattle.hn_rules.specs.declared.done.Note.{Note as ANote};
+ghost use Rattle.hn_world.specs.declared.parts.Parts.{Parts};
+ghost use Rattle.hn_world.specs.Step.{Step};
+ghost use Rattle.hn_look.specs.Log.{IsStepText, IsLog, AtMostOneLog};
+ghost use Rattle.hn_look.specs.Output.{AppendsCut};
+
+use crate::copied::copied;
+use crate::step_text::{Made, push_step};
+use hn_base::{NoMemory, Sequence};
+use hn_io::{IoFault, Listed, Sink};
+use hn_lab::{pieces_append, write_piece};
+use hn_rules::Note;
+use hn_world::{Traced, World, WorldFault, step_is_unique};
+use std::alloc::Global;
+
+/// A world has at most one log.
+pub fn at_most_one_log()
+    ensures { AtMostOneLog }
+{
+    step_is_unique();
+}
+
+/// Lets an event of a trace happen again, with the words that it took, where it is a step from this world. Answers what
+/// routers noted.
+fn again(alloc: Global, traced: &Traced, replay: &mut World) -> Result<Sequence<Note>, NoMemory>
+    requires { (notes : List ANote) × (after : Parts) × Step traced.now notes replay.old after }
+    ensures { (notes : List ANote) (after : Parts) → Step traced.now notes replay.old after
+        → IfOk result (λ noted. (noted ≡ notes) × (replay.new ≡ after)) }
+{
+    step_is_unique();
+    let mut words = Listed::new(traced.words.copy(alloc)?.into_vec());
+    let event = copied(alloc, &traced.event)?;
+    match replay.apply(alloc, event, &mut words) {
+        Ok(notes) => Ok(notes),
+        Err(WorldFault::Refused(_)) => unreachable!(),
+        Err(WorldFault::NoMemory) => Err(NoMemory),
+    }
+}
+
+/// The same, and adds what is told of it.
+fn push_again(
+    alloc: Global,
+    text: &mut String,
+    traced: &Traced,
+    replay: &mut World,
+) -> Result<(), NoMemory>
+    requires { (notes : List ANote) × (after : Parts) × Step traced.now notes replay.old after }
+    ensures same { (notes : List ANote) (after : Parts) → Step traced.now notes replay.old after → OnOk result (replay.new ≡ after) }
+    ensures told { OnOk result ((more : List ℕ) × IsStepText traced.now replay.old replay.new more
+        × (string_bytes text.new ≡ string_bytes text.old ++ more)) }
+{
+    let before = Made::of(replay);
+    let notes = again(alloc, traced, replay)?;
+    push_step(alloc, text, &traced.event, notes.as_slice(), before, replay)?;
+    Ok(())
+}
+
+/// Writes the log of a world, an event at a time: the trace is replayed in a world of the same version.
+pub(crate) fn write_log<K: Sink>(alloc: Global, world: &World, out: &mut K) -> Result<(), IoFault>
+    ensures written { OnOk result ((text : List ℕ) × IsLog world.now text × Appends (K.held out.old) (K.held out.new) text) }
+    ensures cut { IfErr result (λ fault. (text : List ℕ) × IsLog world.now text × AppendsCut fault (K.held out.old) (K.held out.new) text) }
+    ensures counts { Counts (result ≡ Err IoFault.Failed) (K.faults out.old) (K.faults out.new) }
+    ensures reliable { IsReliable (result ≡ Err IoFault.Failed) (K.never_fails out.old) (K.never_fails out.new) }
+{
+    pieces_append();
+    world.is_replayed();
+    let mut replay = World::of(alloc, world.language_version());
+    let mut text = String::new(alloc);
+    for traced in world.trace() {
+        text.clear();
+        let Ok(()) = push_again(alloc, &mut text, traced, &mut replay) else {
+            return Err(IoFault::NoMemory);
+        };
+        write_piece(out, text.as_bytes())?;
+    }
+    Ok(())
+}

@@ -1,0 +1,72 @@
+//! A look at the world of a play.
+
+ghost use Rattle.std.specs.Prelude.{◌≡◌, ◌⊎◌, ℕ, List, Err, IfOk};
+ghost use Rattle.hn_io.specs.Faults.{Counts, IsReliable};
+ghost use Rattle.hn_look.specs.Look.{Sees, SeesOf, EndsRefused, IsLook, Looked};
+
+use crate::last_line::refusal_of;
+use crate::log::write_log;
+use crate::status::{DONE, REFUSED};
+use crate::words::Form;
+use hn_io::{IoFault, Sink};
+use hn_lab::{Played, pieces_append, write_piece};
+use hn_world::World;
+use std::alloc::Global;
+
+/// Looks at a world in the way of a form. Answers the status.
+fn see<K: Sink>(alloc: Global, form: &Form, world: &World, out: &mut K) -> Result<u8, IoFault>
+    ensures looked { Looked (Sees form.now world.now) result (K.held out.old) (K.held out.new) }
+    ensures statuses { IfOk result (λ status. (status ≡ 0) ⊎ (status ≡ 2)) }
+    ensures counts { Counts (result ≡ Err IoFault.Failed) (K.faults out.old) (K.faults out.new) }
+    ensures reliable { IsReliable (result ≡ Err IoFault.Failed) (K.never_fails out.old) (K.never_fails out.new) }
+{
+    match form {
+        Form::Log => {
+            write_log(alloc, world, out)?;
+            Ok(DONE)
+        }
+    }
+}
+
+/// Looks at a world, if there is one.
+fn see_any<K: Sink>(
+    alloc: Global,
+    form: &Form,
+    world: &Option<World>,
+    out: &mut K,
+) -> Result<u8, IoFault>
+    ensures looked { Looked (SeesOf (Sees form.now) world.now) result (K.held out.old) (K.held out.new) }
+    ensures statuses { IfOk result (λ status. (status ≡ 0) ⊎ (status ≡ 2)) }
+    ensures counts { Counts (result ≡ Err IoFault.Failed) (K.faults out.old) (K.faults out.new) }
+    ensures reliable { IsReliable (result ≡ Err IoFault.Failed) (K.never_fails out.old) (K.never_fails out.new) }
+{
+    match world {
+        Some(world) => see(alloc, form, world, out),
+        None => Ok(DONE),
+    }
+}
+
+/// Looks at the world of a play that came to an end, and then writes the last line of the transcript of a script that
+/// was refused. Answers the status.
+pub(crate) fn look<K: Sink>(
+    alloc: Global,
+    form: &Form,
+    played: &Played,
+    transcript: &[u8],
+    out: &mut K,
+) -> Result<u8, IoFault>
+    requires ended { (played.now.status ≡ 0) ⊎ (played.now.status ≡ 2) }
+    requires refused { played.now.status ≡ 2 → (line : List ℕ) × EndsRefused transcript.now line }
+    ensures looked { Looked (IsLook (Sees form.now) played.now.status played.now.world transcript.now) result (K.held out.old) (K.held out.new) }
+    ensures statuses { IfOk result (λ status. (status ≡ 0) ⊎ (status ≡ 2)) }
+    ensures counts { Counts (result ≡ Err IoFault.Failed) (K.faults out.old) (K.faults out.new) }
+    ensures reliable { IsReliable (result ≡ Err IoFault.Failed) (K.never_fails out.old) (K.never_fails out.new) }
+{
+    pieces_append();
+    let status = see_any(alloc, form, &played.world, out)?;
+    if played.status != REFUSED {
+        return Ok(status);
+    }
+    write_piece(out, refusal_of(transcript))?;
+    Ok(REFUSED)
+}

@@ -1,0 +1,65 @@
+ghost use Rattle.std.specs.Prelude.{◌≡◌, ◌≢◌, ◌+◌, ◌^◌, ◌≤◌, ℕ, List, [], ◌∷◌, map, length, Contains, string_bytes};
+ghost use Rattle.std.specs.Io.KnownBytes.{Consumes};
+ghost use Rattle.hn_io.specs.Faults.{Counts, IsReliable};
+ghost use Rattle.hn_look.specs.Form.{IsFormOf};
+ghost use Rattle.hn_look.specs.Look.{Sees, SeesLog, IsLookRun};
+ghost use Rattle.hn_look.specs.declared.words.Form.{Form};
+
+use crate::look::look;
+use crate::status::{
+    BAD_USAGE, DONE, NO_MEMORY, REFUSED, SINK_FAILED, SOURCE_FAILED, looked_status,
+};
+use crate::words::Form;
+use hn_io::{MemSink, Sink, Source};
+use hn_lab::lab;
+use hn_wire::MemWire;
+use std::alloc::Global;
+
+/// Reads a script, plays it by mail with its transcript in memory, and looks at the world that it led to. Answers the
+/// status.
+fn play_and_look<S: Source, K: Sink>(alloc: Global, form: &Form, src: &mut S, out: &mut K) -> u8
+    ensures look { result ≢ SOURCE_FAILED → IsLookRun (Sees form.now) (S.left src.old) result (K.held out.old) (K.held out.new) }
+    ensures statuses { Contains (DONE ∷ REFUSED ∷ SOURCE_FAILED ∷ SINK_FAILED ∷ NO_MEMORY ∷ []) result }
+    ensures source_counts { Counts (result ≡ SOURCE_FAILED) (S.faults src.old) (S.faults src.new) }
+    ensures source_reliable { IsReliable (result ≡ SOURCE_FAILED) (S.never_fails src.old) (S.never_fails src.new) }
+    ensures sink_counts { Counts (result ≡ SINK_FAILED) (K.faults out.old) (K.faults out.new) }
+    ensures sink_reliable { IsReliable (result ≡ SINK_FAILED) (K.never_fails out.old) (K.never_fails out.new) }
+    ensures unwritten { result ≡ SOURCE_FAILED → out.new ≡ out.old }
+    ensures bounded { (read : List ℕ) × (length read ≤ 2 ^ 24 + 1) × Consumes (S.left src.old) (S.left src.new) read }
+{
+    let mut transcript = MemSink::new(alloc, Vec::new(alloc));
+    let mut wire = MemWire::new(alloc, Vec::new(alloc));
+    let played = lab(alloc, src, &mut transcript, &mut wire, None);
+    if played.status != DONE && played.status != REFUSED {
+        return played.status;
+    }
+    looked_status(&look(alloc, form, &played, transcript.held(), out))
+}
+
+/// Runs the program: `words` are those of the command line, the program's name first. Each form reads a script and plays
+/// it as `hncp lab` does; then it looks at the world that the script led to, up to the line that is refused, if one is.
+/// `log` writes what happened, event by event.
+pub fn run<S: Source, K: Sink>(alloc: Global, words: &[String], src: &mut S, out: &mut K) -> u8
+    // Bad usage is what no form's words are; then nothing is touched.
+    ensures form { result ≡ BAD_USAGE → (form : Form) → IsFormOf form (map string_bytes words.now) → ⊥ }
+    ensures bad_usage { ((form : Form) → IsFormOf form (map string_bytes words.now) → ⊥) → result ≡ BAD_USAGE }
+    ensures untouched { result ≡ BAD_USAGE → (src.new ≡ src.old) × (out.new ≡ out.old) }
+
+    // What each form comes to. After status 3 there is no more to say.
+    ensures log { IsFormOf Form.Log (map string_bytes words.now) → result ≢ SOURCE_FAILED
+        → IsLookRun SeesLog (S.left src.old) result (K.held out.old) (K.held out.new) }
+
+    // Where each status comes from. After 3 nothing was written. Reading ends after 2^24 + 1 bytes.
+    ensures statuses { Contains (DONE ∷ BAD_USAGE ∷ REFUSED ∷ SOURCE_FAILED ∷ SINK_FAILED ∷ NO_MEMORY ∷ []) result }
+    ensures source_counts { Counts (result ≡ SOURCE_FAILED) (S.faults src.old) (S.faults src.new) }
+    ensures source_reliable { IsReliable (result ≡ SOURCE_FAILED) (S.never_fails src.old) (S.never_fails src.new) }
+    ensures sink_counts { Counts (result ≡ SINK_FAILED) (K.faults out.old) (K.faults out.new) }
+    ensures sink_reliable { IsReliable (result ≡ SINK_FAILED) (K.never_fails out.old) (K.never_fails out.new) }
+    ensures unwritten { result ≡ SOURCE_FAILED → out.new ≡ out.old }
+    ensures bounded { (read : List ℕ) × (length read ≤ 2 ^ 24 + 1) × Consumes (S.left src.old) (S.left src.new) read }
+{
+    match Form::of(words) {
+        Some(form) => play_and_look(alloc, &form, src, out),
+        None => BAD_USAGE,
+    }
+}

@@ -1,0 +1,35 @@
+ghost use Rattle.std.specs.Prelude.{List, map, IfSome, IfNone, string_bytes};
+
+/// What the program is asked for.
+#[derive(Clone, Copy)]
+pub enum Form {
+    /// `log`: what happened, event by event.
+    Log,
+}
+
+impl Form {
+    ghost use Rattle.hn_look.specs.Form.{IsFormOf, IsPlainWord};
+
+    /// The form without a name of this word.
+    fn plain(word: &str) -> Option<Form>
+        ensures found { IfSome result (λ form. IsPlainWord form word.now) }
+        ensures none { IfNone result ((form : Form) → IsPlainWord form word.now → ⊥) }
+    {
+        match word {
+            "log" => Some(Form::Log),
+            _ => None,
+        }
+    }
+
+    /// The form that the words of the command line ask for, the program's name among them; `None` if and only if they
+    /// are bad usage. Never allocates.
+    pub fn of(words: &[String]) -> Option<Form>
+        ensures found { IfSome result (λ form. IsFormOf form (map string_bytes words.now)) }
+        ensures none { IfNone result ((form : Form) → IsFormOf form (map string_bytes words.now) → ⊥) }
+    {
+        match words {
+            [_, form] => Form::plain(form.as_str()),
+            _ => None,
+        }
+    }
+}

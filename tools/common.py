@@ -60,12 +60,31 @@ def program():
     return found
 
 
-def call(form, data):
-    """What the program writes for these bytes, as lines, with its status. Other statuses than 0 and 2 are a problem."""
-    done = subprocess.run([program(), form], input=data, stdout=subprocess.PIPE, stderr=subprocess.PIPE)
+def looker():
+    """The path of the program hnlook: HNLOOK of the environment, or the one built in this repository."""
+    path = os.environ.get('HNLOOK') or os.path.normpath(os.path.join(HERE, '..', 'crates', 'hnlook', 'out', 'hnlook'))
+    found = shutil.which(path)
+    if not found:
+        raise Problem(f'there is no program {path}; build it by `rt run -- log` in crates/hnlook, or set HNLOOK to the path of hnlook')
+    return found
+
+
+def ask(name, words, data):
+    """What a program writes for these bytes, as lines, with its status. Other statuses than 0 and 2 are a problem."""
+    done = subprocess.run(words, input=data, stdout=subprocess.PIPE, stderr=subprocess.PIPE)
     if done.returncode not in (0, 2):
-        raise Problem(f'hncp {form} ended with status {done.returncode}: {done.stderr.decode("ascii", "replace").strip()}')
+        raise Problem(f'{name} {words[1]} ended with status {done.returncode}: {done.stderr.decode("ascii", "replace").strip()}')
     return done.stdout.decode('ascii', 'replace').splitlines(), done.returncode
+
+
+def call(form, data):
+    """What hncp writes for these bytes, as lines, with its status."""
+    return ask('hncp', [program(), form], data)
+
+
+def look(words, texts):
+    """What hnlook writes for a script of these lines, as lines."""
+    return ask('hnlook', [looker(), *words], joined(texts))[0]
 
 
 def decode(text):
@@ -99,9 +118,14 @@ def read_script(path):
     return [Line(place + 1, text) for place, text in enumerate(read(path) or [''])]
 
 
+def joined(texts):
+    """The bytes of a script of these lines."""
+    return ''.join(text + '\n' for text in texts).encode('latin-1')
+
+
 def play(texts):
     """The transcript of a script of these lines, as lines."""
-    return call('lab', ''.join(text + '\n' for text in texts).encode('latin-1'))[0]
+    return call('lab', joined(texts))[0]
 
 
 def processors():

@@ -3,11 +3,10 @@ import re
 
 import common
 import hosts
-import wire
+import logs
 from common import Problem
 
 MOST_COPIES = 12000       # with more of them datagrams are left out
-MOST_COUNTED = 200000     # with more of them it is not counted how many were lost
 MOST_TEXT = 8000000       # characters of decoded datagrams
 AT_ONCE = 400             # so many datagrams are decoded by one call
 
@@ -27,13 +26,13 @@ class Shown:
 class Story:
     """The play of a script, its links and hosts, and its datagrams or why there are none."""
 
-    def __init__(self, path, play):
+    def __init__(self, play):
         self.play = play
         self.changes = []                # (moment, line, order, of whom, what)
         self.links = list(hosts.prefixes_of_links(play))
         self.lanes = hosts.hosts_of_links(play, self.links)
-        self.copies, self.injected, self.delivered = [], [], None
-        self.missing = self.read_wire(path)
+        self.copies, self.injected = [], []
+        self.missing = self.read_log()
         self.tell_marks()
         self.tell_routers()
         self.tell_links()
@@ -54,34 +53,16 @@ class Story:
 
     # Datagrams
 
-    def read_wire(self, path):
+    def read_log(self):
         """Reads the datagrams. The answer says why there are none, or nothing."""
-        made, waiting = self.made()
-        if self.play.losses:
-            self.delivered = self.count_delivered()
-            text = f'The script has a loss of {max(self.play.losses)} %.'
-            if self.delivered is not None:
-                text += f' Of {made} copies {self.delivered} were delivered, and {made - waiting - self.delivered} lost.'
-            return f'{text} Which ones hncp does not tell: only a script without loss can be unrolled.'
+        made, _ = self.made()
         if made > MOST_COPIES:
             return f'There are {made} copies. With more than {MOST_COPIES} they are left out.'
-        try:
-            found = wire.Wire(path)
-        except Problem as problem:
-            return f'There are no datagrams: {problem}.'
-        self.copies, self.injected = found.copies, found.injected
+        log = logs.of_script(self.play.lines)
+        if len(log.copies) != made:
+            raise Problem(f'hnlook tells of {len(log.copies)} copies, and hncp of {made}: they are not of one version')
+        self.copies, self.injected = log.copies, log.injected
         return None
-
-    def count_delivered(self):
-        """How many copies were delivered in a script with loss: those that come over the loopback. Nothing where it cannot be
-        known."""
-        if self.made()[0] > MOST_COUNTED or any(line.word in ('deliver', 'sync') for line in self.play.happen):
-            return None
-        try:
-            transcript, heard = wire.play_over_loopback([line.text for line in self.play.lines])
-        except Problem:
-            return None
-        return len(heard) if transcript == self.play.own else None
 
     # What changed
 
@@ -136,25 +117,23 @@ class Story:
 
     def tell_datagrams(self):
         for copy in self.copies:
-            for moment, fate in copy.fates:
+            for moment, fate, absence in copy.fates:
                 if fate == 'drop':
-                    self.add(moment, LAST, 'copies', f'copy {copy.number} is dropped, from {side(copy.sender)} to {side(copy.receiver)}')
+                    self.add(moment, LAST, 'copies', lost(copy, absence))
         self.tell_peers()
         made, waiting = self.made()
         told = f'{made} made, {waiting} waiting'
+        if self.missing is None:
+            dropped = sum(bool(copy.fates) and all(fate == 'drop' for _, fate, _ in copy.fates) for copy in self.copies)
+            told += f', {dropped} dropped'
         if self.play.losses:
             told += f', with a loss of {max(self.play.losses)} %'
-            if self.delivered is not None:
-                told += f', {self.delivered} delivered, {made - waiting - self.delivered} lost'
-        elif self.missing is None:
-            lost = sum(bool(copy.fates) and all(fate == 'drop' for _, fate in copy.fates) for copy in self.copies)
-            told += f', {lost} dropped'
         self.add(self.end(), LAST, 'copies', told)
 
     def tell_peers(self):
         """Peers as nodes publish them, when their data come by for the first time."""
         names, known = {node: name for name, node in self.play.home.routers.items()}, {}
-        heard = [(moment, copy.number, copy.data) for copy in self.copies for moment, fate in copy.fates if fate == 'deliver' and copy.data]
+        heard = [(moment, copy.number, copy.data) for copy in self.copies for moment, fate, _ in copy.fates if fate == 'deliver']
         starts = [(moment, self.play.home.routers[self.play.lines[line - 1].words[1]]) for moment, line in self.play.marks
                   if self.play.lines[line - 1].word == 'start']
         for moment, _, data in sorted(heard, key=lambda each: each[:2]):
@@ -170,10 +149,11 @@ class Story:
                         self.add(moment, LAST, names.get(node, node), f'peer {word}: {names.get(peer, peer)} {far} by endpoint {own}')
 
 
-def side(endpoint):
-    if endpoint is None:
-        return 'an unknown endpoint'
-    return f'{endpoint[0]} {endpoint[1] if endpoint[1] is not None else "(endpoint unknown)"}'
+def lost(copy, absence):
+    """What is told of a copy that was dropped, and of why it could not be delivered, if so."""
+    (sender, own), (receiver, far) = copy.sender, copy.receiver
+    way = f'from {sender} {own} to {receiver} {far}'
+    return f'copy {copy.number} is dropped, {way}: {absence}' if absence else f'copy {copy.number} is lost, {way}'
 
 
 def shown_change(before, now):

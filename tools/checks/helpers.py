@@ -48,6 +48,20 @@ def need(*names):
             raise Missing(f'there is no {name}')
 
 
+def looks_in():
+    """Whether the program hnlook is there."""
+    try:
+        return bool(common.looker())
+    except common.Problem:
+        return False
+
+
+def need_look():
+    """What needs hnlook is skipped where it is not there."""
+    if not looks_in():
+        raise Missing('there is no hnlook')
+
+
 def is_static(transcript):
     refused = common.refusal(transcript)
     return bool(refused) and refused[1] in common.CODES_BEFORE_PLAY

@@ -171,43 +171,99 @@ def write_capture(path, frames):
 
 # Scripts
 
-def random_script(chance):
-    """The lines of a script without loss: routers on links, ticks, deliveries, repeats, stops, new links, runs and flows."""
-    routers, links = [f'r{k}' for k in range(chance.randrange(2, 5))], ['K', 'L']
-    texts = ['hncp 1', f'seed {chance.randrange(1000)}'] + [f'link {link}' for link in links]
-    attached = {}
-    for k, name in enumerate(routers):
-        texts += [f'router {name} {k + 1:08x}', f'attach {name} 1 {links[0]}']
-        attached[name] = links[0]
-    moment, stopped = 0, set()
-    for _ in range(chance.randrange(5, 30)):
-        name, way = chance.choice(routers), chance.randrange(11)
-        if way == 0:
-            moment += chance.choice([100, 200, 1000])
-            texts.append(f'run {moment} {chance.choice([50, 100, 130])}')
-        elif way == 1:
-            texts.append('flow')
-        elif way in (2, 3):
-            moment += chance.choice([0, 90, 150, 400])
-            texts.append(f'time {moment}')
-            texts += [f'tick {each}' for each in routers if each not in stopped]
-        elif way in (4, 5):
-            for _ in range(chance.randrange(1, 5)):  # one of the last copies, each of which may have come by the one before
-                last = common.play(texts + ['mail'])[-1]
-                copies = int(last.split()[1][7:]) if last.startswith('mail') else 0
-                word = chance.choice(['drop', 'deliver', 'deliver', 'deliver'])
-                texts += [f'{word} {copies - chance.randrange(min(copies, 3))}'] if copies else []
-        elif way == 6 and name not in stopped and chance.randrange(2):
-            stopped.add(name)
-            texts.append(f'stop {name}')
-        elif way == 7:
-            stopped.discard(name)
-            texts.append(f'start {name}')
-        elif way == 8 and name not in stopped:
-            texts.append(f'detach {name} 1' if name in attached else f'attach {name} 1 {chance.choice(links)}')
-            attached.pop(name) if name in attached else attached.update({name: texts[-1].split()[-1]})
-        elif way == 9:
-            texts += ['mail', f'show {name}']
-        elif way == 10 and name not in stopped:
-            texts.append(f'external {name} 2001:db8::/56 {chance.choice([1, 60])} 1')
-    return texts + ['mail'] + [f'show {name}' for name in routers]
+class RandomHome:
+    """A random script of version 2, with most of its words. Few of its lines are refused."""
+
+    def __init__(self, chance, is_lossy):
+        self.chance = chance
+        self.routers = [f'r{k}' for k in range(1, chance.randrange(3, 6))]
+        self.links = ['K', 'L', 'M']
+        self.moment = 0
+        self.attached = {}        # (router, endpoint) -> link
+        self.stopped = set()
+        self.texts = ['hncp 2', f'seed {chance.randrange(2 ** 32)}'] + [f'link {link}' for link in self.links]
+        if is_lossy:
+            self.texts.append(f'loss {chance.choice([3, 10, 30, 50])}')
+        for number, name in enumerate(self.routers, 1):
+            self.texts.append(f'router {name} {number:08x}')
+            self.attach(name, 1, 'K' if chance.randrange(4) else 'L')
+            if chance.randrange(2):
+                self.attach(name, 2, 'M')
+        self.texts.append('external r1 2001:db8::/56 7200 3600')
+        ways = [each for each in dir(self) if each.startswith('put_')]
+        for _ in range(chance.randrange(6, 26)):
+            getattr(self, chance.choice(ways))(chance.choice(self.routers))
+        self.texts += [f'show {name}' for name in self.routers] + ['mail']
+
+    def attach(self, name, endpoint, link):
+        self.attached[name, endpoint] = link
+        self.texts.append(f'attach {name} {endpoint} {link}')
+
+    def put_run(self, _):
+        self.moment += self.chance.choice([100, 300, 1000, 3000])
+        self.texts.append(f'run {self.moment} {self.chance.choice([50, 100, 130])}')
+
+    put_rounds = put_run
+
+    def put_long_run(self, _):
+        self.moment += self.chance.choice([20000, 50000])
+        self.texts.append(f'run {self.moment} {self.chance.choice([500, 1000, 2500])}')
+
+    def put_ticks(self, _):
+        self.moment += self.chance.choice([0, 90, 150, 400])
+        self.texts += [f'time {self.moment}'] + [f'tick {each}' for each in self.routers if each not in self.stopped]
+
+    def put_flow(self, _):
+        self.texts.append('flow')
+
+    def put_copies(self, _):
+        for _ in range(self.chance.randrange(1, 4)):
+            self.texts.append(f'{self.chance.choice(["deliver", "deliver", "drop"])} {self.chance.randrange(1, 16)}')
+
+    def put_inject(self, name):
+        data = self.chance.choice(INJECTED) if self.chance.randrange(5) else self.chance.randbytes(self.chance.randrange(9))
+        self.texts.append(f'inject {name} {self.chance.randrange(1, 3)} {self.chance.choice(["uni", "multi", "far"])} {data.hex() or "-"}')
+
+    def put_endpoint(self, name):
+        endpoint = self.chance.randrange(1, 4)
+        if (name, endpoint) in self.attached:
+            del self.attached[name, endpoint]
+            self.texts.append(f'detach {name} {endpoint}')
+        else:
+            self.attach(name, endpoint, self.chance.choice(self.links))
+
+    def put_stop(self, name):
+        self.texts.append(f'start {name}' if name in self.stopped else f'{self.chance.choice(["stop", "start"])} {name}')
+        (self.stopped.add if self.texts[-1].startswith('stop') else self.stopped.discard)(name)
+
+    def put_prefix(self, name):
+        prefix = f'2001:db8:{self.chance.randrange(1, 4):x}::/{self.chance.choice([56, 62, 64])}'
+        goes, valid = self.chance.randrange(3) == 0, self.chance.choice([1, 60, 7200])
+        self.texts.append(f'withdraw {name} {prefix}' if goes else f'external {name} {prefix} {valid} 1')
+
+    def put_choice(self, name):
+        number = self.chance.randrange(8)
+        lines = [f'private {name} 64', f'private {name} off', f'address {name}', f'ula {name}', f'caps {name} 0 {number} 0 4']
+        self.texts.append(self.chance.choice(lines))
+
+    def put_sync(self, name):
+        self.texts.append(f'sync {name} {self.chance.choice([each for each in self.routers if each != name])}')
+
+    def put_reports(self, name):
+        self.texts += ['mail', f'show {name}']
+
+
+INJECTED = [tlv(1, b''), tlv(3, bytes.fromhex('0000000900000001')) + tlv(1, b''), tlv(3, bytes.fromhex('0000000200000001')) + tlv(1, b''),
+            tlv(3, bytes.fromhex('0000000900000001')) + tlv(4, bytes(8)),
+            tlv(3, bytes.fromhex('0000000100000001')) + tlv(2, bytes.fromhex('00000002')),
+            bytes.fromhex('00030008000000090000000100050024000000090000000100000000f0f91d40654589650008000c000000010000000100000001')]
+
+
+def random_home(chance, is_lossy):
+    """The lines of a random script, without those that are refused; one script in ten keeps them."""
+    texts = RandomHome(chance, is_lossy).texts
+    refused = chance.randrange(10) and common.refusal(common.play(texts))
+    while refused:
+        del texts[refused[0] - 1]
+        refused = common.refusal(common.play(texts))
+    return texts

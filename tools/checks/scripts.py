@@ -1,4 +1,4 @@
-"""The checks of what reads scripts and transcripts: trace, annotate, picture, seeds and explain."""
+"""The checks of what reads scripts and transcripts: annotate, picture, seeds and explain."""
 import collections
 import os
 import random
@@ -10,68 +10,7 @@ import subprocess
 import common
 import items
 from checks import samples
-from checks.helpers import SEED, is_static, lines_of, must, must_be, need, run, short
-
-
-# trace
-
-def is_suited(path, transcript):
-    """A script that is played, without a loss, and not refused in the midst of a line."""
-    if is_static(transcript):
-        return False
-    lines, refused = common.read_script(path), common.refusal(transcript)
-    if refused and lines[refused[0] - 1].word in ('run', 'flow') and refused[1] in (9, 16):
-        return False
-    return not any(line.word == 'loss' and int(line.words[1]) > 0 for line in lines[1:])
-
-
-def reports(texts, transcript):
-    """A transcript without its notes; a refusal has the text of the line that was refused in place of its number."""
-    refused = common.refusal(transcript)
-    if refused:
-        transcript = transcript[:-1] + [f'refused "{texts[refused[0] - 1]}" {refused[1]}']
-    return [line for line in transcript if not line.startswith('note ')]
-
-
-def is_among(some, many):
-    """Whether all of some are among many, in this order."""
-    rest = iter(many)
-    return all(each in rest for each in some)
-
-
-def compare_trace(texts, transcript, path):
-    """Compares a script's transcript with that of the unrolled one. The answer: how many lines treat a copy."""
-    unrolled = lines_of('trace', path)
-    again = common.play(unrolled)
-    must_be(reports(unrolled, again), reports(texts, transcript), f'{short(path)}: reports')
-    must(is_among([line for line in transcript if line.startswith('note ')], again), f'{short(path)}: a note is missing')
-    played = unrolled[:common.refusal(again)[0] - 1] if common.refusal(again) else unrolled
-    left = [text for text in played if text.split()[:1] in (['run'], ['flow'])]
-    must(not left, f'{short(path)}: {left[:1]} is not unrolled')
-    return sum(text.startswith(('deliver ', 'drop ')) for text in unrolled)
-
-
-def check_trace(folder):
-    suited = treated = 0
-    for path in samples.scripts():
-        transcript = samples.transcript_of(path)
-        if not is_suited(path, transcript):
-            status, _, messages = run('trace', path)
-            must(status == 1 and messages.count('\n') == 1, f'{short(path)}: not suited, and status {status}')
-            continue
-        suited += 1
-        treated += compare_trace(common.read(path), transcript, path)
-    must(suited >= 50 and treated >= 1000, f'too few: {suited} scripts are suited, with {treated} copies')
-    chance, path, refused, more = random.Random(SEED), os.path.join(folder, 'random.script'), 0, 40
-    for _ in range(more):
-        texts = samples.random_script(chance)
-        transcript = common.play(texts)
-        refused += common.refusal(transcript) is not None
-        with open(path, 'w') as file:
-            file.write('\n'.join(texts) + '\n')
-        treated += compare_trace(texts, transcript, path)
-    must(refused < more / 2, f'too many of the random scripts are refused: {refused}')
-    return f'{suited} scripts of the data and {more} random ones, {treated} copies treated'
+from checks.helpers import SEED, is_static, lines_of, looks_in, must, must_be, need, short
 
 
 # annotate
@@ -118,7 +57,30 @@ def check_annotate(folder):
     with open(path, 'w') as file:
         file.write('show A\n')
     lines_of('annotate', samples.scripts()[0], path, status=1)
-    return f'{written} lines with their script lines and moments'
+    return f'{written} lines with their script lines and moments, {check_annotated_logs() if looks_in() else "no"} events'
+
+
+def check_annotated_logs():
+    """Without a transcript: the events that a line made are those of the line when it is played up to there. The answer: how
+    many events."""
+    total = 0
+    for path in samples.scripts():
+        transcript, lines = samples.transcript_of(path), common.read_script(path)
+        refused = common.refusal(transcript)
+        if is_static(transcript) or len(lines) > 60 or refused and refused[1] in (9, 16):
+            continue
+        columns = [line.split('\t', 3) for line in lines_of('annotate', path)]
+        events = [each for each in columns if not each[3].startswith(('  ', 'refused '))]
+        copies = sum(each[3].startswith('  copy ') for each in columns)
+        said = common.play([line.text for line in lines[:refused[0] - 1 if refused else None]] + ['mail'])[-1]
+        must(said.split()[1] == f'copies={copies}', f'{short(path)}: {copies} copies, and {said}')
+        moments = [int(each[1]) for each in events]
+        must(moments == sorted(moments) and [int(each[0]) for each in events] == sorted(int(each[0]) for each in events), f'{short(path)}: the order')
+        for number, moment in {int(each[0]): int(each[1]) for each in events}.items():
+            if lines[number - 1].word in ('run', 'time') and not (refused and number >= refused[0]):
+                check_moment(lines, number, moment)
+        total += len(events)
+    return total
 
 
 # picture

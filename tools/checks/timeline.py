@@ -1,4 +1,5 @@
 """The check of timeline: its text, its page in a browser, what hosts hold, and that it shows nothing where a play changes."""
+import collections
 import ipaddress
 import json
 import os
@@ -8,9 +9,9 @@ import re
 import common
 import hosts
 import looks
-from checks import samples
+from checks import loopback, samples, unrolled
 from checks.browser import Browser
-from checks.helpers import SEED, Missing, lines_of, must, must_be, run, short
+from checks.helpers import SEED, Missing, lines_of, must, must_be, need_look, run, short
 
 LOOKED = 'two_routers_meet.script'          # each round of it is played by itself
 PAGES = ['a_power_cut.script', 'hosts_are_told_of_a_new_prefix.script', 'a_lossy_home.script', 'a_forging_guest.script']
@@ -18,6 +19,7 @@ SENT = 'hosts_are_told_of_a_new_prefix.script'
 LARGE = 32
 OPENS = 3                                   # seconds
 ATTEMPTS = 5
+TRIED_DROPS = 10                            # at each page
 CLICKS = 3                                  # at each page
 MOST_BYTES = 20 * 2 ** 20
 
@@ -177,29 +179,60 @@ def data_of(path):
 
 
 def compare_copies(name, data):
-    """The page's copies are those that tools/trace treats; what they say is what `hncp decode` says."""
-    status, text, _ = run('trace', path_of(name))
-    if status:
-        must(data['missing'] and not data['copies'], f'{name}: copies, though trace refuses it')
-        return compare_losses(name, data)
-    treated = [line.split() for line in text.splitlines() if line.startswith(('deliver ', 'drop '))]
-    expected = sorted((int(copy), 0 if word == 'deliver' else 2) for word, copy in treated)
-    must_be(sorted((each[8], each[6]) for each in data['copies'] if each[8]), expected, f'{name}: copies')
-    injected = [common.decode('' if digits == '-' else digits) for digits in samples.injected(path_of(name))]
+    """The page has each copy, with its fate as hncp alone shows it; what copies say is what `hncp decode` says."""
+    path = path_of(name)
+    must(data['missing'] is None, f'{name}: {data["missing"]}')
+    injected = [common.decode('' if digits == '-' else digits) for digits in samples.injected(path)]
     found = [data['texts'][each[7]].split('\n') for each in data['copies'] if not each[8]]
     must_be(found, injected, f'{name}: injected datagrams')
-    return len(expected)
-
-
-def compare_losses(name, data):
-    """Of a script with loss: as many copies are lost as its loss makes likely, five standard deviations aside."""
-    found = re.search(r'loss of (\d+) %. Of (\d+) copies (\d+) were delivered, and (\d+) lost', data['missing'])
-    if not found:
-        return 0     # the loopback cannot be heard
-    loss, made, delivered, lost = map(int, found.groups())
-    must(abs(lost - made * loss / 100) < 5 * (made * loss / 100 * (1 - loss / 100)) ** 0.5, f'{name}: {lost} of {made} lost, by {loss} %')
-    must(delivered + lost == made, f'{name}: {delivered} and {lost} are not {made}')
+    made, waiting = (int(each.split('=')[1]) for each in common.play(common.read(path) + ['mail'])[-1].split()[1:])
+    numbers = {each[8] for each in data['copies'] if each[8]}
+    must(numbers == set(range(1, made + 1)), f'{name}: {len(numbers)} copies, and not {made}')
+    must(sum(each[6] == 1 for each in data['copies']) == waiting, f'{name}: not {waiting} copies wait')
+    losses = [int(line.words[1]) for line in common.read_script(path)[1:] if line.word == 'loss']
+    if any(losses):
+        compare_losses(name, data, max(losses))
+    else:
+        compare_fates(name, data)
     return made
+
+
+def compare_fates(name, data):
+    """In the unrolled script each copy that the page delivers can be delivered there, and of those that it drops none."""
+    texts, treats = unrolled.unroll(common.read_script(path_of(name)))
+    fates = collections.defaultdict(list)
+    for each in data['copies']:
+        if each[8] and each[6] != 1:
+            fates[each[8]].append('deliver' if each[6] == 0 else 'drop')
+    drops = []
+    for place, text in enumerate(texts):
+        word, _, number = text.partition(' ')
+        if word not in ('deliver', 'drop'):
+            continue
+        fate = fates[int(number)].pop(0) if fates[int(number)] else None
+        must(place in treats or fate == word, f'{name}: the line "{text}", and the page has {fate}')
+        if place in treats:
+            texts[place] = f'{fate} {number}'
+            drops += [place] if fate == 'drop' else []
+    must(not any(fates.values()), f'{name}: the page has more fates than copies')
+    must(not common.refusal(common.play(texts)), f'{name}: a copy cannot be delivered')
+    for place in drops[:TRIED_DROPS]:
+        again = texts[:place] + [texts[place].replace('drop', 'deliver')]
+        refused = common.refusal(common.play(again))
+        must(refused and refused[0] == place + 1 and refused[1] in (11, 12), f'{name}: "{texts[place]}", and it can be delivered')
+
+
+def compare_losses(name, data, loss):
+    """In a script with loss as many copies are lost as its loss makes likely, five standard deviations aside; and as many are
+    delivered as come over the loopback of `hncp udp`."""
+    lost, delivered = (sum(each[6] == fate and each[8] > 0 for each in data['copies']) for fate in (2, 0))
+    made = lost + delivered
+    must(abs(lost - made * loss / 100) < 5 * (made * loss / 100 * (1 - loss / 100)) ** 0.5, f'{name}: {lost} of {made} lost, by {loss} %')
+    try:
+        _, heard = next(loopback.plays([common.read(path_of(name))]))
+    except Missing:
+        return
+    must(len(heard) == delivered, f'{name}: {delivered} copies are delivered, and {len(heard)} came over the loopback')
 
 
 def open_page(browser, path):
@@ -247,8 +280,7 @@ def check_arrows(browser, path):
 
 
 def large_script(path):
-    """A tree of routers, of which each has a link of its own, for a minute and a half. With a loss, so without
-    datagrams."""
+    """A tree of routers, of which each has a link of its own, for a minute and a half, with a loss."""
     texts = ['hncp 2', 'seed 1', 'loss 1'] + [f'link l{k}' for k in range(1, LARGE + 1)]
     for k in range(1, LARGE + 1):
         texts += [f'router r{k} {k:08x}', f'attach r{k} 2 l{k}'] + ([f'attach r{k} 1 l{k // 2}'] if k > 1 else [])
@@ -257,6 +289,7 @@ def large_script(path):
 
 
 def check_timeline(folder):
+    need_look()
     told = compare_text()
     cases = compare_hosts()
     compare_sent()
@@ -270,7 +303,7 @@ def check_timeline(folder):
     script, large = os.path.join(folder, 'large.script'), os.path.join(folder, 'large.html')
     large_script(script)
     lines_of('timeline', '--every', '1000', '--html', large, script)
-    must(os.path.getsize(large) < MOST_BYTES / 8, f'the page of {LARGE} routers has {os.path.getsize(large)} bytes')
+    must(os.path.getsize(large) < MOST_BYTES / 4, f'the page of {LARGE} routers has {os.path.getsize(large)} bytes')
     text = f'{told} changes by plays of their own, {played} looks, {cases} cases of hosts, {copies} copies'
     return f'{text}, {in_browser(pages, script, large)}'
 

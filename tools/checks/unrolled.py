@@ -1,17 +1,11 @@
-#!/usr/bin/env python3
-"""Unrolls `run` and `flow` of a script into `time`, `tick`, `deliver` and `drop`, and writes the script that comes out.
+"""A script without loss, unrolled by hncp alone: `time`, `tick` and a line for each copy in place of `run` and `flow`.
 
-The new script says the same at each report. Each datagram is now delivered by a line of its own, which writes the notes
-that its router took; `tools/annotate` says at which moment. A script that loses copies cannot be unrolled, since `flow`
-draws a random word for each copy then.
+It knows nothing of hnlook. Which copies wait when is found by `mail` lines and by plays of their own, so what it gives is held
+against the log.
 """
-import sys
-
-sys.dont_write_bytecode = True
 import common
+import looks
 from common import Problem
-
-MOST_ROUNDS = 1000000  # a script has no more events than this, and each round is one at least
 
 
 class Probe:
@@ -28,7 +22,7 @@ class Probe:
             words = line.words
             rounds = None
             if line.number > 1 and line.word == 'run' and int(words[1]) >= moment:
-                rounds = moments(moment, int(words[1]), int(words[2]), line.number)
+                rounds = looks.rounds_of(moment, int(words[1]), int(words[2]), line.number)
                 moment = int(words[1])
             elif line.number > 1 and line.word == 'time':
                 moment = int(words[1])
@@ -46,7 +40,7 @@ class Probe:
                 self.add('mail', line.number, True)
         self.transcript = common.play(self.texts)
         if common.refusal(self.transcript) == (0, 15):
-            raise Problem('the script has too many rounds; it cannot be unrolled')
+            raise Problem('the script has too many rounds')
         self.mails = self.read_mails()
 
     def add(self, text, line, inside):
@@ -71,7 +65,7 @@ class Probe:
             return None
         line, inside = self.owners[refused[0] - 1]
         if inside:
-            raise Problem(f'line {line} is refused in its midst, with code {refused[1]}; it cannot be unrolled')
+            raise Problem(f'line {line} is refused in its midst, with code {refused[1]}')
         return line
 
     def waiting(self, line, floor):
@@ -84,13 +78,6 @@ class Probe:
         drops = [text for copy in numbers for text in (f'drop {copy}', 'mail')]
         said = mail_counts(common.play(self.texts[:self.starts[line] + 1] + drops))[-len(numbers) - 1:]
         return [copy for copy, before, after in zip(numbers, said, said[1:]) if after[1] < before[1]]
-
-
-def moments(start, stop, step, line):
-    """The moments of the rounds of a `run`."""
-    if (stop - start) // step > MOST_ROUNDS:
-        raise Problem(f'line {line} has more than {MOST_ROUNDS} rounds; it cannot be unrolled')
-    return [min(t, stop) for t in range(start + step, stop + step, step)]
 
 
 def mail_counts(transcript):
@@ -115,8 +102,7 @@ def unroll(lines):
             texts.append(line.text)
             continue
         if probe.loss[line.number]:
-            raise Problem(f'line {line.number} meets a loss of {probe.loss[line.number]}; only a script without loss can be unrolled')
-        texts.append(f'# line {line.number}: {" ".join(line.words)}')
+            raise Problem(f'line {line.number} meets a loss of {probe.loss[line.number]}')
         waiting = probe.waiting(line.number, floor)
         counts = [made for made, _ in probe.mails[line.number]]
         for place, moment in enumerate(probe.plans[line.number] or []):
@@ -135,29 +121,3 @@ def treat(texts, treats, copies):
     for copy in copies:
         treats.add(len(texts))
         texts.append(f'deliver {copy}')
-
-
-def drop_what_is_away(texts, treats):
-    """`flow` drops a copy whose router is stopped or whose endpoint is detached. A delivery that is refused for that
-    becomes `drop`, one after another."""
-    while True:
-        refused = common.refusal(common.play(texts))
-        if not refused or refused[0] - 1 not in treats:
-            return
-        if refused[1] not in (11, 12):
-            raise Problem(f'the new script is refused at its line {refused[0]}, with code {refused[1]}')
-        texts[refused[0] - 1] = texts[refused[0] - 1].replace('deliver', 'drop')
-
-
-def main():
-    words = common.parser(__doc__, [('script', {'metavar': 'SCRIPT', 'help': 'a script of hncp lab'})]).parse_args()
-    lines = common.read_script(words.script)
-    common.must_be_played(common.play(line.text for line in lines))
-    texts, treats = unroll(lines)
-    if sum(len(text) + 1 for text in texts) > 2 ** 24:
-        raise Problem('the new script has more than 2^24 bytes')
-    drop_what_is_away(texts, treats)
-    print('\n'.join(texts))
-
-
-common.end(main)

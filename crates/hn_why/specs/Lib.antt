@@ -1,0 +1,4 @@
+pub mod Words
+pub mod Unsettled
+pub mod Unquiet
+pub mod Why

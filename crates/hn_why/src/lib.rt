@@ -1,0 +1,9 @@
+//! Why a router is not settled, or not quiet, in words.
+#![tactic(auto)]
+
+mod link;
+mod unquiet;
+mod unsettled;
+mod why;
+
+pub use why::why_text;

@@ -1,12 +1,15 @@
 -- The words of the command line ask for one form.
-use Rattle.std.proofs.Common.{◌≡◌, ℕ, ◌<◌, List, [], ◌∷◌, length, get_or, map, Option, None, Some, sym, ap, subst, ◌∙◌}
+use Rattle.std.proofs.Common.{◌≡◌, ◌≢◌, ◌⊎◌, inl, inr, ℕ, ◌<◌, ◌≤◌, List, [], ◌∷◌, length, get_or, codes, refl, Option, None, Some, sym, ap, subst, ◌∙◌, arith}
 use Rattle.std.specs.Prelude.{IfNone}
 use Rattle.std.proofs.lemmas.List.{get_or-map}
+use Rattle.std.specs.Prelude.{map}
+use Rattle.hn_base.specs.Name.{name_text}
+use Rattle.hn_base.specs.declared.name.Name.{Name}
 use Rattle.hn_world.specs.declared.parts.Parts.{Parts}
-use Rattle.hn_look.specs.Form.{IsPlainWord, IsFormOf}
-use Rattle.hn_look.specs.Look.{Sees, SeesLog}
+use Rattle.hn_look.specs.Form.{IsNamed, IsPlainWord, AreNamedWords, IsFormOf}
+use Rattle.hn_look.specs.Look.{Sees, SeesLog, SeesTable, SeesWhy, MayStarve}
 use Rattle.hn_look.specs.declared.words.Form.{Form}
-use Rattle.hn_look.specs.declared.words.Form.TheVariants.{Log}
+use Rattle.hn_look.specs.declared.words.Form.TheVariants.{Log, Table, Why}
 
 -- the text of the word at a place
 pub word_at : {A : Type 0} (text : A → List ℕ) (words : List A) (i : ℕ) (word : A) (found : List ℕ) → i < length words → word ≡ get_or words i word → found ≡ text word
@@ -18,16 +21,62 @@ at words more i same = ap (λ (found : List (List ℕ)). get_or found i []) same
 
 plain_word : (form : Form) (words : List (List ℕ)) → length words < 3 → IsFormOf form words → IsPlainWord form (get_or words 1 [])
 plain_word Log words few h = at words _ 1 h.1
+plain_word (Table name) words few h = absurd (omega (arith, ap length h.2))
+plain_word (Why name) words few h = absurd (omega (arith, ap length h.2))
 
--- two words are bad usage if the second is no form's
+named_words : (form : Form) (words : List (List ℕ)) → length words ≡ 3 → IsFormOf form words → AreNamedWords form (get_or words 1 []) (get_or words 2 [])
+named_words Log words three h = absurd (omega (arith, ap length h.1))
+named_words (Table name) words three h = (at words _ 1 h.2, subst (IsNamed name) (sym (at words _ 2 h.2)) h.3)
+named_words (Why name) words three h = (at words _ 1 h.2, subst (IsNamed name) (sym (at words _ 2 h.2)) h.3)
+
+-- two words are bad usage if the second is no form's, and three if the further one is none's
 pub no_plain_form : (r : Option Form) (word : List ℕ) (words : List (List ℕ)) → length words < 3 → get_or words 1 [] ≡ word
     → IfNone r ((form : Form) → IsPlainWord form word → ⊥) → IfNone r ((form : Form) → IsFormOf form words → ⊥)
 no_plain_form None word words few is none = λ form h. none form (subst (IsPlainWord form) is (plain_word form words few h))
 no_plain_form (Some found) word words few is none = tt
 
--- what is said of the form that was found is said of the one that is asked for
-pub as_log : (P : (Parts → ℕ → List ℕ → Type 0) → Type 0) (words : List (List ℕ)) (form : Form) → IsFormOf form words → IsFormOf Log words → P (Sees form) → P SeesLog
-as_log P words Log found asked holds = holds
+pub no_named_form : (r : Option Form) (word name : List ℕ) (words : List (List ℕ)) → length words ≡ 3 → get_or words 1 [] ≡ word → get_or words 2 [] ≡ name
+    → IfNone r ((form : Form) → AreNamedWords form word name → ⊥) → IfNone r ((form : Form) → IsFormOf form words → ⊥)
+no_named_form None word name words three first second none = λ form h.
+    let asks = named_words form words three h in
+    none form (subst (λ (w : List ℕ). AreNamedWords form word w) second (subst (λ (w : List ℕ). AreNamedWords form w (get_or words 2 [])) first asks))
+no_named_form (Some found) word name words three first second none = tt
 
-pub sees_log : (form : Form) (w : Parts) (status : ℕ) (text : List ℕ) → SeesLog w status text → Sees form w status text
-sees_log Log w status text h = h
+-- no other words ask for a form
+pub no_form : (words : List (List ℕ)) → length words < 2 ⊎ 3 < length words → (form : Form) → IsFormOf form words → ⊥
+no_form words many Log h = let long = ap length h.1 in elim many [ inl few ↦ absurd (omega arith) | inr more ↦ absurd (omega arith) ]
+no_form words many (Table name) h = let long = ap length h.2 in elim many [ inl few ↦ absurd (omega arith) | inr more ↦ absurd (omega arith) ]
+no_form words many (Why name) h = let long = ap length h.2 in elim many [ inl few ↦ absurd (omega arith) | inr more ↦ absurd (omega arith) ]
+
+-- ---- what is said of the form that was found is said of the one that is asked for
+
+-- two names of the same words
+same_name : (words : List (List ℕ)) (p q a b word other : List ℕ) (m n : Name) → words ≡ p ∷ word ∷ a ∷ [] → words ≡ q ∷ other ∷ b ∷ [] → IsNamed m a → IsNamed n b → name_text m ≡ name_text n
+same_name words p q a b word other m n h k first second =
+    sym first.text ∙ sym (at words _ 2 h) ∙ at words _ 2 k ∙ second.text
+
+-- the words of two forms differ
+other_word : (words : List (List ℕ)) (p q a b word other : List ℕ) → words ≡ p ∷ word ∷ a ∷ [] → words ≡ q ∷ other ∷ b ∷ [] → length word ≢ length other → ⊥
+other_word words p q a b word other h k apart = apart (ap length (sym (at words _ 1 h) ∙ at words _ 1 k))
+
+module _ (P : Type 0 → (Parts → ℕ → List ℕ → Type 0) → Type 0) (words : List (List ℕ)) where
+  pub as_log : (form : Form) → IsFormOf form words → IsFormOf Log words → P (MayStarve form) (Sees form) → P ⊥ SeesLog
+  as_log Log found asked holds = holds
+  as_log (Table name) found asked holds = absurd (omega (arith, ap length (sym found.2 ∙ asked.1)))
+  as_log (Why name) found asked holds = absurd (omega (arith, ap length (sym found.2 ∙ asked.1)))
+
+  pub as_table : (form : Form) (name : Name) → IsFormOf form words → IsFormOf (Table name) words → P (MayStarve form) (Sees form) → P (Unit {0}) (SeesTable (name_text name))
+  as_table Log name found asked holds = absurd (omega (arith, ap length (sym found.1 ∙ asked.2)))
+  as_table (Table other) name found asked holds =
+      subst (λ (text : List ℕ). P (Unit {0}) (SeesTable text))
+      (same_name words found.0 asked.0 found.1 asked.1 (codes "table") (codes "table") other name found.2 asked.2 found.3 asked.3) holds
+  as_table (Why other) name found asked holds =
+      absurd (other_word words found.0 asked.0 found.1 asked.1 (codes "why") (codes "table") found.2 asked.2 (λ same. omega arith))
+
+  pub as_why : (form : Form) (name : Name) → IsFormOf form words → IsFormOf (Why name) words → P (MayStarve form) (Sees form) → P (Unit {0}) (SeesWhy (name_text name))
+  as_why Log name found asked holds = absurd (omega (arith, ap length (sym found.1 ∙ asked.2)))
+  as_why (Table other) name found asked holds =
+      absurd (other_word words found.0 asked.0 found.1 asked.1 (codes "table") (codes "why") found.2 asked.2 (λ same. omega arith))
+  as_why (Why other) name found asked holds =
+      subst (λ (text : List ℕ). P (Unit {0}) (SeesWhy text))
+      (same_name words found.0 asked.0 found.1 asked.1 (codes "why") (codes "why") other name found.2 asked.2 found.3 asked.3) holds

@@ -6,9 +6,15 @@ use Rattle.hn_io.specs.declared.fault.IoFault.TheVariants.{Failed, NoMemory}
 use Rattle.hn_lab.specs.Lab.{IsLabRun}
 use Rattle.hn_lab.specs.Reports.{refused_line}
 use Rattle.hn_lab.specs.Stage.{Mail}
+use Rattle.hn_base.specs.Name.{name_text}
+use Rattle.hn_table.specs.Table.{IsTable}
+use Rattle.hn_why.specs.Why.{IsWhy}
+use Rattle.hn_world.specs.Names.{member_named}
+use Rattle.hn_world.specs.Refusal.{of_router, unless_running}
+use Rattle.hn_world.specs.declared.member.Member.{Member}
 use Rattle.hn_world.specs.declared.parts.Parts.{Parts}
 use Rattle.hn_look.specs.declared.words.Form.{Form}
-use Rattle.hn_look.specs.declared.words.Form.TheVariants.{Log}
+use Rattle.hn_look.specs.declared.words.Form.TheVariants.{Log, Table, Why}
 use Rattle.hn_look.specs.Log.{IsLog}
 use Rattle.hn_look.specs.Output.{AppendsCut}
 
@@ -16,9 +22,41 @@ use Rattle.hn_look.specs.Output.{AppendsCut}
 abbrev pub SeesLog : Parts → ℕ → List ℕ → Type 0
 SeesLog w status text = (status ≡ 0) × IsLog w text
 
+-- a name is refused: with this code, and with no number of a line
+abbrev pub Refuses : ℕ → ℕ → List ℕ → Type 0
+Refuses code status text = (status ≡ 2) × (text ≡ refused_line 0 code)
+
+-- or else a text is written
+abbrev pub Says : List ℕ → ℕ → List ℕ → Type 0
+Says text status more = (status ≡ 0) × (more ≡ text)
+
+-- `table`: what the router of the name holds; 7 is the code where there is none
+abbrev pub TableOf : List ℕ → Option Member → ℕ → List ℕ → Type 0
+TableOf name None status text = Refuses 7 status text
+TableOf name (Some m) status text = (status ≡ 0) × IsTable name m text
+
+abbrev pub SeesTable : List ℕ → Parts → ℕ → List ℕ → Type 0
+SeesTable name w status text = TableOf name (member_named name w) status text
+
+-- `why`: whether the router of the name is settled and quiet, and if not, why; there is a code where none of the name runs
+abbrev pub WhyUnless : Option ℕ → List ℕ → Parts → ℕ → List ℕ → Type 0
+WhyUnless None name w status text = (status ≡ 0) × IsWhy name w text
+WhyUnless (Some code) name w status text = Refuses code status text
+
+abbrev pub SeesWhy : List ℕ → Parts → ℕ → List ℕ → Type 0
+SeesWhy name w status text = WhyUnless (of_router unless_running (member_named name w)) name w status text
+
 -- in the way of a form
 abbrev pub Sees : Form → Parts → ℕ → List ℕ → Type 0
 Sees Log w status text = SeesLog w status text
+Sees (Table name) w status text = SeesTable (name_text name) w status text
+Sees (Why name) w status text = SeesWhy (name_text name) w status text
+
+-- Whether the memory may end before there is a text of which a part was written: a log is written event by event, and the
+-- others at once.
+abbrev pub MayStarve : Form → Type 0
+MayStarve Log = ⊥
+MayStarve _ = Unit {0}
 
 -- where a script led to no world, there is nothing to see
 abbrev pub SeesOf : (Parts → ℕ → List ℕ → Type 0) → Option Parts → ℕ → List ℕ → Type 0
@@ -55,10 +93,15 @@ Writes IsText status before after = (text : List ℕ) × IsText status text × A
 abbrev pub Cuts : (ℕ → List ℕ → Type 0) → IoFault → Option (List ℕ) → Option (List ℕ) → Type 0
 Cuts IsText fault before after = (status : ℕ) × (text : List ℕ) × IsText status text × AppendsCut fault before after text
 
+-- the memory ended before there was a text, where that may be, and nothing was written
+abbrev pub Starves : Type 0 → IoFault → Option (List ℕ) → Option (List ℕ) → Type 0
+Starves Starving Failed before after = ⊥
+Starves Starving NoMemory before after = Starving × Appends before after []
+
 -- by the answer of a call that writes
-abbrev pub Looked : (ℕ → List ℕ → Type 0) → Result ℕ IoFault → Option (List ℕ) → Option (List ℕ) → Type 0
-Looked IsText (Ok status) before after = Writes IsText status before after
-Looked IsText (Err fault) before after = Cuts IsText fault before after
+abbrev pub Looked : Type 0 → (ℕ → List ℕ → Type 0) → Result ℕ IoFault → Option (List ℕ) → Option (List ℕ) → Type 0
+Looked Starving IsText (Ok status) before after = Writes IsText status before after
+Looked Starving IsText (Err fault) before after = Cuts IsText fault before after ⊎ Starves Starving fault before after
 
 -- the status of such a call
 abbrev pub looked_status : Result ℕ IoFault → ℕ
@@ -71,16 +114,16 @@ abbrev pub IsUnseen : ℕ → ℕ → Option (List ℕ) → Option (List ℕ) �
 IsUnseen played status before after = (played ≡ 6) × (status ≡ 6) × Appends before after []
 
 -- a look at the world of a play
-pub record IsSeen (sees : Parts → ℕ → List ℕ → Type 0) (played : ℕ) (world : Option Parts) (transcript : List ℕ) (status : ℕ) (before after : Option (List ℕ)) : Type 0 where
+pub record IsSeen (Starving : Type 0) (sees : Parts → ℕ → List ℕ → Type 0) (played : ℕ) (world : Option Parts) (transcript : List ℕ) (status : ℕ) (before after : Option (List ℕ)) : Type 0 where
   pub answer : Result ℕ IoFault
   pub status_is : status ≡ looked_status answer
-  pub looked : Looked (IsLook sees played world transcript) answer before after
+  pub looked : Looked Starving (IsLook sees played world transcript) answer before after
 
--- What a form comes to that looks so, by the bytes that its source has left, where it tells them: the script that they are is
+-- What a form comes to that looks so, and may starve or not, by the bytes that its source has left, where it tells them: the script that they are is
 -- played as `lab` plays it, by mail, with a transcript; and then the world is looked at.
-pub record IsLookRun (sees : Parts → ℕ → List ℕ → Type 0) (left : Option (List ℕ)) (status : ℕ) (before after : Option (List ℕ)) : Type 0 where
+pub record IsLookRun (Starving : Type 0) (sees : Parts → ℕ → List ℕ → Type 0) (left : Option (List ℕ)) (status : ℕ) (before after : Option (List ℕ)) : Type 0 where
   pub played : ℕ
   pub world : Option Parts
   pub transcript : List ℕ
   pub plays : IsLabRun Mail Mail left played world (Some []) (Some transcript)
-  pub comes : IsUnseen played status before after ⊎ IsSeen sees played world transcript status before after
+  pub comes : IsUnseen played status before after ⊎ IsSeen Starving sees played world transcript status before after

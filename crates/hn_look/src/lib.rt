@@ -6,6 +6,7 @@ mod event_text;
 mod last_line;
 mod log;
 mod look;
+mod named;
 mod program;
 mod status;
 mod step_text;

@@ -2,10 +2,11 @@
 
 ghost use Rattle.std.specs.Prelude.{◌≡◌, ◌⊎◌, ℕ, List, Err, IfOk};
 ghost use Rattle.hn_io.specs.Faults.{Counts, IsReliable};
-ghost use Rattle.hn_look.specs.Look.{Sees, SeesOf, EndsRefused, IsLook, Looked};
+ghost use Rattle.hn_look.specs.Look.{Sees, SeesOf, EndsRefused, IsLook, MayStarve, Looked};
 
 use crate::last_line::refusal_of;
 use crate::log::write_log;
+use crate::named::{write_table, write_why};
 use crate::status::{DONE, REFUSED};
 use crate::words::Form;
 use hn_io::{IoFault, Sink};
@@ -15,7 +16,7 @@ use std::alloc::Global;
 
 /// Looks at a world in the way of a form. Answers the status.
 fn see<K: Sink>(alloc: Global, form: &Form, world: &World, out: &mut K) -> Result<u8, IoFault>
-    ensures looked { Looked (Sees form.now world.now) result (K.held out.old) (K.held out.new) }
+    ensures looked { Looked (MayStarve form.now) (Sees form.now world.now) result (K.held out.old) (K.held out.new) }
     ensures statuses { IfOk result (λ status. (status ≡ 0) ⊎ (status ≡ 2)) }
     ensures counts { Counts (result ≡ Err IoFault.Failed) (K.faults out.old) (K.faults out.new) }
     ensures reliable { IsReliable (result ≡ Err IoFault.Failed) (K.never_fails out.old) (K.never_fails out.new) }
@@ -25,6 +26,8 @@ fn see<K: Sink>(alloc: Global, form: &Form, world: &World, out: &mut K) -> Resul
             write_log(alloc, world, out)?;
             Ok(DONE)
         }
+        Form::Table(name) => write_table(alloc, name, world, out),
+        Form::Why(name) => write_why(alloc, name, world, out),
     }
 }
 
@@ -35,7 +38,7 @@ fn see_any<K: Sink>(
     world: &Option<World>,
     out: &mut K,
 ) -> Result<u8, IoFault>
-    ensures looked { Looked (SeesOf (Sees form.now) world.now) result (K.held out.old) (K.held out.new) }
+    ensures looked { Looked (MayStarve form.now) (SeesOf (Sees form.now) world.now) result (K.held out.old) (K.held out.new) }
     ensures statuses { IfOk result (λ status. (status ≡ 0) ⊎ (status ≡ 2)) }
     ensures counts { Counts (result ≡ Err IoFault.Failed) (K.faults out.old) (K.faults out.new) }
     ensures reliable { IsReliable (result ≡ Err IoFault.Failed) (K.never_fails out.old) (K.never_fails out.new) }
@@ -57,7 +60,7 @@ pub(crate) fn look<K: Sink>(
 ) -> Result<u8, IoFault>
     requires ended { (played.now.status ≡ 0) ⊎ (played.now.status ≡ 2) }
     requires refused { played.now.status ≡ 2 → (line : List ℕ) × EndsRefused transcript.now line }
-    ensures looked { Looked (IsLook (Sees form.now) played.now.status played.now.world transcript.now) result (K.held out.old) (K.held out.new) }
+    ensures looked { Looked (MayStarve form.now) (IsLook (Sees form.now) played.now.status played.now.world transcript.now) result (K.held out.old) (K.held out.new) }
     ensures statuses { IfOk result (λ status. (status ≡ 0) ⊎ (status ≡ 2)) }
     ensures counts { Counts (result ≡ Err IoFault.Failed) (K.faults out.old) (K.faults out.new) }
     ensures reliable { IsReliable (result ≡ Err IoFault.Failed) (K.never_fails out.old) (K.never_fails out.new) }

@@ -2,7 +2,9 @@ ghost use Rattle.std.specs.Prelude.{◌≡◌, ◌≢◌, ◌+◌, ◌^◌, ◌�
 ghost use Rattle.std.specs.Io.KnownBytes.{Consumes};
 ghost use Rattle.hn_io.specs.Faults.{Counts, IsReliable};
 ghost use Rattle.hn_look.specs.Form.{IsFormOf};
-ghost use Rattle.hn_look.specs.Look.{Sees, SeesLog, IsLookRun};
+ghost use Rattle.hn_look.specs.Look.{Sees, SeesLog, SeesTable, SeesWhy, MayStarve, IsLookRun};
+ghost use Rattle.hn_base.specs.Name.{name_text};
+ghost use Rattle.hn_base.specs.declared.name.Name.{Name};
 ghost use Rattle.hn_look.specs.declared.words.Form.{Form};
 
 use crate::look::look;
@@ -18,7 +20,7 @@ use std::alloc::Global;
 /// Reads a script, plays it by mail with its transcript in memory, and looks at the world that it led to. Answers the
 /// status.
 fn play_and_look<S: Source, K: Sink>(alloc: Global, form: &Form, src: &mut S, out: &mut K) -> u8
-    ensures look { result ≢ SOURCE_FAILED → IsLookRun (Sees form.now) (S.left src.old) result (K.held out.old) (K.held out.new) }
+    ensures look { result ≢ SOURCE_FAILED → IsLookRun (MayStarve form.now) (Sees form.now) (S.left src.old) result (K.held out.old) (K.held out.new) }
     ensures statuses { Contains (DONE ∷ REFUSED ∷ SOURCE_FAILED ∷ SINK_FAILED ∷ NO_MEMORY ∷ []) result }
     ensures source_counts { Counts (result ≡ SOURCE_FAILED) (S.faults src.old) (S.faults src.new) }
     ensures source_reliable { IsReliable (result ≡ SOURCE_FAILED) (S.never_fails src.old) (S.never_fails src.new) }
@@ -38,7 +40,8 @@ fn play_and_look<S: Source, K: Sink>(alloc: Global, form: &Form, src: &mut S, ou
 
 /// Runs the program: `words` are those of the command line, the program's name first. Each form reads a script and plays
 /// it as `hncp lab` does; then it looks at the world that the script led to, up to the line that is refused, if one is.
-/// `log` writes what happened, event by event.
+/// `log` writes what happened, event by event, `table` what the router of a name holds, and `why` whether it is settled
+/// and quiet, and if not, why.
 pub fn run<S: Source, K: Sink>(alloc: Global, words: &[String], src: &mut S, out: &mut K) -> u8
     // Bad usage is what no form's words are; then nothing is touched.
     ensures form { result ≡ BAD_USAGE → (form : Form) → IsFormOf form (map string_bytes words.now) → ⊥ }
@@ -47,7 +50,11 @@ pub fn run<S: Source, K: Sink>(alloc: Global, words: &[String], src: &mut S, out
 
     // What each form comes to. After status 3 there is no more to say.
     ensures log { IsFormOf Form.Log (map string_bytes words.now) → result ≢ SOURCE_FAILED
-        → IsLookRun SeesLog (S.left src.old) result (K.held out.old) (K.held out.new) }
+        → IsLookRun ⊥ SeesLog (S.left src.old) result (K.held out.old) (K.held out.new) }
+    ensures table { (name : Name) → IsFormOf (Form.Table name) (map string_bytes words.now) → result ≢ SOURCE_FAILED
+        → IsLookRun Unit (SeesTable (name_text name)) (S.left src.old) result (K.held out.old) (K.held out.new) }
+    ensures why { (name : Name) → IsFormOf (Form.Why name) (map string_bytes words.now) → result ≢ SOURCE_FAILED
+        → IsLookRun Unit (SeesWhy (name_text name)) (S.left src.old) result (K.held out.old) (K.held out.new) }
 
     // Where each status comes from. After 3 nothing was written. Reading ends after 2^24 + 1 bytes.
     ensures statuses { Contains (DONE ∷ BAD_USAGE ∷ REFUSED ∷ SOURCE_FAILED ∷ SINK_FAILED ∷ NO_MEMORY ∷ []) result }

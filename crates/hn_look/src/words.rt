@@ -1,14 +1,20 @@
 ghost use Rattle.std.specs.Prelude.{List, map, IfSome, IfNone, string_bytes};
 
+use hn_base::Name;
+
 /// What the program is asked for.
 #[derive(Clone, Copy)]
 pub enum Form {
     /// `log`: what happened, event by event.
     Log,
+    /// `table NAME`: what the router of that name holds.
+    Table(Name),
+    /// `why NAME`: whether the router of that name is settled and quiet, and if not, why.
+    Why(Name),
 }
 
 impl Form {
-    ghost use Rattle.hn_look.specs.Form.{IsFormOf, IsPlainWord};
+    ghost use Rattle.hn_look.specs.Form.{IsFormOf, IsPlainWord, AreNamedWords};
 
     /// The form without a name of this word.
     fn plain(word: &str) -> Option<Form>
@@ -21,6 +27,19 @@ impl Form {
         }
     }
 
+    /// The form with a name of these words.
+    fn named(word: &str, name: &str) -> Option<Form>
+        ensures found { IfSome result (λ form. AreNamedWords form word.now name.now) }
+        ensures none { IfNone result ((form : Form) → AreNamedWords form word.now name.now → ⊥) }
+    {
+        let name = Name::new(name.as_bytes())?;
+        match word {
+            "table" => Some(Form::Table(name)),
+            "why" => Some(Form::Why(name)),
+            _ => None,
+        }
+    }
+
     /// The form that the words of the command line ask for, the program's name among them; `None` if and only if they
     /// are bad usage. Never allocates.
     pub fn of(words: &[String]) -> Option<Form>
@@ -29,6 +48,7 @@ impl Form {
     {
         match words {
             [_, form] => Form::plain(form.as_str()),
+            [_, form, name] => Form::named(form.as_str(), name.as_str()),
             _ => None,
         }
     }

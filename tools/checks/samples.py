@@ -259,11 +259,17 @@ INJECTED = [tlv(1, b''), tlv(3, bytes.fromhex('0000000900000001')) + tlv(1, b'')
             bytes.fromhex('00030008000000090000000100050024000000090000000100000000f0f91d40654589650008000c000000010000000100000001')]
 
 
-def random_home(chance, is_lossy):
-    """The lines of a random script, without those that are refused; one script in ten keeps them."""
-    texts = RandomHome(chance, is_lossy).texts
-    refused = chance.randrange(10) and common.refusal(common.play(texts))
+def without_refused(texts):
+    """The lines of a script, without those that are refused."""
+    texts = list(texts)
+    refused = common.refusal(common.play(texts))
     while refused:
         del texts[refused[0] - 1]
         refused = common.refusal(common.play(texts))
     return texts
+
+
+def random_home(chance, is_lossy):
+    """The lines of a random script, without those that are refused; one script in ten keeps them."""
+    texts = RandomHome(chance, is_lossy).texts
+    return without_refused(texts) if chance.randrange(10) else texts

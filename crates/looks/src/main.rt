@@ -70,6 +70,7 @@ fn files(rt: &HostRuntime) -> io::Result<Vec<String>> {
     Ok(names)
 }
 
+/// Writes the line of each text.
 fn main(rt: HostRuntime) -> io::Result<()> {
     for file in files(&rt)? {
         let Some((home, look)) = file.as_str().rsplit_once('.') else {

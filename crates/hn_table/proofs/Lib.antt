@@ -1,0 +1,5 @@
+mod Lists
+mod Orders
+mod Fates
+mod Outers
+mod Tables

@@ -1,0 +1,8 @@
+use Rattle.std.proofs.Common.{◌≡◌, ◌++◌, take, string_bytes}
+use Rattle.std.specs.List.{flat_map}
+use Rattle.hn_table.specs.Lines.{backoff_line}
+use Rattle.hn_table.proofs.assignment_lines.push_backoffs.Given as goal
+
+-- those so far have a line each
+abbrev pub invariant-loop-one : goal.invariant-loop-one
+invariant-loop-one l = string_bytes l.text ≡ string_bytes l.fn.text ++ flat_map backoff_line (take l.one-index l.backoffs)

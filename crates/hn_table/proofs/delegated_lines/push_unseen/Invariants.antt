@@ -1,0 +1,9 @@
+use Rattle.std.proofs.Common.{◌≡◌, take, string_bytes}
+use Rattle.hn_table.specs.FateText.{delegated_line}
+use Rattle.hn_table.specs.InOrder.{InOrder, Adds}
+use Rattle.hn_table.specs.declared.fate.Fate.TheVariants.{Unreachable}
+use Rattle.hn_table.proofs.delegated_lines.push_unseen.Given as goal
+
+-- those so far have a line each
+abbrev pub invariant-loop-d : goal.invariant-loop-d
+invariant-loop-d l = Adds (InOrder (λ d line. line ≡ delegated_line l.node.id d Unreachable) (take l.d-index l.d-items)) (string_bytes l.fn.text) (string_bytes l.text)

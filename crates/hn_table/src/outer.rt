@@ -1,0 +1,70 @@
+//! The search for a candidate that has a prefix inside.
+
+ghost use Rattle.std.specs.Prelude.{◌≡◌, true, false, Contains, IfNone, IfSome};
+ghost use Rattle.hn_base.specs.Prefix.{PlainPrefix, IsWithin};
+ghost use Rattle.hn_data.specs.View.{plain_view};
+ghost use Rattle.hn_data.specs.declared.said.Delegation.{Delegation as ADelegation};
+ghost use Rattle.hn_deleg.specs.Live.{remaining, IsCandidate};
+ghost use Rattle.hn_table.specs.Outer.{IsOuter, IsNoOuter, IsOuterAmong, IsOuterAt, HasNoOuter, IsOuterCandidate};
+
+use hn_data::{Delegation, Entry, View, version};
+use hn_prefix::Prefix;
+
+/// What remains of a lifetime in seconds at this age of the data, in milliseconds; one of 4294967295 s never ends.
+pub(crate) fn remaining(age: u64, seconds: u32) -> u64
+    ensures { result ≡ remaining age seconds }
+{
+    if seconds == u32::MAX {
+        u64::MAX
+    } else {
+        (1000 * u64::from(seconds)).saturating_sub(age)
+    }
+}
+
+/// Whether a delegation, at this age of the data, is live, of at most 64 bits, and another one that has the prefix inside.
+fn is_outer(age: u64, d: &Delegation, prefix: &Prefix) -> bool
+    ensures yes { result ≡ true → IsOuter age prefix.now d.now }
+    ensures no { result ≡ false → IsNoOuter age prefix.now d.now }
+{
+    d.prefix.len() <= 64
+        && remaining(age, d.valid) > 0
+        && d.prefix.contains(prefix)
+        && d.prefix != *prefix
+}
+
+/// The first of the delegations of which that is so.
+fn outer_among(age: u64, delegations: &[Delegation], prefix: &Prefix) -> Option<Prefix>
+    ensures found { IfSome result (IsOuterAmong age delegations.now prefix.now) }
+    ensures none { IfNone result ((d : ADelegation) → Contains delegations.now d → IsNoOuter age prefix.now d) }
+{
+    for d in delegations {
+        if is_outer(age, d, prefix) {
+            return Some(d.prefix);
+        }
+    }
+    None
+}
+
+/// The first of the delegations of a node of which that is so, if the node has an HNCP-Version.
+fn outer_at(node: &Entry, prefix: &Prefix) -> Option<Prefix>
+    ensures found { IfSome result (IsOuterAt node.now prefix.now) }
+    ensures none { IfNone result (HasNoOuter prefix.now node.now) }
+{
+    if version(&node.body).is_none() {
+        return None;
+    }
+    outer_among(node.age, node.body.delegations(), prefix)
+}
+
+/// Another candidate that has the prefix inside, of the first node that has one. Never allocates.
+pub(crate) fn outer_of(view: &View<'_>, prefix: &Prefix) -> Option<Prefix>
+    ensures found { IfSome result (IsOuterCandidate (plain_view view.entry.now) prefix.now) }
+    ensures none { IfNone result ((q : PlainPrefix) → IsCandidate (plain_view view.entry.now) q → IsWithin prefix.now q → q ≡ prefix.now) }
+{
+    for node in view.nodes {
+        if let Some(outer) = outer_at(node, prefix) {
+            return Some(outer);
+        }
+    }
+    None
+}

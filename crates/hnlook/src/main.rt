@@ -21,7 +21,8 @@ fn words_of(rt: &(impl Env + AllocGlobal), alloc: Global) -> io::Result<Vec<Stri
 /// Why the program ends with this status, for people; nothing for status 0.
 fn reason(status: u8) -> &'static str {
     match status {
-        BAD_USAGE => "usage: hnlook log < SCRIPT | hnlook why NAME < SCRIPT | hnlook table NAME < SCRIPT",
+        BAD_USAGE =>
+            "usage: hnlook log < SCRIPT | hnlook why NAME < SCRIPT | hnlook table NAME < SCRIPT",
         REFUSED =>
             "hnlook: the script or the name was refused; the last line of the output has the line and the code (docs/FORMATS.md, \"Codes\")",
         SOURCE_FAILED => "hnlook: standard input failed",

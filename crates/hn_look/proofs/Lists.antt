@@ -1,5 +1,6 @@
 -- Texts of several things, one after another.
-use Rattle.std.proofs.Common.{◌≡◌, ◌∙◌, ◌+◌, ◌-◌, ◌<◌, ◌≤◌, ℕ, List, [], ◌∷◌, ◌++◌, Option, None, Some, codes, length, take, drop, get_or, inl, inr, refl, sym, ap, add-one, sub-one, append-nil, append_assoc, arith, slice_get}
+use Rattle.std.proofs.Common.{◌≡◌, ◌∙◌, ◌+◌, ◌<◌, ◌≤◌, ℕ, List, [], ◌∷◌, ◌++◌, Option, None, Some, codes, length, take, drop, get_or, inl, inr}
+use Rattle.std.proofs.Common.{refl, sym, ap, add-one, sub-one, append-nil, append_assoc, arith, slice_get}
 use Rattle.std.specs.List.{flat_map}
 use Rattle.std.proofs.Math.Dec.{eqb-suc-zero}
 use Rattle.std.proofs.lemmas.List.{flat_map_more, take_more, take_all, drop_more, drop_all}
@@ -15,7 +16,7 @@ use Rattle.hn_world.specs.Leaves.{info_of, HasInfo}
 use Rattle.hn_world.specs.declared.copies.CopyInfo.{CopyInfo}
 use Rattle.hn_world.specs.declared.member.Member.{Member}
 use Rattle.hn_look.specs.Events.{way_word}
-use Rattle.hn_look.specs.Steps.{sender_place, sender_endpoint, endpoint_text, place_text, copy_line, copy_lines}
+use Rattle.hn_look.specs.Steps.{sender_place, sender_endpoint, endpoint_text, copy_line, copy_lines}
 
 -- one more, and all
 module _ {A : Type 0} (f : A → List ℕ) (xs : List A) (i : ℕ) (begins so_far : List ℕ) where

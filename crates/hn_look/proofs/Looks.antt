@@ -1,5 +1,6 @@
 -- What a look comes to.
-use Rattle.std.proofs.Common.{◌≡◌, ◌≢◌, ◌∙◌, ◌⊎◌, ◌<◌, ◌≤◌, ℕ, zero, suc, List, [], ◌∷◌, ◌++◌, Option, None, Some, Result, Ok, Err, inl, inr, refl, sym, ap, subst, append-nil, lit<, arith}
+use Rattle.std.proofs.Common.{◌≡◌, ◌≢◌, ◌⊎◌, ℕ, zero, suc, List, [], ◌∷◌, ◌++◌, Option, None, Some, Result, Ok, Err, inl, inr, refl}
+use Rattle.std.proofs.Common.{sym, ap, subst, append-nil, lit<, arith}
 use Rattle.std.specs.Prelude.{IfOk, Contains}
 use Rattle.std.specs.Io.KnownBytes.{Appends}
 use Rattle.hn_io.specs.declared.fault.IoFault.{IoFault}
@@ -13,7 +14,6 @@ use Rattle.hn_world.specs.Refusal.{of_router, unless_running}
 use Rattle.hn_world.specs.declared.member.Member.{Member}
 use Rattle.hn_world.specs.declared.parts.Parts.{Parts}
 use Rattle.hn_look.specs.Look.{SeesOf, EndsRefused, IsRefusedLook, IsLook, Writes, Looked, Says, TableOf, SeesTable, WhyUnless, SeesWhy, looked_status}
-use Rattle.hn_look.specs.Output.{AppendsCut}
 use Rattle.hn_look.proofs.Streams.{AppendsCut-more, Appends-none, part_is_cut}
 
 -- a text that is of one kind is of another

@@ -1,8 +1,10 @@
 -- The last line of the transcript of a script that was refused.
-use Rattle.std.proofs.Common.{◌≡◌, ◌≢◌, ◌∙◌, ◌+◌, ◌-◌, ◌/◌, ◌%◌, ◌<◌, ◌≤◌, ◌⊎◌, ℕ, zero, suc, Bool, true, false, not, List, [], ◌∷◌, ◌++◌, Option, None, Some, length, length-append, get_or, take, drop, ⊎_elim, lit<, inl, inr, refl, sym, ap, subst, append-nil, append_assoc, codes, arith}
-use Rattle.std.specs.Prelude.{◌==◌, ◌&&◌, if◌then◌else◌, nat_lt}
+use Rattle.std.proofs.Common.{◌≡◌, ◌≢◌, ◌∙◌, ◌+◌, ◌-◌, ◌/◌, ◌%◌, ◌<◌, ◌≤◌, ℕ, zero, suc, Bool, true, false, not, List, [], ◌∷◌, ◌++◌, Option}
+use Rattle.std.proofs.Common.{Some, length, length-append, get_or, take, drop, ⊎_elim, lit<, inl, inr, refl, sym, ap, subst, append-nil}
+use Rattle.std.proofs.Common.{codes, arith}
+use Rattle.std.specs.Prelude.{◌==◌, ◌&&◌, if◌then◌else◌}
 use Rattle.std.specs.Fmt.{decimal, digits, digits_onto, digit_glyph}
-use Rattle.std.specs.List.{list_all, flat_map}
+use Rattle.std.specs.List.{list_all}
 use Rattle.std.proofs.lemmas.Grind.{flat_map-append}
 use Rattle.std.proofs.Math.Seq.{get_or-append_right, get_or-append_seam}
 use Rattle.std.proofs.lemmas.Bool.{lt-ltb, ne_eqb, eqb-true, cases_lt}
@@ -10,14 +12,13 @@ use Rattle.std.proofs.lemmas.List.{drop_at, take_rest}
 use Rattle.std.proofs.lemmas.List.Folds.{list_all-append}
 use Rattle.std.proofs.lemmas.Nat.{mod_below}
 use Rattle.memchr.specs.Find.{NoneAfter, Nowhere, Passes, is_byte}
-use Rattle.hn_lab.specs.Lab.{IsLabRun, IsLabOf, IsWholePlay, IsScriptPlay, status_of}
-use Rattle.hn_lab.specs.Play.{IsPlay, StopsAt}
+use Rattle.hn_lab.specs.Lab.{IsLabRun, IsLabOf, status_of}
+use Rattle.hn_lab.specs.Play.{IsPlay}
 use Rattle.hn_lab.specs.Reports.{refused_line}
 use Rattle.hn_lab.specs.Stage.{Stage, Mail}
 use Rattle.hn_lab.specs.Told.{Told, told, bytes_of}
 use Rattle.hn_lab.specs.declared.end.End.{End}
 use Rattle.hn_lab.specs.declared.end.End.TheVariants.{Done, Refused, WireFailed}
-use Rattle.hn_script.specs.declared.script.Script.{Script}
 use Rattle.hn_world.specs.declared.parts.Parts.{Parts}
 use Rattle.hn_look.specs.Look.{EndsRefused}
 

@@ -1,5 +1,6 @@
 -- The replay of a trace, and what is told of it.
-use Rattle.std.proofs.Common.{◌≡◌, ◌∙◌, ◌+◌, ◌-◌, ◌<◌, ◌≤◌, ℕ, List, [], ◌∷◌, ◌++◌, Option, Some, None, length, take, drop, get_or, slice_index, ⊎_elim, refl, sym, ap, subst, append-nil, append_assoc, length-append, arith}
+use Rattle.std.proofs.Common.{◌≡◌, ◌∙◌, ◌+◌, ◌-◌, ◌<◌, ◌≤◌, ℕ, List, [], ◌∷◌, ◌++◌, Option, Some, None, length, drop, get_or, slice_index}
+use Rattle.std.proofs.Common.{⊎_elim, refl, sym, ap, subst, append-nil, append_assoc, length-append, arith}
 use Rattle.std.specs.Io.KnownBytes.{Appends}
 use Rattle.std.proofs.Math.ListN.{get_or-append}
 use Rattle.std.proofs.Math.Seq.{get_or-append_right}
@@ -9,9 +10,8 @@ use Rattle.std.proofs.lemmas.Option.{same_Some}
 use Rattle.hn_base.specs.Words as drawn
 use Rattle.hn_base.specs.declared.version.Version.{Version}
 use Rattle.hn_io.specs.declared.fault.IoFault.{IoFault}
-use Rattle.hn_io.specs.declared.fault.IoFault.TheVariants.{NoMemory}
 use Rattle.hn_lab.specs.Laws.{PiecesAppend}
-use Rattle.hn_lab.specs.Output.{AppendsPart, AppendsFront}
+use Rattle.hn_lab.specs.Output.{AppendsFront}
 use Rattle.hn_rules.specs.declared.done.Note.{Note}
 use Rattle.hn_world.specs.Laws.{StepIsUnique}
 use Rattle.hn_world.specs.Refusal.{refusal}

@@ -1,10 +1,9 @@
 -- One write after another.
-use Rattle.std.proofs.Common.{◌≡◌, ◌∙◌, ℕ, List, [], ◌++◌, Option, None, Some, Result, Ok, Err, sym, ap, refl, arith, append-nil, append_assoc, length-append}
-use Rattle.std.specs.Prelude.{OnErr, IfErr}
+use Rattle.std.proofs.Common.{◌≡◌, ◌∙◌, ℕ, List, [], ◌++◌, Option, None, Some, sym, ap, arith, append-nil, append_assoc, length-append}
 use Rattle.std.specs.Io.KnownBytes.{Appends}
 use Rattle.hn_io.specs.declared.fault.IoFault.{IoFault}
 use Rattle.hn_io.specs.declared.fault.IoFault.TheVariants.{Failed, NoMemory}
-use Rattle.hn_lab.specs.Output.{AppendsFront, AppendsPart}
+use Rattle.hn_lab.specs.Output.{AppendsPart}
 use Rattle.hn_lab.specs.Laws.{PiecesAppend}
 use Rattle.hn_look.specs.Output.{AppendsCut}
 

@@ -93,7 +93,7 @@ Writes IsText status before after = (text : List ℕ) × IsText status text × A
 abbrev pub Cuts : (ℕ → List ℕ → Type 0) → IoFault → Option (List ℕ) → Option (List ℕ) → Type 0
 Cuts IsText fault before after = (status : ℕ) × (text : List ℕ) × IsText status text × AppendsCut fault before after text
 
--- the memory ended before there was a text, where that may be, and nothing was written
+-- the memory ended before there was a text, where that may be (`Starving`), and nothing was written
 abbrev pub Starves : Type 0 → IoFault → Option (List ℕ) → Option (List ℕ) → Type 0
 Starves Starving Failed before after = ⊥
 Starves Starving NoMemory before after = Starving × Appends before after []
@@ -114,13 +114,14 @@ abbrev pub IsUnseen : ℕ → ℕ → Option (List ℕ) → Option (List ℕ) �
 IsUnseen played status before after = (played ≡ 6) × (status ≡ 6) × Appends before after []
 
 -- a look at the world of a play
-pub record IsSeen (Starving : Type 0) (sees : Parts → ℕ → List ℕ → Type 0) (played : ℕ) (world : Option Parts) (transcript : List ℕ) (status : ℕ) (before after : Option (List ℕ)) : Type 0 where
+pub record IsSeen (Starving : Type 0) (sees : Parts → ℕ → List ℕ → Type 0) (played : ℕ) (world : Option Parts)
+    (transcript : List ℕ) (status : ℕ) (before after : Option (List ℕ)) : Type 0 where
   pub answer : Result ℕ IoFault
   pub status_is : status ≡ looked_status answer
   pub looked : Looked Starving (IsLook sees played world transcript) answer before after
 
--- What a form comes to that looks so, and may starve or not, by the bytes that its source has left, where it tells them: the script that they are is
--- played as `lab` plays it, by mail, with a transcript; and then the world is looked at.
+-- What a form comes to that looks so, and may starve or not, by the bytes that its source has left, where it tells them: the
+-- script that they are is played as `lab` plays it, by mail, with a transcript; and then the world is looked at.
 pub record IsLookRun (Starving : Type 0) (sees : Parts → ℕ → List ℕ → Type 0) (left : Option (List ℕ)) (status : ℕ) (before after : Option (List ℕ)) : Type 0 where
   pub played : ℕ
   pub world : Option Parts

@@ -48,7 +48,8 @@ pub fn run<S: Source, K: Sink>(alloc: Global, words: &[String], src: &mut S, out
     ensures bad_usage { ((form : Form) → IsFormOf form (map string_bytes words.now) → ⊥) → result ≡ BAD_USAGE }
     ensures untouched { result ≡ BAD_USAGE → (src.new ≡ src.old) × (out.new ≡ out.old) }
 
-    // What each form comes to. After status 3 there is no more to say.
+    // What each form comes to. After status 3 there is no more to say. A log is written event by event, and the memory never
+    // ends before there is a text (⊥); of the others it may (Unit).
     ensures log { IsFormOf Form.Log (map string_bytes words.now) → result ≢ SOURCE_FAILED
         → IsLookRun ⊥ SeesLog (S.left src.old) result (K.held out.old) (K.held out.new) }
     ensures table { (name : Name) → IsFormOf (Form.Table name) (map string_bytes words.now) → result ≢ SOURCE_FAILED

@@ -1,4 +1,3 @@
-use Rattle.std.proofs.Common.{◌≡◌}
 use Rattle.hn_look.proofs.Refusals.{tail_of, tail_other, found_there, found_somewhere}
 use Rattle.hn_look.proofs.last_line.refusal_of.Goals as goal
 

@@ -30,8 +30,8 @@ returns-in_err-write_piece-clause-looked g c =
     let found = line_found c.args.transcript.now ends.0 _ ends.1 c.refusal_of.ensures in
     let part = subst (AppendsPart (sink.held c.see_any.new.out) (sink.held c.write_piece.new.out)) found c.in_err-write_piece.ensures.cut in
     let passed = err_from_is_err_and c.from_residual-in_err-write_piece.result c.from_residual-in_err-write_piece.ensures.1 in
-    rw (passed.1, passed.2) (cut_line (MayStarve c.args.form.now) (Sees c.args.form.now) c.args.played.now.world c.args.transcript.now c.pieces_append.ensures c.args.played.now.status two ends.0 ends.1
-    c.in_ok-status.status _ _ _ c.in_ok-status.ensures.looked fault part)
+    rw (passed.1, passed.2) (cut_line (MayStarve c.args.form.now) (Sees c.args.form.now) c.args.played.now.world c.args.transcript.now c.pieces_append.ensures
+    c.args.played.now.status two ends.0 ends.1 c.in_ok-status.status _ _ _ c.in_ok-status.ensures.looked fault part)
 
 pub returns-clause-looked : goal.returns-clause-looked
 returns-clause-looked g c =
@@ -40,5 +40,6 @@ returns-clause-looked g c =
     let ends = c.requires.refused two in
     let found = line_found c.args.transcript.now ends.0 _ ends.1 c.refusal_of.ensures in
     let wrote = subst (λ (xs : List ℕ). Appends (sink.held c.see_any.new.out) (sink.held c.write_piece.new.out) xs) found c.in_ok-write_piece.ensures.ok in
-    written_line (MayStarve c.args.form.now) (Sees c.args.form.now) c.args.played.now.world c.args.transcript.now c.pieces_append.ensures c.args.played.now.status two ends.0 ends.1 c.in_ok-status.status _ _ _
+    written_line (MayStarve c.args.form.now) (Sees c.args.form.now) c.args.played.now.world c.args.transcript.now c.pieces_append.ensures
+    c.args.played.now.status two ends.0 ends.1 c.in_ok-status.status _ _ _
     c.in_ok-status.ensures.looked wrote

@@ -1,4 +1,4 @@
-use Rattle.std.proofs.Common.{ℕ, List, sym, subst}
+use Rattle.std.proofs.Common.{sym, subst}
 use Rattle.hn_base.specs.Name.{name_text}
 use Rattle.hn_look.specs.Look.{Says, SeesTable}
 use Rattle.hn_look.proofs.Looks.{looked_as, table_said}

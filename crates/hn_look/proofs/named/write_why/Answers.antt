@@ -1,4 +1,4 @@
-use Rattle.std.proofs.Common.{ℕ, List, sym, subst}
+use Rattle.std.proofs.Common.{sym, subst}
 use Rattle.hn_base.specs.Name.{name_text}
 use Rattle.hn_look.specs.Look.{Says, SeesWhy}
 use Rattle.hn_look.proofs.Looks.{looked_as, why_said}

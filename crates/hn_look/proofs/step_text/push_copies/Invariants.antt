@@ -1,4 +1,4 @@
-use Rattle.std.proofs.Common.{◌≡◌, ◌-◌, ◌++◌, drop, string_bytes, length}
+use Rattle.std.proofs.Common.{◌≡◌, ◌-◌, ◌++◌, drop, string_bytes}
 use Rattle.hn_look.specs.Steps.{copy_lines}
 use Rattle.hn_look.proofs.step_text.push_copies.Given as goal
 

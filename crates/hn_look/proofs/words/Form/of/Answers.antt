@@ -1,8 +1,7 @@
-use Rattle.std.proofs.Common.{inl, inr, arith}
-use Rattle.std.proofs.lemmas.Bool.{ltb-true, ltb-false}
+use Rattle.std.proofs.Common.{arith}
 use Rattle.std.proofs.lemmas.List.{length-map}
 use Rattle.std.specs.Prelude.{string_bytes}
-use Rattle.hn_look.proofs.Forms.{word_at, no_plain_form, no_named_form, no_form}
+use Rattle.hn_look.proofs.Forms.{word_at, no_plain_form, no_named_form}
 use Rattle.hn_look.proofs.words.Form.of.Goals as goal
 
 pub returns-in-len2-clause-none : goal.returns-in-len2-clause-none

@@ -257,6 +257,8 @@ class Events:
         words = event.words
         if event.word == 'inject':
             words = [*words[:3], words[3] if ipaddress.ip_address(words[4]).is_link_local else 'far', words[6]]
+        elif event.word == 'addresses':
+            words = ['address', words[1]]
         return ' '.join(words)
 
     def is_at(self, event, name):

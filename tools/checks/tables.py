@@ -34,8 +34,9 @@ class FullHome(samples.RandomHome):
     put_sync = samples.RandomHome.put_run     # its question is none of a script
 
     def put_choice(self, name):
-        """No addresses and no prefixes of its own making, since these draw random words without an event."""
-        self.texts.append(self.chance.choice([f'private {name} 64', f'private {name} off', f'caps {name} 0 {self.chance.randrange(8)} 0 4']))
+        """No prefixes of its own making, since in the log these are as others."""
+        lines = [f'private {name} 64', f'private {name} off', f'address {name}', f'caps {name} 0 {self.chance.randrange(8)} 0 4']
+        self.texts.append(self.chance.choice(lines))
 
     def forge(self, name, items, node=9, number=1, age=0):
         """Data of a node that nobody is. It is a peer of the router, at its endpoint 1."""

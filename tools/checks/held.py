@@ -229,8 +229,11 @@ class Said:
         """The pairs of a delegated prefix and an endpoint, and whether their assignments are published."""
         return {(each['in'], int(each['ep'])): each['published'] != 'no' for each in self.assigned}
 
-    def uses(self):
-        return [each.split(' ')[1] for each in self.used]
+    def wanted(self):
+        """The delegated prefixes that are used and wanted: not those that are deprecated beside others that are not (RFC 7788,
+        section 6.3)."""
+        fresh = [each for each in self.used if not each.endswith(' preferred=0')]
+        return [each.split(' ')[1] for each in fresh or self.used]
 
     def read(self, line):
         kind, _, *words = line.split(' ')

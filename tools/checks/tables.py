@@ -167,7 +167,7 @@ def compare_backoffs(events, replay, lines, where):
         must(pair in dues or pair[1] == 0 and replay.is_private_new, f'{where}: the assignment of {pair} is made without a backoff')
     for pair, due in dues.items():
         must(pair not in before.published() and moment <= due <= moment + LATER, f'{where}: no backoff can be that of {pair}')
-        must(pair in later.published() or pair[0] not in later.uses(), f'{where}: the backoff of {pair} does not end')
+        must(pair in later.published() or pair[0] not in later.wanted(), f'{where}: the backoff of {pair} does not end')
         for at in (due - 1, due) if pair in made else ():
             is_there = at >= moment and pair in events.ticked_at(place, replay.name, at).published()
             must(is_there == (at == due), f'{where}: the backoff of {pair} does not end at {due}')

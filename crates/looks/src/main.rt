@@ -26,7 +26,7 @@ fn words_of(alloc: Global, look: &str) -> Result<Vec<String>, AllocError> {
 }
 
 /// Plays a script, and looks at its home.
-fn seen(alloc: Global, look: &str, script: Vec<u8>) -> Result<Seen, AllocError> {
+fn look_at(alloc: Global, look: &str, script: Vec<u8>) -> Result<Seen, AllocError> {
     let words = words_of(alloc, look)?;
     let mut source = MemSource::new(script, Vec::new(alloc));
     let mut sink = MemSink::new(alloc, Vec::new(alloc));
@@ -48,7 +48,7 @@ fn first_other_line(text: &[u8], wanted: &[u8]) -> usize {
 fn verdict(rt: &HostRuntime, file: &str, home: &str, look: &str) -> io::Result<String> {
     let alloc = rt.alloc();
     let script = format!(in alloc; "{home}.script")?;
-    let found = seen(alloc, look, fs::read(rt, script.as_str())?)?;
+    let found = look_at(alloc, look, fs::read(rt, script.as_str())?)?;
     let wanted = fs::read(rt, file)?;
     let status = found.status;
     if found.text == wanted {

@@ -19,7 +19,7 @@ use Rattle.hn_base.specs.Ascending.{HasAt}
 use Rattle.hn_assign.specs.Pair.{pair_cmp, IsAscending, IsPlace, Updates}
 use Rattle.hn_assign.proofs.Orders.{pair_total, pair_exact}
 
-greater_is_above : (p q : Pair) → pair_cmp p q ≡ Greater → pair_cmp q p ≡ Less
+pub greater_is_above : (p q : Pair) → pair_cmp p q ≡ Greater → pair_cmp q p ≡ Less
 greater_is_above p q e = pair_total.antisymm q p ∙ ap ordering_reverse e
 
 module _ {A : Type 0} (key : A → Pair) where
@@ -88,7 +88,7 @@ module _ {A : Type 0} (key : A → Pair) where
   has_joined pair front (Some m) back s is = (Contains-append_right front (m ∷ back) m (Contains-head m back), is)
 
   -- another pair's element stands on one of the sides
-  others : (pair : Pair) (front : List A) (m : Option A) (back : List A) (x : A) → IfSome m (λ y. key y ≡ pair) → ¬ (key x ≡ pair) → Contains (joined front m back) x ↔ (Contains front x ⊎ Contains back x)
+  pub others : (pair : Pair) (front : List A) (m : Option A) (back : List A) (x : A) → IfSome m (λ y. key y ≡ pair) → ¬ (key x ≡ pair) → Contains (joined front m back) x ↔ (Contains front x ⊎ Contains back x)
   others pair front None back x is not = (Contains-append_cases front back x, ⊎_elim (Contains-append_left front back x) (Contains-append_right front back x))
   others pair front (Some m) back x is not = (
     λ h. ⊎_elim (λ (f : Contains front x). inl f) (λ (b : Contains (m ∷ back) x). ⊎_elim (λ (same : m ≡ x). absurd (not (ap key (sym same) ∙ is))) (λ (r : Contains back x). inr r) (Contains-cases m back x b)) (Contains-append_cases front (m ∷ back) x h),

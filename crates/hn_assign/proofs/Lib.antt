@@ -20,6 +20,9 @@ pub mod RestRuns
 pub mod Rests
 pub mod Sames
 pub mod Soles
+pub mod SomeLists
+pub mod SomeRuns
+pub mod SomeTurns
 pub mod StillRuns
 pub mod Unchanged
 pub mod Walks

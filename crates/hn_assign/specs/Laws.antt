@@ -1,7 +1,7 @@
 -- Laws of the assignment subroutine.
 use Rattle.std.specs.Prelude.{◌≡◌, ◌↔◌, ℕ, ◌<◌, List, [], map, Option, All, Contains}
 use Rattle.hn_base.specs.Ascending.{HaveSame}
-use Rattle.hn_base.specs.Prefix.{PlainPrefix}
+use Rattle.hn_base.specs.Prefix.{PlainPrefix, IsPrefix}
 use Rattle.hn_base.specs.Words.{Begins}
 use Rattle.hn_data.specs.Later.{IsLater}
 use Rattle.hn_base.specs.declared.ids.EpId.{EpId}
@@ -12,10 +12,11 @@ use Rattle.hn_assign.specs.declared.assigned.Wish.{Wish}
 use Rattle.hn_assign.specs.declared.held.Held.{Held}
 use Rattle.hn_assign.specs.declared.held.Ran.{Ran}
 use Rattle.hn_assign.specs.Due.{IsHeldDue}
+use Rattle.hn_prefix.specs.Exists.{Some! }
 use Rattle.hn_prefix.specs.Free.{IsFirstFree}
 use Rattle.hn_assign.specs.Advertised.{Link}
 use Rattle.hn_assign.specs.Best.{IsBestIfAny, IsValid, HasNoFree}
-use Rattle.hn_assign.specs.Facts.{IsInDelegated, HasOwnPriority, IsAssignedPast, IsOfLengthAt, IsAloneAt}
+use Rattle.hn_assign.specs.Facts.{IsFitting, IsInDelegated, HasOwnPriority, IsAssignedPast, IsOfLengthAt, IsAloneAt}
 use Rattle.hn_assign.specs.Fixed.{IsUnchanged, AreDue, AreAtRest, IsDueRun}
 use Rattle.hn_assign.specs.Gathered.{AreAdvertised}
 use Rattle.hn_assign.specs.Marks.{marked}
@@ -179,11 +180,29 @@ abbrev pub SameHaveSameFree : Type 0
 SameHaveSameFree =
     (a b : List Advertised) → HaveSame a b → (d : PlainPrefix) (len : ℕ) → HasNoFree a d len ↔ HasNoFree b d len
 
--- ---- existence, and lengths
+-- ---- existence
 
 -- A view has a list of advertised prefixes, with whatever assignments.
 abbrev pub AdvertisedExists : Type 0
 AdvertisedExists = (view : PlainView) (assigned : List Assigned) → (advertised : List Advertised) × AreAdvertised view assigned advertised
+
+-- It cannot be that the subroutine has no result over a stream of words.
+abbrev pub SubroutineHasAResult : Type 0
+SubroutineHasAResult =
+    (view : PlainView) (wishes : List Wish) (held : Held) (stream : ℕ → ℕ)
+    → IsAscending assigned_pair held.assigned → IsAscending backoff_pair held.backoffs
+    → All IsFitting wishes → All (λ wish. IsPrefix wish.delegated) wishes
+    → Some! (λ (ran : Ran). IsSubroutine view wishes held ran × Begins ran.words stream)
+
+-- Nor that it has none with each backoff due.
+abbrev pub SubroutineHasADueRun : Type 0
+SubroutineHasADueRun =
+    (view : PlainView) (wishes : List Wish) (assigned : List Assigned) (stream : ℕ → ℕ)
+    → IsAscending wish_pair wishes → IsAscending assigned_pair assigned
+    → All IsFitting wishes → All (λ wish. IsPrefix wish.delegated) wishes
+    → Some! (λ (ran : Ran). IsDueRun view wishes assigned ran × Begins ran.words stream)
+
+-- ---- lengths
 
 -- Where the own node is alone on the Common Link of an endpoint, and all wishes for that are of one length, it stays so that
 -- each assignment of the endpoint has this length.

@@ -12,13 +12,14 @@ ghost use Rattle.hn_assign.specs.declared.assigned.Wish.{Wish};
 ghost use Rattle.hn_assign.specs.declared.held.Held.{Held};
 ghost use Rattle.hn_assign.specs.declared.held.Ran.{Ran};
 ghost use Rattle.hn_assign.specs.declared.slot.Slot.{Slot};
-ghost use Rattle.hn_assign.specs.Laws.{BestIsUnique, SubroutineKeepsInside, SubroutineKeepsPast, SubroutineKeepsPriority, AssignedAscend, BackoffsAscend, AssignedAreWished, SubroutineHasOneResult, RestIsUnchanged, RestHasADueRun, RestChangesNothing, MarksChangeNothing, AdvertisedOfUnchanged, RestStays, RestStaysUnwanted, AdvertisedOfLater, StillRunStays, SameHaveOneBest, SameHaveOneFirstFree, SameHaveSameFree, SameHaveSameValid, AdvertisedExists, SubroutineKeepsLengths};
+ghost use Rattle.hn_assign.specs.Laws.{BestIsUnique, SubroutineKeepsInside, SubroutineKeepsPast, SubroutineKeepsPriority, AssignedAscend, BackoffsAscend, AssignedAreWished, SubroutineHasOneResult, RestIsUnchanged, RestHasADueRun, RestChangesNothing, MarksChangeNothing, AdvertisedOfUnchanged, RestStays, RestStaysUnwanted, AdvertisedOfLater, StillRunStays, SameHaveOneBest, SameHaveOneFirstFree, SameHaveSameFree, SameHaveSameValid, AdvertisedExists, SubroutineKeepsLengths, SubroutineHasAResult, SubroutineHasADueRun};
 ghost use Rattle.hn_assign.specs.Lines.{IsKept, IsAdopted, IsKeptAhead, IsYielded, IsReplaced};
 ghost use Rattle.hn_assign.specs.Pair.{IsWished, backoff_pair, pair_cmp};
 ghost use Rattle.hn_assign.specs.Scene.{PlainScene};
 ghost use Rattle.hn_assign.specs.Subroutine.{IsSubroutine};
 
 use hn_data::{items_are_unique, items_or_none};
+use hn_prefix::{free_or_full, inside_are_sub_prefixes, within_is_not_shorter};
 
 /// The order of pairs is total, and only a pair itself is equal to it by this order.
 pub fn pairs_are_ordered()
@@ -127,4 +128,18 @@ pub fn advertised_exists()
 {
     items_or_none();
     items_are_unique();
+}
+
+/// Over each stream of words the subroutine has a result, and one with each backoff due: it cannot be that there is none.
+/// What is held ascends, the wishes are fitting, and their delegated prefixes are prefixes, as the types have it.
+///
+/// With `subroutine_has_one_result` there is exactly one.
+pub fn subroutine_has_a_result()
+    ensures result { SubroutineHasAResult }
+    ensures due { SubroutineHasADueRun }
+{
+    advertised_exists();
+    free_or_full();
+    inside_are_sub_prefixes();
+    within_is_not_shorter();
 }

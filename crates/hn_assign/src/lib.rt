@@ -33,8 +33,8 @@ pub use index::Index;
 pub use laws::{
     advertised_exists, advertised_of_later, advertised_of_unchanged, answers_know_no_order,
     lines_exclude_each_other, marks_change_nothing, pairs_are_ordered, rest_changes_nothing,
-    rest_has_a_run, rest_is_unchanged, rest_stays, still_run_stays, subroutine_has_one_result,
-    subroutine_keeps, subroutine_leaves,
+    rest_has_a_run, rest_is_unchanged, rest_stays, still_run_stays, subroutine_has_a_result,
+    subroutine_has_one_result, subroutine_keeps, subroutine_leaves,
 };
 pub use pair::Pair;
 pub use precedence::{PRIORITY, best, valid};

@@ -1,4 +1,5 @@
 mod Blocks
+mod FreeOrFull
 mod GapLemmas
 mod Jumps
 mod Masks
@@ -6,4 +7,5 @@ mod OneRead
 mod Places
 mod ReadLemmas
 mod Rounds
+pub mod Somes
 mod WriteLemmas

@@ -1,6 +1,8 @@
--- Laws of the texts of prefixes.
-use Rattle.std.specs.Prelude.{◌≡◌, ℕ, List}
+-- Laws of prefixes and of their texts.
+use Rattle.std.specs.Prelude.{◌≡◌, ◌↔◌, ℕ, ◌≤◌, List, Option, None, Some}
 use Rattle.hn_base.specs.Prefix.{PlainPrefix, IsPrefix}
+use Rattle.hn_prefix.specs.Exists.{Some! }
+use Rattle.hn_prefix.specs.Free.{IsSubPrefix, IsPrefixInside, IsFull, IsFirstFree}
 use Rattle.hn_prefix.specs.PrefixText.{prefix_text_of, IsPrefixText}
 
 -- The written form of a prefix is among its read forms.
@@ -10,3 +12,17 @@ PrefixTextIsRead = (p : PlainPrefix) → IsPrefix p → IsPrefixText (prefix_tex
 -- A text is a read form of one prefix at most.
 abbrev pub PrefixTextIsOfOne : Type 0
 PrefixTextIsOfOne = (text : List ℕ) (one other : PlainPrefix) → IsPrefixText text one → IsPrefixText text other → one ≡ other
+
+-- the first free prefix of a length inside another, if there is one; there is none where each is taken
+abbrev pub IsFirstFreeIfAny : PlainPrefix → ℕ → List PlainPrefix → ℕ → Option PlainPrefix → Type 0
+IsFirstFreeIfAny outer start taken len None = IsFull outer taken len
+IsFirstFreeIfAny outer start taken len (Some found) = IsFirstFree outer start taken len found
+
+-- It cannot be that neither there is a first free prefix, from whatever start, nor each is taken.
+abbrev pub FreeOrFull : Type 0
+FreeOrFull = (outer : PlainPrefix) (start : ℕ) (taken : List PlainPrefix) (len : ℕ) → Some! (IsFirstFreeIfAny outer start taken len)
+
+-- The prefixes of a length inside another are its sub-prefixes.
+abbrev pub InsideAreSubPrefixes : Type 0
+InsideAreSubPrefixes =
+    (outer : PlainPrefix) (len : ℕ) → IsPrefix outer → outer.len ≤ len → len ≤ 128 → (p : PlainPrefix) → IsPrefixInside outer len p ↔ IsSubPrefix outer len p

@@ -1,4 +1,5 @@
 pub mod AddressText
+pub mod Exists
 pub mod Free
 pub mod Gap
 pub mod Laws

@@ -1,10 +1,10 @@
-//! What holds of the texts of addresses and prefixes, whichever they are. The functions do nothing: their contracts
+//! What holds of prefixes, and of the texts of addresses and prefixes, whichever they are. The functions do nothing: their contracts
 //! are the laws.
 
 ghost use Rattle.std.specs.Prelude.{◌≡◌, ℕ, ◌^◌, ◌<◌, List, length};
 ghost use Rattle.std.specs.List.{AllByRecursion};
 ghost use Rattle.hn_prefix.specs.AddressText.{groups, address_of, address_text_of, IsAddressText, IsWrittenForm};
-ghost use Rattle.hn_prefix.specs.Laws.{PrefixTextIsRead, PrefixTextIsOfOne};
+ghost use Rattle.hn_prefix.specs.Laws.{PrefixTextIsRead, PrefixTextIsOfOne, FreeOrFull, InsideAreSubPrefixes};
 
 /// Eight groups of 16 bits and an address of 128 bits are one value.
 pub fn groups_are_the_address()
@@ -29,4 +29,15 @@ pub fn written_form_is_read()
 pub fn read_form_is_of_one()
     ensures address { (text : List ℕ) (one other : ℕ) → IsAddressText text one → IsAddressText text other → one ≡ other }
     ensures prefix { PrefixTextIsOfOne }
+{}
+
+/// Of the prefixes of a length inside another there is a first free one, in cyclic order from whatever start, or each is
+/// taken: it cannot be that there is neither.
+pub fn free_or_full()
+    ensures { FreeOrFull }
+{}
+
+/// The prefixes of a length inside another are its sub-prefixes, one at each place below their number.
+pub fn inside_are_sub_prefixes()
+    ensures { InsideAreSubPrefixes }
 {}

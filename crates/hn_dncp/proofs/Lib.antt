@@ -1,5 +1,6 @@
 mod PeerLemmas
 mod Filling
 mod Packings
+mod PackingMade
 mod Hearing
 mod Stills

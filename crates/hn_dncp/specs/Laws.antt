@@ -17,6 +17,10 @@ PackingIsUnique =
     (own : NodeId) (endpoint : EpId) (tlvs a b : List (List ℕ))
     → IsPacking own endpoint tlvs a → IsPacking own endpoint tlvs b → a ≡ b
 
+-- There is a packing of each list of TLVs.
+abbrev pub PackingExists : Type 0
+PackingExists = (own : NodeId) (endpoint : EpId) (tlvs : List (List ℕ)) → (datagrams : List (List ℕ)) × IsPacking own endpoint tlvs datagrams
+
 -- A datagram has at most 4,000 bytes, or those of one of the TLVs and the 12 of the sender's Node Endpoint.
 abbrev pub PackingIsShort : Type 0
 PackingIsShort =

@@ -2,13 +2,18 @@
 //!
 //! Each is the contract of a function that does nothing: call it to know its law.
 
-ghost use Rattle.hn_dncp.specs.Laws.{PackingIsUnique, PackingIsShort, PackingIsNotEmpty, PackingIsRead, MeetingKeepsPeers, ContactKeepsPeers, StillPortIsIdle, StillPortStays};
+ghost use Rattle.hn_dncp.specs.Laws.{PackingIsUnique, PackingExists, PackingIsShort, PackingIsNotEmpty, PackingIsRead, MeetingKeepsPeers, ContactKeepsPeers, StillPortIsIdle, StillPortStays};
 
 use hn_timers::still_interval_stays;
 
 /// There is at most one packing of a list of TLVs.
 pub fn packing_is_unique()
     ensures { PackingIsUnique }
+{}
+
+/// There is a packing of each list of TLVs. So there is exactly one.
+pub fn packing_exists()
+    ensures { PackingExists }
 {}
 
 /// A datagram has at most 4,000 bytes, or those of one of the TLVs and the 12 of the sender's Node Endpoint.

@@ -5,6 +5,7 @@ pub mod Answering
 pub mod Changing
 pub mod Uniqueness
 mod Listed
+mod AnswerMade
 mod Tables
 mod Broughts
 mod Forgettings

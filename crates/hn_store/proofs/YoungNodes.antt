@@ -1,6 +1,6 @@
 -- Until when the data of nodes are young.
-use Rattle.std.proofs.Common.{ℕ, ◌<◌, ◌≤◌, Bool, List, [], ◌∷◌, map, filter, set, nat_lt, sym, subst, arith}
-use Rattle.std.specs.Prelude.{All, insert}
+use Rattle.std.proofs.Common.{ℕ, ◌≤◌, Bool, List, [], ◌∷◌, map, filter, set, nat_lt, sym, subst, arith}
+use Rattle.std.specs.Prelude.{insert}
 use Rattle.std.proofs.lemmas.List.Elements.{All-append, All-cons, All-filter, All-map, All-nil, All-set, All-weaker}
 use Rattle.hn_base.specs.declared.ids.NodeId.{NodeId}
 use Rattle.hn_store.specs.declared.stored.Stored.{Stored}

@@ -31,6 +31,11 @@ AcceptanceIsUnique =
     (nodes : Nodes) (own : OwnLeaf) (s : PlainState) (now : ℕ) (m n : Nodes) (took other : Took)
     → Accepts nodes own s now m took → Accepts nodes own s now n other → (m ≡ n) × (took ≡ other)
 
+-- Each node state has an answer, and there is a table after it.
+abbrev pub AcceptanceExists : Type 0
+AcceptanceExists =
+    (nodes : Nodes) (own : OwnLeaf) (s : PlainState) (now : ℕ) → (next : Nodes) × (took : Took) × Accepts nodes own s now next took
+
 -- What is held of the nodes that a state is not of stays.
 abbrev pub OthersStay : Type 0
 OthersStay =

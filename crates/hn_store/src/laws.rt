@@ -2,7 +2,7 @@
 //!
 //! Each is the contract of a function that does nothing: call it to know its law.
 
-ghost use Rattle.hn_store.specs.Laws.{PutChangesOneNode, AcceptanceIsUnique, OthersStay, OwnStays, HeldIsOfAnEntry, NoNodesAreTable, AcceptanceKeepsTable, MarksKeepTable, ForgettingKeepsTable, HeldWasBrought, MarkedWasHeld, RememberedWasHeld, TrueDataAreKept, ForgettingIsAMoment, NoneIsForgotten, UnlostStay};
+ghost use Rattle.hn_store.specs.Laws.{PutChangesOneNode, AcceptanceIsUnique, AcceptanceExists, OthersStay, OwnStays, HeldIsOfAnEntry, NoNodesAreTable, AcceptanceKeepsTable, MarksKeepTable, ForgettingKeepsTable, HeldWasBrought, MarkedWasHeld, RememberedWasHeld, TrueDataAreKept, ForgettingIsAMoment, NoneIsForgotten, UnlostStay};
 
 use hn_tlv::{first_fault_is_unique, list_is_of_bytes, list_or_first_fault};
 
@@ -20,6 +20,15 @@ pub fn held_is_of_an_entry()
 pub fn acceptance_is_unique()
     ensures { AcceptanceIsUnique }
 {}
+
+/// A node state that arrives has an answer, and there is a table after it. So there is exactly one of each.
+pub fn acceptance_exists()
+    ensures { AcceptanceExists }
+{
+    list_is_of_bytes();
+    list_or_first_fault();
+    first_fault_is_unique();
+}
 
 /// A node state changes what is held of its own node alone.
 pub fn others_stay()

@@ -13,9 +13,9 @@ mod young;
 
 pub use acceptance::BODY_LIMIT;
 pub use laws::{
-    acceptance_is_unique, acceptance_keeps_table, forgetting_is_a_moment, forgetting_leaves,
-    held_is_of_an_entry, held_was_brought, loss_keeps_table, others_stay, own_stays,
-    put_changes_one_node, true_data_are_kept,
+    acceptance_exists, acceptance_is_unique, acceptance_keeps_table, forgetting_is_a_moment,
+    forgetting_leaves, held_is_of_an_entry, held_was_brought, loss_keeps_table, others_stay,
+    own_stays, put_changes_one_node, true_data_are_kept,
 };
 pub use loss::GRACE;
 pub use state::{OwnLeaf, State, Took};

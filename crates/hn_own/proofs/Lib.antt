@@ -1,5 +1,7 @@
 mod AddressLists
 mod Endings
+mod OwnDataMade
+mod OwnItemsFit
 mod OwnPieces
 mod OwnSame
 mod OwnSizes

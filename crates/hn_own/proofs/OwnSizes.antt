@@ -37,17 +37,17 @@ prefix_size p = omega (arith, length-take (bytes_for p.len) (to_be_bytes w128 p.
 peer_size : (link : PeerLink) → length (spelling (tlv_of (peer_item link))) ≤ 16
 peer_size link = lit≤ tt
 
-delegated_value_size : (now : ℕ) (own : OwnPrefix) → length (value_of (delegated_item now own)) ≤ 25
+pub delegated_value_size : (now : ℕ) (own : OwnPrefix) → length (value_of (delegated_item now own)) ≤ 25
 delegated_value_size now own = let field = prefix_size own.prefix in simp (length-append) (omega arith)
 
 delegated_size : (now : ℕ) (own : OwnPrefix) → length (spelling (tlv_of (delegated_item now own))) ≤ 32
 delegated_size now own = let value = delegated_value_size now own in omega (arith, spelling_size (tlv_of (delegated_item now own)))
 
+pub assigned_value_size : (a : AssignedPrefix) → length (value_of (assigned_item a)) ≤ 22
+assigned_value_size a = let field = prefix_size a.prefix in simp (length-append) (omega arith)
+
 assigned_size : (a : AssignedPrefix) → length (spelling (tlv_of (assigned_item a))) ≤ 29
-assigned_size a =
-    let field = prefix_size a.prefix in
-    let value : length (value_of (assigned_item a)) ≤ 22 = simp (length-append) (omega arith) in
-    omega (arith, spelling_size (tlv_of (assigned_item a)))
+assigned_size a = let value = assigned_value_size a in omega (arith, spelling_size (tlv_of (assigned_item a)))
 
 address_size : (a : OwnAddress) → length (spelling (tlv_of (address_item a))) ≤ 27
 address_size a = lit≤ tt

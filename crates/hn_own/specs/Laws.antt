@@ -2,21 +2,45 @@
 use Rattle.std.specs.Prelude.{◌≡◌, ◌↔◌, ◌≤◌, ℕ, Bool, true, false, IsTrue, List, length, filter, Option, All}
 use Rattle.std.specs.Ordering.{on, nat_cmp}
 use Rattle.std.specs.List.Sorted.{IsStrictlySortedBy}
+use Rattle.hn_base.specs.declared.caps.Caps.{Caps}
 use Rattle.hn_base.specs.declared.ids.EpId.{EpId}
 use Rattle.hn_assign.specs.declared.held.Held.{Held}
 use Rattle.hn_dncp.specs.declared.port.Port.{Port}
+use Rattle.hn_dncp.specs.Peers.{ArePeers}
+use Rattle.hn_own.specs.declared.own.OwnItems.{OwnItems}
 use Rattle.hn_own.specs.declared.own_prefixes.OwnPrefix.{OwnPrefix}
 use Rattle.hn_own.specs.Addresses.{OwnAddress, AreAddresses, may_address, addresses_without}
 use Rattle.hn_own.specs.Due.{IsOwnEnd}
 use Rattle.hn_own.specs.HeldPairs.{AreHeldPairs, without_private}
-use Rattle.hn_own.specs.Own.{PlainData, IsOwnData}
+use Rattle.hn_own.specs.Own.{AreFew, PlainData, IsOwnData}
 use Rattle.hn_own.specs.OwnPrefixes.{AreOwnPrefixes, may_delegate, delegated_with, delegated_after, has_ended_one}
 use Rattle.hn_own.specs.Ports.{ArePorts, is_attached}
 use Rattle.hn_own.specs.Posts.{posts_of}
+use Rattle.hn_own.specs.Ranges.{AreRanged, IsRangedOwn, items_from}
 
 -- Own items that are published at a moment encode to one node data.
 abbrev pub OwnDataIsUnique : Type 0
 OwnDataIsUnique = (a b : PlainData) → IsOwnData a → IsOwnData b → a.items ≡ b.items → a.born ≡ b.born → a ≡ b
+
+-- Own items, few enough and with numbers that fit their fields, have node data at each moment.
+abbrev pub OwnDataExists : Type 0
+OwnDataExists =
+    (items : OwnItems) (now : ℕ) → AreFew items → AreRanged items
+    → (own : PlainData) × IsOwnData own × (own.items ≡ items) × (own.born ≡ now)
+
+-- The own items of a router are few enough.
+abbrev pub OwnItemsAreFew : Type 0
+OwnItemsAreFew =
+    (caps : Caps) (ports : List Port) (delegated : List OwnPrefix) (held : Held) (addresses : List OwnAddress)
+    → ArePorts ports → All (λ port. ArePeers port.peers) ports → AreOwnPrefixes delegated → AreHeldPairs held → AreAddresses addresses
+    → AreFew (items_from caps ports delegated held addresses)
+
+-- Where the numbers of what they are made of fit, theirs do.
+abbrev pub OwnItemsAreRanged : Type 0
+OwnItemsAreRanged =
+    (caps : Caps) (ports : List Port) (delegated : List OwnPrefix) (held : Held) (addresses : List OwnAddress)
+    → ArePorts ports → IsRangedOwn ports delegated held addresses
+    → AreRanged (items_from caps ports delegated held addresses)
 
 -- Own delegated prefixes stay such where one is added that may be.
 abbrev pub AddingKeepsOwnPrefixes : Type 0

@@ -5,5 +5,6 @@ pub mod Ports
 pub mod Posts
 pub mod Addresses
 pub mod Own
+pub mod Ranges
 pub mod Laws
 pub mod Due

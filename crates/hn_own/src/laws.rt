@@ -2,7 +2,7 @@
 //! nothing: call it to know its law.
 
 ghost use Rattle.std.specs.Prelude.{[]};
-ghost use Rattle.hn_own.specs.Laws.{OwnDataIsUnique, AddingKeepsOwnPrefixes, LeavingKeepsOwnPrefixes, EndingIsAMoment, NoneEnds, PostsAscend, FewPosts, HeldStays, AddressesStay, AddressesMayBe};
+ghost use Rattle.hn_own.specs.Laws.{OwnDataIsUnique, OwnDataExists, OwnItemsAreFew, OwnItemsAreRanged, AddingKeepsOwnPrefixes, LeavingKeepsOwnPrefixes, EndingIsAMoment, NoneEnds, PostsAscend, FewPosts, HeldStays, AddressesStay, AddressesMayBe};
 ghost use Rattle.hn_own.specs.Addresses.{AreAddresses};
 ghost use Rattle.hn_own.specs.OwnPrefixes.{AreOwnPrefixes};
 ghost use Rattle.hn_own.specs.Ports.{ArePorts};
@@ -15,6 +15,17 @@ pub fn own_data_is_unique()
 {
     ascending_set_is_unique();
 }
+
+/// Own items, few enough and with numbers that fit their fields, have node data at each moment. So they have exactly one.
+pub fn own_data_exists()
+    ensures { OwnDataExists }
+{}
+
+/// The own items of a router are few enough, and where the numbers of what they are made of fit, theirs do.
+pub fn own_items_fit()
+    ensures few { OwnItemsAreFew }
+    ensures ranged { OwnItemsAreRanged }
+{}
 
 /// The empty list is one of a router's endpoints, one of own delegated prefixes, and one of own addresses.
 pub fn none_are_well()

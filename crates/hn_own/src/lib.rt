@@ -15,7 +15,7 @@ pub use addresses::Addresses;
 pub use held_pairs::HeldPairs;
 pub use laws::{
     addresses_stay, ending_is_a_moment, ending_leaves, held_without_private, none_are_well,
-    own_data_is_unique, own_prefixes_stay, posts_ascend,
+    own_data_exists, own_data_is_unique, own_items_fit, own_prefixes_stay, posts_ascend,
 };
 pub use own::{OwnData, OwnItems};
 pub use own_prefixes::{OwnPrefix, OwnPrefixes};

@@ -10,9 +10,9 @@ use Rattle.hn_base.specs.Prefix.{IsPrefix}
 use Rattle.hn_base.specs.Words.{Begins}
 use Rattle.hn_base.proofs.AscendingLists.{Contains-head, Contains-tail, Contains-map, Contains-from_map, sorted_parts}
 use Rattle.hn_data.specs.View.{PlainView}
-use Rattle.hn_prefix.specs.Exists.{Some! }
+use Rattle.hn_base.specs.Exists.{Some! }
 use Rattle.hn_prefix.specs.Laws.{FreeOrFull, InsideAreSubPrefixes}
-use Rattle.hn_prefix.proofs.Somes.{IsPart, some_is, some_then, some_part}
+use Rattle.hn_base.proofs.Somes.{IsPart, some_is, some_then, some_part}
 use Rattle.hn_assign.specs.declared.assigned.Assigned.{Assigned}
 use Rattle.hn_assign.specs.declared.assigned.Wish.{Wish}
 use Rattle.hn_assign.specs.declared.backoff.Backoff.{Backoff}
@@ -35,15 +35,6 @@ use Rattle.hn_assign.proofs.SomeTurns.{WithinIsNotShorter, IsUpTo, IsOfPair, som
 use Rattle.hn_assign.proofs.Unchanged.{due_backoff}
 
 -- ---- the next word of a stream
-
-begins_next : (taken : List ℕ) (stream : ℕ → ℕ) → Begins taken stream → Begins (taken ++ stream (length taken) ∷ []) stream
-begins_next taken stream begins i within =
-    elim (cases_lt i (length taken)) [
-      | inl before ↦ get_or_append_left taken (stream (length taken) ∷ []) 0 i before ∙ begins i before
-      | inr past ↦
-          let last : length taken ≡ i = omega (arith, within, past, length-append taken (stream (length taken) ∷ [])) in
-          subst (λ (k : ℕ). ◌≡◌ {A = ℕ} (get_or (taken ++ stream (length taken) ∷ []) k 0) (stream k)) last (get_or-append_seam taken (stream (length taken)) [] 0)
-    ]
 
 begins_up_to : (taken words : List ℕ) (stream : ℕ → ℕ) → IsUpTo (stream (length taken)) words → Begins taken stream → Begins (taken ++ words) stream
 begins_up_to taken words stream (inl none) begins = subst (λ (ws : List ℕ). Begins (taken ++ ws) stream) (sym none) (subst (λ (ws : List ℕ). Begins ws stream) (sym (append-nil taken)) begins)

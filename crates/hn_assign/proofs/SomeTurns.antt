@@ -5,9 +5,9 @@ use Rattle.std.proofs.lemmas.Bool.{cases_lt}
 use Rattle.std.proofs.lemmas.List.{append-nil}
 use Rattle.hn_base.specs.Prefix.{PlainPrefix, IsPrefix, IsWithin}
 use Rattle.hn_base.proofs.AscendingLists.{nothing_in}
-use Rattle.hn_prefix.specs.Exists.{Some! }
+use Rattle.hn_base.specs.Exists.{Some! }
 use Rattle.hn_prefix.specs.Laws.{FreeOrFull, InsideAreSubPrefixes, IsFirstFreeIfAny}
-use Rattle.hn_prefix.proofs.Somes.{some_is, some_then, some_by}
+use Rattle.hn_base.proofs.Somes.{some_is, some_then, some_by}
 use Rattle.hn_assign.specs.declared.assigned.Advertised.{Advertised}
 use Rattle.hn_assign.specs.declared.assigned.Assigned.{Assigned}
 use Rattle.hn_assign.specs.declared.backoff.Backoff.{Backoff}

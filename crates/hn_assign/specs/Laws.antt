@@ -12,7 +12,7 @@ use Rattle.hn_assign.specs.declared.assigned.Wish.{Wish}
 use Rattle.hn_assign.specs.declared.held.Held.{Held}
 use Rattle.hn_assign.specs.declared.held.Ran.{Ran}
 use Rattle.hn_assign.specs.Due.{IsHeldDue}
-use Rattle.hn_prefix.specs.Exists.{Some! }
+use Rattle.hn_base.specs.Exists.{Some! }
 use Rattle.hn_prefix.specs.Free.{IsFirstFree}
 use Rattle.hn_assign.specs.Advertised.{Link}
 use Rattle.hn_assign.specs.Best.{IsBestIfAny, IsValid, HasNoFree}

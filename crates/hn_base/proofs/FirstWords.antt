@@ -11,6 +11,16 @@ begins_front xs ys stream begins i within =
     let h = begins i (omega (arith, length-append xs ys)) in
     grind (arith, common_steps)
 
+-- where the next word of a stream comes behind its first, they are its first words too
+pub begins_next : (taken : List ℕ) (stream : ℕ → ℕ) → Begins taken stream → Begins (taken ++ stream (length taken) ∷ []) stream
+begins_next taken stream begins i within =
+    elim (cases_lt i (length taken)) [
+      | inl before ↦ get_or_append_left taken (stream (length taken) ∷ []) 0 i before ∙ begins i before
+      | inr past ↦
+          let last : length taken ≡ i = omega (arith, within, past, length-append taken (stream (length taken) ∷ [])) in
+          subst (λ (k : ℕ). ◌≡◌ {A = ℕ} (get_or (taken ++ stream (length taken) ∷ []) k 0) (stream k)) last (get_or-append_seam taken (stream (length taken)) [] 0)
+    ]
+
 -- the words after some are those of the rest of the stream
 pub begins_back : (xs ys : List ℕ) (stream : ℕ → ℕ) → Begins (xs ++ ys) stream → Begins ys (λ i. stream (length xs + i))
 begins_back xs ys stream begins i within =

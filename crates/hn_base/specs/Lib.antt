@@ -4,6 +4,7 @@ pub mod Byte
 pub mod Caps
 pub mod Causes
 pub mod Codes
+pub mod Exists
 pub mod HexText
 pub mod Input
 pub mod Key

@@ -7,5 +7,4 @@ mod OneRead
 mod Places
 mod ReadLemmas
 mod Rounds
-pub mod Somes
 mod WriteLemmas

@@ -1,7 +1,7 @@
 -- Laws of prefixes and of their texts.
 use Rattle.std.specs.Prelude.{◌≡◌, ◌↔◌, ℕ, ◌≤◌, List, Option, None, Some}
 use Rattle.hn_base.specs.Prefix.{PlainPrefix, IsPrefix}
-use Rattle.hn_prefix.specs.Exists.{Some! }
+use Rattle.hn_base.specs.Exists.{Some! }
 use Rattle.hn_prefix.specs.Free.{IsSubPrefix, IsPrefixInside, IsFull, IsFirstFree}
 use Rattle.hn_prefix.specs.PrefixText.{prefix_text_of, IsPrefixText}
 

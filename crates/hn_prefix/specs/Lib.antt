@@ -1,5 +1,4 @@
 pub mod AddressText
-pub mod Exists
 pub mod Free
 pub mod Gap
 pub mod Laws

@@ -5,7 +5,7 @@ use Rattle.std.proofs.lemmas.Bool.{cases_lt}
 use Rattle.std.proofs.lemmas.Map.Keys.{sorted_tail}
 use Rattle.hn_base.proofs.AscendingLists.{Contains-head, Contains-tail, Contains-cases, below_head, nothing_in}
 use Rattle.hn_base.proofs.AscendingMade.{sorted_cons, sorted_none}
-use Rattle.hn_prefix.specs.Exists.{Some! }
+use Rattle.hn_base.specs.Exists.{Some! }
 
 -- ---- one after another, and by cases
 

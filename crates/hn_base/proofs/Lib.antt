@@ -28,6 +28,7 @@ pub mod Rans
 pub mod Recursions
 pub mod Results
 pub mod Soles
+pub mod SomeResult
 pub mod Somes
 pub mod Sooners
 pub mod SplitLemmas

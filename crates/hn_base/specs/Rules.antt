@@ -1,5 +1,6 @@
 -- Rules, and how they compose. A rule relates what there is before something happens, and after it.
 use Rattle.std.specs.Prelude.{◌≡◌, ℕ, List, [], ◌∷◌, Option, Some, None}
+use Rattle.hn_base.specs.Exists.{Some! }
 use Rattle.hn_base.specs.Words.{Drew, Begins}
 
 abbrev pub RuleOf : Type 0 → Type 1
@@ -34,3 +35,14 @@ pub record RanBy {S : Type 0} (words : S → List ℕ) (rule : RuleOf S) (told t
 pub record IsSoleBy {S : Type 0} (words : S → List ℕ) (rule : RuleOf S) : Type 0 where
   pub grows : (stream : ℕ → ℕ) (r a : S) → rule r a → Begins (words a) stream → Begins (words r) stream
   pub one : (stream : ℕ → ℕ) (r a b : S) → rule r a → rule r b → Begins (words a) stream → Begins (words b) stream → a ≡ b
+
+-- A rule keeps a fact of what there is.
+abbrev pub KeepsFact : {S : Type 0} → (S → Type 0) → RuleOf S → Type 0
+KeepsFact {S} P rule = (before after : S) → P before → rule before after → P after
+
+-- Where the words that were taken so far are known and a fact holds before, it cannot be that a rule has no result over a
+-- stream of words that begins with those.
+abbrev pub IsTotalBy : {S : Type 0} → (S → List ℕ) → (S → Type 0) → RuleOf S → Type 0
+IsTotalBy {S} words P rule =
+    (stream : ℕ → ℕ) (before : S) → P before → Begins (words before) stream
+    → Some! (λ (after : S). rule before after × Begins (words after) stream)

@@ -30,7 +30,7 @@ use Rattle.hn_audit.specs.Sound.{Link, IsPostOn}
 use Rattle.hn_audit.proofs.BridgeSets.{IsKnown, OwnVersions, router_of, itself, one_member}
 use Rattle.hn_audit.proofs.BridgeUsed.{used_same}
 use Rattle.hn_audit.proofs.BridgeHomes.{home_of, number_of, IsEndOf, same_link, of_end, of_has, one_link_of, one_on_link}
-use Rattle.hn_base.proofs.Parts.{one_of_ascending}
+use Rattle.hn_base.proofs.PartsAtPlaces.{one_of_ascending}
 
 -- a settled and quiet router of a replayed world, and the delegated prefixes that it uses
 pub record IsCase (w : Parts) (r : Member) (usable : List Delegated) : Type 0 where

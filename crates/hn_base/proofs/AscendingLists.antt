@@ -13,7 +13,7 @@ use Rattle.std.proofs.lemmas.List.Kept.{Any-dedup, Contains-dedup, Contains-from
 use Rattle.std.proofs.lemmas.List.Sorted.{searchable_from_sorted}
 use Rattle.std.proofs.lemmas.Map.Keys.{sorted_head, sorted_tail, Less-from_sorted}
 use Rattle.hn_base.specs.Ascending.{IsExact}
-use Rattle.hn_base.proofs.Recursions.{AllByRecursion-push}
+use Rattle.hn_base.proofs.EachByRecursion.{AllByRecursion-push}
 
 -- ---- Contains, element by element
 

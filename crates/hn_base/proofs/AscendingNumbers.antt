@@ -9,7 +9,7 @@ use Rattle.std.specs.Cmp.{nat_cmp_is, ranked}
 use Rattle.std.proofs.lemmas.Bool.{cond_both, ltb-true, le-ltb, eqb-true}
 use Rattle.std.proofs.lemmas.List.{map-append}
 use Rattle.std.proofs.lemmas.Cmp.{nat_cmp_total}
-use Rattle.hn_base.proofs.Around.{few_apart, fewer_apart, sorted_around}
+use Rattle.hn_base.proofs.BelowAndAbove.{few_apart, fewer_apart, sorted_around}
 
 -- ---- numbers in order
 

@@ -8,7 +8,7 @@ use Rattle.std.proofs.lemmas.Nat.{be_bytes_2, from_be_bytes-to_be_bytes_2, from_
 use Rattle.std.proofs.Math.Nat.{pow-suc}
 use Rattle.std.proofs.lemmas.List.Elements.{All-from_recursion}
 use Rattle.hn_base.specs.Byte.{IsByte}
-use Rattle.hn_base.proofs.Recursions.{AllByRecursion-append, AllByRecursion-take, AllByRecursion-drop}
+use Rattle.hn_base.proofs.EachByRecursion.{AllByRecursion-append, AllByRecursion-take, AllByRecursion-drop}
 
 -- the number that bytes make
 pub be : List ℕ → ℕ

@@ -12,7 +12,7 @@ use Rattle.hn_tlv.specs.Grammar.{PlainTlv, IsTlv, spelling, IsTlvList}
 use Rattle.hn_typed.specs.Fields.{word}
 use Rattle.hn_dncp.specs.Packing.{sender_tlv, datagram_of, IsFullBefore, IsFilled, IsPacking, IsShort, AreRead}
 use Rattle.hn_base.proofs.BigEndian.{number_bytes}
-use Rattle.hn_base.proofs.Fronts.{same_parts}
+use Rattle.hn_base.proofs.FrontOfList.{same_parts}
 
 same_cons : {A : Type 0} (x y : A) (xs ys : List A) → x ≡ y → xs ≡ ys → x ∷ xs ≡ y ∷ ys
 same_cons x y xs ys first others = ap (λ z. z ∷ xs) first ∙ ap (λ zs. y ∷ zs) others

@@ -11,7 +11,7 @@ use Rattle.hn_base.specs.declared.ids.NodeId.{NodeId}
 use Rattle.hn_base.specs.declared.ids.EpId.{EpId}
 use Rattle.hn_dncp.specs.declared.peers.Neighbour.{Neighbour}
 use Rattle.hn_dncp.specs.Peers.{is_peer, has_peer, IsOther, ArePeers}
-use Rattle.hn_base.proofs.Passing.{map-one, each_fails}
+use Rattle.hn_base.proofs.PassingElements.{map-one, each_fails}
 
 -- a peer's node and endpoint, and whether they are those of another
 abbrev key : Neighbour → ℕ × ℕ

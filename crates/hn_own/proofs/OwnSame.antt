@@ -7,8 +7,8 @@ use Rattle.std.proofs.lemmas.Bool.{false≢true}
 use Rattle.std.proofs.lemmas.Bool.Decides.{Decides-and, Decides-like, Decides-eqb}
 use Rattle.std.proofs.lemmas.Slice.Eq.{slice_eq-Decides}
 use Rattle.hn_base.specs.declared.caps.Caps.{Caps}
-use Rattle.hn_base.proofs.Decisions.{option_decided}
-use Rattle.hn_base.proofs.Fields.{same_caps}
+use Rattle.hn_base.proofs.DecidingTests.{option_decided}
+use Rattle.hn_base.proofs.KnownByFields.{same_caps}
 use Rattle.hn_base.proofs.Prefixes.{prefix_decided}
 use Rattle.hn_base.specs.Prefix.{PlainPrefix}
 use Rattle.hn_data.specs.Peers.{peer_link}

@@ -15,8 +15,8 @@ use Rattle.std.proofs.lemmas.Map.Keys.{below_from_sorted, sorted_from_strictly_i
 use Rattle.hn_base.specs.declared.ids.EpId.{EpId}
 use Rattle.hn_dncp.specs.declared.port.Port.{Port}
 use Rattle.hn_base.proofs.AscendingNumbers.{ascending-filter}
-use Rattle.hn_base.proofs.Passing.{map-one}
-use Rattle.hn_base.proofs.Fronts.{filter-front, filter-back}
+use Rattle.hn_base.proofs.PassingElements.{map-one}
+use Rattle.hn_base.proofs.FrontOfList.{filter-front, filter-back}
 use Rattle.hn_own.specs.Ports.{number, ArePorts, is_port, is_attached, put_port, attached}
 
 -- an endpoint has a number of 4 bytes other than 0

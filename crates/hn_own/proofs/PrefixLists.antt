@@ -10,7 +10,7 @@ use Rattle.std.specs.List.Sorted.{IsStrictlySortedBy, IsPartitionPoint, IsPartit
 use Rattle.std.proofs.lemmas.Bool.{cases_lt, not-true, or_parts}
 use Rattle.std.proofs.lemmas.List.Elements.{filter_passes}
 use Rattle.std.proofs.lemmas.Map.Keys.{Less-from_sorted}
-use Rattle.hn_base.proofs.Fronts.{filter-front, filter-back}
+use Rattle.hn_base.proofs.FrontOfList.{filter-front, filter-back}
 use Rattle.hn_base.specs.Prefix.{PlainPrefix, prefix_cmp}
 use Rattle.hn_own.specs.declared.own_prefixes.OwnPrefix.{OwnPrefix}
 use Rattle.hn_own.specs.OwnPrefixes.{AreOwnPrefixes, is_prefix, is_before, delegated_with, delegated_without}

@@ -9,7 +9,7 @@ use Rattle.std.proofs.lemmas.List.Elements.{All-weaker, filter_passes, recursion
 use Rattle.std.proofs.lemmas.List.Kept.{IsStrictlySortedBy-filter}
 use Rattle.std.proofs.lemmas.List.Sums.{length-filter, count_by-le-length}
 use Rattle.hn_base.proofs.AscendingLists.{equal_from_is_eq}
-use Rattle.hn_base.proofs.Around.{few_apart, fewer_apart, sorted_around}
+use Rattle.hn_base.proofs.BelowAndAbove.{few_apart, fewer_apart, sorted_around}
 use Rattle.hn_base.proofs.Prefixes.{prefix_total}
 use Rattle.hn_base.specs.Prefix.{PlainPrefix, prefix_cmp}
 use Rattle.hn_own.specs.declared.own_prefixes.OwnPrefix.{OwnPrefix}

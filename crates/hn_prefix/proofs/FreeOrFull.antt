@@ -6,8 +6,8 @@ use Rattle.hn_base.specs.Prefix.{PlainPrefix}
 use Rattle.hn_base.specs.Exists.{Some! }
 use Rattle.hn_prefix.specs.Free.{sub_prefix_count, sub_prefix_after, IsFree, IsTaken}
 use Rattle.hn_prefix.specs.Laws.{FreeOrFull, IsFirstFreeIfAny}
-use Rattle.hn_prefix.proofs.Rounds.{whole_round}
-use Rattle.hn_base.proofs.Somes.{IsFirstIfAny, some_then, some_first}
+use Rattle.hn_prefix.proofs.PlaceAfterStart.{whole_round}
+use Rattle.hn_base.proofs.SomeExists.{IsFirstIfAny, some_then, some_first}
 
 free_or_taken : (taken : List PlainPrefix) (p : PlainPrefix) → ¬ (IsFree taken p) → ¬ (IsTaken taken p) → ⊥
 free_or_taken taken p not_free not_taken =

@@ -17,7 +17,7 @@ use Rattle.std.proofs.lemmas.List.{append-nil, length-take-le}
 use Rattle.std.proofs.Math.Nat.{div-div-eq-div-mul}
 use Rattle.hn_base.specs.Numeral.{numeral}
 use Rattle.hn_base.proofs.NumeralLemmas.{numeral_one, numeral_step, numeral_is_short, decimal_is_short}
-use Rattle.hn_base.proofs.Recursions.{AllByRecursion-take, AllByRecursion-drop}
+use Rattle.hn_base.proofs.EachByRecursion.{AllByRecursion-take, AllByRecursion-drop}
 use Rattle.hn_prefix.specs.AddressText.{groups, address_of, group_text, groups_text, IsFirstLongestRun, shortened_text, IsZeroRun, IsWrittenForm, address_text_of, IsGroups, IsGroupsText, IsAddressText}
 use Rattle.hn_base.specs.Prefix.{PlainPrefix, IsPrefix}
 use Rattle.hn_prefix.specs.PrefixText.{prefix_text_of, text_of, IsPrefixText}

@@ -1,7 +1,7 @@
 -- When something is next due for a router.
 use Rattle.std.proofs.Common.{◌≡◌, ◌∙◌, ◌⊎◌, ℕ, ◌^◌, List, Option, Some, None, Result, Ok, Err, IfOk, sym, ap, subst}
 use Rattle.std.specs.List.{filter_map}
-use Rattle.hn_base.proofs.Sooners.{sooner_same, sooner_both, sooner_is_one}
+use Rattle.hn_base.proofs.NextDue.{sooner_same, sooner_both, sooner_is_one}
 use Rattle.hn_base.specs.Sooner.{IsSooner, IsOfOne}
 use Rattle.hn_base.specs.declared.ids.EpId.{EpId}
 use Rattle.hn_base.specs.declared.memory.NoMemory.{NoMemory}

@@ -57,7 +57,7 @@ use Rattle.hn_rules.specs.Assigning.{AreAsked, IsAssigned, IsAssigning}
 use Rattle.hn_rules.specs.Seen.{seen_by}
 use Rattle.hn_rules.specs.NodeEndpoint.{node_endpoint}
 use Rattle.hn_rules.specs.NetworkState.{network_state}
-use Rattle.hn_base.proofs.Decisions.{not_both}
+use Rattle.hn_base.proofs.DecidingTests.{not_both}
 use Rattle.hn_rules.specs.Requests.{state_item, is_reached, with_state, IsNetworkRequest, request_node}
 use Rattle.hn_rules.specs.Claim.{IsFirstFree, IsFirstClaim, IsSecondClaim, IsClaim, is_taken}
 use Rattle.hn_rules.specs.NodeState.{took_noted, IsTaken, IsNodeState}
@@ -68,7 +68,7 @@ use Rattle.hn_rules.specs.Delegating.{ending}
 use Rattle.hn_rules.specs.Events.{IsAttaching, IsPortRestart, emptied, IsRestarting}
 use Rattle.hn_base.proofs.FirstWords.{begins_front, begins_back, begins_along}
 use Rattle.hn_rules.proofs.Arriving.{some_answer_words, node_endpoint_words}
-use Rattle.hn_base.proofs.Soles.{sole_drawn, sole_given, sole_plain, sole_both, sole_each, sole_word, sole_from, sole_start, sole_after, sole_on, sole_or, sole_where, sole_some}
+use Rattle.hn_base.proofs.OneResult.{sole_drawn, sole_given, sole_plain, sole_both, sole_each, sole_word, sole_from, sole_start, sole_after, sole_on, sole_or, sole_where, sole_some}
 
 -- the laws of the crates below on which it rests
 pub record HasLaws : Type 0 where

@@ -11,7 +11,7 @@ use Rattle.hn_base.specs.declared.ids.EpId.{EpId}
 use Rattle.hn_base.specs.declared.ids.NodeId.{NodeId}
 use Rattle.hn_base.proofs.AscendingLists.{Contains-head, Contains-tail, sorted_parts}
 use Rattle.hn_base.proofs.Elements.{found_passes}
-use Rattle.hn_base.proofs.Parts.{one_of_ascending}
+use Rattle.hn_base.proofs.PartsAtPlaces.{one_of_ascending}
 use Rattle.hn_data.specs.declared.said.PeerLink.{PeerLink}
 use Rattle.hn_dncp.specs.declared.peers.Neighbour.{Neighbour}
 use Rattle.hn_dncp.specs.declared.port.Port.{Port}

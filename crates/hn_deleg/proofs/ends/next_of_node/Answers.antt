@@ -1,7 +1,7 @@
 use Rattle.std.proofs.Common.{ℕ, ◌↔◌, ◌∙◌, sym}
 use Rattle.std.proofs.lemmas.Bool.{false≢true}
 use Rattle.hn_base.specs.Sooner.{IsOfOne}
-use Rattle.hn_base.proofs.Sooners.{sooner_none, sooner_same}
+use Rattle.hn_base.proofs.NextDue.{sooner_none, sooner_same}
 use Rattle.hn_deleg.specs.Due.{IsEndOf, IsEndIn}
 use Rattle.hn_deleg.proofs.ends.next_of_node.Goals as goal
 

@@ -1,4 +1,4 @@
-use Rattle.hn_base.proofs.Sooners.{sooner_each}
+use Rattle.hn_base.proofs.NextDue.{sooner_each}
 use Rattle.hn_own.specs.Due.{IsEndOf}
 use Rattle.hn_own.proofs.own_prefixes.first_end.Goals as goal
 

@@ -2,9 +2,9 @@ use Rattle.std.proofs.Common.{◌≡◌, ℕ, ◌+◌, ◌%◌, ◌<◌, ap, sub
 use Rattle.std.proofs.lemmas.Nat.{mod_below}
 use Rattle.hn_base.specs.Prefix.{PlainPrefix, IsWithin, last_address}
 use Rattle.hn_prefix.specs.Free.{sub_prefix, sub_prefix_count, next_place, IsTaken}
-use Rattle.hn_prefix.proofs.Jumps.{few_jumps, jump_counts}
-use Rattle.hn_prefix.proofs.Places.{blocked, sub_prefix_is_within, reaches, later_place}
-use Rattle.hn_prefix.proofs.Rounds.{place_now, place_at, not_both, jumped, whole_round}
+use Rattle.hn_prefix.proofs.JumpsLeft.{few_jumps, jump_counts}
+use Rattle.hn_prefix.proofs.SubPrefixAtPlace.{blocked, sub_prefix_is_within, reaches, later_place}
+use Rattle.hn_prefix.proofs.PlaceAfterStart.{place_now, place_at, not_both, jumped, whole_round}
 use Rattle.hn_prefix.proofs.free.first_free.Goals as goal
 
 pub loop-ahead-init : goal.loop-ahead-init

@@ -2,8 +2,8 @@ use Rattle.std.proofs.Common.{◌≡◌, ℕ, List, ◌+◌, ◌-◌, drop, arit
 use Rattle.std.proofs.lemmas.List.{take_rest}
 use Rattle.hn_tlv.specs.Grammar.{IsTlvAt, IsFault}
 use Rattle.hn_tlv.specs.View.{plain}
-use Rattle.hn_tlv.proofs.Unique.{no_tlv, same_fault}
-use Rattle.hn_tlv.proofs.Places.{same_at}
+use Rattle.hn_tlv.proofs.OneReading.{no_tlv, same_fault}
+use Rattle.hn_tlv.proofs.TlvAtPlace.{same_at}
 use Rattle.hn_tlv.proofs.reading.next.Goals as goal
 
 pub returns-in-Ok-Some-clause-at_tlv : goal.returns-in-Ok-Some-clause-at_tlv

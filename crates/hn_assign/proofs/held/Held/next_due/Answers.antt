@@ -1,6 +1,6 @@
 use Rattle.std.proofs.Common.{◌↔◌, ◌⊎◌, ℕ, List, subst, inl, inr}
 use Rattle.hn_base.specs.Sooner.{IsSooner, IsOfOne}
-use Rattle.hn_base.proofs.Sooners.{sooner_both, sooner_same}
+use Rattle.hn_base.proofs.NextDue.{sooner_both, sooner_same}
 use Rattle.hn_assign.specs.declared.assigned.Assigned.{Assigned}
 use Rattle.hn_assign.specs.declared.backoff.Backoff.{Backoff}
 use Rattle.hn_assign.specs.Due.{IsBackoffDue, IsMarkDue, IsHeldDue}

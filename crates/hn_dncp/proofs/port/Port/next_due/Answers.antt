@@ -1,7 +1,7 @@
 use Rattle.std.proofs.Common.{◌≡◌}
 use Rattle.hn_timers.specs.Due.{IsIntervalDue}
 use Rattle.hn_timers.specs.KeepAlive.{silence_end}
-use Rattle.hn_base.proofs.Sooners.{sooner_both}
+use Rattle.hn_base.proofs.NextDue.{sooner_both}
 use Rattle.hn_dncp.proofs.port.Port.next_due.Goals as goal
 
 pub returns : goal.returns

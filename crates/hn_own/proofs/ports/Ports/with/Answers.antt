@@ -3,7 +3,7 @@ use Rattle.std.proofs.Math.Seq.{take-length}
 use Rattle.std.proofs.lemmas.List.{take-append-drop, take_more_set, drop-set-lt, length-drop}
 use Rattle.std.proofs.lemmas.List.Quantifiers.{position-Some}
 use Rattle.hn_dncp.specs.declared.port.Port.{Port}
-use Rattle.hn_base.proofs.Passing.{map-unpassed}
+use Rattle.hn_base.proofs.PassingElements.{map-unpassed}
 use Rattle.hn_own.specs.Ports.{is_port}
 use Rattle.hn_own.proofs.PortLists.{ArePorts-set, put_port-set}
 use Rattle.hn_own.proofs.ports.Ports.with.Goals as goal

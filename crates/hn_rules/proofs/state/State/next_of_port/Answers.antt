@@ -1,5 +1,5 @@
 use Rattle.std.proofs.Common.{List, ℕ, subst}
-use Rattle.hn_base.proofs.Sooners.{sooner_both}
+use Rattle.hn_base.proofs.NextDue.{sooner_both}
 use Rattle.hn_base.specs.Sooner.{IsSooner, IsOfOne}
 use Rattle.hn_dncp.specs.Due.{IsPortDue}
 use Rattle.hn_dncp.specs.declared.peers.Neighbour.{Neighbour}

@@ -5,7 +5,7 @@ use Rattle.std.proofs.lemmas.Bool.{cases_lt}
 use Rattle.std.specs.Prelude.{Contains}
 use Rattle.hn_base.specs.Prefix.{PlainPrefix, IsPrefix, Overlaps, last_address}
 use Rattle.hn_prefix.specs.Free.{sub_prefix, sub_prefix_count, sub_prefix_after, next_place, IsFree, IsTaken, IsFull}
-use Rattle.hn_prefix.proofs.Places.{IsPlace, Blocks, overlaps_between}
+use Rattle.hn_prefix.proofs.SubPrefixAtPlace.{IsPlace, Blocks, overlaps_between}
 
 -- the place that the code computes is the one so far after the start
 pub place_now : (start ahead counted count : ℕ) → counted ≡ count → (start % counted + ahead) % counted ≡ (start + ahead) % count

@@ -3,7 +3,7 @@ use Rattle.std.proofs.Common.{◌≡◌, ℕ, ◌+◌, ◌^◌, ◌<◌, List, [
 use Rattle.std.proofs.lemmas.List.{get_or_default, get_or_append_left, get_or-append-add}
 use Rattle.hn_tlv.specs.Grammar.{PlainTlv, IsTlv, padding, tlv_size, header, unpadded, spelling, IsTlvAt, IsFault}
 use Rattle.hn_tlv.specs.Padding.{IsPaddingFault}
-use Rattle.hn_tlv.proofs.Places.{read_again}
+use Rattle.hn_tlv.proofs.TlvAtPlace.{read_again}
 use Rattle.hn_base.proofs.BigEndian.{AreOctets}
 
 -- type, length and value, as they were read, are those of a TLV

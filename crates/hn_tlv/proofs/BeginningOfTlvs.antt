@@ -5,7 +5,7 @@ use Rattle.std.specs.Int.{w16, from_be_bytes}
 use Rattle.std.proofs.lemmas.Bool.{le-ltb, lt-ltb}
 use Rattle.std.proofs.lemmas.List.{take_at, drop_at, length-append}
 use Rattle.std.proofs.lemmas.Nat.{from_be_bytes-to_be_bytes_2}
-use Rattle.hn_base.proofs.Outcomes.{Outcome, Ends, Begins, Faults, IsTold}
+use Rattle.hn_base.proofs.BeginningOfBytes.{Outcome, Ends, Begins, Faults, IsTold}
 use Rattle.hn_tlv.specs.Grammar.{PlainTlv, IsTlv, padding, header, unpadded, spelling, IsFault}
 
 -- so many pad bytes have to come, the first of them at this offset

@@ -3,7 +3,7 @@ use Rattle.std.proofs.Math.Nat.{le_refl, div-add-mod, div-mul-le_self, add-mul-m
 use Rattle.std.proofs.lemmas.Nat.{pow_pos, pow-add, mul-le, mod-pow-add, le-div, shl-shr}
 use Rattle.hn_base.specs.Prefix.{PlainPrefix, IsPrefix, IsWithin, Overlaps, last_address}
 use Rattle.hn_prefix.specs.Free.{sub_prefix, sub_prefix_count, next_place, IsSubPrefix, IsPrefixInside}
-use Rattle.hn_prefix.proofs.Blocks.{block_fits, within_range, overlap_range}
+use Rattle.hn_prefix.proofs.InsideAndOverlap.{block_fits, within_range, overlap_range}
 
 -- the place of a sub-prefix
 pub record IsPlace (outer : PlainPrefix) (len place : ℕ) : Type 0 where

@@ -6,7 +6,7 @@ use Rattle.md5.specs.Md5.{md5, digest_bytes}
 use Rattle.hn_hash.specs.Hash.{hash_of}
 use Rattle.hn_hash.specs.Network.{entry_of}
 use Rattle.hn_hash.specs.declared.leaf.Leaf.{Leaf}
-use Rattle.hn_base.proofs.Fronts.{same_parts}
+use Rattle.hn_base.proofs.FrontOfList.{same_parts}
 
 pub length-md5 : (text : List ℕ) → length (md5 text) ≡ 16
 unfolding md5 digest_bytes

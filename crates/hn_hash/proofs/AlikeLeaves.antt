@@ -5,8 +5,8 @@ use Rattle.hn_hash.specs.Hash.{hash_of}
 use Rattle.hn_hash.specs.Network.{entry_of, leaf_text}
 use Rattle.hn_hash.specs.Agreement.{body_at}
 use Rattle.hn_hash.specs.declared.leaf.Leaf.{Leaf}
-use Rattle.hn_hash.proofs.Hashes.{length-entry_of, same_entries}
-use Rattle.hn_base.proofs.Fronts.{same_parts, head_is, tail_is}
+use Rattle.hn_hash.proofs.HashLengths.{length-entry_of, same_entries}
+use Rattle.hn_base.proofs.FrontOfList.{same_parts, head_is, tail_is}
 
 abbrev pub number_bytes : List Leaf → List (List ℕ)
 number_bytes leaves = map (λ leaf. to_be_bytes w32 leaf.number) leaves

@@ -1,7 +1,7 @@
 ghost use Rattle.std.specs.Prelude.{◌≡◌, ◌++◌, ◌-◌, ◌^◌, ◌≤◌, is_some, unwrap_or, length, replicate};
 ghost use Rattle.std.specs.Option.{option_to_list};
 ghost use Rattle.hn_base.specs.Words.{Took};
-ghost use Rattle.hn_timers.specs.Interval.{has_to_send, has_ended};
+ghost use Rattle.hn_timers.specs.Interval.{has_to_send, is_interval_over};
 ghost use Rattle.hn_timers.specs.KeepAlive.{is_silent};
 ghost use Rattle.hn_dncp.specs.Tick.{after_firing, after_interval, after_keep_alive, tick_words, ticked, tick_sends, words_of};
 
@@ -49,7 +49,7 @@ impl Port {
     fn begin_next<D: Draw>(&mut self, now: Moment, draw: &mut D) -> Option<u32>
         requires { now ≤ 2 ^ 48 }
         ensures port { self.new ≡ after_interval now (unwrap_or result 0) self.old }
-        ensures word { is_some result ≡ has_ended now self.old.trickle }
+        ensures word { is_some result ≡ is_interval_over now self.old.trickle }
         ensures drew { Took (D.words draw.old) (option_to_list result) (D.words draw.new) }
     {
         if !self.trickle.ended(now) {

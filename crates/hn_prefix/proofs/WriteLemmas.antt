@@ -18,7 +18,7 @@ use Rattle.std.proofs.Math.Nat.{div-div-eq-div-mul}
 use Rattle.hn_base.specs.Numeral.{numeral}
 use Rattle.hn_base.proofs.NumeralLemmas.{numeral_one, numeral_step, numeral_is_short, decimal_is_short}
 use Rattle.hn_base.proofs.EachByRecursion.{AllByRecursion-take, AllByRecursion-drop}
-use Rattle.hn_prefix.specs.AddressText.{groups, address_of, group_text, groups_text, IsFirstLongestRun, shortened_text, IsZeroRun, IsWrittenForm, address_text_of, IsGroups, IsGroupsText, IsAddressText}
+use Rattle.hn_prefix.specs.AddressText.{groups, address_of_groups, group_text, groups_text, IsFirstLongestRun, shortened_text, IsZeroRun, IsWrittenForm, address_text_of, IsGroups, IsGroupsText, IsAddressText}
 use Rattle.hn_base.specs.Prefix.{PlainPrefix, IsPrefix}
 use Rattle.hn_prefix.specs.PrefixText.{prefix_text_of, text_of, IsPrefixText}
 
@@ -246,7 +246,7 @@ written_is_read gs eight fits =
 one_group_more : (n m : ℕ) → n / (m * 65536) * 65536 + n / m % 65536 ≡ n / m
 one_group_more n m = rw (← div-div-eq-div-mul n m 65536) (omega arith)
 
-pub address_of-groups : (ip : ℕ) → ip < 2 ^ 128 → address_of (groups ip) ≡ ip
+pub address_of-groups : (ip : ℕ) → ip < 2 ^ 128 → address_of_groups (groups ip) ≡ ip
 unfolding groups
 address_of-groups ip fits =
     let s112 : 0 + ip / 2 ^ 112 % 65536 ≡ ip / 2 ^ 112 = omega arith in
@@ -273,7 +273,7 @@ low_of v g fits = omega arith
 high_after : (n m v g : ℕ) → n / m ≡ v * 65536 + g → g < 65536 → n / (m * 65536) ≡ v
 high_after n m v g is fits = sym (div-div-eq-div-mul n m 65536) ∙ ap (λ q. q / 65536) is ∙ high_of v g fits
 
-eight_back : (a b c d e f g h : ℕ) → AllFit (a ∷ b ∷ c ∷ d ∷ e ∷ f ∷ g ∷ h ∷ []) → groups (address_of (a ∷ b ∷ c ∷ d ∷ e ∷ f ∷ g ∷ h ∷ [])) ≡ a ∷ b ∷ c ∷ d ∷ e ∷ f ∷ g ∷ h ∷ []
+eight_back : (a b c d e f g h : ℕ) → AllFit (a ∷ b ∷ c ∷ d ∷ e ∷ f ∷ g ∷ h ∷ []) → groups (address_of_groups (a ∷ b ∷ c ∷ d ∷ e ∷ f ∷ g ∷ h ∷ [])) ≡ a ∷ b ∷ c ∷ d ∷ e ∷ f ∷ g ∷ h ∷ []
 unfolding groups
 eight_back a b c d e f g h fits =
     let v1 : ℕ = 0 + a in
@@ -301,7 +301,7 @@ eight_back a b c d e f g h fits =
     let eighth : ip % 2 ^ 16 ≡ h = low_of v7 h fits.1.1.1.1.1.1.1.0 in
     cc
 
-pub groups-address_of : (gs : List ℕ) → length gs ≡ 8 → AllFit gs → groups (address_of gs) ≡ gs
+pub groups-address_of : (gs : List ℕ) → length gs ≡ 8 → AllFit gs → groups (address_of_groups gs) ≡ gs
 groups-address_of (a ∷ b ∷ c ∷ d ∷ e ∷ f ∷ g ∷ h ∷ []) eight fits = eight_back a b c d e f g h fits
 groups-address_of _ eight fits = absurd (omega arith)
 

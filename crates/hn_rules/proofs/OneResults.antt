@@ -20,7 +20,7 @@ use Rattle.hn_typed.specs.Written.{tlv_of}
 use Rattle.hn_typed.specs.Table.{IsItem}
 use Rattle.hn_typed.specs.Fault.{IsItemFault}
 use Rattle.hn_typed.specs.Laws.{ItemIsUnique, ItemHasNoFault, ItemFaultIsUnique}
-use Rattle.hn_timers.specs.Interval.{started}
+use Rattle.hn_timers.specs.Interval.{interval_from}
 use Rattle.hn_deleg.specs.declared.delegated.Delegated.{Delegated}
 use Rattle.hn_deleg.specs.Laws.{UsableIsUnique}
 use Rattle.hn_assign.specs.declared.assigned.Wish.{Wish}
@@ -125,7 +125,7 @@ sole_reaching laws =
 
 sole_port_reset : (port : Port) → IsSole (IsPortReset port)
 sole_port_reset port =
-    let reset : ℕ → Running → Running = λ word r. with_words (word ∷ []) (with_port (record port { trickle = started r.state.moment 200 word }) r) in
+    let reset : ℕ → Running → Running = λ word r. with_words (word ∷ []) (with_port (record port { trickle = interval_from r.state.moment 200 word }) r) in
     sole_or words_of (λ r a. (port.trickle.len ≡ 200) × (a ≡ r)) (λ r a. (port.trickle.len ≢ 200) × ((word : ℕ) × (a ≡ reset word r)))
     (sole_where words_of (λ r. port.trickle.len ≡ 200) (λ r a. a ≡ r) (sole_plain words_of (λ r. r) (λ r. refl)))
     (sole_where words_of (λ r. port.trickle.len ≢ 200) (λ r a. (word : ℕ) × (a ≡ reset word r)) (sole_word words_of reset (λ word r. refl)))

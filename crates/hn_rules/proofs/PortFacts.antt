@@ -6,7 +6,7 @@ use Rattle.std.proofs.lemmas.List.Elements.{All-nil, All-map, All-push}
 use Rattle.hn_base.specs.declared.ids.NodeId.{NodeId}
 use Rattle.hn_base.specs.declared.ids.EpId.{EpId}
 use Rattle.hn_base.specs.declared.addr.Addr.{Addr}
-use Rattle.hn_timers.specs.Interval.{Interval, started, has_to_send, has_ended}
+use Rattle.hn_timers.specs.Interval.{Interval, interval_from, has_to_send, is_interval_over}
 use Rattle.hn_timers.specs.Length.{next_length}
 use Rattle.hn_timers.specs.KeepAlive.{is_silent}
 use Rattle.hn_dncp.specs.declared.peers.Neighbour.{Neighbour}
@@ -68,7 +68,7 @@ module _ (now : ℕ) where
   }
 
   -- one that begins an interval
-  pub well-started : (len word : ℕ) (port : Port) → IsPortWell now port → IsPortWell now (record port { trickle = started now len word })
+  pub well-started : (len word : ℕ) (port : Port) → IsPortWell now port → IsPortWell now (record port { trickle = interval_from now len word })
   well-started len word port well = record {
     peers = well.peers;
     past = record { begun = omega arith; sent = well.past.sent; asked = well.past.asked; heard = well.past.heard };
@@ -136,7 +136,7 @@ module _ (now : ℕ) where
   well-interval word port well = record {
     peers = well.peers;
     past = record {
-      begun = cond_both (has_ended now port.trickle) (started now (next_length port.trickle.len) word) port.trickle BegunBy (λ _. omega arith) (λ _. well.past.begun);
+      begun = cond_both (is_interval_over now port.trickle) (interval_from now (next_length port.trickle.len) word) port.trickle BegunBy (λ _. omega arith) (λ _. well.past.begun);
       sent = well.past.sent;
       asked = well.past.asked;
       heard = well.past.heard;
@@ -147,7 +147,7 @@ module _ (now : ℕ) where
   well-keep_alive word port well = record {
     peers = well.peers;
     past = record {
-      begun = cond_both (is_silent port.sent now) (started now port.trickle.len word) port.trickle BegunBy (λ _. omega arith) (λ _. well.past.begun);
+      begun = cond_both (is_silent port.sent now) (interval_from now port.trickle.len word) port.trickle BegunBy (λ _. omega arith) (λ _. well.past.begun);
       sent = cond_both (is_silent port.sent now) now port.sent By (λ _. omega arith) (λ _. well.past.sent);
       asked = well.past.asked;
       heard = well.past.heard;

@@ -1,7 +1,7 @@
 use Rattle.std.proofs.Common.{◌≡◌, ℕ, ◌+◌, ◌%◌, ◌<◌, ap, subst, sym, ◌∙◌, arith}
 use Rattle.std.proofs.lemmas.Nat.{mod_below}
 use Rattle.hn_base.specs.Prefix.{PlainPrefix, IsWithin, last_address}
-use Rattle.hn_prefix.specs.Free.{sub_prefix, sub_prefix_count, next_place, IsTaken}
+use Rattle.hn_prefix.specs.Free.{sub_prefix, sub_prefix_count, next_place, IsTakenPrefix}
 use Rattle.hn_prefix.proofs.JumpsLeft.{few_jumps, jump_counts}
 use Rattle.hn_prefix.proofs.SubPrefixAtPlace.{blocked, sub_prefix_is_within, reaches, later_place}
 use Rattle.hn_prefix.proofs.PlaceAfterStart.{place_now, place_at, not_both, jumped, whole_round}
@@ -37,7 +37,7 @@ returns-in_default-clause-none c =
     let at =
     place_at c.args.outer.now c.args.len c.args.start c.loop-ahead.ahead c.sub_prefix_count-count.result c.sub_prefix_count-count.ensures.valid
     c.requires.not_shorter c.requires.len_in_range c.sub_prefix_count-count.ensures.value c.loop-ahead-test.true in
-    let P : PlainPrefix → Type 0 = λ p. IsTaken c.args.taken.now p in (
+    let P : PlainPrefix → Type 0 = λ p. IsTakenPrefix c.args.taken.now p in (
       (λ never. absurd (cc)),
       (λ full. absurd (not_both c.args.taken.now c.sub_prefix-candidate.result c.in_default.ensures.none (subst P (sym c.sub_prefix-candidate.ensures) (full _ at.below_count)))),
     )

@@ -100,7 +100,8 @@ module _ {A : Type 0} (P : A → ℕ → Type 0) (now : ℕ) where
       ]
 
   -- as a `for` goes over a slice
-  pub sooner_each : (xs : List A) (i : ℕ) (x d : A) (b c e : ℕ) → i < length xs → x ≡ get_or xs i d → IsSooner (IsOfElement P (take i xs)) now b c → IsSooner (P x) now c e → IsSooner (IsOfElement P (take (i + 1) xs)) now b e
+  pub sooner_each : (xs : List A) (i : ℕ) (x d : A) (b c e : ℕ) → i < length xs → x ≡ get_or xs i d → IsSooner (IsOfElement P (take i xs)) now b c
+      → IsSooner (P x) now c e → IsSooner (IsOfElement P (take (i + 1) xs)) now b e
   sooner_each xs i x d b c e within is h k =
       let more : take (i + 1) xs ≡ take i xs ++ get_or xs i d ∷ [] = take_more xs i d within in
       let here : IsSooner (P (get_or xs i d)) now c e = subst (λ (y : A). IsSooner (P y) now c e) is k in

@@ -11,7 +11,8 @@ use Rattle.hn_prefix.proofs.SubPrefixAtPlace.{IsPlace, Blocks, overlaps_between}
 pub place_now : (start ahead counted count : ℕ) → counted ≡ count → (start % counted + ahead) % counted ≡ (start + ahead) % count
 place_now start ahead counted count same = mod-add-mod start counted ahead ∙ ap (λ n. (start + ahead) % n) same
 
-pub place_at : (outer : PlainPrefix) (len start ahead counted : ℕ) → IsPrefix outer → outer.len ≤ len → len ≤ 64 → counted ≡ sub_prefix_count outer len → ahead < counted → IsPlace outer len ((start % counted + ahead) % counted)
+pub place_at : (outer : PlainPrefix) (len start ahead counted : ℕ) → IsPrefix outer → outer.len ≤ len → len ≤ 64
+    → counted ≡ sub_prefix_count outer len → ahead < counted → IsPlace outer len ((start % counted + ahead) % counted)
 place_at outer len start ahead counted valid longer small same before =
     let below : (start % counted + ahead) % counted < counted = mod_below _ _ (omega arith) in
     record { valid = valid; not_shorter = longer; len_in_range = omega arith; below_count = omega arith }
@@ -42,7 +43,9 @@ pub record EachTakenBefore (taken : List PlainPrefix) (outer : PlainPrefix) (len
   pub taken_at : (j : ℕ) → j < ahead → IsTakenPrefix taken (sub_prefix_after outer len start j)
 
 -- so it is after a jump to the place after a taken prefix
-pub jumped : (taken : List PlainPrefix) (outer blocker : PlainPrefix) (len start ahead place following : ℕ) → Contains taken blocker → Blocks outer blocker len place → following ≡ next_place outer len (last_address blocker) → place ≡ (start + ahead) % sub_prefix_count outer len → EachTakenBefore taken outer len start ahead → EachTakenBefore taken outer len start (ahead + (following - place))
+pub jumped : (taken : List PlainPrefix) (outer blocker : PlainPrefix) (len start ahead place following : ℕ) → Contains taken blocker
+    → Blocks outer blocker len place → following ≡ next_place outer len (last_address blocker) → place ≡ (start + ahead) % sub_prefix_count outer len
+    → EachTakenBefore taken outer len start ahead → EachTakenBefore taken outer len start (ahead + (following - place))
 jumped taken outer blocker len start ahead place following among blocks following_is is before = record {
   taken_at = λ j below.
       elim (cases_lt j ahead) [

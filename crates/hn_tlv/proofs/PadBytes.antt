@@ -15,7 +15,8 @@ pub breaks_here : (bytes : List ℕ) (place byte : ℕ) → AreZeros bytes place
 breaks_here bytes place byte zeros here is not_zero = record {
   byte = byte;
   rest = drop (place + 1) bytes;
-  parts = sym (take-append-drop place bytes) ∙ ap (λ (z : List ℕ). z ++ drop place bytes) zeros.zeros ∙ ap (λ (z : List ℕ). replicate place 0 ++ z) (drop_more bytes place 0 here ∙ ap (λ (b : ℕ). b ∷ drop (place + 1) bytes) is);
+  parts = sym (take-append-drop place bytes) ∙ ap (λ (z : List ℕ). z ++ drop place bytes) zeros.zeros
+      ∙ ap (λ (z : List ℕ). replicate place 0 ++ z) (drop_more bytes place 0 here ∙ ap (λ (b : ℕ). b ∷ drop (place + 1) bytes) is);
   not_zero = not_zero;
 }
 

@@ -56,7 +56,8 @@ loop-ahead-preserved c =
     place_at c.args.outer.now c.args.len c.args.start c.loop-ahead.ahead c.sub_prefix_count-count.result c.sub_prefix_count-count.ensures.valid
     c.requires.not_shorter c.requires.len_in_range c.sub_prefix_count-count.ensures.value c.loop-ahead-test.true in
     let blocks = blocked c.args.outer.now c.in-Some.blocker.now c.sub_prefix-candidate.result c.args.len _ at c.last_address.ensures.valid c.sub_prefix-candidate.ensures c.in-Some.ensures.found.0 in
-    let following : c.next_place.result ≡ next_place c.args.outer.now c.args.len (last_address c.in-Some.blocker.now) = c.next_place.ensures ∙ ap (λ a. next_place c.args.outer.now c.args.len a) c.last_address.ensures.value in
+    let following : c.next_place.result ≡ next_place c.args.outer.now c.args.len (last_address c.in-Some.blocker.now) =
+    c.next_place.ensures ∙ ap (λ a. next_place c.args.outer.now c.args.len a) c.last_address.ensures.value in
     let place = place_now c.args.start c.loop-ahead.ahead c.sub_prefix_count-count.result (sub_prefix_count c.args.outer.now c.args.len) c.sub_prefix_count-count.ensures.value in
     record {
       each_taken_before = jumped c.args.taken.now c.args.outer.now c.in-Some.blocker.now c.args.len c.args.start c.loop-ahead.ahead _ c.next_place.result
@@ -70,7 +71,8 @@ loop-ahead-smaller c =
     place_at c.args.outer.now c.args.len c.args.start c.loop-ahead.ahead c.sub_prefix_count-count.result c.sub_prefix_count-count.ensures.valid
     c.requires.not_shorter c.requires.len_in_range c.sub_prefix_count-count.ensures.value c.loop-ahead-test.true in
     let blocks = blocked c.args.outer.now c.in-Some.blocker.now c.sub_prefix-candidate.result c.args.len _ at c.last_address.ensures.valid c.sub_prefix-candidate.ensures c.in-Some.ensures.found.0 in
-    let following : c.next_place.result ≡ next_place c.args.outer.now c.args.len (last_address c.in-Some.blocker.now) = c.next_place.ensures ∙ ap (λ a. next_place c.args.outer.now c.args.len a) c.last_address.ensures.value in
+    let following : c.next_place.result ≡ next_place c.args.outer.now c.args.len (last_address c.in-Some.blocker.now) =
+    c.next_place.ensures ∙ ap (λ a. next_place c.args.outer.now c.args.len a) c.last_address.ensures.value in
     let later = later_place c.args.outer.now c.in-Some.blocker.now c.args.len _ blocks in
     let from_start : c.args.start % c.sub_prefix_count-count.result < c.sub_prefix_count-count.result = mod_below _ _ (omega arith) in
     let so_far : ℕ = c.args.start % c.sub_prefix_count-count.result + c.loop-ahead.ahead in

@@ -10,7 +10,7 @@ use Rattle.hn_base.specs.declared.ids.NodeId.{NodeId}
 use Rattle.hn_base.specs.declared.ids.EpId.{EpId}
 use Rattle.hn_tlv.specs.Grammar.{PlainTlv, IsTlv, spelling, IsTlvList}
 use Rattle.hn_typed.specs.Fields.{word}
-use Rattle.hn_dncp.specs.Packing.{sender_tlv, datagram_of, IsFullBefore, IsFilled, IsPacking, IsShort, AreRead}
+use Rattle.hn_dncp.specs.Packing.{sender_tlv, datagram_of, IsFullBefore, IsFilled, IsPacking, IsShortDatagram, AreRead}
 use Rattle.hn_base.proofs.BigEndian.{number_bytes}
 use Rattle.hn_base.proofs.FrontOfList.{same_parts}
 
@@ -28,26 +28,26 @@ module _ (own : NodeId) (endpoint : EpId) where
 
   -- ---- the length of a datagram
 
-  short : (group rest : List (List ℕ)) (datagram : List ℕ) → IsFilled own endpoint group rest datagram → IsShort (group ++ rest) datagram
+  short : (group rest : List (List ℕ)) (datagram : List ℕ) → IsFilled own endpoint group rest datagram → IsShortDatagram (group ++ rest) datagram
   short group rest datagram filled = elim filled.within [ inl one ↦ alone group one filled.datagram_is | inr small ↦ inl small ]
     where
-      alone : (group : List (List ℕ)) → length group ≡ 1 → datagram ≡ datagram_of own endpoint group → IsShort (group ++ rest) datagram
+      alone : (group : List (List ℕ)) → length group ≡ 1 → datagram ≡ datagram_of own endpoint group → IsShortDatagram (group ++ rest) datagram
       alone [] one is = absurd (omega arith)
       alone (tlv ∷ []) one is =
           inr (tlv, Contains-append_left (tlv ∷ []) rest tlv (0, omega arith, refl), ap length is ∙ length_datagram (tlv ∷ []) ∙ ap (λ (bytes : List ℕ). 12 + length bytes) (append-nil tlv))
       alone (tlv ∷ other ∷ others) one is = absurd (omega arith)
 
-  shorter : (group rest : List (List ℕ)) (datagram : List ℕ) → IsShort rest datagram → IsShort (group ++ rest) datagram
+  shorter : (group rest : List (List ℕ)) (datagram : List ℕ) → IsShortDatagram rest datagram → IsShortDatagram (group ++ rest) datagram
   shorter group rest datagram (inl small) = inl small
   shorter group rest datagram (inr (tlv, there, is)) = inr (tlv, Contains-append_right group rest tlv there, is)
 
   -- each datagram of a packing is short
-  pub packing_short : (tlvs datagrams : List (List ℕ)) → IsPacking own endpoint tlvs datagrams → All (IsShort tlvs) datagrams
+  pub packing_short : (tlvs datagrams : List (List ℕ)) → IsPacking own endpoint tlvs datagrams → All (IsShortDatagram tlvs) datagrams
   packing_short tlvs [] packing k d within = absurd (omega arith)
   packing_short tlvs (datagram ∷ datagrams) packing zero d within =
-      subst (λ all. IsShort all datagram) (sym packing.2) (short packing.0 packing.1 datagram packing.3)
+      subst (λ all. IsShortDatagram all datagram) (sym packing.2) (short packing.0 packing.1 datagram packing.3)
   packing_short tlvs (datagram ∷ datagrams) packing (suc k) d within =
-      subst (λ all. IsShort all (get_or datagrams k d)) (sym packing.2) (shorter packing.0 packing.1 (get_or datagrams k d) (packing_short packing.1 datagrams packing.4 k d (omega arith)))
+      subst (λ all. IsShortDatagram all (get_or datagrams k d)) (sym packing.2) (shorter packing.0 packing.1 (get_or datagrams k d) (packing_short packing.1 datagrams packing.4 k d (omega arith)))
 
   pub packing_not_empty : (tlvs datagrams : List (List ℕ)) → IsPacking own endpoint tlvs datagrams → 0 < length tlvs → 0 < length datagrams
   packing_not_empty tlvs [] packing some = absurd (let none = ap length packing in omega (arith, none, some))

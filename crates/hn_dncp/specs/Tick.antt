@@ -50,5 +50,5 @@ abbrev pub tick_sends : ℕ → Port → Bool
 tick_sends now port = has_to_send now port.trickle || has_keep_alive now port
 
 -- the words that a tick says it took
-abbrev pub words_of : Renewed → List ℕ
-words_of renewed = take renewed.words renewed.drawn
+abbrev pub words_of_tick : Renewed → List ℕ
+words_of_tick renewed = take renewed.words renewed.drawn

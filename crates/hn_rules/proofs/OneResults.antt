@@ -30,7 +30,7 @@ use Rattle.hn_assign.specs.Subroutine.{IsSubroutine}
 use Rattle.hn_assign.specs.Laws.{SubroutineHasOneResult}
 use Rattle.hn_dncp.specs.declared.peers.Neighbour.{Neighbour}
 use Rattle.hn_dncp.specs.declared.port.Port.{Port}
-use Rattle.hn_dncp.specs.Port.{begun}
+use Rattle.hn_dncp.specs.Port.{attached_port}
 use Rattle.hn_dncp.specs.Hash.{asks_for_state}
 use Rattle.hn_dncp.specs.Tick.{ticked, tick_sends}
 use Rattle.hn_dncp.specs.Laws.{PackingIsUnique}
@@ -323,12 +323,12 @@ sole_assigning laws = record {
 
 pub sole_attaching : (at : EpId) → IsSole (IsAttaching at)
 sole_attaching at =
-    let rule : ℕ → Running → Running = λ word r. with_words (word ∷ []) (record r { state = record r.state { ports = attached (begun at r.state.moment word) r.state.ports } }) in
+    let rule : ℕ → Running → Running = λ word r. with_words (word ∷ []) (record r { state = record r.state { ports = attached (attached_port at r.state.moment word) r.state.ports } }) in
     sole_from words_of (IsAttaching at) (λ r a. (word : ℕ) × (a ≡ rule word r)) (λ r a h. (h.word, h.gives)) (sole_word words_of rule (λ word r. refl))
 
 sole_port_restart : (port : Port) → IsSole (IsPortRestart port)
 sole_port_restart port =
-    let rule : ℕ → Running → Running = λ word r. with_words (word ∷ []) (with_port (begun port.id r.state.moment word) r) in
+    let rule : ℕ → Running → Running = λ word r. with_words (word ∷ []) (with_port (attached_port port.id r.state.moment word) r) in
     sole_from words_of (IsPortRestart port) (λ r a. (word : ℕ) × (a ≡ rule word r)) (λ r a h. (h.word, h.gives)) (sole_word words_of rule (λ word r. refl))
 
 pub sole_restarting : HasLaws → IsSole IsRestarting

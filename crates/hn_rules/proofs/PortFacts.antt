@@ -12,8 +12,8 @@ use Rattle.hn_timers.specs.KeepAlive.{is_silent}
 use Rattle.hn_dncp.specs.declared.peers.Neighbour.{Neighbour}
 use Rattle.hn_dncp.specs.declared.port.Port.{Port}
 use Rattle.hn_dncp.specs.Peers.{is_peer, has_peer, IsOther, ArePeers}
-use Rattle.hn_dncp.specs.Port.{begun}
-use Rattle.hn_dncp.specs.Greet.{met, greeted}
+use Rattle.hn_dncp.specs.Port.{attached_port}
+use Rattle.hn_dncp.specs.Greet.{peers_heard, greeted}
 use Rattle.hn_dncp.specs.Ask.{may_ask, asked_at, asked}
 use Rattle.hn_dncp.specs.Hash.{contacted, hashed}
 use Rattle.hn_dncp.specs.Tick.{after_firing, after_interval, after_keep_alive, ticked, interval_words}
@@ -40,7 +40,7 @@ ArePeers-without P peers kept without are = record {
 abbrev pub IsHeardBy : ℕ → Neighbour → Type 0
 IsHeardBy now peer = peer.contact ≤ now
 
-heard-met : (now : ℕ) (peer : Neighbour) (peers : List Neighbour) → peer.contact ≤ now → All (IsHeardBy now) peers → All (IsHeardBy now) (met peer peers)
+heard-met : (now : ℕ) (peer : Neighbour) (peers : List Neighbour) → peer.contact ≤ now → All (IsHeardBy now) peers → All (IsHeardBy now) (peers_heard peer peers)
 heard-met now peer peers one all =
     let renewed = map (λ other. cond (is_peer peer.node peer.endpoint other) peer other) peers in
     cond_both (has_peer peer.node peer.endpoint peers) renewed (cond (length peers == 64) peers (peers ++ peer ∷ [])) (All (IsHeardBy now))
@@ -61,7 +61,7 @@ module _ (now : ℕ) where
   By moment = moment ≤ now
 
   -- one that begins
-  pub well-begun : (at : EpId) (word : ℕ) → IsPortWell now (begun at now word)
+  pub well-begun : (at : EpId) (word : ℕ) → IsPortWell now (attached_port at now word)
   well-begun at word = record {
     peers = record { few = omega arith; once = λ i j d less within. absurd (omega arith) };
     past = record { begun = omega arith; sent = omega arith; asked = tt; heard = All-nil (IsHeardBy now) };
@@ -96,12 +96,12 @@ module _ (now : ℕ) where
   well-greeted known node endpoint from multicast port well =
       let peer : Neighbour = record { node = node; endpoint = endpoint; contact = now; addr = from } in
       record {
-        peers = cond_both multicast port.peers (met peer port.peers) ArePeers (λ _. well.peers) (λ _. known.peers_met peer port.peers well.peers);
+        peers = cond_both multicast port.peers (peers_heard peer port.peers) ArePeers (λ _. well.peers) (λ _. known.peers_met peer port.peers well.peers);
         past = record {
           begun = well.past.begun;
           sent = well.past.sent;
           asked = well.past.asked;
-          heard = cond_both multicast port.peers (met peer port.peers) (All (IsHeardBy now)) (λ _. well.past.heard) (λ _. heard-met now peer port.peers (omega arith) well.past.heard);
+          heard = cond_both multicast port.peers (peers_heard peer port.peers) (All (IsHeardBy now)) (λ _. well.past.heard) (λ _. heard-met now peer port.peers (omega arith) well.past.heard);
         };
       }
 

@@ -19,7 +19,7 @@ use Rattle.hn_dncp.specs.Ask.{asked}
 use Rattle.hn_dncp.specs.Greet.{greeted}
 use Rattle.hn_dncp.specs.Hash.{hashed}
 use Rattle.hn_dncp.specs.Packing.{IsPacking}
-use Rattle.hn_dncp.specs.Port.{begun}
+use Rattle.hn_dncp.specs.Port.{attached_port}
 use Rattle.hn_dncp.specs.Tick.{ticked, tick_words}
 use Rattle.hn_store.specs.Nodes.{Nodes}
 use Rattle.hn_store.specs.Acceptance.{PlainState, Accepts}
@@ -72,7 +72,7 @@ port_after Ask r port = asked r.state.moment port
 port_after (Hear hash) r port = hashed (bytes_eq hash r.state.net) r.sender r.state.moment port
 port_after (Expire peers) r port = record port { peers = peers }
 port_after (Move words) r port = ticked r.state.moment words port
-port_after (Begin word) r port = begun port.id r.state.moment word
+port_after (Begin word) r port = attached_port port.id r.state.moment word
 
 -- who may be named as the sender: another node, at an endpoint that is not 0
 pub record IsSender (tlvs : List PlainTlv) (s : State) (node : NodeId) (endpoint : EpId) : Type 0 where

@@ -21,7 +21,7 @@ use Rattle.hn_sound.specs.Conditions.{Condition, MeetsRest, IsAtRestBut}
 use Rattle.hn_sound.specs.Conditions.Condition.{NothingToDo, Published, Valid, GreaterKey, Unpublished, BestPrefix}
 use Rattle.hn_base.proofs.Prefixes.{is_one_prefix, prefix_decided}
 use Rattle.hn_base.proofs.Elements.{any_of, any_from}
-use Rattle.hn_sound.proofs.Tests.{implies, then_true, each_passes, begins_with, to_begins_with, is_within, within_from, may_overlap, to_may_overlap}
+use Rattle.hn_sound.proofs.PrefixTests.{implies, then_true, each_passes, begins_with, to_begins_with, is_within, within_from, may_overlap, to_may_overlap}
 use Rattle.hn_base.proofs.DecidingTests.{from_is_none}
 
 not_less : (r : Ordering) → not (is_lt r) ≡ true → ¬ (r ≡ Less)

@@ -1,6 +1,6 @@
 use Rattle.std.proofs.Common.{◌≡◌, ◌∙◌, ℕ, List, ◌++◌, length, take, inr, ap, sym, arith, length-append}
 use Rattle.hn_dncp.specs.Packing.{datagram_of}
-use Rattle.hn_dncp.proofs.Filling.{datagram_of-take_more}
+use Rattle.hn_dncp.proofs.OneTlvMore.{datagram_of-take_more}
 use Rattle.hn_dncp.proofs.packing.fill.Goals as goal
 
 pub loop-count-preserved : goal.loop-count-preserved

@@ -18,14 +18,14 @@ use Rattle.hn_assign.specs.declared.assigned.Advertised.{Advertised}
 use Rattle.hn_assign.specs.declared.assigned.Assigned.{Assigned}
 use Rattle.hn_assign.specs.Advertised.{key_of, IsOnLink, advertised_cmp}
 use Rattle.hn_assign.specs.Best.{IsCandidate, IsBest}
-use Rattle.hn_sound.specs.Home.{Home, Endpoint, Held, HasAssignment, HasPublished, advertised, common_link, key_at}
+use Rattle.hn_sound.specs.Home.{Home, Endpoint, Held, EndpointHasAssignment, HasPublished, advertised, common_link, key_at}
 use Rattle.hn_sound.specs.Premises.{Meets, IsHome}
 use Rattle.hn_sound.specs.Premises.Premise.{OneLink, OnceOnLink, UsedApart, ForUsed, PublishedInside, OneEach}
-use Rattle.hn_sound.specs.Sound.{IsGreatest, HasNoPublisher}
-use Rattle.hn_sound.proofs.Endpoints.{same_endpoint, cases_node, cases_id, cases_prefix}
+use Rattle.hn_sound.specs.Sound.{IsGreatestOnLink, HasNoPublisher}
+use Rattle.hn_sound.proofs.SameOrNot.{same_endpoint, cases_node, cases_id, cases_prefix}
 use Rattle.hn_base.proofs.Greatest.{IsGreatestOf, greatest_of}
-use Rattle.hn_sound.proofs.Members.{find_one}
-use Rattle.hn_sound.proofs.Views.{to_advertised, from_advertised, to_common_link, from_common_link}
+use Rattle.hn_sound.proofs.FoundOrNone.{find_one}
+use Rattle.hn_sound.proofs.AdvertisedAndLinks.{to_advertised, from_advertised, to_common_link, from_common_link}
 
 -- an assignment that is published for a delegated prefix, with its endpoint
 pub record Published (home : Home) (d : PlainPrefix) : Type 0 where
@@ -40,7 +40,7 @@ advert x = record { key = key_at x.priority x.endpoint; prefix = x.assigned.pref
 
 -- no key that is published on its link is greater
 abbrev pub IsTop : {home : Home} {d : PlainPrefix} → Published home d → Type 0
-IsTop {home} {d} x = IsGreatest home x.endpoint d x.assigned x.priority
+IsTop {home} {d} x = IsGreatestOnLink home x.endpoint d x.assigned x.priority
 
 -- what is advertised on the link of an endpoint is published there, for the delegated prefix
 pub record OnLink (home : Home) (f : Endpoint) (d : PlainPrefix) (a : Advertised) : Type 0 where
@@ -130,7 +130,7 @@ module _ (home : Home) (is_home : IsHome home) where
   -- one endpoint publishes one assignment
   pub one_assigned : (d : PlainPrefix) (x y : Published home d) → x.endpoint ≡ y.endpoint → x.assigned ≡ y.assigned
   one_assigned d x y same =
-      is_home OneEach x.endpoint d x.assigned y.assigned x.fact.has (subst (λ (e : Endpoint). HasAssignment home e d y.assigned) (sym same) y.fact.has)
+      is_home OneEach x.endpoint d x.assigned y.assigned x.fact.has (subst (λ (e : Endpoint). EndpointHasAssignment home e d y.assigned) (sym same) y.fact.has)
 
   -- the greatest is not below what is published on the link
   top_not_below : (d : PlainPrefix) (x y : Published home d) → IsTop x → y.endpoint.link ≡ x.endpoint.link → ¬ (advertised_cmp (advert x) (advert y) ≡ Less)

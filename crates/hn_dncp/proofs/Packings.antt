@@ -19,7 +19,8 @@ same_cons x y xs ys first others = ap (λ z. z ∷ xs) first ∙ ap (λ zs. y �
 
 module _ (own : NodeId) (endpoint : EpId) where
   -- a datagram is filled with the first n of the TLVs, and others hold those after them
-  pub packing_more : (tlvs : List (List ℕ)) (n : ℕ) (datagram : List ℕ) (rest : List (List ℕ)) → IsFilled own endpoint (take n tlvs) (drop n tlvs) datagram → IsPacking own endpoint (drop n tlvs) rest → IsPacking own endpoint tlvs (datagram ∷ rest)
+  pub packing_more : (tlvs : List (List ℕ)) (n : ℕ) (datagram : List ℕ) (rest : List (List ℕ))
+      → IsFilled own endpoint (take n tlvs) (drop n tlvs) datagram → IsPacking own endpoint (drop n tlvs) rest → IsPacking own endpoint tlvs (datagram ∷ rest)
   packing_more tlvs n datagram rest filled packing =
       (take n tlvs, drop n tlvs, sym (take-append-drop n tlvs), filled, packing)
 
@@ -71,7 +72,8 @@ module _ (own : NodeId) (endpoint : EpId) where
       let more = goes_on group rest group' rest' tail (omega arith) in
       record { next = more.next; others = more.others; group_is = same_cons tlv' tlv group' (group ++ more.next ∷ more.others) (sym head) more.group_is; rest_is = more.rest_is }
 
-  not_shorter : (group rest group' rest' : List (List ℕ)) (datagram datagram' : List ℕ) → group ++ rest ≡ group' ++ rest' → IsFilled own endpoint group rest datagram → IsFilled own endpoint group' rest' datagram' → length group' ≤ length group
+  not_shorter : (group rest group' rest' : List (List ℕ)) (datagram datagram' : List ℕ) → group ++ rest ≡ group' ++ rest'
+      → IsFilled own endpoint group rest datagram → IsFilled own endpoint group' rest' datagram' → length group' ≤ length group
   not_shorter group rest group' rest' datagram datagram' same filled filled' =
       elim (cases_lt (length group) (length group')) [ inl less ↦ absurd (too_long less) | inr past ↦ past ]
     where
@@ -79,7 +81,8 @@ module _ (own : NodeId) (endpoint : EpId) where
       too_long less =
           let more = goes_on group rest group' rest' same less in
           let full : IsFullBefore (more.next ∷ (more.others ++ rest')) (length datagram) = subst (λ others. IsFullBefore others (length datagram)) more.rest_is filled.full in
-          let parts : length (concat group') ≡ length (concat group) + length (more.next ++ concat more.others) = ap (λ tlvs. length (concat tlvs)) more.group_is ∙ ap length (concat-append group (more.next ∷ more.others)) ∙ length-append (concat group) (more.next ++ concat more.others) in
+          let parts : length (concat group') ≡ length (concat group) + length (more.next ++ concat more.others) =
+          ap (λ tlvs. length (concat tlvs)) more.group_is ∙ ap length (concat-append group (more.next ∷ more.others)) ∙ length-append (concat group) (more.next ++ concat more.others) in
           let parts' = length-append more.next (concat more.others) in
           let len : length datagram ≡ 12 + length (concat group) = ap length filled.datagram_is ∙ length_datagram group in
           let len' : length datagram' ≡ 12 + length (concat group') = ap length filled'.datagram_is ∙ length_datagram group' in

@@ -48,8 +48,10 @@ module _ (own : OwnPrefix) where
 
   with_ascending : (list : List OwnPrefix) → IsStrictlySortedBy own_cmp list → IsStrictlySortedBy own_cmp (delegated_with own list)
   with_ascending list up =
-      let below : All (λ p. own_cmp p own ≡ Less) (filter lower_than list) = All-weaker (λ p. lower_than p ≡ true) (λ p. own_cmp p own ≡ Less) (λ p is. is_before-less p.prefix own.prefix is) (filter lower_than list) (filter_passes lower_than list) in
-      let above : All (λ p. own_cmp own p ≡ Less) (filter higher_than list) = All-weaker (λ p. higher_than p ≡ true) (λ p. own_cmp own p ≡ Less) (λ p is. is_before-less own.prefix p.prefix is) (filter higher_than list) (filter_passes higher_than list) in
+      let below : All (λ p. own_cmp p own ≡ Less) (filter lower_than list) =
+      All-weaker (λ p. lower_than p ≡ true) (λ p. own_cmp p own ≡ Less) (λ p is. is_before-less p.prefix own.prefix is) (filter lower_than list) (filter_passes lower_than list) in
+      let above : All (λ p. own_cmp own p ≡ Less) (filter higher_than list) =
+      All-weaker (λ p. higher_than p ≡ true) (λ p. own_cmp own p ≡ Less) (λ p is. is_before-less own.prefix p.prefix is) (filter higher_than list) (filter_passes higher_than list) in
       sorted_around own_cmp (on_total (λ p. p.prefix) prefix_total) (filter lower_than list) own (filter higher_than list)
       (IsStrictlySortedBy-filter own_cmp lower_than list up) (recursion_from_All (λ p. own_cmp p own ≡ Less) (filter lower_than list) below)
       (IsStrictlySortedBy-filter own_cmp higher_than list up) (recursion_from_All (λ p. own_cmp own p ≡ Less) (filter higher_than list) above)

@@ -17,7 +17,8 @@ as_published h priority is = ap (option_map (λ p. record { key = key_of p h.nod
 
 pub to_advertised : (home : Home) (a : Advertised) → IsAdvertisedInHome home a → Contains (advertised home) a
 to_advertised home a from =
-    let is : record { key = key_of from.priority from.held.node.0 from.held.assigned.endpoint.0; prefix = from.held.assigned.prefix } ≡ a = λ i. record { key = sym from.key i; prefix = sym from.prefix i } in
+    let is : record { key = key_of from.priority from.held.node.0 from.held.assigned.endpoint.0; prefix = from.held.assigned.prefix } ≡ a =
+    λ i. record { key = sym from.key i; prefix = sym from.prefix i } in
     in_filter_map advertised_as home.assignments from.held a from.there (as_published from.held from.priority from.published ∙ ap Some is)
 
 pub from_advertised : (home : Home) (a : Advertised) → Contains (advertised home) a → IsAdvertisedInHome home a
@@ -25,7 +26,8 @@ from_advertised home a h =
     let found = from_filter_map advertised_as home.assignments a h in
     go found.0 found.1 found.0.assigned.published refl found.2
   where
-    go : (held : Held) → Contains home.assignments held → (o : Option ℕ) → held.assigned.published ≡ o → option_map (λ priority. record { key = key_of priority held.node.0 held.assigned.endpoint.0; prefix = held.assigned.prefix }) o ≡ Some a → IsAdvertisedInHome home a
+    go : (held : Held) → Contains home.assignments held → (o : Option ℕ) → held.assigned.published ≡ o
+        → option_map (λ priority. record { key = key_of priority held.node.0 held.assigned.endpoint.0; prefix = held.assigned.prefix }) o ≡ Some a → IsAdvertisedInHome home a
     go held there None is e = absurd (cc)
     go held there (Some priority) is e =
         let same : record { key = key_of priority held.node.0 held.assigned.endpoint.0; prefix = held.assigned.prefix } ≡ a = cc in

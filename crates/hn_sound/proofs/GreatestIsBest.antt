@@ -67,7 +67,8 @@ module _ (home : Home) where
       let node : at.endpoint.node ≡ from.held.node = at.of_node ∙ ap (λ (k : Key). k.node) from.key in
       let id : at.endpoint.id ≡ from.held.assigned.endpoint = at.of_id ∙ ap (λ (k : Key). k.endpoint) from.key in
       let held : from.held ≡ record { node = at.endpoint.node; assigned = from.held.assigned } = λ i. record { node = sym node i; assigned = from.held.assigned } in
-      let same_key : key_of from.priority from.held.node.0 from.held.assigned.endpoint.0 ≡ key_at from.priority at.endpoint = λ i. record { priority = from.priority; node = sym node i; endpoint = sym id i } in
+      let same_key : key_of from.priority from.held.node.0 from.held.assigned.endpoint.0 ≡ key_at from.priority at.endpoint =
+      λ i. record { priority = from.priority; node = sym node i; endpoint = sym id i } in
       let key : a.key ≡ key_at from.priority at.endpoint = from.key ∙ same_key in (
         from.held.assigned.delegated,
         record {
@@ -119,7 +120,8 @@ module _ (home : Home) (is_home : IsHome home) where
   one_endpoint e f e_there f_there node link = same_endpoint e f node (is_home OnceOnLink e f e_there f_there node link) link
 
   -- what an endpoint publishes is a candidate for each other endpoint of its link
-  pub to_candidate : (d : PlainPrefix) (x : Published home d) (f : Endpoint) → Contains home.endpoints f → f.link ≡ x.endpoint.link → f ≢ x.endpoint → IsCandidate (advertised home) f.node.0 (common_link home f) d (advert x)
+  pub to_candidate : (d : PlainPrefix) (x : Published home d) (f : Endpoint) → Contains home.endpoints f → f.link ≡ x.endpoint.link → f ≢ x.endpoint
+      → IsCandidate (advertised home) f.node.0 (common_link home f) d (advert x)
   to_candidate d x f there link other = record {
     advertised = is_advertised home d x;
     of_another = λ same. other (sym (one_endpoint x.endpoint f x.fact.has.there there (same_node x.endpoint.node f.node same) (sym link)));
@@ -147,7 +149,8 @@ module _ (home : Home) (is_home : IsHome home) where
           let tied : prefix_cmp x.assigned.prefix y.assigned.prefix ≡ Equal = sym prefixes ∙ tied_itself total x.assigned.prefix in
           absurd (cc)
 
-  pub top_is_best : (d : PlainPrefix) (x : Published home d) (f : Endpoint) → IsTop x → Contains home.endpoints f → f.link ≡ x.endpoint.link → f ≢ x.endpoint → IsBest (advertised home) f.node.0 (common_link home f) d (advert x)
+  pub top_is_best : (d : PlainPrefix) (x : Published home d) (f : Endpoint) → IsTop x → Contains home.endpoints f → f.link ≡ x.endpoint.link
+      → f ≢ x.endpoint → IsBest (advertised home) f.node.0 (common_link home f) d (advert x)
   top_is_best d x f top there link other = record {
     candidate = to_candidate d x f there link other;
     greatest = λ a candidate less.
@@ -253,7 +256,8 @@ module _ (home : Home) (link : ℕ) (d : PlainPrefix) where
           greatest = λ f k q same_link k_published above.
               let y : Published home d = record { endpoint = f; assigned = k; priority = q; fact = k_published } in
               let of = to_of_link y (same_link ∙ g.fact.on_link) in
-              let keys : key_cmp (held_key h) (held_key (record { node = f.node; assigned = k })) ≡ key_cmp (advert x).key (advert y).key = λ i. key_cmp (its_key h g.fact i) (its_key (record { node = f.node; assigned = k }) of i) in
+              let keys : key_cmp (held_key h) (held_key (record { node = f.node; assigned = k })) ≡ key_cmp (advert x).key (advert y).key =
+              λ i. key_cmp (its_key h g.fact i) (its_key (record { node = f.node; assigned = k }) of i) in
               g.greatest (record { node = f.node; assigned = k }) k_published.has.held of (keys ∙ above);
         },
       )

@@ -98,7 +98,8 @@ module _ (home : Home) (is_home : IsHome home) (at_rest : IsHomeAtRest home) whe
   -- ---- the others follow
 
   -- the best that an endpoint follows is what is published on its link
-  best_prefix : (d : PlainPrefix) (x : Published home d) (f : Endpoint) (k : Assigned) → f.link ≡ x.endpoint.link → IsFollowing (advertised home) f.node.0 (wish_of home f d) k → k.prefix ≡ x.assigned.prefix
+  best_prefix : (d : PlainPrefix) (x : Published home d) (f : Endpoint) (k : Assigned) → f.link ≡ x.endpoint.link
+      → IsFollowing (advertised home) f.node.0 (wish_of home f d) k → k.prefix ≡ x.assigned.prefix
   best_prefix d x f k link a =
       let on = from_candidate home is_home f d a.best (used d x) a.is_best.candidate in
       let one = one_publisher d x on.by (sym (on.link ∙ link)) in
@@ -124,7 +125,8 @@ module _ (home : Home) (is_home : IsHome home) (at_rest : IsHomeAtRest home) whe
       go (Some k) has (inr (inl ahead)) = absurd (not_published k ahead.priority has ahead.published)
       go (Some k) has (inr (inr following)) = (k, has, best_prefix d x f k link following)
 
-  pub every_follows : (d : PlainPrefix) (x : Published home d) (f : Endpoint) → Contains home.endpoints f → f.link ≡ x.endpoint.link → (k : Assigned) × EndpointHasAssignment home f d k × (k.prefix ≡ x.assigned.prefix)
+  pub every_follows : (d : PlainPrefix) (x : Published home d) (f : Endpoint) → Contains home.endpoints f → f.link ≡ x.endpoint.link → (k : Assigned)
+      × EndpointHasAssignment home f d k × (k.prefix ≡ x.assigned.prefix)
   every_follows d x f there link =
       elim (cases_node f.node x.endpoint.node) [
         | inl same ↦
@@ -135,7 +137,8 @@ module _ (home : Home) (is_home : IsHome home) (at_rest : IsHomeAtRest home) whe
 
   -- ---- where none is published
 
-  pub none_without_publisher : (f : Endpoint) (d : PlainPrefix) → Contains home.endpoints f → Contains home.used d → HasNoPublisher home f.link d → ((k : Assigned) → ¬ EndpointHasAssignment home f d k) × (¬ (IsTrue (home.wants f.node d)) ⊎ HasNoFree (advertised home) d (home.length f))
+  pub none_without_publisher : (f : Endpoint) (d : PlainPrefix) → Contains home.endpoints f → Contains home.used d → HasNoPublisher home f.link d
+      → ((k : Assigned) → ¬ EndpointHasAssignment home f d k) × (¬ (IsTrue (home.wants f.node d)) ⊎ HasNoFree (advertised home) d (home.length f))
   none_without_publisher f d there d_used no_publisher = go pair.0 pair.1 pair.2
     where
       pair : (o : Option Assigned) × IsAssignmentOf home f d o × PairRests f d o
@@ -149,7 +152,8 @@ module _ (home : Home) (is_home : IsHome home) (at_rest : IsHomeAtRest home) whe
           let on = from_candidate home is_home f d a d_used candidate in
           no_publisher on.by.endpoint on.by.assigned on.by.priority on.link on.by.fact
 
-      go : (o : Option Assigned) → IsAssignmentOf home f d o → PairRests f d o → ((k : Assigned) → ¬ EndpointHasAssignment home f d k) × (¬ (IsTrue (home.wants f.node d)) ⊎ HasNoFree (advertised home) d (home.length f))
+      go : (o : Option Assigned) → IsAssignmentOf home f d o → PairRests f d o → ((k : Assigned) → ¬ EndpointHasAssignment home f d k)
+          × (¬ (IsTrue (home.wants f.node d)) ⊎ HasNoFree (advertised home) d (home.length f))
       go None none idle = (none, idle.nothing_to_do)
       go (Some k) has (inl alone) = absurd (not_published k alone.published.0 has alone.published.1)
       go (Some k) has (inr (inl ahead)) = absurd (not_published k ahead.priority has ahead.published)

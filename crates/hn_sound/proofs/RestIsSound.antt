@@ -70,9 +70,11 @@ module _ (home : Home) (is_home : IsHome home) (at_rest : IsHomeAtRest home) whe
       differ (sym at.on_link ∙ is_home OneLink at.endpoint x.endpoint at.there x.fact.has.there at.of_node at.of_id)
 
   -- and its key is not above the key of an assignment that it overlaps
-  not_above : (d other : PlainPrefix) (x : Published home d) (y : Published home other) → x.endpoint.link ≢ y.endpoint.link → Overlaps y.assigned.prefix x.assigned.prefix → ¬ (IsAbove (advert y).key (key_at 2 x.endpoint))
+  not_above : (d other : PlainPrefix) (x : Published home d) (y : Published home other) → x.endpoint.link ≢ y.endpoint.link
+      → Overlaps y.assigned.prefix x.assigned.prefix → ¬ (IsAbove (advert y).key (key_at 2 x.endpoint))
   not_above d other x y differ overlap above =
-      let judged : IsAbove (advert y).key (key_of 2 x.endpoint.node.0 x.assigned.endpoint.0) = subst (λ (id : EpId). IsAbove (advert y).key (key_of 2 x.endpoint.node.0 id.0)) (sym x.fact.has.of_endpoint) above in
+      let judged : IsAbove (advert y).key (key_of 2 x.endpoint.node.0 x.assigned.endpoint.0) =
+      subst (λ (id : EpId). IsAbove (advert y).key (key_of 2 x.endpoint.node.0 id.0)) (sym x.fact.has.of_endpoint) above in
       valid d x (advert y) (is_advertised home other y) (of_other_link x.endpoint other y differ) overlap judged
 
   pub links_apart : (d other : PlainPrefix) (x : Published home d) (y : Published home other) → x.endpoint.link ≢ y.endpoint.link → ¬ (Overlaps x.assigned.prefix y.assigned.prefix)

@@ -109,7 +109,8 @@ from_is_valid adv own common c h a there off overlap =
     let passes = each_passes (λ x. is_on_link common x || implies (may_overlap x.prefix c.prefix) (not (is_lt (key_cmp (key_of 2 own c.endpoint.0) x.key)))) adv a h there in
     elim (or_cases (is_on_link common a) (implies (may_overlap a.prefix c.prefix) (not (is_lt (key_cmp (key_of 2 own c.endpoint.0) a.key)))) passes) [
       | inl on ↦ λ _. off (from_is_on_link common a on)
-      | inr then ↦ not_less (key_cmp (key_of 2 own c.endpoint.0) a.key) (then_true (may_overlap a.prefix c.prefix) (not (is_lt (key_cmp (key_of 2 own c.endpoint.0) a.key))) then (to_may_overlap a.prefix c.prefix overlap))
+      | inr then ↦ not_less (key_cmp (key_of 2 own c.endpoint.0) a.key)
+          (then_true (may_overlap a.prefix c.prefix) (not (is_lt (key_cmp (key_of 2 own c.endpoint.0) a.key))) then (to_may_overlap a.prefix c.prefix overlap))
     ]
 
 -- the delegated prefix is advertised as a whole

@@ -41,7 +41,8 @@ module _ (home : Home) (is_sound : IsSoundHome home) (d : PlainPrefix) (used : C
       served.one_prefix e c refl has ∙ sym (served.one_prefix f k link l)
 
   -- what is wanted and free is assigned
-  pub no_unassigned : (e : Endpoint) (p : PlainPrefix) → Contains home.endpoints e → IsTrue (home.wants e.node d) → IsFreeIn (advertised home) d (home.length e) p → (c : Assigned) × EndpointHasAssignment home e d c
+  pub no_unassigned : (e : Endpoint) (p : PlainPrefix) → Contains home.endpoints e → IsTrue (home.wants e.node d)
+      → IsFreeIn (advertised home) d (home.length e) p → (c : Assigned) × EndpointHasAssignment home e d c
   no_unassigned e p there wanted free =
       elim (is_sound.each_link e d there used) [
         | inl served ↦ served.every e there refl

@@ -15,7 +15,8 @@ rest : (xs : List Port) (n : ℕ) → take (length xs - n) (drop n xs) ≡ drop 
 rest xs n = ap (λ k. take k (drop n xs)) (sym (length-drop n xs)) ∙ take-length (drop n xs)
 
 -- the copies before the place, the endpoint, and the copies after it
-parts : (xs front one all : List Port) (i : ℕ) (y : Port) → i < length xs → front ≡ [] ++ take i xs → one ≡ front ++ y ∷ [] → all ≡ one ++ take (length xs - (i + 1)) (drop (i + 1) xs) → all ≡ set xs i y
+parts : (xs front one all : List Port) (i : ℕ) (y : Port) → i < length xs → front ≡ [] ++ take i xs → one ≡ front ++ y ∷ []
+    → all ≡ one ++ take (length xs - (i + 1)) (drop (i + 1) xs) → all ≡ set xs i y
 parts xs front one all i y within fronts ones alls = alls ∙ rw (rest xs (i + 1), ones, fronts) (joined xs i y within)
 
 pub returns-in_default : goal.returns-in_default

@@ -9,8 +9,8 @@ use Rattle.hn_base.specs.Rules.{IsSoleBy}
 use Rattle.hn_base.specs.Words.{Begins, IsAt, Took}
 use Rattle.hn_base.proofs.AscendingLists.{ascending_unique}
 use Rattle.hn_base.proofs.FirstWords.{begins_along}
-use Rattle.hn_base.proofs.Fronts.{head_is}
-use Rattle.hn_base.proofs.Soles.{sole_drawn, sole_given, sole_or, sole_where, sole_each}
+use Rattle.hn_base.proofs.FrontOfList.{head_is}
+use Rattle.hn_base.proofs.OneResult.{sole_drawn, sole_given, sole_or, sole_where, sole_each}
 use Rattle.hn_data.specs.View.{PlainView}
 use Rattle.hn_io.specs.Laws.{WordsJoin}
 use Rattle.hn_own.specs.Addresses.{OwnAddress, address_cmp}

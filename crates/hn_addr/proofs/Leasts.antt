@@ -7,7 +7,7 @@ use Rattle.hn_base.specs.Prefix.{IsInside}
 use Rattle.hn_base.specs.declared.ids.EpId.{EpId}
 use Rattle.hn_base.specs.declared.ids.NodeId.{NodeId}
 use Rattle.hn_base.proofs.AscendingLists.{nothing_in}
-use Rattle.hn_base.proofs.Fronts.{front_at}
+use Rattle.hn_base.proofs.FrontOfList.{front_at}
 use Rattle.hn_data.specs.View.{PlainView}
 use Rattle.hn_own.specs.Addresses.{OwnAddress}
 use Rattle.hn_addr.specs.Addresses.{IsLeastOwn, Stays, HasCome}

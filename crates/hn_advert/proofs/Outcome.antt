@@ -6,7 +6,7 @@ use Rattle.std.proofs.lemmas.Bool.{lt-ltb, le-ltb, eq-eqb, ne_eqb}
 use Rattle.std.proofs.lemmas.List.{take_at, drop_at, length-append, get_or-take, get_or-drop}
 use Rattle.std.proofs.lemmas.Nat.{from_be_bytes-to_be_bytes_4}
 use Rattle.hn_base.proofs.BigEndian.{number_again}
-use Rattle.hn_base.proofs.Outcomes.{Outcome, Ends, Begins, Faults, IsTold}
+use Rattle.hn_base.proofs.BeginningOfBytes.{Outcome, Ends, Begins, Faults, IsTold}
 use Rattle.hn_advert.specs.Layout.{PrefixInformation, IsPrefixInformation, NdOption, PrefixOption, OtherOption, IsNdOption, option_bytes}
 use Rattle.hn_advert.specs.Fault.{IsOptionCut, HasWholeOption, HasOtherSize, HasLongPrefix, IsOptionFault}
 

@@ -3,8 +3,8 @@ use Rattle.std.proofs.Common.{◌≡◌, ℕ, ◌+◌, ◌-◌, List, [], ◌∷
 use Rattle.std.specs.List.{filter_map, cons_option}
 use Rattle.std.proofs.lemmas.Grind.{flat_map-append}
 use Rattle.std.proofs.lemmas.List.{append-nil, length-append}
-use Rattle.hn_base.proofs.Parts.{filter_map-push}
-use Rattle.hn_base.proofs.Recursions.{AllByRecursion-append}
+use Rattle.hn_base.proofs.PartsAtPlaces.{filter_map-push}
+use Rattle.hn_base.proofs.EachByRecursion.{AllByRecursion-append}
 use Rattle.hn_advert.specs.declared.advert.Info.{Info}
 use Rattle.hn_advert.specs.declared.advert.Advert.{Advert}
 use Rattle.hn_advert.specs.declared.header.Fixed.{Fixed}

@@ -7,7 +7,7 @@ use Rattle.hn_advert.specs.Layout.{Header, IsHeader, flags_byte, header_bytes, N
 use Rattle.hn_advert.specs.Advert.{AreOptions, options_bytes, IsAdvert}
 use Rattle.hn_advert.specs.Fault.{IsHeaderFault, IsOptionFault, IsFirstOptionFault, AdvertFault}
 use Rattle.hn_advert.specs.Reading.{HasOptions}
-use Rattle.hn_base.proofs.Outcomes as begin
+use Rattle.hn_base.proofs.BeginningOfBytes as begin
 use Rattle.hn_advert.proofs.Outcome.{outcome, option_told}
 
 -- ---- one option, or one fault

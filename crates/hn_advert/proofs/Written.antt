@@ -4,7 +4,7 @@ use Rattle.std.specs.List.{AllByRecursion, filter_map, cons_option}
 use Rattle.std.proofs.lemmas.List.{flat_map_more, map_push, take_more, take_all}
 use Rattle.std.proofs.Math.Nat.{mod-add-div'}
 use Rattle.hn_base.specs.Prefix.{PlainPrefix, IsPrefix, prefix_containing}
-use Rattle.hn_base.proofs.Recursions.{AllByRecursion-append}
+use Rattle.hn_base.proofs.EachByRecursion.{AllByRecursion-append}
 use Rattle.hn_advert.specs.declared.advert.Info.{Info}
 use Rattle.hn_advert.specs.declared.advert.Advert.{Advert}
 use Rattle.hn_advert.specs.Layout.{NdOption, IsHeader, IsNdOption, header_bytes, option_bytes}

@@ -3,8 +3,8 @@ use Rattle.std.proofs.Common.{◌≡◌, ◌∙◌, ◌↔◌, ◌⊎◌, List, 
 use Rattle.std.specs.Ordering.{on}
 use Rattle.std.proofs.lemmas.Cmp.{on_total}
 use Rattle.hn_base.proofs.AscendingLists.{ascending_unique}
-use Rattle.hn_base.proofs.Ats as base
-use Rattle.hn_base.proofs.Decisions.{cases_by}
+use Rattle.hn_base.proofs.AtKey as base
+use Rattle.hn_base.proofs.DecidingTests.{cases_by}
 use Rattle.hn_assign.specs.declared.assigned.Wish.{Wish}
 use Rattle.hn_assign.specs.declared.pair.Pair.{Pair}
 use Rattle.hn_base.specs.Ascending.{HasAt}

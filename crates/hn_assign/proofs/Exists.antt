@@ -5,7 +5,7 @@ use Rattle.std.proofs.lemmas.Bool.{cases_eq}
 use Rattle.std.proofs.lemmas.List.Elements.{Contains-append_cases, Contains-append_left, Contains-append_right}
 use Rattle.std.proofs.lemmas.Option.{none-some}
 use Rattle.hn_base.proofs.AscendingLists.{Contains-head, Contains-tail, Contains-cases, Contains-one, Contains-map, Contains-from_map, nothing_in}
-use Rattle.hn_base.proofs.Decided.{Decided}
+use Rattle.hn_base.proofs.SoOrNot.{Decided}
 use Rattle.hn_typed.specs.Item.{PlainItem, PlainCaps}
 use Rattle.hn_data.specs.Items.{AreItems}
 use Rattle.hn_data.specs.Laws.{ItemsAreUnique, ItemsOrNone}

@@ -2,7 +2,7 @@
 use Rattle.std.proofs.Common.{◌≡◌, ◌↔◌, ℕ, ◌+◌, ◌%◌, ◌<◌, ◌≤◌, List, map, Option, None, Some, IfSome, IfNone, IsNone, refl, sym, subst, arith}
 use Rattle.std.proofs.lemmas.List.Elements.{All-contains}
 use Rattle.hn_base.specs.Prefix.{PlainPrefix, IsPrefix, IsWithin, Overlaps}
-use Rattle.hn_prefix.specs.Free.{IsFree, IsTaken, IsFull, IsFirstFree, IsSubPrefix, IsPrefixInside, sub_prefix_count}
+use Rattle.hn_prefix.specs.Free.{IsFree, IsTakenPrefix, IsFull, IsFirstFree, IsSubPrefix, IsPrefixInside, sub_prefix_count}
 use Rattle.hn_base.proofs.AscendingLists.{Contains-map, Contains-from_map}
 use Rattle.hn_assign.specs.declared.assigned.Advertised.{Advertised}
 use Rattle.hn_assign.specs.Best.{IsFreeIn, HasNoFree}
@@ -35,10 +35,10 @@ none_free adv taken d len (Some p) same all none = tt
 none_free adv taken d len None same all none = λ p free.
     let full = none.0 refl in
     let sub = (all p).0 free.inside in
-    let is_taken : IsTaken (prefixes adv) p = subst (λ (ts : List PlainPrefix). IsTaken ts p) same (subst (IsTaken taken) (sym sub.2) (full sub.0 sub.1)) in
+    let is_taken : IsTakenPrefix (prefixes adv) p = subst (λ (ts : List PlainPrefix). IsTakenPrefix ts p) same (subst (IsTakenPrefix taken) (sym sub.2) (full sub.0 sub.1)) in
     clash adv p free is_taken
   where
-    clash : (adv : List Advertised) (p : PlainPrefix) → IsFreeIn adv d len p → IsTaken (prefixes adv) p → ⊥
+    clash : (adv : List Advertised) (p : PlainPrefix) → IsFreeIn adv d len p → IsTakenPrefix (prefixes adv) p → ⊥
     clash adv p free (k, t, within, at, overlaps) =
         let a = Contains-from_map (λ a. a.prefix) adv t (k, within, at) in
         free.free a.0 a.1 (subst (λ (q : PlainPrefix). Overlaps q p) (sym a.2) overlaps)

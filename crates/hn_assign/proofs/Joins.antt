@@ -13,7 +13,7 @@ use Rattle.std.proofs.lemmas.List.Elements.{All-contains, All-from_recursion, Co
 use Rattle.std.proofs.lemmas.List.Sorted.{searchable_from_sorted}
 use Rattle.std.proofs.lemmas.Map.Keys.{sorted_head, sorted_tail, Less-from_sorted}
 use Rattle.hn_base.proofs.AscendingLists.{not_below_itself, Contains-head, Contains-tail, Contains-cases}
-use Rattle.hn_base.proofs.Recursions.{AllByRecursion-append, AllByRecursion-weaker}
+use Rattle.hn_base.proofs.EachByRecursion.{AllByRecursion-append, AllByRecursion-weaker}
 use Rattle.hn_assign.specs.declared.pair.Pair.{Pair}
 use Rattle.hn_base.specs.Ascending.{HasAt}
 use Rattle.hn_assign.specs.Pair.{pair_cmp, IsAscending, IsPlace, Updates}

@@ -7,7 +7,7 @@ use Rattle.hn_base.proofs.AscendingLists.{nothing_in}
 use Rattle.hn_assign.specs.declared.assigned.Wish.{Wish}
 use Rattle.hn_assign.specs.declared.pair.Pair.{Pair}
 use Rattle.hn_assign.specs.Pair.{IsAscending, IsWished, KeepsWished}
-use Rattle.hn_base.proofs.Fronts.{front_more}
+use Rattle.hn_base.proofs.FrontOfList.{front_more}
 use Rattle.hn_assign.proofs.Joins.{ascending_without}
 
 module _ {A : Type 0} (key : A → Pair) (wishes : List Wish) where

@@ -6,7 +6,7 @@ use Rattle.std.proofs.lemmas.Bool.{cases_lt}
 use Rattle.std.proofs.lemmas.List.Elements.{All-contains}
 use Rattle.hn_data.specs.View.{PlainView}
 use Rattle.hn_base.specs.Prefix.{PlainPrefix, Overlaps}
-use Rattle.hn_prefix.specs.Free.{IsFree, IsTaken, IsFirstFree, sub_prefix_after}
+use Rattle.hn_prefix.specs.Free.{IsFree, IsTakenPrefix, IsFirstFree, sub_prefix_after}
 use Rattle.hn_base.proofs.AscendingLists.{Contains-map, Contains-from_map}
 use Rattle.hn_assign.specs.declared.assigned.Advertised.{Advertised}
 use Rattle.hn_assign.specs.declared.assigned.Assigned.{Assigned}
@@ -56,7 +56,7 @@ pub none_in : (a b : List Advertised) (d : PlainPrefix) (len : ℕ) → HaveSame
 none_in a b d len same none p free = none p (free_in b a d len p (same_back a b same) free)
 
 -- a prefix that is free is not taken by the same prefixes
-clash : (a b : List Advertised) (p : PlainPrefix) → HaveSame a b → IsFree (prefixes a) p → IsTaken (prefixes b) p → ⊥
+clash : (a b : List Advertised) (p : PlainPrefix) → HaveSame a b → IsFree (prefixes a) p → IsTakenPrefix (prefixes b) p → ⊥
 clash a b p same free (k, t, within, at, overlaps) =
     let x = Contains-from_map (λ x. x.prefix) b t (k, within, at) in
     let both = same x.0 in
@@ -66,9 +66,9 @@ clash a b p same free (k, t, within, at, overlaps) =
 pub first_one : (a b : List Advertised) (d : PlainPrefix) (start len : ℕ) (p q : PlainPrefix) → HaveSame a b → IsFirstFree d start (prefixes a) len p → IsFirstFree d start (prefixes b) len q → p ≡ q
 first_one a b d start len p q same f g =
     ⊎_elim
-    (λ (less : f.ahead < g.ahead). absurd (clash a b p same f.free (subst (IsTaken (prefixes b)) (sym f.at_place) (g.each_before_taken f.ahead less))))
+    (λ (less : f.ahead < g.ahead). absurd (clash a b p same f.free (subst (IsTakenPrefix (prefixes b)) (sym f.at_place) (g.each_before_taken f.ahead less))))
     (λ over. ⊎_elim
-    (λ (less : g.ahead < f.ahead). absurd (clash b a q (same_back a b same) g.free (subst (IsTaken (prefixes a)) (sym g.at_place) (f.each_before_taken g.ahead less))))
+    (λ (less : g.ahead < f.ahead). absurd (clash b a q (same_back a b same) g.free (subst (IsTakenPrefix (prefixes a)) (sym g.at_place) (f.each_before_taken g.ahead less))))
     (λ under. let equal : f.ahead ≡ g.ahead = omega arith in f.at_place ∙ ap (sub_prefix_after d len start) equal ∙ sym g.at_place)
     (cases_lt g.ahead f.ahead))
     (cases_lt f.ahead g.ahead)

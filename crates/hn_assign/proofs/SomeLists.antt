@@ -4,7 +4,7 @@ use Rattle.std.specs.Ordering.{on}
 use Rattle.std.specs.declared.cmp.Ordering.TheVariants.{Less, Equal, Greater}
 use Rattle.std.proofs.lemmas.List.Elements.{recursion_from_All}
 use Rattle.hn_base.specs.Exists.{Some! }
-use Rattle.hn_base.proofs.Somes.{IsPart, some_then, some_part}
+use Rattle.hn_base.proofs.SomeExists.{IsPart, some_then, some_part}
 use Rattle.hn_assign.specs.declared.assigned.Wish.{Wish}
 use Rattle.hn_assign.specs.declared.pair.Pair.{Pair}
 use Rattle.hn_assign.specs.Pair.{pair_cmp, IsAscending, IsWished, Updates, KeepsWished}

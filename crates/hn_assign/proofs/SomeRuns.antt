@@ -11,7 +11,7 @@ use Rattle.hn_base.proofs.AscendingLists.{Contains-head, Contains-tail, Contains
 use Rattle.hn_data.specs.View.{PlainView}
 use Rattle.hn_base.specs.Exists.{Some! }
 use Rattle.hn_prefix.specs.Laws.{FreeOrFull, InsideAreSubPrefixes}
-use Rattle.hn_base.proofs.Somes.{IsPart, some_is, some_then, some_part}
+use Rattle.hn_base.proofs.SomeExists.{IsPart, some_is, some_then, some_part}
 use Rattle.hn_assign.specs.declared.assigned.Assigned.{Assigned}
 use Rattle.hn_assign.specs.declared.assigned.Wish.{Wish}
 use Rattle.hn_assign.specs.declared.backoff.Backoff.{Backoff}

@@ -7,7 +7,7 @@ use Rattle.hn_base.specs.Prefix.{PlainPrefix, IsPrefix, IsWithin}
 use Rattle.hn_base.proofs.AscendingLists.{nothing_in}
 use Rattle.hn_base.specs.Exists.{Some! }
 use Rattle.hn_prefix.specs.Laws.{FreeOrFull, InsideAreSubPrefixes, IsFirstFreeIfAny}
-use Rattle.hn_base.proofs.Somes.{some_is, some_then, some_by}
+use Rattle.hn_base.proofs.SomeExists.{some_is, some_then, some_by}
 use Rattle.hn_assign.specs.declared.assigned.Advertised.{Advertised}
 use Rattle.hn_assign.specs.declared.assigned.Assigned.{Assigned}
 use Rattle.hn_assign.specs.declared.backoff.Backoff.{Backoff}

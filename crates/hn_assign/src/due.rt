@@ -1,6 +1,6 @@
 //! When something that is held is next due.
 
-ghost use Rattle.hn_base.specs.Sooner.{IsSooner, IsOfOne};
+ghost use Rattle.hn_base.specs.Sooner.{IsSooner, IsOfElement};
 ghost use Rattle.hn_assign.specs.Due.{IsBackoffDue, IsMarkDue, IsHeldDue};
 
 use crate::assigned::Assigned;
@@ -11,7 +11,7 @@ use hn_base::{Moment, sooner};
 
 /// The first of the moments at which these backoffs are due, where it is after now and before `best`; else `best`.
 fn first_due(backoffs: &[Backoff], now: Moment, best: Moment) -> Moment
-    ensures { IsSooner (IsOfOne IsBackoffDue backoffs.now) now best result }
+    ensures { IsSooner (IsOfElement IsBackoffDue backoffs.now) now best result }
 {
     let mut first = best;
     for b in backoffs {
@@ -33,7 +33,7 @@ fn next_mark(c: &Assigned, now: Moment, best: Moment) -> Moment
 
 /// The first of these moments of assignments.
 fn first_mark(assigned: &[Assigned], now: Moment, best: Moment) -> Moment
-    ensures { IsSooner (IsOfOne IsMarkDue assigned.now) now best result }
+    ensures { IsSooner (IsOfElement IsMarkDue assigned.now) now best result }
 {
     let mut first = best;
     for c in assigned {

@@ -17,7 +17,7 @@ use Rattle.hn_dncp.specs.declared.port.Port.{Port}
 use Rattle.hn_own.specs.Ports.{endpoints_of, is_attached}
 use Rattle.hn_own.specs.Posts.{length_at, posts_of, private_post, private_posts}
 use Rattle.hn_rules.specs.Router.{IsRouter}
-use Rattle.hn_sound.specs.Home.{Home, Endpoint, Held, HasAssignment}
+use Rattle.hn_sound.specs.Home.{Home, Endpoint, Held, EndpointHasAssignment}
 use Rattle.hn_world.specs.declared.member.Attachment.{Attachment}
 use Rattle.hn_world.specs.declared.member.Member.{Member}
 use Rattle.hn_world.specs.declared.parts.Parts.{Parts}
@@ -272,7 +272,7 @@ module _ (w : Parts) (r : Member) (known : IsKnown w r) where
 
   -- what a post has is what its router holds for it
   pub to_has : (usable : List Delegated) (m : Member) (x : Endpoint) (d : PlainPrefix) (c : Assigned) → IsEndOf w r m x
-      → said.HasAssignment m.router x.id d c → HasAssignment (home_of w r usable) x d c
+      → said.HasAssignment m.router x.id d c → EndpointHasAssignment (home_of w r usable) x d c
   to_has usable m x d c end has = record {
     there = end_there usable m x end;
     held = subst (λ (node : NodeId). Contains (home_of w r usable).assignments (record { node = node; assigned = c })) (sym end.of_node) (to_held usable m c end.reached has.held);
@@ -281,7 +281,7 @@ module _ (w : Parts) (r : Member) (known : IsKnown w r) where
   }
 
   pub of_has : (usable : List Delegated) (m : Member) (x : Endpoint) (d : PlainPrefix) (c : Assigned) → IsEndOf w r m x
-      → HasAssignment (home_of w r usable) x d c → said.HasAssignment m.router x.id d c
+      → EndpointHasAssignment (home_of w r usable) x d c → said.HasAssignment m.router x.id d c
   of_has usable m x d c end has =
       let by = of_held usable (record { node = x.node; assigned = c }) has.held in
       let same : by.0 ≡ m = one_member w r known by.0 m by.1.reached end.reached (sym by.1.of_node ∙ end.of_node) in

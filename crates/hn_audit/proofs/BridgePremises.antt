@@ -17,7 +17,7 @@ use Rattle.hn_deleg.specs.Laws.{UsableIsUnique, UsableNeverOverlap}
 use Rattle.hn_link.specs.Laws.{CommonLinkExists}
 use Rattle.hn_rules.specs.Laws.{AssignedIsPublished, OwnPeersAreOfEndpoints, PrivatePostIsAlone}
 use Rattle.hn_rules.specs.Seen.{seen_by}
-use Rattle.hn_sound.specs.Home.{Endpoint, HasAssignment, HasPublished}
+use Rattle.hn_sound.specs.Home.{Endpoint, EndpointHasAssignment, HasPublished}
 use Rattle.hn_sound.specs.Premises.{IsHome}
 use Rattle.hn_sound.specs.Premises.Premise.{OneLink, OnceOnLink, UsedApart, ForUsed, PublishedInside, OneEach, PriorityTwo}
 use Rattle.hn_world.specs.declared.member.Member.{Member}
@@ -30,7 +30,7 @@ use Rattle.hn_audit.specs.Sound.{Link, IsPostOn}
 use Rattle.hn_audit.proofs.BridgeSets.{IsKnown, OwnVersions, router_of, itself, one_member}
 use Rattle.hn_audit.proofs.BridgeUsed.{used_same}
 use Rattle.hn_audit.proofs.BridgeHomes.{home_of, number_of, IsEndOf, same_link, of_end, of_has, one_link_of, one_on_link}
-use Rattle.hn_base.proofs.Parts.{one_of_ascending}
+use Rattle.hn_base.proofs.PartsAtPlaces.{one_of_ascending}
 
 -- a settled and quiet router of a replayed world, and the delegated prefixes that it uses
 pub record IsCase (w : Parts) (r : Member) (usable : List Delegated) : Type 0 where
@@ -99,12 +99,12 @@ module _ (w : Parts) (r : Member) (usable : List Delegated) (case : IsCase w r u
   -- ---- assignments
 
   -- the router whose endpoint has an assignment, and that assignment there
-  pub holder : (e : Endpoint) (d : PlainPrefix) (c : Assigned) → HasAssignment (home_of w r usable) e d c → (m : Member) × IsEndOf w r m e × said.HasAssignment m.router e.id d c
+  pub holder : (e : Endpoint) (d : PlainPrefix) (c : Assigned) → EndpointHasAssignment (home_of w r usable) e d c → (m : Member) × IsEndOf w r m e × said.HasAssignment m.router e.id d c
   holder e d c has =
       let a = of_end w r case.known usable e has.there in
       (a.0, a.1, of_has w r case.known usable a.0 e d c a.1 has)
 
-  each_for_used : (e : Endpoint) (d : PlainPrefix) (c : Assigned) → HasAssignment (home_of w r usable) e d c → Contains (prefixes_of usable) d
+  each_for_used : (e : Endpoint) (d : PlainPrefix) (c : Assigned) → EndpointHasAssignment (home_of w r usable) e d c → Contains (prefixes_of usable) d
   each_for_used e d c has =
       let by = holder e d c has in
       subst (Contains (prefixes_of usable)) by.2.of_delegated (for_used by.0 c by.1.reached by.2.held)
@@ -114,7 +114,7 @@ module _ (w : Parts) (r : Member) (usable : List Delegated) (case : IsCase w r u
       let by = holder e d c says.has in
       subst (IsWithin c.prefix) by.2.of_delegated (is_inside by.0 c by.1.reached by.2.held)
 
-  one_each : (e : Endpoint) (d : PlainPrefix) (c other : Assigned) → HasAssignment (home_of w r usable) e d c → HasAssignment (home_of w r usable) e d other → c ≡ other
+  one_each : (e : Endpoint) (d : PlainPrefix) (c other : Assigned) → EndpointHasAssignment (home_of w r usable) e d c → EndpointHasAssignment (home_of w r usable) e d other → c ≡ other
   one_each e d c other has also =
       let by = holder e d c has in
       let too = of_has w r case.known usable by.0 e d other by.1 also in

@@ -1,7 +1,7 @@
 -- In the home of a settled and quiet set each pair is at rest as its router sees it.
 use Rattle.std.proofs.Common.{◌≡◌, ◌∙◌, ◌↔◌, ℕ, not, List, Option, Some, None, Contains, refl, sym, ap, subst}
 use Rattle.std.specs.List.{slice_get}
-use Rattle.hn_base.proofs.Ats.{has_some}
+use Rattle.hn_base.proofs.AtKey.{has_some}
 use Rattle.hn_base.specs.declared.ids.NodeId.{NodeId}
 use Rattle.hn_base.specs.declared.ids.EpId.{EpId}
 use Rattle.hn_base.specs.Prefix.{PlainPrefix}

@@ -16,11 +16,11 @@ use Rattle.hn_data.specs.declared.said.AssignedPrefix.{AssignedPrefix}
 use Rattle.hn_data.specs.declared.view.Entry.{Entry}
 use Rattle.hn_deleg.specs.declared.delegated.Delegated.{Delegated}
 use Rattle.hn_link.specs.CommonLink.{IsOnCommonLink, IsLinkedWithOwn}
-use Rattle.hn_own.specs.HeldPairs.{published_of}
+use Rattle.hn_own.specs.HeldPairs.{publication_of}
 use Rattle.hn_rules.specs.Nodes.{view_of}
 use Rattle.hn_rules.specs.Seen.{seen_by}
 use Rattle.hn_sound.specs.Home.{Endpoint}
-use Rattle.hn_sound.specs.Members.{IsAdvertised, IsOnLinkOf}
+use Rattle.hn_sound.specs.Members.{IsAdvertisedInHome, IsOnLinkOf}
 use Rattle.hn_world.specs.declared.member.Member.{Member}
 use Rattle.hn_world.specs.declared.parts.Parts.{Parts}
 use Rattle.hn_world.specs.Names.{link_of}
@@ -43,7 +43,7 @@ record IsPublishedAs (c : Assigned) (a : Advertised) : Type 0 where
   endpoint : a.key.endpoint ≡ c.endpoint
   prefix : a.prefix ≡ c.prefix
 
-published_as : (c : Assigned) (a : Advertised) → published_of c ≡ Some (said_by a) → IsPublishedAs c a
+published_as : (c : Assigned) (a : Advertised) → publication_of c ≡ Some (said_by a) → IsPublishedAs c a
 published_as c a is = go c.published refl is
   where
     go : (o : Option ℕ) → c.published ≡ o → option_map (λ (priority : ℕ). record { endpoint = c.endpoint; priority = priority; prefix = c.prefix }) o ≡ Some (said_by a) → IsPublishedAs c a
@@ -57,7 +57,7 @@ published_as c a is = go c.published refl is
           prefix = sym (ap (λ (s : AssignedPrefix). s.prefix) same);
         }
 
-as_published : (c : Assigned) (a : Advertised) → IsPublishedAs c a → published_of c ≡ Some (said_by a)
+as_published : (c : Assigned) (a : Advertised) → IsPublishedAs c a → publication_of c ≡ Some (said_by a)
 as_published c a is =
     let same : record { endpoint = c.endpoint; priority = a.key.priority; prefix = c.prefix } ≡ said_by a = λ i. record { endpoint = sym is.endpoint i; priority = a.key.priority; prefix = sym is.prefix i } in
     ap (option_map (λ (priority : ℕ). record { endpoint = c.endpoint; priority = priority; prefix = c.prefix })) is.published ∙ ap Some same
@@ -65,11 +65,11 @@ as_published c a is =
 module _ (w : Parts) (r : Member) (usable : List Delegated) (case : IsCase w r usable) (s : Member) (s_in : IsReached w r s) where
   -- ---- the advertised prefixes
 
-  of_other : (a : Advertised) (n : Entry) → Contains (view_of s.router) n → gathered.IsOfOther s.router.id.0 n a → IsAdvertised (home_of w r usable) a
+  of_other : (a : Advertised) (n : Entry) → Contains (view_of s.router) n → gathered.IsOfOther s.router.id.0 n a → IsAdvertisedInHome (home_of w r usable) a
   of_other a n there other =
       let u = of_view w r case.known s n s_in there in
       let says : HasAssigned u.0.router.own.body (said_by a) = subst (λ (body : List ℕ). HasAssigned body (said_by a)) u.2.body other.says.assigned in
-      let from = from_filter_map published_of u.0.router.held.assigned (said_by a) ((case.published u.0.router (said_by a) (router_of w r case.known u.0 u.1)).0 says) in
+      let from = from_filter_map publication_of u.0.router.held.assigned (said_by a) ((case.published u.0.router (said_by a) (router_of w r case.known u.0 u.1)).0 says) in
       let is = published_as from.0 a from.2 in
       record {
         held = record { node = u.0.router.id; assigned = from.0 };
@@ -80,7 +80,7 @@ module _ (w : Parts) (r : Member) (usable : List Delegated) (case : IsCase w r u
         prefix = is.prefix;
       }
 
-  of_own : (a : Advertised) (c : Assigned) → Contains s.router.held.assigned c → gathered.IsOwn s.router.id.0 c a → IsAdvertised (home_of w r usable) a
+  of_own : (a : Advertised) (c : Assigned) → Contains s.router.held.assigned c → gathered.IsOwn s.router.id.0 c a → IsAdvertisedInHome (home_of w r usable) a
   of_own a c there own = record {
     held = record { node = s.router.id; assigned = c };
     there = to_held w r case.known usable s c s_in there;
@@ -97,7 +97,7 @@ module _ (w : Parts) (r : Member) (usable : List Delegated) (case : IsCase w r u
     node : a.key.node ≡ u.router.id
     says : IsPublishedAs c a
 
-  advertised_by : (a : Advertised) → IsAdvertised (home_of w r usable) a → (u : Member) × (c : Assigned) × IsBy a u c
+  advertised_by : (a : Advertised) → IsAdvertisedInHome (home_of w r usable) a → (u : Member) × (c : Assigned) × IsBy a u c
   advertised_by a from =
       let by = of_held w r case.known usable from.held from.there in (
         by.0,
@@ -119,7 +119,7 @@ module _ (w : Parts) (r : Member) (usable : List Delegated) (case : IsCase w r u
       let n = in_view w r case.known s u s_in by.reached in
       let router = router_of w r case.known u by.reached in
       let says : HasAssigned u.router.own.body (said_by a) =
-      (case.published u.router (said_by a) router).1 (in_filter_map published_of u.router.held.assigned c (said_by a) by.held (as_published c a by.says)) in
+      (case.published u.router (said_by a) router).1 (in_filter_map publication_of u.router.held.assigned c (said_by a) by.held (as_published c a by.says)) in
       inl (
         n.0,
         n.1,
@@ -144,7 +144,7 @@ module _ (w : Parts) (r : Member) (usable : List Delegated) (case : IsCase w r u
         },
       )
 
-  pub gathered_is_published : (list : List Advertised) → gathered.AreAdvertised (seen_by s.router) s.router.held.assigned list → (a : Advertised) → Contains list a ↔ IsAdvertised (home_of w r usable) a
+  pub gathered_is_published : (list : List Advertised) → gathered.AreAdvertised (seen_by s.router) s.router.held.assigned list → (a : Advertised) → Contains list a ↔ IsAdvertisedInHome (home_of w r usable) a
   gathered_is_published list are a = (
     λ there. elim ((are a).0 there) [
       | inl other ↦ of_other a other.0 other.1 other.2

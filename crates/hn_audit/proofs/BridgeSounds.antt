@@ -49,7 +49,7 @@ pub there_end : (w : Parts) (r : Member) → IsKnown w r → (link : Link) (s : 
 there_end w r known link s e there = an_end w r known link s e (reached_there w r known link s e there) there.on_link
 
 module _ (w : Parts) (r : Member) (usable : List Delegated) (case : IsCase w r usable)
-    (exact : AdvertisedIsExact) (is_sound : home.IsSound (home_of w r usable)) where
+    (exact : AdvertisedIsExact) (is_sound : home.IsSoundHome (home_of w r usable)) where
   -- ---- used prefixes, and those inside them
 
   in_used : (d : PlainPrefix) → Uses r.router d → Contains (prefixes_of usable) d
@@ -66,7 +66,7 @@ module _ (w : Parts) (r : Member) (usable : List Delegated) (case : IsCase w r u
   in_home : (link : Link) (s : Member) (e : EpId) → IsThere w r link s e → Contains (home_of w r usable).endpoints (end_on link s e)
   in_home link s e there = end_there w r case.known usable s (end_on link s e) (there_end w r case.known link s e there)
 
-  served : (link : Link) (t : Member) (f : EpId) (d : PlainPrefix) → IsThere w r link t f → home.IsServed (home_of w r usable) (number_of link) d → IsServed w r link d
+  served : (link : Link) (t : Member) (f : EpId) (d : PlainPrefix) → IsThere w r link t f → home.IsLinkServed (home_of w r usable) (number_of link) d → IsServed w r link d
   served link t f d here is =
       let by = of_end w r case.known usable is.publisher is.published.has.there in
       let link_is : by.1.link ≡ link =
@@ -128,7 +128,7 @@ module _ (w : Parts) (r : Member) (usable : List Delegated) (case : IsCase w r u
         });
       }
 
-  without : (link : Link) (d : PlainPrefix) → Contains (prefixes_of usable) d → home.IsWithout (home_of w r usable) (number_of link) d → IsWithout w r link d
+  without : (link : Link) (d : PlainPrefix) → Contains (prefixes_of usable) d → home.IsLinkWithout (home_of w r usable) (number_of link) d → IsWithout w r link d
   without link d d_in is = record {
     none = λ s e c there has. is.none (end_on link s e) c refl (to_has w r case.known usable s (end_on link s e) d c (there_end w r case.known link s e there) has);
     no_use = λ s e there. elim (is.no_use (end_on link s e) (in_home link s e there) refl) [

@@ -19,8 +19,8 @@ use Rattle.hn_rules.specs.Seen.{seen_by}
 use Rattle.hn_base.proofs.Elements.{any_of, any_from}
 use Rattle.hn_audit.proofs.BridgeLists.{same_Bool}
 use Rattle.hn_base.proofs.Prefixes.{is_one_prefix, prefix_decided, prefix_total}
-use Rattle.hn_base.proofs.Decisions.{not_both}
-use Rattle.hn_base.proofs.Parts.{part_at, part_stands, one_of_ascending}
+use Rattle.hn_base.proofs.DecidingTests.{not_both}
+use Rattle.hn_base.proofs.PartsAtPlaces.{part_at, part_stands, one_of_ascending}
 
 -- ---- whether a delegated prefix is wanted
 

@@ -72,7 +72,7 @@ known_of laws w r replayed runs settled = record {
 
 sound_case : BridgeLaws → (w : Parts) (r : Member) (usable : List Delegated) → IsCase w r usable → IsSound w r
 sound_case laws w r usable case =
-    let is_sound : home.IsSound (home_of w r usable) =
+    let is_sound : home.IsSoundHome (home_of w r usable) =
     laws.home_sound (home_of w r usable) (is_home w r usable case) (laws.rests (home_of w r usable) (rests_as_seen w r usable case)) in
     record {
       inside = inside w r usable case laws.advertised_exact is_sound;

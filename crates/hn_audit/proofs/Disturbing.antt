@@ -4,7 +4,7 @@ use Rattle.std.specs.Cmp.{IsTotalOrder}
 use Rattle.std.proofs.lemmas.Bool.{false≢true}
 use Rattle.std.proofs.lemmas.List.Elements.{All-contains}
 use Rattle.hn_base.specs.Ascending.{HasAt}
-use Rattle.hn_base.proofs.Parts.{contains_at}
+use Rattle.hn_base.proofs.PartsAtPlaces.{contains_at}
 use Rattle.hn_assign.specs.declared.assigned.Advertised.{Advertised}
 use Rattle.hn_assign.specs.declared.assigned.Assigned.{Assigned}
 use Rattle.hn_assign.specs.declared.assigned.Wish.{Wish}

@@ -7,7 +7,7 @@ use Rattle.hn_base.specs.Ascending.{HaveSame}
 use Rattle.hn_base.specs.declared.ids.NodeId.{NodeId}
 use Rattle.hn_base.specs.declared.name.Name.{Name}
 use Rattle.hn_base.proofs.AscendingLists.{ascending_unique}
-use Rattle.hn_base.proofs.Ats.{has_one}
+use Rattle.hn_base.proofs.AtKey.{has_one}
 use Rattle.hn_assign.specs.declared.assigned.Advertised.{Advertised}
 use Rattle.hn_assign.specs.declared.assigned.Assigned.{Assigned}
 use Rattle.hn_assign.specs.declared.assigned.Wish.{Wish}

@@ -6,7 +6,7 @@ use Rattle.std.proofs.lemmas.Bool.{cases_lt}
 use Rattle.std.proofs.lemmas.List.{get_or-take, length-take, take-map, take_all}
 use Rattle.std.proofs.lemmas.List.Elements.{All-contains, All-map, All-more}
 use Rattle.std.proofs.lemmas.Option.{get_or_from_slice_get, same_Some, slice_get-get_or, slice_get_within}
-use Rattle.hn_base.proofs.Parts.{contains_at, part_stands}
+use Rattle.hn_base.proofs.PartsAtPlaces.{contains_at, part_stands}
 use Rattle.hn_world.specs.declared.member.Member.{Member}
 use Rattle.hn_audit.specs.declared.spots.Spot.{Spot}
 use Rattle.hn_audit.specs.First.{FindsOne, IsFirstFound, OrElse}

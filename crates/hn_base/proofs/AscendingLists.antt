@@ -1,5 +1,6 @@
 -- Lists in strictly ascending order.
-use Rattle.std.proofs.Common.{◌≡◌, ◌↔◌, ℕ, ◌<◌, ◌≤◌, ◌+◌, Bool, IsTrue, true, false, List, [], ◌∷◌, ◌++◌, length, get_or, Contains, Result, Ok, Err, is_ok, Ordering, map, refl, sym, ◌∙◌, ap, subst, inl, inr, ◌⊎◌, ⊎_elim, arith, suc, zero}
+use Rattle.std.proofs.Common.{◌≡◌, ◌↔◌, ℕ, ◌<◌, ◌≤◌, ◌+◌, Bool, IsTrue, true, false, List, [], ◌∷◌, ◌++◌, length, get_or, Contains, Result, Ok, Err, is_ok, Ordering, map, refl, sym, ◌∙◌, ap, subst}
+use Rattle.std.proofs.Common.{inl, inr, ◌⊎◌, ⊎_elim, arith, suc, zero}
 use Rattle.std.specs.declared.cmp.Ordering.TheVariants.{Less, Equal, Greater}
 use Rattle.std.specs.Cmp.{IsTotalOrder, IsEquivalence}
 use Rattle.std.specs.List.{AllByRecursion, dedup}
@@ -13,7 +14,7 @@ use Rattle.std.proofs.lemmas.List.Kept.{Any-dedup, Contains-dedup, Contains-from
 use Rattle.std.proofs.lemmas.List.Sorted.{searchable_from_sorted}
 use Rattle.std.proofs.lemmas.Map.Keys.{sorted_head, sorted_tail, Less-from_sorted}
 use Rattle.hn_base.specs.Ascending.{IsExact}
-use Rattle.hn_base.proofs.Recursions.{AllByRecursion-push}
+use Rattle.hn_base.proofs.EachByRecursion.{AllByRecursion-push}
 
 -- ---- Contains, element by element
 
@@ -43,7 +44,8 @@ pub exact_test : {K : Type 0} (R : K → K → Ordering) (E : K → K → Bool) 
 exact_test R E exact ties x y h = exact x y (equal_from_is_eq (R x y) (sym (ties x y) ∙ h))
 
 -- what `dedup` keeps
-pub dedup_same : {K : Type 0} (R : K → K → Ordering) (E : K → K → Bool) → IsExact R → ((x y : K) → E x y ≡ eq_by_cmp R x y) → IsEquivalence E → (xs : List K) (x : K) → Contains (dedup E xs) x ↔ Contains xs x
+pub dedup_same : {K : Type 0} (R : K → K → Ordering) (E : K → K → Bool) → IsExact R → ((x y : K) → E x y ≡ eq_by_cmp R x y) → IsEquivalence E
+    → (xs : List K) (x : K) → Contains (dedup E xs) x ↔ Contains xs x
 dedup_same R E exact ties e xs x = (Contains-from_dedup E xs x, Contains-dedup e (exact_test R E exact ties) xs x)
 
 -- ---- search

@@ -9,7 +9,7 @@ use Rattle.std.specs.Cmp.{nat_cmp_is, ranked}
 use Rattle.std.proofs.lemmas.Bool.{cond_both, ltb-true, le-ltb, eqb-true}
 use Rattle.std.proofs.lemmas.List.{map-append}
 use Rattle.std.proofs.lemmas.Cmp.{nat_cmp_total}
-use Rattle.hn_base.proofs.Around.{few_apart, fewer_apart, sorted_around}
+use Rattle.hn_base.proofs.BelowAndAbove.{few_apart, fewer_apart, sorted_around}
 
 -- ---- numbers in order
 
@@ -62,7 +62,8 @@ module _ {A : Type 0} (number : A → ℕ) where
       let front = filter (is_below n) xs in
       let back = filter (is_above n) xs in
       let joined = sorted_around nat_cmp nat_cmp_total (map number front) n (map number back) (ascending-filter (is_below n) xs up)
-      (each_passed (λ k. nat_cmp k n ≡ Less) (is_below n) (λ x is. less (number x) n (ltb-true (number x) n is)) xs) (ascending-filter (is_above n) xs up) (each_passed (λ k. nat_cmp n k ≡ Less) (is_above n) (λ x is. less n (number x) (ltb-true n (number x) is)) xs) in
+      (each_passed (λ k. nat_cmp k n ≡ Less) (is_below n) (λ x is. less (number x) n (ltb-true (number x) n is)) xs)
+      (ascending-filter (is_above n) xs up) (each_passed (λ k. nat_cmp n k ≡ Less) (is_above n) (λ x is. less n (number x) (ltb-true n (number x) is)) xs) in
       subst (IsStrictlySortedBy nat_cmp) (sym (map-append number front (m ∷ back))) joined
 
   -- an element is not both below and above

@@ -8,7 +8,7 @@ use Rattle.std.proofs.lemmas.Nat.{be_bytes_2, from_be_bytes-to_be_bytes_2, from_
 use Rattle.std.proofs.Math.Nat.{pow-suc}
 use Rattle.std.proofs.lemmas.List.Elements.{All-from_recursion}
 use Rattle.hn_base.specs.Byte.{IsByte}
-use Rattle.hn_base.proofs.Recursions.{AllByRecursion-append, AllByRecursion-take, AllByRecursion-drop}
+use Rattle.hn_base.proofs.EachByRecursion.{AllByRecursion-append, AllByRecursion-take, AllByRecursion-drop}
 
 -- the number that bytes make
 pub be : List ℕ → ℕ
@@ -198,7 +198,8 @@ front_is bs few h =
     let len : length (bs ++ zeros) ≡ 16 = omega (arith, length-append bs zeros, length-replicate {A = ℕ} (16 - length bs) 0) in
     let small : number < 2 ^ 128 = padded_small bs few h in
     let whole : be (bytes_high_first 16 number) ≡ number = be-high 16 number ∙ omega arith in
-    let same : bytes_high_first 16 number ≡ bs ++ zeros = be_same (bytes_high_first 16 number) (bs ++ zeros) (length-high 16 number ∙ sym len) (high_bytes 16 number) (Bytes-append bs zeros h (Bytes-zeros (16 - length bs))) whole in
+    let same : bytes_high_first 16 number ≡ bs ++ zeros = be_same (bytes_high_first 16 number) (bs ++ zeros) (length-high 16 number ∙ sym len)
+    (high_bytes 16 number) (Bytes-append bs zeros h (Bytes-zeros (16 - length bs))) whole in
     ap (λ n. take (length bs) (bytes_high_first 16 n)) (front_number bs few) ∙ ap (take (length bs)) same ∙ take_at bs zeros (length bs) refl
 
 pub whole_is : (bs : List ℕ) → length bs ≡ 16 → Bytes bs → bs ≡ to_be_bytes w128 (from_be_bytes w128 bs)

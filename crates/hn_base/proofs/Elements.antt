@@ -1,6 +1,7 @@
 -- Which elements lists have, lists that grow by what an element gives, and what a list gives that is made of another or
 -- of parts.
-use Rattle.std.proofs.Common.{◌≡◌, ℕ, ◌+◌, ◌<◌, Bool, true, false, cond, Option, Some, None, List, [], ◌∷◌, ◌++◌, length, get_or, take, All, Contains, refl, sym, ap, ◌∙◌, subst, inl, inr, find, is_some, map, arith}
+use Rattle.std.proofs.Common.{◌≡◌, ℕ, ◌+◌, ◌<◌, Bool, true, false, cond, Option, Some, None, List, [], ◌∷◌, ◌++◌, length, get_or, take, All, Contains, refl, sym, ap, ◌∙◌, subst, inl, inr, find}
+use Rattle.std.proofs.Common.{is_some, map, arith}
 use Rattle.std.specs.List.{filter, filter_map, cons_option, list_any, AllPairs}
 use Rattle.std.proofs.lemmas.List.{take_more, append-nil, get_or_default}
 use Rattle.std.proofs.lemmas.List.Folds.{Any-from_list_any, list_any_at}
@@ -66,7 +67,8 @@ pub from_filter_map : {X Y : Type 0} (h : X → Option Y) (xs : List X) (y : Y) 
 from_filter_map h [] y k = absurd (nothing_in y k)
 from_filter_map {X} {Y} h (x ∷ xs) y k = go (h x) refl k (from_filter_map h xs y)
   where
-    go : (o : Option Y) → h x ≡ o → Contains (cons_option o (filter_map h xs)) y → (Contains (filter_map h xs) y → (z : X) × Contains xs z × (h z ≡ Some y)) → (z : X) × Contains (x ∷ xs) z × (h z ≡ Some y)
+    go : (o : Option Y) → h x ≡ o → Contains (cons_option o (filter_map h xs)) y
+        → (Contains (filter_map h xs) y → (z : X) × Contains xs z × (h z ≡ Some y)) → (z : X) × Contains (x ∷ xs) z × (h z ≡ Some y)
     go None e l rest = let found = rest l in (found.0, Contains-tail x xs found.0 found.1, found.2)
     go (Some w) e l rest =
         elim (Contains-cases w (filter_map h xs) y l) [

@@ -5,7 +5,7 @@ use Rattle.std.proofs.lemmas.Grind.{common_steps, same_number_lists}
 use Rattle.std.proofs.lemmas.List.{get_or_append_left}
 use Rattle.std.proofs.Math.Seq.{drop-append_seam, get_or-append_seam}
 use Rattle.hn_base.specs.Words.{Begins}
-use Rattle.hn_base.proofs.Fronts.{head_is}
+use Rattle.hn_base.proofs.FrontOfList.{head_is}
 
 -- where some words and others begin a stream, the former do
 pub begins_front : (xs ys : List ℕ) (stream : ℕ → ℕ) → Begins (xs ++ ys) stream → Begins xs stream

@@ -35,6 +35,7 @@ module _ {W : Type 0} (took : W → List ℕ → W → Type 0) where
   pub digits_none : (f : Formatter W) → IsPlainFormatter f → HasWritten took f (encode_lower []) f
   digits_none f plain = subst (λ t. HasWritten took f t f) (sym encode_lower-nil) (record { wrote = writes_in_calls_nil took f.writer; plain = plain })
 
-  pub digits_more : (f g h : Formatter W) (front more all : List ℕ) → all ≡ front ++ more → HasWritten took f (encode_lower front) g → HasWritten took g (encode_lower more) h → HasWritten took f (encode_lower all) h
+  pub digits_more : (f g h : Formatter W) (front more all : List ℕ) → all ≡ front ++ more → HasWritten took f (encode_lower front) g
+      → HasWritten took g (encode_lower more) h → HasWritten took f (encode_lower all) h
   digits_more f g h front more all parts written then =
       subst (λ t. HasWritten took f t h) (sym (ap encode_lower parts ∙ encode_lower-append front more)) (has_written_append took f (encode_lower front) g (encode_lower more) h written then)

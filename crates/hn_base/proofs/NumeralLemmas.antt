@@ -96,7 +96,8 @@ div_some base n low large =
 pub numeral_step : (base n : ℕ) → 2 ≤ base → base ≤ n → numeral base n ≡ numeral base (n / base) ++ digit_char (n % base) ∷ []
 numeral_step base n low large =
     let some : 0 < n / base = div_some base n low large in
-    numeral-positive base n (omega arith) ∙ ap (map digit_char) (digits_of_step base n low (omega arith)) ∙ map-append digit_char (digits_of base (n / base)) (n % base ∷ []) ∙ ap (λ t. t ++ digit_char (n % base) ∷ []) (sym (numeral-positive base (n / base) some))
+    numeral-positive base n (omega arith) ∙ ap (map digit_char) (digits_of_step base n low (omega arith))
+    ∙ map-append digit_char (digits_of base (n / base)) (n % base ∷ []) ∙ ap (λ t. t ++ digit_char (n % base) ∷ []) (sym (numeral-positive base (n / base) some))
 
 pub numeral_is_short : (base most n : ℕ) → 2 ≤ base → base ≤ 16 → 0 < most → n < base ^ most → IsShortNumeral base most (numeral base n) n
 numeral_is_short base most zero low high some fits = record { digits = (omega arith, (omega arith, tt)); short = omega arith; value = omega arith }

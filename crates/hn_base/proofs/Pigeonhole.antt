@@ -6,7 +6,7 @@ use Rattle.std.proofs.lemmas.Map.Made.{length-le_from_is_member, is_member-Decid
 use Rattle.std.specs.List.Sorted.{IsStrictlySortedBy}
 use Rattle.std.proofs.lemmas.Map.Keys.{IsDistinct-from_sorted}
 use Rattle.hn_base.specs.Ascending.{IsExact}
-use Rattle.hn_base.proofs.Decisions.{order_decides}
+use Rattle.hn_base.proofs.DecidingTests.{order_decides}
 
 pub length-le_from_Contains : {K : Type 0} {eq : K → K → Bool} → IsEquivalence eq → ((a b : K) → Decides (eq a b) (a ≡ b)) → (xs ys : List K) → IsDistinct eq xs
     → ((x : K) → Contains xs x → Contains ys x) → length xs ≤ length ys

@@ -6,7 +6,7 @@ use Rattle.std.specs.Cmp.Rules.{comparing}
 use Rattle.std.specs.Ordering.{nat_cmp}
 use Rattle.hn_base.specs.Ascending.{IsExact}
 use Rattle.hn_base.proofs.AscendingLists.{exact_nat, exact_then}
-use Rattle.hn_base.proofs.Decisions.{numbers_decide}
+use Rattle.hn_base.proofs.DecidingTests.{numbers_decide}
 use Rattle.hn_base.specs.Prefix.{PlainPrefix, prefix_cmp}
 
 pub same_prefix : (p q : PlainPrefix) → p.bits ≡ q.bits → p.len ≡ q.len → p ≡ q

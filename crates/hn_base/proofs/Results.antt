@@ -52,7 +52,8 @@ module _ {X E F : Type 0} (wrap : F → E) (P : F → Type 0) where
 
 -- the same of a result that passes on what a check found, where the check finds each fault that is so
 module _ {X Y E F : Type 0} (wrap : F → E) (P : F → Type 0) where
-  pub tells_passed : ((f g : F) → wrap f ≡ wrap g → f ≡ g) → (r : Result X E) (f : F) → r ≡ Err (wrap f) → P f → ((g : F) → P g → ◌≡◌ {A = Result Y F} (Err f) (Err g)) → (g : F) → (r ≡ Err (wrap g)) ↔ P g
+  pub tells_passed : ((f g : F) → wrap f ≡ wrap g → f ≡ g) → (r : Result X E) (f : F) → r ≡ Err (wrap f) → P f
+      → ((g : F) → P g → ◌≡◌ {A = Result Y F} (Err f) (Err g)) → (g : F) → (r ≡ Err (wrap g)) ↔ P g
   tells_passed apart r f answer is finds g = tells_fault wrap P apart (λ a b p q. same_error {A = Y} a b (sym (finds a p) ∙ finds b q)) r f answer is g
 
   -- and of one that tells none of them, where the check found none

@@ -3,7 +3,7 @@ use Rattle.std.proofs.Common.{◌≡◌, ◌≢◌, ℕ, ◌+◌, ◌<◌, List,
 use Rattle.std.specs.List.{AllByRecursion}
 use Rattle.std.proofs.lemmas.List.{drop_more}
 use Rattle.hn_base.specs.Splits.{Lacks, SplitsAt}
-use Rattle.hn_base.proofs.Recursions.{AllByRecursion-append, AllByRecursion-take_more, AllByRecursion-weaker}
+use Rattle.hn_base.proofs.EachByRecursion.{AllByRecursion-append, AllByRecursion-take_more, AllByRecursion-weaker}
 
 pub Lacks-append : (byte : ℕ) (xs ys : List ℕ) → Lacks byte xs → Lacks byte ys → Lacks byte (xs ++ ys)
 Lacks-append byte = AllByRecursion-append (λ c. c ≢ byte)

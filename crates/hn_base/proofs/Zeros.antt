@@ -8,7 +8,8 @@ pub zeros_are : (bytes : List ℕ) → All (λ byte. byte ≡ 0) bytes → bytes
 zeros_are bytes zeros = same_lists bytes (replicate (length bytes) 0) (sym (length-replicate {A = ℕ} (length bytes) 0)) (λ k d lt. zeros k d lt ∙ sym (get_or-replicate (length bytes) k 0 d lt))
 
 -- bytes that begin with so many zeros
-pub begins_with_zeros : (after front rest : List ℕ) (count : ℕ) → front ≡ take count after → rest ≡ drop count after → length front ≡ count → All (λ byte. byte ≡ 0) front → after ≡ replicate count 0 ++ rest
+pub begins_with_zeros : (after front rest : List ℕ) (count : ℕ) → front ≡ take count after → rest ≡ drop count after → length front ≡ count
+    → All (λ byte. byte ≡ 0) front → after ≡ replicate count 0 ++ rest
 begins_with_zeros after front rest count front-is rest-is len zeros =
     let same : front ≡ replicate count 0 = zeros_are front zeros ∙ ap (λ n. replicate n 0) len in
     sym (take-append-drop count after) ∙ rw (← front-is, ← rest-is, same) refl

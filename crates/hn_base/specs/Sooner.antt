@@ -8,5 +8,5 @@ pub record IsSooner (P : ℕ → Type 0) (now best n : ℕ) : Type 0 where
   pub is : (n ≡ best) ⊎ (P n × (now < n))
 
 -- a moment of one of these
-abbrev pub IsOfOne : {A : Type 0} → (A → ℕ → Type 0) → List A → ℕ → Type 0
-IsOfOne {A} P xs m = (x : A) × Contains xs x × P x m
+abbrev pub IsOfElement : {A : Type 0} → (A → ℕ → Type 0) → List A → ℕ → Type 0
+IsOfElement {A} P xs m = (x : A) × Contains xs x × P x m

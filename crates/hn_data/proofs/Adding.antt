@@ -4,7 +4,7 @@ use Rattle.std.specs.Option.{option_map, option_or}
 use Rattle.std.specs.List.{filter_map}
 use Rattle.std.proofs.lemmas.List.Elements.{Contains-append_left, Contains-append_right, Contains-append_cases}
 use Rattle.hn_base.proofs.AscendingLists.{Contains-head}
-use Rattle.hn_base.proofs.Parts.{filter_map-push}
+use Rattle.hn_base.proofs.PartsAtPlaces.{filter_map-push}
 use Rattle.hn_tlv.specs.Grammar.{PlainTlv}
 use Rattle.hn_typed.specs.Item.{PlainItem, PlainCaps, External}
 use Rattle.hn_typed.specs.Table.{IsItem}

@@ -1,6 +1,6 @@
 -- Numbers are node data with items, or they are none.
 use Rattle.std.proofs.Common.{◌≡◌, ◌⊎◌, ℕ, List, [], ◌∷◌, refl, inl, inr}
-use Rattle.hn_base.proofs.Decided.{bytes_or_not}
+use Rattle.hn_base.proofs.SoOrNot.{bytes_or_not}
 use Rattle.hn_tlv.specs.Grammar.{PlainTlv, IsTlvList}
 use Rattle.hn_tlv.specs.Laws.{ListIsOfBytes, ListHasNoFirstFault, ListOrFirstFault}
 use Rattle.hn_typed.specs.Item.{PlainItem}

@@ -4,7 +4,7 @@ use Rattle.std.specs.List.Sorted.{IsStrictlySortedBy}
 use Rattle.std.specs.Ordering.{nat_cmp}
 use Rattle.std.specs.Result.{result_ok}
 use Rattle.std.proofs.lemmas.Option.{same_Some}
-use Rattle.hn_base.proofs.Parts.{part_stands, part_is, one_place_of}
+use Rattle.hn_base.proofs.PartsAtPlaces.{part_stands, part_is, one_place_of}
 use Rattle.hn_data.specs.Links.{IsPeerAt}
 use Rattle.hn_data.specs.Peers.{IsLinked}
 use Rattle.hn_data.specs.View.{ids_of}

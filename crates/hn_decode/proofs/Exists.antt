@@ -4,7 +4,7 @@ use Rattle.std.proofs.lemmas.Bool.{cases_lt}
 use Rattle.std.proofs.lemmas.List.{drop_at}
 use Rattle.std.proofs.lemmas.List.Elements.{All-from_recursion, recursion_from_All}
 use Rattle.hn_base.specs.Byte.{IsByte}
-use Rattle.hn_base.proofs.Recursions.{AllByRecursion-drop}
+use Rattle.hn_base.proofs.EachByRecursion.{AllByRecursion-drop}
 use Rattle.hn_tlv.specs.Grammar.{PlainTlv, IsTlv, tlv_size, IsTlvList, HasTlvs}
 use Rattle.hn_tlv.specs.Laws.{ListIsUnique, ListHasNoFirstFault, ListOrFirstFault}
 use Rattle.hn_typed.specs.Item.{PlainItem, RequestNetwork, RequestNode, NodeEndpoint, NetworkState, NodeState, Peer, KeepAlive, Version, External, Delegated, Assigned, Address, Other}

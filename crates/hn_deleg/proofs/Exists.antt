@@ -10,8 +10,8 @@ use Rattle.std.proofs.lemmas.Option.{slice_get-get_or, same_Some, none-some}
 use Rattle.hn_base.specs.Prefix.{PlainPrefix, IsPrefix, IsWithin, last_address, prefix_cmp}
 use Rattle.hn_base.proofs.AscendingLists.{Contains-head, Contains-tail, Contains-cases, Contains-map, nothing_in}
 use Rattle.hn_base.proofs.AscendingMade.{ascending_of}
-use Rattle.hn_base.proofs.Decided.{Decided, one_or_none}
-use Rattle.hn_base.proofs.Decisions.{cases_by}
+use Rattle.hn_base.proofs.SoOrNot.{Decided, one_or_none}
+use Rattle.hn_base.proofs.DecidingTests.{cases_by}
 use Rattle.hn_base.proofs.Elements.{all_of, in_filter_map, from_filter_map}
 use Rattle.hn_base.proofs.Prefixes.{prefix_total, exact_prefix}
 use Rattle.hn_typed.specs.Item.{PlainItem, PlainCaps, External}

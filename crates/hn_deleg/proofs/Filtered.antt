@@ -9,13 +9,13 @@ use Rattle.std.proofs.lemmas.Map.Keys.{Less-from_sorted}
 use Rattle.std.proofs.lemmas.Map.Views.{All-before_last}
 use Rattle.std.proofs.lemmas.Nat.{pow_pos}
 use Rattle.std.proofs.lemmas.Option.{get_or_from_slice_get}
-use Rattle.hn_base.proofs.Parts.{contains_at}
+use Rattle.hn_base.proofs.PartsAtPlaces.{contains_at}
 use Rattle.hn_base.proofs.AscendingLists.{nothing_in, sorted_push}
 use Rattle.hn_base.specs.Prefix.{PlainPrefix, IsPrefix, IsWithin, prefix_cmp}
 use Rattle.hn_deleg.proofs.Lists.{sorted_take}
 use Rattle.hn_deleg.proofs.Prefixes.{WithinIsRange, OverlapIsRange, OverlapIsNesting, less_bits, not_within_later}
 use Rattle.hn_deleg.specs.Steps.{AreOutermost, IsCovered, IsReadyFor}
-use Rattle.hn_base.proofs.Fronts.{front_at}
+use Rattle.hn_base.proofs.FrontOfList.{front_at}
 
 -- an element is the last one, or before it
 last_or_before : (kept : List PlainPrefix) (k l : PlainPrefix) → IsStrictlySortedBy prefix_cmp kept → Contains kept k → slice_get kept (length kept - 1) ≡ Some l → (k ≡ l) ⊎ (prefix_cmp k l ≡ Less)

@@ -8,7 +8,7 @@ use Rattle.std.proofs.lemmas.List.{length-map}
 use Rattle.std.proofs.lemmas.List.Elements.{All-contains}
 use Rattle.hn_base.proofs.AscendingLists.{Contains-map, Contains-from_map}
 use Rattle.hn_base.proofs.Elements.{all_of}
-use Rattle.hn_base.proofs.Parts.{contains_at, part_at, part_stands}
+use Rattle.hn_base.proofs.PartsAtPlaces.{contains_at, part_at, part_stands}
 use Rattle.hn_base.specs.Prefix.{PlainPrefix, prefix_cmp}
 use Rattle.hn_data.specs.Delegations.{HasDelegation}
 use Rattle.hn_data.specs.Later.{IsLater, aged_entry}

@@ -17,7 +17,7 @@ use Rattle.hn_deleg.specs.Live.{remaining}
 use Rattle.hn_deleg.specs.Steps.{live_of, HasPrefixes, IsLiveAt, IsLiveIn}
 use Rattle.hn_deleg.specs.declared.delegated.Delegated.{Delegated}
 use Rattle.std.proofs.lemmas.Bool.{and_parts}
-use Rattle.hn_base.proofs.Fronts.{front_at}
+use Rattle.hn_base.proofs.FrontOfList.{front_at}
 
 -- ---- the delegations of a node
 

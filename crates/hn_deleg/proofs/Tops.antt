@@ -7,7 +7,7 @@ use Rattle.hn_base.specs.Prefix.{PlainPrefix}
 use Rattle.hn_deleg.specs.declared.delegated.Delegated.{Delegated}
 use Rattle.hn_deleg.specs.Steps.{IsGreatestIn, HasLifetimesIn}
 use Rattle.hn_deleg.specs.Used.{prefixes_of}
-use Rattle.hn_base.proofs.Fronts.{front_at}
+use Rattle.hn_base.proofs.FrontOfList.{front_at}
 
 -- not below the lifetimes of a prefix, and one of them or 0
 pub record IsTop (xs : List Delegated) (p : PlainPrefix) (f : Delegated → ℕ) (ms : ℕ) : Type 0 where

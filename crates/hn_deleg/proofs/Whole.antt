@@ -17,7 +17,7 @@ use Rattle.hn_deleg.specs.Steps.{live_of, HasPrefixes, IsLiveIn, IsOutermostIn, 
 use Rattle.hn_deleg.specs.Used.{prefixes_of, IsOutermost, HasLifetimes, AreUsable}
 use Rattle.hn_deleg.proofs.Live.{leaves, left, left_of}
 use Rattle.hn_deleg.proofs.Lists.{sorted_take, taken_or_after, Contains-from_take}
-use Rattle.hn_base.proofs.Fronts.{front_at}
+use Rattle.hn_base.proofs.FrontOfList.{front_at}
 
 -- ---- candidates and lifetimes
 

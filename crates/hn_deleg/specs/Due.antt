@@ -1,6 +1,6 @@
 -- When announced lifetimes end.
 use Rattle.std.specs.Prelude.{◌≡◌, ◌≢◌, ℕ, ◌+◌, ◌⊎◌}
-use Rattle.hn_base.specs.Sooner.{IsOfOne}
+use Rattle.hn_base.specs.Sooner.{IsOfElement}
 use Rattle.hn_data.specs.Said.{HasVersion}
 use Rattle.hn_data.specs.Delegations.{HasDelegation}
 use Rattle.hn_data.specs.declared.said.Delegation.{Delegation}
@@ -27,4 +27,4 @@ pub record IsEndIn (now : ℕ) (node : Entry) (m : ℕ) : Type 0 where
 
 -- a lifetime that a reachable node announces ends then, the own node too
 abbrev pub IsLifetimeEnd : PlainView → ℕ → Type 0
-IsLifetimeEnd view = IsOfOne (IsEndIn view.now) view.nodes
+IsLifetimeEnd view = IsOfElement (IsEndIn view.now) view.nodes

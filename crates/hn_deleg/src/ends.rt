@@ -1,6 +1,6 @@
 //! When announced lifetimes end.
 
-ghost use Rattle.hn_base.specs.Sooner.{IsSooner, IsOfOne};
+ghost use Rattle.hn_base.specs.Sooner.{IsSooner, IsOfElement};
 ghost use Rattle.hn_data.specs.View.{plain_view};
 ghost use Rattle.hn_deleg.specs.Due.{IsEnd, IsEndOf, IsEndIn, IsLifetimeEnd};
 
@@ -29,7 +29,7 @@ fn next_of_delegation(now: Moment, age: u64, d: &Delegation, best: Moment) -> Mo
 
 /// The first of these moments of delegations.
 fn next_of_delegations(now: Moment, age: u64, delegations: &[Delegation], best: Moment) -> Moment
-    ensures { IsSooner (IsOfOne (IsEndOf now age) delegations.now) now best result }
+    ensures { IsSooner (IsOfElement (IsEndOf now age) delegations.now) now best result }
 {
     let mut first = best;
     for d in delegations {

@@ -1,6 +1,6 @@
 mod PeerLemmas
-mod Filling
+mod OneTlvMore
 mod Packings
 mod PackingMade
-mod Hearing
-mod Stills
+mod HeardPeersStay
+mod TickWhenNothingIsDue

@@ -10,16 +10,17 @@ use Rattle.hn_base.specs.declared.ids.NodeId.{NodeId}
 use Rattle.hn_base.specs.declared.ids.EpId.{EpId}
 use Rattle.hn_tlv.specs.Grammar.{PlainTlv, IsTlv, spelling, IsTlvList}
 use Rattle.hn_typed.specs.Fields.{word}
-use Rattle.hn_dncp.specs.Packing.{sender_tlv, datagram_of, IsFullBefore, IsFilled, IsPacking, IsShort, AreRead}
+use Rattle.hn_dncp.specs.Packing.{sender_tlv, datagram_of, IsFullBefore, IsFilled, IsPacking, IsShortDatagram, AreRead}
 use Rattle.hn_base.proofs.BigEndian.{number_bytes}
-use Rattle.hn_base.proofs.Fronts.{same_parts}
+use Rattle.hn_base.proofs.FrontOfList.{same_parts}
 
 same_cons : {A : Type 0} (x y : A) (xs ys : List A) → x ≡ y → xs ≡ ys → x ∷ xs ≡ y ∷ ys
 same_cons x y xs ys first others = ap (λ z. z ∷ xs) first ∙ ap (λ zs. y ∷ zs) others
 
 module _ (own : NodeId) (endpoint : EpId) where
   -- a datagram is filled with the first n of the TLVs, and others hold those after them
-  pub packing_more : (tlvs : List (List ℕ)) (n : ℕ) (datagram : List ℕ) (rest : List (List ℕ)) → IsFilled own endpoint (take n tlvs) (drop n tlvs) datagram → IsPacking own endpoint (drop n tlvs) rest → IsPacking own endpoint tlvs (datagram ∷ rest)
+  pub packing_more : (tlvs : List (List ℕ)) (n : ℕ) (datagram : List ℕ) (rest : List (List ℕ))
+      → IsFilled own endpoint (take n tlvs) (drop n tlvs) datagram → IsPacking own endpoint (drop n tlvs) rest → IsPacking own endpoint tlvs (datagram ∷ rest)
   packing_more tlvs n datagram rest filled packing =
       (take n tlvs, drop n tlvs, sym (take-append-drop n tlvs), filled, packing)
 
@@ -28,26 +29,26 @@ module _ (own : NodeId) (endpoint : EpId) where
 
   -- ---- the length of a datagram
 
-  short : (group rest : List (List ℕ)) (datagram : List ℕ) → IsFilled own endpoint group rest datagram → IsShort (group ++ rest) datagram
+  short : (group rest : List (List ℕ)) (datagram : List ℕ) → IsFilled own endpoint group rest datagram → IsShortDatagram (group ++ rest) datagram
   short group rest datagram filled = elim filled.within [ inl one ↦ alone group one filled.datagram_is | inr small ↦ inl small ]
     where
-      alone : (group : List (List ℕ)) → length group ≡ 1 → datagram ≡ datagram_of own endpoint group → IsShort (group ++ rest) datagram
+      alone : (group : List (List ℕ)) → length group ≡ 1 → datagram ≡ datagram_of own endpoint group → IsShortDatagram (group ++ rest) datagram
       alone [] one is = absurd (omega arith)
       alone (tlv ∷ []) one is =
           inr (tlv, Contains-append_left (tlv ∷ []) rest tlv (0, omega arith, refl), ap length is ∙ length_datagram (tlv ∷ []) ∙ ap (λ (bytes : List ℕ). 12 + length bytes) (append-nil tlv))
       alone (tlv ∷ other ∷ others) one is = absurd (omega arith)
 
-  shorter : (group rest : List (List ℕ)) (datagram : List ℕ) → IsShort rest datagram → IsShort (group ++ rest) datagram
+  shorter : (group rest : List (List ℕ)) (datagram : List ℕ) → IsShortDatagram rest datagram → IsShortDatagram (group ++ rest) datagram
   shorter group rest datagram (inl small) = inl small
   shorter group rest datagram (inr (tlv, there, is)) = inr (tlv, Contains-append_right group rest tlv there, is)
 
   -- each datagram of a packing is short
-  pub packing_short : (tlvs datagrams : List (List ℕ)) → IsPacking own endpoint tlvs datagrams → All (IsShort tlvs) datagrams
+  pub packing_short : (tlvs datagrams : List (List ℕ)) → IsPacking own endpoint tlvs datagrams → All (IsShortDatagram tlvs) datagrams
   packing_short tlvs [] packing k d within = absurd (omega arith)
   packing_short tlvs (datagram ∷ datagrams) packing zero d within =
-      subst (λ all. IsShort all datagram) (sym packing.2) (short packing.0 packing.1 datagram packing.3)
+      subst (λ all. IsShortDatagram all datagram) (sym packing.2) (short packing.0 packing.1 datagram packing.3)
   packing_short tlvs (datagram ∷ datagrams) packing (suc k) d within =
-      subst (λ all. IsShort all (get_or datagrams k d)) (sym packing.2) (shorter packing.0 packing.1 (get_or datagrams k d) (packing_short packing.1 datagrams packing.4 k d (omega arith)))
+      subst (λ all. IsShortDatagram all (get_or datagrams k d)) (sym packing.2) (shorter packing.0 packing.1 (get_or datagrams k d) (packing_short packing.1 datagrams packing.4 k d (omega arith)))
 
   pub packing_not_empty : (tlvs datagrams : List (List ℕ)) → IsPacking own endpoint tlvs datagrams → 0 < length tlvs → 0 < length datagrams
   packing_not_empty tlvs [] packing some = absurd (let none = ap length packing in omega (arith, none, some))
@@ -71,7 +72,8 @@ module _ (own : NodeId) (endpoint : EpId) where
       let more = goes_on group rest group' rest' tail (omega arith) in
       record { next = more.next; others = more.others; group_is = same_cons tlv' tlv group' (group ++ more.next ∷ more.others) (sym head) more.group_is; rest_is = more.rest_is }
 
-  not_shorter : (group rest group' rest' : List (List ℕ)) (datagram datagram' : List ℕ) → group ++ rest ≡ group' ++ rest' → IsFilled own endpoint group rest datagram → IsFilled own endpoint group' rest' datagram' → length group' ≤ length group
+  not_shorter : (group rest group' rest' : List (List ℕ)) (datagram datagram' : List ℕ) → group ++ rest ≡ group' ++ rest'
+      → IsFilled own endpoint group rest datagram → IsFilled own endpoint group' rest' datagram' → length group' ≤ length group
   not_shorter group rest group' rest' datagram datagram' same filled filled' =
       elim (cases_lt (length group) (length group')) [ inl less ↦ absurd (too_long less) | inr past ↦ past ]
     where
@@ -79,7 +81,8 @@ module _ (own : NodeId) (endpoint : EpId) where
       too_long less =
           let more = goes_on group rest group' rest' same less in
           let full : IsFullBefore (more.next ∷ (more.others ++ rest')) (length datagram) = subst (λ others. IsFullBefore others (length datagram)) more.rest_is filled.full in
-          let parts : length (concat group') ≡ length (concat group) + length (more.next ++ concat more.others) = ap (λ tlvs. length (concat tlvs)) more.group_is ∙ ap length (concat-append group (more.next ∷ more.others)) ∙ length-append (concat group) (more.next ++ concat more.others) in
+          let parts : length (concat group') ≡ length (concat group) + length (more.next ++ concat more.others) =
+          ap (λ tlvs. length (concat tlvs)) more.group_is ∙ ap length (concat-append group (more.next ∷ more.others)) ∙ length-append (concat group) (more.next ++ concat more.others) in
           let parts' = length-append more.next (concat more.others) in
           let len : length datagram ≡ 12 + length (concat group) = ap length filled.datagram_is ∙ length_datagram group in
           let len' : length datagram' ≡ 12 + length (concat group') = ap length filled'.datagram_is ∙ length_datagram group' in

@@ -11,7 +11,7 @@ use Rattle.hn_base.specs.declared.ids.NodeId.{NodeId}
 use Rattle.hn_base.specs.declared.ids.EpId.{EpId}
 use Rattle.hn_dncp.specs.declared.peers.Neighbour.{Neighbour}
 use Rattle.hn_dncp.specs.Peers.{is_peer, has_peer, IsOther, ArePeers}
-use Rattle.hn_base.proofs.Passing.{map-one, each_fails}
+use Rattle.hn_base.proofs.PassingElements.{map-one, each_fails}
 
 -- a peer's node and endpoint, and whether they are those of another
 abbrev key : Neighbour → ℕ × ℕ
@@ -31,7 +31,8 @@ flips : (k other : ℕ × ℕ) → is_key k other ≡ is_key other k
 flips k other = grind (arith, nat_tests)
 
 -- where one peer is an endpoint, no other is
-only_one : (k : ℕ × ℕ) (peers : List Neighbour) (i j : ℕ) (d : Neighbour) → AllPairs IsOther peers → i < length peers → is_key k (key (get_or peers i d)) ≡ true → j < length peers → j ≢ i → is_key k (key (get_or peers j d)) ≡ false
+only_one : (k : ℕ × ℕ) (peers : List Neighbour) (i j : ℕ) (d : Neighbour) → AllPairs IsOther peers → i < length peers
+    → is_key k (key (get_or peers i d)) ≡ true → j < length peers → j ≢ i → is_key k (key (get_or peers j d)) ≡ false
 only_one k peers i j d once within here within' other =
     ap (λ l. is_key l (key (get_or peers j d))) (sym (same_key k (key (get_or peers i d)) here)) ∙ apart
   where
@@ -43,7 +44,8 @@ only_one k peers i j d once within here within' other =
         ]
 
 -- a known peer is changed
-pub renewed : (node : NodeId) (endpoint : EpId) (f : Neighbour → Neighbour) (peers : List Neighbour) (i : ℕ) (x : Neighbour) → ArePeers peers → position (is_peer node endpoint) peers ≡ Some i → x ≡ get_or peers i x → map (λ peer. if is_peer node endpoint peer then f peer else peer) peers ≡ slice_set peers i (f x)
+pub renewed : (node : NodeId) (endpoint : EpId) (f : Neighbour → Neighbour) (peers : List Neighbour) (i : ℕ) (x : Neighbour) → ArePeers peers
+    → position (is_peer node endpoint) peers ≡ Some i → x ≡ get_or peers i x → map (λ peer. if is_peer node endpoint peer then f peer else peer) peers ≡ slice_set peers i (f x)
 renewed node endpoint f peers i x are found is =
     let at = position-Some (is_peer node endpoint) peers i x found in
     rw is (map-one (is_peer node endpoint) f peers i x at.0 at.1 (λ k within other. only_one (node.0, endpoint.0) peers i k x are.once at.0 at.1 within other))

@@ -18,8 +18,8 @@ greeting node endpoint multicast peers =
     else Added))
 
 -- the peers, after one was heard by unicast: a known one is renewed, an unknown one is added where there is room
-abbrev pub met : Neighbour → List Neighbour → List Neighbour
-met peer peers =
+abbrev pub peers_heard : Neighbour → List Neighbour → List Neighbour
+peers_heard peer peers =
     if has_peer peer.node peer.endpoint peers then map (λ other. if is_peer peer.node peer.endpoint other then peer else other) peers
     else (if length peers == 64 then peers
     else peers ++ peer ∷ [])
@@ -28,4 +28,4 @@ met peer peers =
 abbrev pub greeted : NodeId → EpId → Addr → Bool → ℕ → Port → Port
 greeted node endpoint from multicast now port =
     let peer : Neighbour = record { node = node; endpoint = endpoint; contact = now; addr = from } in
-    record port { peers = if multicast then port.peers else met peer port.peers }
+    record port { peers = if multicast then port.peers else peers_heard peer port.peers }

@@ -2,7 +2,7 @@
 use Rattle.std.specs.Prelude.{ℕ, Bool, false, if◌then◌else◌, List, map, Option, Some, None}
 use Rattle.hn_base.specs.declared.ids.NodeId.{NodeId}
 use Rattle.hn_base.specs.declared.ids.EpId.{EpId}
-use Rattle.hn_timers.specs.Interval.{counted}
+use Rattle.hn_timers.specs.Interval.{one_more_heard}
 use Rattle.hn_dncp.specs.declared.peers.Neighbour.{Neighbour}
 use Rattle.hn_dncp.specs.declared.port.Port.{Port}
 use Rattle.hn_dncp.specs.Peers.{is_peer}
@@ -17,7 +17,7 @@ contacted (Some sender) now peers = map (λ peer. if is_peer sender.0 sender.1 p
 -- it, and the sender's contact is renewed. Otherwise the endpoint asks.
 abbrev pub hashed : Bool → Option (NodeId × EpId) → ℕ → Port → Port
 hashed same sender now port = record port {
-  trickle = if same then counted port.trickle else port.trickle;
+  trickle = if same then one_more_heard port.trickle else port.trickle;
   peers = if same then contacted sender now port.peers else port.peers;
   asked = if same then port.asked else asked_at now port.asked;
 }

@@ -6,9 +6,9 @@ use Rattle.hn_tlv.specs.Grammar.{PlainTlv, IsTlv, spelling}
 use Rattle.hn_dncp.specs.declared.peers.Neighbour.{Neighbour}
 use Rattle.hn_dncp.specs.declared.port.Port.{Port}
 use Rattle.hn_dncp.specs.Peers.{ArePeers}
-use Rattle.hn_dncp.specs.Greet.{met}
+use Rattle.hn_dncp.specs.Greet.{peers_heard}
 use Rattle.hn_dncp.specs.Hash.{contacted}
-use Rattle.hn_dncp.specs.Packing.{IsPacking, IsShort, AreRead}
+use Rattle.hn_dncp.specs.Packing.{IsPacking, IsShortDatagram, AreRead}
 use Rattle.hn_dncp.specs.Due.{IsPortDue, IsPortStill, IsIdleAt}
 
 -- There is at most one packing of a list of TLVs.
@@ -24,7 +24,7 @@ PackingExists = (own : NodeId) (endpoint : EpId) (tlvs : List (List ℕ)) → (d
 -- A datagram has at most 4,000 bytes, or those of one of the TLVs and the 12 of the sender's Node Endpoint.
 abbrev pub PackingIsShort : Type 0
 PackingIsShort =
-    (own : NodeId) (endpoint : EpId) (tlvs datagrams : List (List ℕ)) → IsPacking own endpoint tlvs datagrams → All (IsShort tlvs) datagrams
+    (own : NodeId) (endpoint : EpId) (tlvs datagrams : List (List ℕ)) → IsPacking own endpoint tlvs datagrams → All (IsShortDatagram tlvs) datagrams
 
 -- Where there are TLVs there are datagrams.
 abbrev pub PackingIsNotEmpty : Type 0
@@ -41,7 +41,7 @@ PackingIsRead =
 
 -- Whoever is met, the peers of an endpoint stay at most 64, and each endpoint of a node is there once.
 abbrev pub MeetingKeepsPeers : Type 0
-MeetingKeepsPeers = (peer : Neighbour) (peers : List Neighbour) → ArePeers peers → ArePeers (met peer peers)
+MeetingKeepsPeers = (peer : Neighbour) (peers : List Neighbour) → ArePeers peers → ArePeers (peers_heard peer peers)
 
 -- So it is whoever makes contact.
 abbrev pub ContactKeepsPeers : Type 0

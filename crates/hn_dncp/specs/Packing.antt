@@ -37,8 +37,8 @@ IsPacking own endpoint tlvs (datagram ∷ datagrams) =
     (group : List (List ℕ)) × (rest : List (List ℕ)) × (tlvs ≡ group ++ rest) × IsFilled own endpoint group rest datagram × IsPacking own endpoint rest datagrams
 
 -- a datagram has at most 4,000 bytes, or those of one of the TLVs and the 12 of the sender's Node Endpoint
-abbrev pub IsShort : List (List ℕ) → List ℕ → Type 0
-IsShort tlvs datagram = (length datagram ≤ 4000) ⊎ ((tlv : List ℕ) × Contains tlvs tlv × (length datagram ≡ 12 + length tlv))
+abbrev pub IsShortDatagram : List (List ℕ) → List ℕ → Type 0
+IsShortDatagram tlvs datagram = (length datagram ≤ 4000) ⊎ ((tlv : List ℕ) × Contains tlvs tlv × (length datagram ≡ 12 + length tlv))
 
 -- The datagrams are lists of TLVs, each beginning with the sender's Node Endpoint, and what follows in them is this
 -- list of TLVs.

@@ -1,6 +1,6 @@
 -- What a tick does at one endpoint, with the random words that it takes (RFC 6206, section 4.2; RFC 7787, section 6.1).
 use Rattle.std.specs.Prelude.{ℕ, ◌+◌, Bool, ◌||◌, if◌then◌else◌, List, slice_index, take}
-use Rattle.hn_timers.specs.Interval.{started, has_to_send, fired, has_ended}
+use Rattle.hn_timers.specs.Interval.{interval_from, has_to_send, fired, is_interval_over}
 use Rattle.hn_timers.specs.Length.{next_length}
 use Rattle.hn_timers.specs.KeepAlive.{is_silent}
 use Rattle.hn_dncp.specs.declared.port.Port.{Port}
@@ -17,13 +17,13 @@ after_firing now port = record port {
 -- the next interval begins with this word, where the old one has ended
 abbrev pub after_interval : ℕ → ℕ → Port → Port
 after_interval now word port = record port {
-  trickle = if has_ended now port.trickle then started now (next_length port.trickle.len) word else port.trickle;
+  trickle = if is_interval_over now port.trickle then interval_from now (next_length port.trickle.len) word else port.trickle;
 }
 
 -- a keep-alive is sent where one is due, and an interval of the same length begins with this word
 abbrev pub after_keep_alive : ℕ → ℕ → Port → Port
 after_keep_alive now word port = record port {
-  trickle = if is_silent port.sent now then started now port.trickle.len word else port.trickle;
+  trickle = if is_silent port.sent now then interval_from now port.trickle.len word else port.trickle;
   sent = if is_silent port.sent now then now else port.sent;
 }
 
@@ -33,7 +33,7 @@ has_keep_alive now port = is_silent (after_firing now port).sent now
 
 -- how many words the next interval takes
 abbrev pub interval_words : ℕ → Port → ℕ
-interval_words now port = if has_ended now port.trickle then 1 else 0
+interval_words now port = if is_interval_over now port.trickle then 1 else 0
 
 -- how many words the tick takes
 abbrev pub tick_words : ℕ → Port → ℕ
@@ -50,5 +50,5 @@ abbrev pub tick_sends : ℕ → Port → Bool
 tick_sends now port = has_to_send now port.trickle || has_keep_alive now port
 
 -- the words that a tick says it took
-abbrev pub words_of : Renewed → List ℕ
-words_of renewed = take renewed.words renewed.drawn
+abbrev pub words_of_tick : Renewed → List ℕ
+words_of_tick renewed = take renewed.words renewed.drawn

@@ -1,6 +1,6 @@
 ghost use Rattle.std.specs.Prelude.{◌≡◌, ◌<◌, ◌≤◌, length, take, drop, All, IfOk};
 ghost use Rattle.hn_tlv.specs.Grammar.{spelling};
-ghost use Rattle.hn_dncp.specs.Packing.{sender_tlv, IsFilled, IsPacking, IsShort};
+ghost use Rattle.hn_dncp.specs.Packing.{sender_tlv, IsFilled, IsPacking, IsShortDatagram};
 
 use hn_base::{Bytes, EpId, NoMemory, NodeId, Sequence};
 use hn_typed::{Item, write};
@@ -64,7 +64,7 @@ pub fn pack(
     tlvs: &[Bytes],
 ) -> Result<Datagrams, NoMemory>
     ensures packed { IfOk result (IsPacking own endpoint tlvs.now) }
-    ensures short { IfOk result (All (IsShort tlvs.now)) }
+    ensures short { IfOk result (All (IsShortDatagram tlvs.now)) }
 {
     let mut datagrams = Datagrams::new(alloc);
     let mut at = 0;

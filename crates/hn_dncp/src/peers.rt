@@ -1,7 +1,7 @@
 ghost use Rattle.std.specs.Prelude.{◌≡◌, ◌<◌, ◌≤◌, ◌↔◌, [], ◌∷◌, ◌++◌, length, map, if◌then◌else◌, find, position, Some, false, slice_index_or, IsTrue, IfOk, OnOk, OnErr, option_copied};
 ghost use Rattle.std.specs.List.{remove};
 ghost use Rattle.hn_dncp.specs.Peers.{is_peer, has_peer, ArePeers};
-ghost use Rattle.hn_dncp.specs.Greet.{met, greeting};
+ghost use Rattle.hn_dncp.specs.Greet.{peers_heard, greeting};
 ghost use Rattle.hn_dncp.specs.Hash.{contacted};
 
 use crate::greet::Greet;
@@ -159,7 +159,7 @@ impl Peers {
     ///
     /// Out of memory; the peers are as before then.
     pub(crate) fn meet(&mut self, peer: Neighbour) -> Result<Greet, NoMemory>
-        ensures peers { OnOk result (self.new ≡ met peer self.old) }
+        ensures peers { OnOk result (self.new ≡ peers_heard peer self.old) }
         ensures answer { IfOk result (λ greet. greet ≡ greeting peer.node peer.endpoint false self.old) }
         ensures err { OnErr result (self.new ≡ self.old) }
     {

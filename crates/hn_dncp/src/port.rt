@@ -1,5 +1,5 @@
 ghost use Rattle.std.specs.Prelude.{◌≡◌, ◌^◌, ◌≤◌};
-ghost use Rattle.hn_dncp.specs.Port.{begun};
+ghost use Rattle.hn_dncp.specs.Port.{attached_port};
 
 use crate::peers::Peers;
 use hn_base::{EpId, Moment};
@@ -25,7 +25,7 @@ impl Port {
     /// An endpoint that is attached now; the word says when Trickle first fires. Never allocates.
     pub fn start(alloc: Global, id: EpId, now: Moment, word: u32) -> Port
         requires { now ≤ 2 ^ 48 }
-        ensures { result ≡ begun id now word }
+        ensures { result ≡ attached_port id now word }
     {
         Port {
             id,

@@ -1,9 +1,9 @@
 ghost use Rattle.std.specs.Prelude.{◌≡◌, ◌++◌, ◌-◌, ◌^◌, ◌≤◌, is_some, unwrap_or, length, replicate};
 ghost use Rattle.std.specs.Option.{option_to_list};
 ghost use Rattle.hn_base.specs.Words.{Took};
-ghost use Rattle.hn_timers.specs.Interval.{has_to_send, has_ended};
+ghost use Rattle.hn_timers.specs.Interval.{has_to_send, is_interval_over};
 ghost use Rattle.hn_timers.specs.KeepAlive.{is_silent};
-ghost use Rattle.hn_dncp.specs.Tick.{after_firing, after_interval, after_keep_alive, tick_words, ticked, tick_sends, words_of};
+ghost use Rattle.hn_dncp.specs.Tick.{after_firing, after_interval, after_keep_alive, tick_words, ticked, tick_sends, words_of_tick};
 
 use crate::port::Port;
 use hn_base::Moment;
@@ -25,7 +25,7 @@ impl Renewed {
     /// The words that were taken. Never allocates.
     pub fn taken(&self) -> &[u32]
         requires { self.now.words ≤ 2 }
-        ensures { result.now ≡ words_of self.now }
+        ensures { result.now ≡ words_of_tick self.now }
     {
         &self.drawn[..usize::from(self.words)]
     }
@@ -49,7 +49,7 @@ impl Port {
     fn begin_next<D: Draw>(&mut self, now: Moment, draw: &mut D) -> Option<u32>
         requires { now ≤ 2 ^ 48 }
         ensures port { self.new ≡ after_interval now (unwrap_or result 0) self.old }
-        ensures word { is_some result ≡ has_ended now self.old.trickle }
+        ensures word { is_some result ≡ is_interval_over now self.old.trickle }
         ensures drew { Took (D.words draw.old) (option_to_list result) (D.words draw.new) }
     {
         if !self.trickle.ended(now) {
@@ -82,15 +82,15 @@ impl Port {
     /// Never allocates.
     pub fn tick<D: Draw>(&mut self, now: Moment, draw: &mut D) -> Renewed
         requires { now ≤ 2 ^ 48 }
-        ensures port { self.new ≡ ticked now (words_of result) self.old }
+        ensures port { self.new ≡ ticked now (words_of_tick result) self.old }
         ensures sends { result.sends ≡ tick_sends now self.old }
 
         // The words: how many, which in which order, and zeros after them.
         ensures words { result.words ≡ tick_words now self.old }
         ensures at_most_two { result.words ≤ 2 }
-        ensures count { length (words_of result) ≡ tick_words now self.old }
-        ensures drawn { result.drawn ≡ words_of result ++ replicate (2 - result.words) 0 }
-        ensures drew { Took (D.words draw.old) (words_of result) (D.words draw.new) }
+        ensures count { length (words_of_tick result) ≡ tick_words now self.old }
+        ensures drawn { result.drawn ≡ words_of_tick result ++ replicate (2 - result.words) 0 }
+        ensures drew { Took (D.words draw.old) (words_of_tick result) (D.words draw.new) }
     {
         words_join();
         let fires = self.fire(now);

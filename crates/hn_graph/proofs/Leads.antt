@@ -5,8 +5,8 @@ use Rattle.std.specs.Ordering.{nat_cmp}
 use Rattle.std.proofs.lemmas.Option.{slice_get_read}
 use Rattle.std.proofs.lemmas.List.Elements.{Contains-push, Contains-push_cases, Contains-append_left}
 use Rattle.hn_base.proofs.AscendingLists.{nothing_in}
-use Rattle.hn_base.proofs.Firsts.{IsOfFirst, none_of_first, first_further, first_last, first_cases, first_of_all}
-use Rattle.hn_base.proofs.Parts.{one_place, one_place_of, part_stands}
+use Rattle.hn_base.proofs.AmongFirst.{IsOfFirst, none_of_first, first_further, first_last, first_cases, first_of_all}
+use Rattle.hn_base.proofs.PartsAtPlaces.{one_place, one_place_of, part_stands}
 use Rattle.hn_data.specs.View.{ids_of}
 use Rattle.hn_data.specs.Peers.{HasPeer, peer_link}
 use Rattle.hn_data.specs.declared.said.PeerLink.{PeerLink}

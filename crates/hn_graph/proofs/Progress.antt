@@ -8,7 +8,7 @@ use Rattle.std.proofs.lemmas.List.Elements.{Contains-get_or, Contains-push, Cont
 use Rattle.std.proofs.lemmas.Option.{same_Some, slice_get_within, slice_get_read}
 use Rattle.hn_base.specs.declared.ids.NodeId.{NodeId}
 use Rattle.hn_base.proofs.AscendingLists.{Contains-one, nothing_in}
-use Rattle.hn_base.proofs.Parts.{part_stands, part_is, one_place, contains_at}
+use Rattle.hn_base.proofs.PartsAtPlaces.{part_stands, part_is, one_place, contains_at}
 use Rattle.hn_data.specs.View.{ids_of}
 use Rattle.hn_data.specs.declared.view.Entry.{Entry}
 use Rattle.hn_graph.specs.Path.{AreAdjacent, IsReachable}

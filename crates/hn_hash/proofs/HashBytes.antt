@@ -6,10 +6,10 @@ use Rattle.std.proofs.lemmas.List.Elements.{All-from_recursion}
 use Rattle.md5.specs.Md5.{md5, digest_bytes}
 use Rattle.hn_base.specs.Byte.{IsByte}
 use Rattle.hn_base.proofs.BigEndian.{byte_small}
-use Rattle.hn_base.proofs.Recursions.{AllByRecursion-append, AllByRecursion-take}
+use Rattle.hn_base.proofs.EachByRecursion.{AllByRecursion-append, AllByRecursion-take}
 use Rattle.hn_hash.specs.Hash.{hash_of}
 use Rattle.hn_hash.specs.Laws.{HashHasEightBytes}
-use Rattle.hn_hash.proofs.Hashes.{length-hash_of}
+use Rattle.hn_hash.proofs.HashLengths.{length-hash_of}
 
 low_bytes : (i k n : ℕ) → AllByRecursion IsByte (bytes_low_first i k n)
 low_bytes i zero n = tt

@@ -1,6 +1,6 @@
-pub mod Hashes
-pub mod Leaves
-pub mod Laws
-pub mod Places
-pub mod Parts
+pub mod HashLengths
+pub mod AlikeLeaves
+pub mod SameOrCollide
+pub mod FirstDifference
+pub mod PartsOfLeaves
 mod HashBytes

@@ -38,14 +38,14 @@ AreFirstToDiffer a b left right =
 
 -- The two texts that show a collision: the texts of the leaves where these differ, else the first node data that
 -- differ.
-abbrev pub IsShown : List Leaf → List Leaf → List ℕ → List ℕ → Type 0
-IsShown a b left right =
+abbrev pub IsCollisionShown : List Leaf → List Leaf → List ℕ → List ℕ → Type 0
+IsCollisionShown a b left right =
     ((leaf_text a ≢ leaf_text b) × (left ≡ leaf_text a) × (right ≡ leaf_text b))
     ⊎ ((leaf_text a ≡ leaf_text b) × AreFirstToDiffer a b left right)
 
 -- These two texts collide, and they are the ones to show.
 abbrev pub IsExhibited : List Leaf → List Leaf → List ℕ → List ℕ → Type 0
-IsExhibited a b left right = Collides left right × IsShown a b left right
+IsExhibited a b left right = Collides left right × IsCollisionShown a b left right
 
 -- the fact holds of the two texts of a collision
 abbrev pub IfCollide : (List ℕ → List ℕ → Type 0) → Agreement → Type 0

@@ -6,20 +6,20 @@ use Rattle.hn_hash.specs.declared.leaf.Leaf.{Leaf}
 use Rattle.hn_hash.specs.declared.part.Part.{Part}
 
 -- A leaf with the hash of its node data in place of the node data.
-abbrev pub part_of : Leaf → Part
-part_of leaf = record { number = leaf.number; hash = hash_of leaf.body }
+abbrev pub leaf_part : Leaf → Part
+leaf_part leaf = record { number = leaf.number; hash = hash_of leaf.body }
 
 -- Each part has the number of its leaf and the hash of that leaf's node data.
 abbrev pub ArePartsOf : List Part → List Leaf → Type 0
-ArePartsOf parts leaves = parts ≡ map part_of leaves
+ArePartsOf parts leaves = parts ≡ map leaf_part leaves
 
 -- What a leaf adds to the hashed text: its sequence number in network byte order and the hash of its node data
 -- (RFC 7787, section 4.1).
 abbrev pub part_entry : Part → List ℕ
 part_entry part = to_be_bytes w32 part.number ++ part.hash
 
-abbrev pub entry_of : Leaf → List ℕ
-entry_of leaf = part_entry (part_of leaf)
+abbrev pub leaf_entry : Leaf → List ℕ
+leaf_entry leaf = part_entry (leaf_part leaf)
 
 -- The text of parts.
 abbrev pub part_text : List Part → List ℕ
@@ -27,7 +27,7 @@ part_text parts = flat_map part_entry parts
 
 -- The text whose hash is the network state hash.
 abbrev pub leaf_text : List Leaf → List ℕ
-leaf_text leaves = flat_map entry_of leaves
+leaf_text leaves = flat_map leaf_entry leaves
 
 -- The network state hash (RFC 7787, section 4.1).
 abbrev pub network_hash : List Leaf → List ℕ

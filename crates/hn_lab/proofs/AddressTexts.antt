@@ -11,7 +11,7 @@ use Rattle.hn_world.specs.declared.member.Member.{Member}
 use Rattle.hn_world.specs.declared.parts.Parts.{Parts}
 use Rattle.hn_lab.specs.AddressReports.{address_line, IsAddressed, IsAddressedLine}
 use Rattle.hn_lab.specs.Line.{Tells}
-use Rattle.hn_base.proofs.Decisions.{some_there}
+use Rattle.hn_base.proofs.DecidingTests.{some_there}
 
 -- the lines on these addresses, of which the first says how many they are
 abbrev pub addresses_head : Name → List OwnAddress → List ℕ

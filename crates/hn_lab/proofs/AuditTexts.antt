@@ -8,7 +8,7 @@ use Rattle.hn_world.specs.declared.member.Member.{Member}
 use Rattle.hn_world.specs.declared.parts.Parts.{Parts}
 use Rattle.hn_lab.specs.AuditReports.{IsAudited, IsAuditLine, audit_line}
 use Rattle.hn_lab.specs.Line.{Tells}
-use Rattle.hn_base.proofs.Decisions.{some_there}
+use Rattle.hn_base.proofs.DecidingTests.{some_there}
 
 pub tells_audited : (name : Name) (w : Parts) (told line : List ℕ) → unless_runs name w ≡ None
     → ((m : Member) → member_named (name_text name) w ≡ Some m → IsAudited w m told) → line ≡ audit_line name told → Tells name w (IsAuditLine name w) line

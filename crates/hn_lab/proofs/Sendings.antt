@@ -7,7 +7,7 @@ use Rattle.std.specs.List.Sorted.{IsPartitionedBy, IsPartitionPoint}
 use Rattle.std.proofs.lemmas.Bool.{eqb-true, lt-ltb, le-ltb, leb-true, leb-false}
 use Rattle.std.proofs.lemmas.List.Kept.{IsNonDecreasingBy-filter}
 use Rattle.std.proofs.lemmas.List.Sorted.{IsNonDecreasingBy-insert, IsPartitionedBy-leb}
-use Rattle.hn_base.proofs.Fronts.{filter-front, filter-back}
+use Rattle.hn_base.proofs.FrontOfList.{filter-front, filter-back}
 use Rattle.hn_lab.specs.declared.senders.Sending.{Sending}
 use Rattle.hn_lab.specs.declared.senders.Shape.{Shape}
 use Rattle.hn_lab.specs.Senders.{number, AreInOrder, placed}

@@ -25,7 +25,7 @@ use Rattle.hn_lab.specs.Process.{Unless}
 use Rattle.hn_lab.specs.Tells.{ReportsLines, Reports, IsOneLine, TellsSome}
 use Rattle.hn_lab.specs.Reports.{yes_no, show_line, compare_line}
 use Rattle.hn_lab.specs.Stage.{Stage}
-use Rattle.hn_base.proofs.Decisions.{neither_given, some_there}
+use Rattle.hn_base.proofs.DecidingTests.{neither_given, some_there}
 use Rattle.hn_lab.proofs.RunStops.{then_on, starved, stopped_last}
 
 -- a report, with its lines

@@ -9,7 +9,7 @@ use Rattle.hn_world.specs.declared.member.Member.{Member}
 use Rattle.hn_world.specs.declared.parts.Parts.{Parts}
 use Rattle.hn_lab.specs.UlaReports.{IsUlasTold, IsUlasLine}
 use Rattle.hn_lab.specs.Line.{Tells}
-use Rattle.hn_base.proofs.Decisions.{some_there}
+use Rattle.hn_base.proofs.DecidingTests.{some_there}
 
 -- the text of a line on a router and its set
 abbrev pub ulas_line : Name → List ℕ → List ℕ

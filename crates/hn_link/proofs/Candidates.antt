@@ -8,8 +8,8 @@ use Rattle.hn_base.specs.declared.ids.NodeId.{NodeId}
 use Rattle.hn_base.specs.declared.ids.EpId.{EpId}
 use Rattle.hn_base.specs.declared.letter.Letter.{Letter}
 use Rattle.hn_base.proofs.AscendingLists.{not_below_itself}
-use Rattle.hn_base.proofs.Firsts.{IsOfFirst, first_further, first_last, first_cases, first_of_all}
-use Rattle.hn_base.proofs.Parts.{contains_at}
+use Rattle.hn_base.proofs.AmongFirst.{IsOfFirst, first_further, first_last, first_cases, first_of_all}
+use Rattle.hn_base.proofs.PartsAtPlaces.{contains_at}
 use Rattle.hn_typed.specs.Item.{PlainCaps}
 use Rattle.hn_data.specs.View.{PlainView}
 use Rattle.hn_link.specs.declared.rank.Rank.{Rank}

@@ -8,8 +8,8 @@ use Rattle.hn_base.specs.declared.ids.NodeId.{NodeId}
 use Rattle.hn_base.specs.declared.ids.EpId.{EpId}
 use Rattle.hn_base.proofs.AscendingLists.{Contains-head, Contains-tail, Contains-cases, nothing_in, exact_nat, exact_then}
 use Rattle.hn_base.proofs.AscendingMade.{ascending_of}
-use Rattle.hn_base.proofs.Decided.{Decided, both_decided, one_or_none}
-use Rattle.hn_base.proofs.Parts.{contains_at, part_of}
+use Rattle.hn_base.proofs.SoOrNot.{Decided, both_decided, one_or_none}
+use Rattle.hn_base.proofs.PartsAtPlaces.{contains_at, part_of}
 use Rattle.hn_typed.specs.Item.{PlainItem}
 use Rattle.std.specs.Ordering.{nat_cmp}
 use Rattle.hn_data.specs.Items.{AreItems}

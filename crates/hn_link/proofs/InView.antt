@@ -9,7 +9,7 @@ use Rattle.hn_data.specs.Items.{Reads}
 use Rattle.hn_data.specs.Said.{version_of}
 use Rattle.hn_data.specs.View.{PlainView, ids_of}
 use Rattle.hn_data.specs.declared.view.Entry.{Entry}
-use Rattle.hn_base.proofs.Parts.{part_is, one_element}
+use Rattle.hn_base.proofs.PartsAtPlaces.{part_is, one_element}
 use Rattle.hn_link.specs.Election.{IsServing}
 
 -- what a node that serves says is what the node with its identifier says

@@ -7,8 +7,8 @@ use Rattle.std.proofs.lemmas.Option.{slice_get_read}
 use Rattle.hn_base.specs.declared.ids.NodeId.{NodeId}
 use Rattle.hn_base.specs.declared.ids.EpId.{EpId}
 use Rattle.hn_base.proofs.AscendingLists.{nothing_in, Contains-head, Contains-cases}
-use Rattle.hn_base.proofs.Firsts.{IsOfFirst, none_of_first, first_further, first_last, first_cases, first_of_all}
-use Rattle.hn_base.proofs.Parts.{one_element, contains_at}
+use Rattle.hn_base.proofs.AmongFirst.{IsOfFirst, none_of_first, first_further, first_last, first_cases, first_of_all}
+use Rattle.hn_base.proofs.PartsAtPlaces.{one_element, contains_at}
 use Rattle.hn_data.specs.Links.{IsPeerAt}
 use Rattle.hn_data.specs.Peers.{IsLinked, HasPeer, peer_link}
 use Rattle.hn_data.specs.View.{PlainView, ids_of}

@@ -45,7 +45,8 @@ all_ascend [] each = refl
 all_ascend (a ∷ []) each = refl
 all_ascend (a ∷ b ∷ rest) each =
     let first : is_lt (address_cmp a b) ≡ true = sym (each 0 a (omega arith)) in
-    let others : ascends (b ∷ rest) ≡ true = all_ascend (b ∷ rest) (λ k d less. subst (λ (x : OwnAddress). true ≡ is_lt (address_cmp (get_or (b ∷ rest) k d) x)) (next_is a (b ∷ rest) k d) (each (suc k) d (omega arith))) in
+    let others : ascends (b ∷ rest) ≡ true = all_ascend (b ∷ rest)
+    (λ k d less. subst (λ (x : OwnAddress). true ≡ is_lt (address_cmp (get_or (b ∷ rest) k d) x)) (next_is a (b ∷ rest) k d) (each (suc k) d (omega arith))) in
     rw (first, others) refl
 
 one_falls : (list : List OwnAddress) (k : ℕ) → k + 1 < length list → ((d : OwnAddress) → false ≡ is_lt (address_cmp (get_or list k d) (get_or list (k + 1) d)))
@@ -56,7 +57,8 @@ one_falls (a ∷ b ∷ rest) zero less at =
     let first : is_lt (address_cmp a b) ≡ false = sym (at a) in
     rw first refl
 one_falls (a ∷ b ∷ rest) (suc k) less at =
-    let others : ascends (b ∷ rest) ≡ false = one_falls (b ∷ rest) k (omega arith) (λ d. subst (λ (x : OwnAddress). false ≡ is_lt (address_cmp (get_or (b ∷ rest) k d) x)) (next_is a (b ∷ rest) k d) (at d)) in
+    let others : ascends (b ∷ rest) ≡ false = one_falls (b ∷ rest) k (omega arith)
+    (λ d. subst (λ (x : OwnAddress). false ≡ is_lt (address_cmp (get_or (b ∷ rest) k d) x)) (next_is a (b ∷ rest) k d) (at d)) in
     by_first (is_lt (address_cmp a b)) others
   where
     by_first : (first : Bool) → ascends (b ∷ rest) ≡ false → (first && ascends (b ∷ rest)) ≡ false

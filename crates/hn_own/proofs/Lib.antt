@@ -1,5 +1,5 @@
 mod AddressLists
-mod Endings
+mod LifetimesEnd
 mod OwnDataMade
 mod OwnItemsFit
 mod OwnPieces

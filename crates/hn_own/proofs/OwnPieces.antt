@@ -55,9 +55,11 @@ delegated_bytes now own is =
     let preferred = word (seconds_left now own.preferred_until) in
     let bits = take (bytes_for own.prefix.len) (to_be_bytes w128 own.prefix.bits) in
     let len = is.len_in_range in
-    let field : All IsByte (prefix_field own.prefix) = All-cons IsByte own.prefix.len bits (omega arith) (All-take IsByte (bytes_for own.prefix.len) (to_be_bytes w128 own.prefix.bits) (number_bytes 16 own.prefix.bits)) in
+    let field : All IsByte (prefix_field own.prefix) = All-cons IsByte own.prefix.len bits (omega arith)
+    (All-take IsByte (bytes_for own.prefix.len) (to_be_bytes w128 own.prefix.bits) (number_bytes 16 own.prefix.bits)) in
     let fixed : All IsByte ((valid ++ preferred) ++ prefix_field own.prefix) =
-    All-append IsByte (valid ++ preferred) (prefix_field own.prefix) (All-append IsByte valid preferred (number_bytes 4 (seconds_left now own.valid_until)) (number_bytes 4 (seconds_left now own.preferred_until))) field
+    All-append IsByte (valid ++ preferred) (prefix_field own.prefix)
+    (All-append IsByte valid preferred (number_bytes 4 (seconds_left now own.valid_until)) (number_bytes 4 (seconds_left now own.preferred_until))) field
     in
     let none = All-nil IsByte in
     All-append IsByte (((valid ++ preferred) ++ prefix_field own.prefix) ++ []) [] (All-append IsByte ((valid ++ preferred) ++ prefix_field own.prefix) [] fixed none) none
@@ -85,16 +87,19 @@ delegated_tlvs now list are = (map (λ own. tlv_of (delegated_item now own)) lis
 
 -- ---- the External-Connection
 
-pub external_is : (now : ℕ) (list : List OwnPrefix) (subs : List ℕ) → (length list == 0) ≡ false → subs ≡ flat_map (λ own. spelling (tlv_of (delegated_item now own))) list → external_items now list ≡ External subs ∷ []
+pub external_is : (now : ℕ) (list : List OwnPrefix) (subs : List ℕ) → (length list == 0) ≡ false
+    → subs ≡ flat_map (λ own. spelling (tlv_of (delegated_item now own))) list → external_items now list ≡ External subs ∷ []
 external_is now [] subs some is = absurd (false≢true (sym some))
 external_is now (own ∷ list) subs some is = ap (λ (bytes : List ℕ). External bytes ∷ []) (sym is)
 
-pub external_added : (now : ℕ) (list : List OwnPrefix) (subs piece : List ℕ) (old : List (List ℕ)) → external_items now list ≡ External subs ∷ [] → piece ≡ spelling (tlv_of (External subs)) → old ++ piece ∷ [] ≡ old ++ encodings (external_items now list)
+pub external_added : (now : ℕ) (list : List OwnPrefix) (subs piece : List ℕ) (old : List (List ℕ)) → external_items now list ≡ External subs ∷ []
+    → piece ≡ spelling (tlv_of (External subs)) → old ++ piece ∷ [] ≡ old ++ encodings (external_items now list)
 external_added now list subs piece old one is = ap (λ (p : List ℕ). old ++ p ∷ []) is ∙ sym (ap (λ (items : List PlainItem). old ++ encodings items) one)
 
 -- ---- all of them
 
-pub writable_together : (version links external assigned addresses : List PlainItem) → All IsWritable version → All IsWritable links → All IsWritable external → All IsWritable assigned → All IsWritable addresses
+pub writable_together : (version links external assigned addresses : List PlainItem) → All IsWritable version → All IsWritable links
+    → All IsWritable external → All IsWritable assigned → All IsWritable addresses
     → All IsWritable (version ++ (((links ++ external) ++ assigned) ++ addresses))
 writable_together version links external assigned addresses first are_links are_external are_assigned are_addresses =
     let joined = All-append IsWritable (links ++ external) assigned (All-append IsWritable links external are_links are_external) are_assigned in

@@ -7,8 +7,8 @@ use Rattle.std.proofs.lemmas.Bool.{false≢true}
 use Rattle.std.proofs.lemmas.Bool.Decides.{Decides-and, Decides-like, Decides-eqb}
 use Rattle.std.proofs.lemmas.Slice.Eq.{slice_eq-Decides}
 use Rattle.hn_base.specs.declared.caps.Caps.{Caps}
-use Rattle.hn_base.proofs.Decisions.{option_decided}
-use Rattle.hn_base.proofs.Fields.{same_caps}
+use Rattle.hn_base.proofs.DecidingTests.{option_decided}
+use Rattle.hn_base.proofs.KnownByFields.{same_caps}
 use Rattle.hn_base.proofs.Prefixes.{prefix_decided}
 use Rattle.hn_base.specs.Prefix.{PlainPrefix}
 use Rattle.hn_data.specs.Peers.{peer_link}
@@ -32,7 +32,8 @@ caps_decided a b =
 
 same_link : (a b : PeerLink) → a.endpoint.0 ≡ b.endpoint.0 → a.peer.0 ≡ b.peer.0 → a.peer_endpoint.0 ≡ b.peer_endpoint.0 → a ≡ b
 same_link a b same_endpoint same_peer same_other =
-    ap (λ (n : ℕ). peer_link a.peer.0 a.peer_endpoint.0 n) same_endpoint ∙ ap (λ (n : ℕ). peer_link n a.peer_endpoint.0 b.endpoint.0) same_peer ∙ ap (λ (n : ℕ). peer_link b.peer.0 n b.endpoint.0) same_other
+    ap (λ (n : ℕ). peer_link a.peer.0 a.peer_endpoint.0 n) same_endpoint ∙ ap (λ (n : ℕ). peer_link n a.peer_endpoint.0 b.endpoint.0) same_peer
+    ∙ ap (λ (n : ℕ). peer_link b.peer.0 n b.endpoint.0) same_other
 
 pub link_decided : (a b : PeerLink) → Decides (a.endpoint.0 == b.endpoint.0 && (a.peer.0 == b.peer.0 && a.peer_endpoint.0 == b.peer_endpoint.0)) (a ≡ b)
 link_decided a b =
@@ -49,7 +50,8 @@ own_with prefix valid preferred = record { prefix = prefix; valid_until = valid;
 
 same_own : (a b : OwnPrefix) → a.prefix ≡ b.prefix → a.valid_until ≡ b.valid_until → a.preferred_until ≡ b.preferred_until → a ≡ b
 same_own a b prefix valid preferred =
-    ap (λ (p : PlainPrefix). own_with p a.valid_until a.preferred_until) prefix ∙ ap (λ (end : Option ℕ). own_with b.prefix end a.preferred_until) valid ∙ ap (own_with b.prefix b.valid_until) preferred
+    ap (λ (p : PlainPrefix). own_with p a.valid_until a.preferred_until) prefix
+    ∙ ap (λ (end : Option ℕ). own_with b.prefix end a.preferred_until) valid ∙ ap (own_with b.prefix b.valid_until) preferred
 
 pub own_decided : (a b : OwnPrefix)
     → Decides ((a.prefix.bits == b.prefix.bits && a.prefix.len == b.prefix.len) && (option_eq nat_eq a.valid_until b.valid_until && option_eq nat_eq a.preferred_until b.preferred_until)) (a ≡ b)
@@ -93,7 +95,8 @@ address_decided a b =
 -- ---- all five
 
 -- what `==` says of the lists that two slices show
-pub lists_decided : {A : Type 0} {E : A → A → Bool} → ((a b : A) → Decides (E a b) (a ≡ b)) → (xs ys shown other : List A) (r : Bool) → r ≡ pointwise E shown other → shown ≡ xs → other ≡ ys → Decides r (xs ≡ ys)
+pub lists_decided : {A : Type 0} {E : A → A → Bool} → ((a b : A) → Decides (E a b) (a ≡ b)) → (xs ys shown other : List A) (r : Bool)
+    → r ≡ pointwise E shown other → shown ≡ xs → other ≡ ys → Decides r (xs ≡ ys)
 lists_decided each xs ys shown other r is same_xs same_ys =
     Decides-like r (λ (same : shown ≡ other). sym same_xs ∙ same ∙ same_ys) (λ (same : xs ≡ ys). same_xs ∙ same ∙ sym same_ys) (slice_eq-Decides each shown other r is)
 
@@ -114,9 +117,14 @@ same_items a b caps links delegated assigned addresses =
     ∙ ap (λ (ps : List OwnPrefix). items_with b.caps b.links ps a.assigned a.addresses) delegated ∙ ap (λ (cs : List AssignedPrefix). items_with b.caps b.links b.delegated cs a.addresses) assigned
     ∙ ap (items_with b.caps b.links b.delegated b.assigned) addresses
 
-pub items_decided : (a b : OwnItems) (r : Bool) → Decides r (((((a.caps ≡ b.caps) × (a.links ≡ b.links)) × (a.delegated ≡ b.delegated)) × (a.assigned ≡ b.assigned)) × (a.addresses ≡ b.addresses)) → Decides r (a ≡ b)
+pub items_decided : (a b : OwnItems) (r : Bool) → Decides r (((((a.caps ≡ b.caps) × (a.links ≡ b.links)) × (a.delegated ≡ b.delegated)) × (a.assigned ≡ b.assigned)) × (a.addresses ≡ b.addresses))
+    → Decides r (a ≡ b)
 items_decided a b r all =
     Decides-like r
-    (λ (same : ((((a.caps ≡ b.caps) × (a.links ≡ b.links)) × (a.delegated ≡ b.delegated)) × (a.assigned ≡ b.assigned)) × (a.addresses ≡ b.addresses)). same_items a b same.0.0.0.0 same.0.0.0.1 same.0.0.1 same.0.1 same.1)
-    (λ (same : a ≡ b). ((((ap (λ (i : OwnItems). i.caps) same, ap (λ (i : OwnItems). i.links) same), ap (λ (i : OwnItems). i.delegated) same), ap (λ (i : OwnItems). i.assigned) same), ap (λ (i : OwnItems). i.addresses) same))
+    (λ (same : ((((a.caps ≡ b.caps) × (a.links ≡ b.links)) × (a.delegated ≡ b.delegated)) × (a.assigned ≡ b.assigned)) × (a.addresses ≡ b.addresses)).
+    same_items a b same.0.0.0.0 same.0.0.0.1 same.0.0.1 same.0.1 same.1)
+    (λ (same : a ≡ b). (
+      (((ap (λ (i : OwnItems). i.caps) same, ap (λ (i : OwnItems). i.links) same), ap (λ (i : OwnItems). i.delegated) same), ap (λ (i : OwnItems). i.assigned) same),
+      ap (λ (i : OwnItems). i.addresses) same,
+    ))
     all

@@ -63,7 +63,8 @@ external_value_size [] = refl
 external_value_size (byte ∷ bytes) = refl
 
 -- the Delegated-Prefixes of at most 8 own prefixes fit in an External-Connection
-pub external_short : (now : ℕ) (list : List OwnPrefix) (subs : List ℕ) → length list ≤ 8 → subs ≡ flat_map (λ own. spelling (tlv_of (delegated_item now own))) list → length (value_of (External subs)) ≤ 256
+pub external_short : (now : ℕ) (list : List OwnPrefix) (subs : List ℕ) → length list ≤ 8
+    → subs ≡ flat_map (λ own. spelling (tlv_of (delegated_item now own))) list → length (value_of (External subs)) ≤ 256
 external_short now list subs few is =
     let size = ap length is in
     omega (arith, external_value_size subs, all_delegated_size now list)
@@ -85,7 +86,8 @@ kind_size : {X : Type 0} (item_of : X → PlainItem) (most : ℕ) (xs : List X) 
 kind_size {X} item_of most xs each =
     let spelled : PlainItem → List ℕ = λ item. spelling (tlv_of item) in
     let sizes : sum_by length (encodings (map item_of xs)) ≤ length (encodings (map item_of xs)) * most =
-    sum_by-le (length {A = ℕ}) most (encodings (map item_of xs)) (All-map (λ (piece : List ℕ). length piece ≤ most) spelled (map item_of xs) (All-map (λ (item : PlainItem). length (spelled item) ≤ most) item_of xs (λ k d within. each (get_or xs k d))))
+    sum_by-le (length {A = ℕ}) most (encodings (map item_of xs))
+    (All-map (λ (piece : List ℕ). length piece ≤ most) spelled (map item_of xs) (All-map (λ (item : PlainItem). length (spelled item) ≤ most) item_of xs (λ k d within. each (get_or xs k d))))
     in
     let count : length (encodings (map item_of xs)) ≡ length xs = length-map (map item_of xs) spelled ∙ length-map xs item_of in
     subst (λ (n : ℕ). sum_by length (encodings (map item_of xs)) ≤ n * most) count sizes
@@ -103,7 +105,8 @@ pieces_size now own are =
     let assigned = map assigned_item own.assigned in
     let addresses = map address_item own.addresses in
     let version = spelling (tlv_of (Version (plain_caps own.caps) (codes "hncp"))) in
-    let whole : sum_by length (pieces_of now own) ≡ 12 + sum_by length (encodings (((links ++ external) ++ assigned) ++ addresses)) = sum_by-cons (length {A = ℕ}) version (encodings (((links ++ external) ++ assigned) ++ addresses)) in
+    let whole : sum_by length (pieces_of now own) ≡ 12 + sum_by length (encodings (((links ++ external) ++ assigned) ++ addresses)) =
+    sum_by-cons (length {A = ℕ}) version (encodings (((links ++ external) ++ assigned) ++ addresses)) in
     let few_links = are.links in
     let few_assigned = are.assigned in
     let few_addresses = are.addresses in
@@ -127,6 +130,7 @@ same_bytes a b = (
 -- the node data of own items
 pub own_data_short : (now : ℕ) (own : OwnItems) (bytes : List ℕ) → AreFew own → IsAscendingSet (pieces_of now own) bytes → length bytes < 36864
 own_data_short now own bytes are set =
-    let each = sum_by-le_from_Contains (length {A = ℕ}) same_bytes set.ascending (pieces_of now own) (IsDistinct-from_sorted (slice_cmp nat_cmp) set.ascending set.in_order) (λ piece. (set.same piece).0) in
+    let each = sum_by-le_from_Contains (length {A = ℕ}) same_bytes set.ascending (pieces_of now own)
+    (IsDistinct-from_sorted (slice_cmp nat_cmp) set.ascending set.in_order) (λ piece. (set.same piece).0) in
     let size = ap length set.joined ∙ joined_size set.ascending in
     omega (arith, pieces_size now own are)

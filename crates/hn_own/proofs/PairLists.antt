@@ -7,15 +7,15 @@ use Rattle.std.proofs.lemmas.List.{take_more}
 use Rattle.hn_assign.specs.declared.assigned.Assigned.{Assigned}
 use Rattle.hn_assign.specs.Facts.{HasOwnPriority}
 use Rattle.hn_data.specs.declared.said.AssignedPrefix.{AssignedPrefix}
-use Rattle.hn_own.specs.HeldPairs.{published_of, published_in}
+use Rattle.hn_own.specs.HeldPairs.{publication_of, published_in}
 
 -- of one more assignment it publishes one more, or nothing
 pub published_in-more : (assigned : List Assigned) (i : ℕ) (c : Assigned) → i < length assigned → c ≡ get_or assigned i c
-    → published_in (take (i + 1) assigned) ≡ published_in (take i assigned) ++ cons_option (published_of c) []
+    → published_in (take (i + 1) assigned) ≡ published_in (take i assigned) ++ cons_option (publication_of c) []
 published_in-more assigned i c within here =
     ap published_in (take_more assigned i c within)
-    ∙ filter_map-append published_of (take i assigned) (get_or assigned i c ∷ [])
-    ∙ ap (λ x. published_in (take i assigned) ++ cons_option (published_of x) []) (sym here)
+    ∙ filter_map-append publication_of (take i assigned) (get_or assigned i c ∷ [])
+    ∙ ap (λ x. published_in (take i assigned) ++ cons_option (publication_of x) []) (sym here)
 
 -- it publishes as many as it has at most
 pub published_in-few : (assigned : List Assigned) → length (published_in assigned) ≤ length assigned

@@ -1,5 +1,6 @@
 -- The endpoints of a router, when one is put in place, added or taken out.
-use Rattle.std.proofs.Common.{◌≡◌, ◌≢◌, ◌<◌, ◌≤◌, ◌+◌, ◌-◌, ◌^◌, ◌∙◌, ℕ, zero, suc, Bool, true, false, List, [], ◌∷◌, length, map, filter, take, drop, set, get_or, refl, sym, subst, arith, Some, inl, inr, length-set}
+use Rattle.std.proofs.Common.{◌≡◌, ◌≢◌, ◌<◌, ◌≤◌, ◌+◌, ◌-◌, ◌^◌, ◌∙◌, ℕ, zero, suc, Bool, true, false, List, [], ◌∷◌, length, map, filter, take, drop, set, get_or, refl, sym, subst, arith, Some, inl}
+use Rattle.std.proofs.Common.{inr, length-set}
 use Rattle.std.specs.Prelude.{insert, position, nat_lt}
 use Rattle.std.specs.Ordering.{nat_cmp}
 use Rattle.std.specs.List.Sorted.{IsStrictlySortedBy, IsPartitionPoint, IsPartitionedBy, IsNonDecreasingBy}
@@ -15,8 +16,8 @@ use Rattle.std.proofs.lemmas.Map.Keys.{below_from_sorted, sorted_from_strictly_i
 use Rattle.hn_base.specs.declared.ids.EpId.{EpId}
 use Rattle.hn_dncp.specs.declared.port.Port.{Port}
 use Rattle.hn_base.proofs.AscendingNumbers.{ascending-filter}
-use Rattle.hn_base.proofs.Passing.{map-one}
-use Rattle.hn_base.proofs.Fronts.{filter-front, filter-back}
+use Rattle.hn_base.proofs.PassingElements.{map-one}
+use Rattle.hn_base.proofs.FrontOfList.{filter-front, filter-back}
 use Rattle.hn_own.specs.Ports.{number, ArePorts, is_port, is_attached, put_port, attached}
 
 -- an endpoint has a number of 4 bytes other than 0
@@ -50,7 +51,8 @@ inserted ks i m k up within before after less =
           | inl above ↦
               let one : (k - 1) + 1 ≡ k = omega arith in
               rw (get_or-insert_above ks i m 0 k past within)
-              (subst (λ (n : ℕ). get_or (insert ks i m) n 0 < get_or ks k 0) one (rw (get_or-insert_above ks i m 0 (k - 1) (omega arith) within) (below_from_sorted ks (k - 1) k 0 up (omega arith) (omega arith))))
+              (subst (λ (n : ℕ). get_or (insert ks i m) n 0 < get_or ks k 0) one
+              (rw (get_or-insert_above ks i m 0 (k - 1) (omega arith) within) (below_from_sorted ks (k - 1) k 0 up (omega arith) (omega arith))))
           | inr here ↦
               let same : k ≡ i = omega arith in
               rw (get_or-insert_above ks i m 0 k past within)
@@ -94,7 +96,8 @@ pub put_port-set : (ports : List Port) (i : ℕ) (port : Port) → ArePorts port
 put_port-set ports i port are found =
     let at = position-Some (is_port port.id) ports i port found in
     let here : (get_or ports i port).id.0 ≡ port.id.0 = eqb-true _ _ at.1 in
-    map-one (is_port port.id) (λ (_ : Port). port) ports i port at.0 at.1 (λ k within other. ne_eqb (get_or ports k port).id.0 port.id.0 (λ same. apart ports i k port are at.0 within other (same ∙ sym here)))
+    map-one (is_port port.id) (λ (_ : Port). port) ports i port at.0 at.1
+    (λ k within other. ne_eqb (get_or ports k port).id.0 port.id.0 (λ same. apart ports i k port are at.0 within other (same ∙ sym here)))
 
 pub ArePorts-set : (ports : List Port) (i : ℕ) (port : Port) → ArePorts ports → position (is_port port.id) ports ≡ Some i → ArePorts (set ports i port)
 ArePorts-set ports i port are found =
@@ -113,7 +116,8 @@ unattached : (at : EpId) (ports : List Port) → is_attached at ports ≡ false 
 unattached at [] none k d within = absurd (omega arith)
 unattached at (p ∷ ports) none k d within = by_test (is_port at p) refl (λ rest. unattached at ports rest) k within
   where
-    by_test : (b : Bool) → is_port at p ≡ b → (is_attached at ports ≡ false → (k : ℕ) (d : Port) → k < length ports → is_port at (get_or ports k d) ≡ false) → (k : ℕ) → k < length (p ∷ ports) → is_port at (get_or (p ∷ ports) k d) ≡ false
+    by_test : (b : Bool) → is_port at p ≡ b → (is_attached at ports ≡ false → (k : ℕ) (d : Port) → k < length ports → is_port at (get_or ports k d) ≡ false)
+        → (k : ℕ) → k < length (p ∷ ports) → is_port at (get_or (p ∷ ports) k d) ≡ false
     by_test true is others k within = let some : is_attached at (p ∷ ports) ≡ true = rw is refl in absurd cc
     by_test false is others zero within = is
     by_test false is others (suc k) within = let rest : is_attached at ports ≡ false = rw is at none in others rest k d (omega arith)
@@ -138,10 +142,14 @@ place_for at ports i none within parts = record {
 pub attached-insert : (port : Port) (ports : List Port) (i : ℕ) → IsPlaceFor port.id ports i → insert ports i port ≡ attached port ports
 attached-insert port ports i place =
     let front : take i ports ≡ filter (λ p. nat_lt p.id.0 port.id.0) ports =
-    sym (filter-front (λ (p : Port). nat_lt p.id.0 port.id.0) ports i (λ k d less in'. lt-ltb (get_or ports k d).id.0 port.id.0 (place.before k d less)) (λ k d past less. let more = place.after k d past less in le-ltb (get_or ports k d).id.0 port.id.0 (omega arith)))
+    sym (filter-front (λ (p : Port). nat_lt p.id.0 port.id.0) ports i
+    (λ k d less in'. lt-ltb (get_or ports k d).id.0 port.id.0 (place.before k d less))
+    (λ k d past less. let more = place.after k d past less in le-ltb (get_or ports k d).id.0 port.id.0 (omega arith)))
     in
     let back : drop i ports ≡ filter (λ p. nat_lt port.id.0 p.id.0) ports =
-    sym (filter-back (λ (p : Port). nat_lt port.id.0 p.id.0) ports i (λ k d less in'. let lower = place.before k d less in le-ltb port.id.0 (get_or ports k d).id.0 (omega arith)) (λ k d past less. lt-ltb port.id.0 (get_or ports k d).id.0 (place.after k d past less)))
+    sym (filter-back (λ (p : Port). nat_lt port.id.0 p.id.0) ports i
+    (λ k d less in'. let lower = place.before k d less in le-ltb port.id.0 (get_or ports k d).id.0 (omega arith))
+    (λ k d past less. lt-ltb port.id.0 (get_or ports k d).id.0 (place.after k d past less)))
     in
     cc
 

@@ -10,7 +10,7 @@ use Rattle.std.specs.List.Sorted.{IsStrictlySortedBy, IsPartitionPoint, IsPartit
 use Rattle.std.proofs.lemmas.Bool.{cases_lt, not-true, or_parts}
 use Rattle.std.proofs.lemmas.List.Elements.{filter_passes}
 use Rattle.std.proofs.lemmas.Map.Keys.{Less-from_sorted}
-use Rattle.hn_base.proofs.Fronts.{filter-front, filter-back}
+use Rattle.hn_base.proofs.FrontOfList.{filter-front, filter-back}
 use Rattle.hn_base.specs.Prefix.{PlainPrefix, prefix_cmp}
 use Rattle.hn_own.specs.declared.own_prefixes.OwnPrefix.{OwnPrefix}
 use Rattle.hn_own.specs.OwnPrefixes.{AreOwnPrefixes, is_prefix, is_before, delegated_with, delegated_without}
@@ -104,10 +104,12 @@ place_for total at list i within parts = record {
 inserted : IsTotalOrder prefix_cmp → (own : OwnPrefix) (list : List OwnPrefix) (i : ℕ) → IsPlaceFor own.prefix list i → insert list i own ≡ delegated_with own list
 inserted total own list i place =
     let front : take i list ≡ filter (λ p. is_before p.prefix own.prefix) list =
-    sym (filter-front (λ (p : OwnPrefix). is_before p.prefix own.prefix) list i (λ k d less within. rw (place.before k d less) refl) (λ k d past less. less_not_before total own.prefix (get_or list k d).prefix (place.after k d past less)))
+    sym (filter-front (λ (p : OwnPrefix). is_before p.prefix own.prefix) list i (λ k d less within. rw (place.before k d less) refl)
+    (λ k d past less. less_not_before total own.prefix (get_or list k d).prefix (place.after k d past less)))
     in
     let back : drop i list ≡ filter (λ p. is_before own.prefix p.prefix) list =
-    sym (filter-back (λ (p : OwnPrefix). is_before own.prefix p.prefix) list i (λ k d less within. less_not_before total (get_or list k d).prefix own.prefix (place.before k d less)) (λ k d past less. rw (place.after k d past less) refl))
+    sym (filter-back (λ (p : OwnPrefix). is_before own.prefix p.prefix) list i
+    (λ k d less within. less_not_before total (get_or list k d).prefix own.prefix (place.before k d less)) (λ k d past less. rw (place.after k d past less) refl))
     in
     cc
 

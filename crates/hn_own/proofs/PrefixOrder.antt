@@ -9,7 +9,7 @@ use Rattle.std.proofs.lemmas.List.Elements.{All-weaker, filter_passes, recursion
 use Rattle.std.proofs.lemmas.List.Kept.{IsStrictlySortedBy-filter}
 use Rattle.std.proofs.lemmas.List.Sums.{length-filter, count_by-le-length}
 use Rattle.hn_base.proofs.AscendingLists.{equal_from_is_eq}
-use Rattle.hn_base.proofs.Around.{few_apart, fewer_apart, sorted_around}
+use Rattle.hn_base.proofs.BelowAndAbove.{few_apart, fewer_apart, sorted_around}
 use Rattle.hn_base.proofs.Prefixes.{prefix_total}
 use Rattle.hn_base.specs.Prefix.{PlainPrefix, prefix_cmp}
 use Rattle.hn_own.specs.declared.own_prefixes.OwnPrefix.{OwnPrefix}
@@ -48,8 +48,10 @@ module _ (own : OwnPrefix) where
 
   with_ascending : (list : List OwnPrefix) → IsStrictlySortedBy own_cmp list → IsStrictlySortedBy own_cmp (delegated_with own list)
   with_ascending list up =
-      let below : All (λ p. own_cmp p own ≡ Less) (filter lower_than list) = All-weaker (λ p. lower_than p ≡ true) (λ p. own_cmp p own ≡ Less) (λ p is. is_before-less p.prefix own.prefix is) (filter lower_than list) (filter_passes lower_than list) in
-      let above : All (λ p. own_cmp own p ≡ Less) (filter higher_than list) = All-weaker (λ p. higher_than p ≡ true) (λ p. own_cmp own p ≡ Less) (λ p is. is_before-less own.prefix p.prefix is) (filter higher_than list) (filter_passes higher_than list) in
+      let below : All (λ p. own_cmp p own ≡ Less) (filter lower_than list) =
+      All-weaker (λ p. lower_than p ≡ true) (λ p. own_cmp p own ≡ Less) (λ p is. is_before-less p.prefix own.prefix is) (filter lower_than list) (filter_passes lower_than list) in
+      let above : All (λ p. own_cmp own p ≡ Less) (filter higher_than list) =
+      All-weaker (λ p. higher_than p ≡ true) (λ p. own_cmp own p ≡ Less) (λ p is. is_before-less own.prefix p.prefix is) (filter higher_than list) (filter_passes higher_than list) in
       sorted_around own_cmp (on_total (λ p. p.prefix) prefix_total) (filter lower_than list) own (filter higher_than list)
       (IsStrictlySortedBy-filter own_cmp lower_than list up) (recursion_from_All (λ p. own_cmp p own ≡ Less) (filter lower_than list) below)
       (IsStrictlySortedBy-filter own_cmp higher_than list up) (recursion_from_All (λ p. own_cmp own p ≡ Less) (filter higher_than list) above)

@@ -29,8 +29,8 @@ without_private held = record {
 }
 
 -- what a router publishes of an assignment, if it publishes it, and of all of them
-abbrev pub published_of : Assigned → Option AssignedPrefix
-published_of c = option_map (λ priority. record { endpoint = c.endpoint; priority = priority; prefix = c.prefix }) c.published
+abbrev pub publication_of : Assigned → Option AssignedPrefix
+publication_of c = option_map (λ priority. record { endpoint = c.endpoint; priority = priority; prefix = c.prefix }) c.published
 
 abbrev pub published_in : List Assigned → List AssignedPrefix
-published_in assigned = filter_map published_of assigned
+published_in assigned = filter_map publication_of assigned

@@ -1,7 +1,7 @@
 //! What a router holds for its pairs of a delegated prefix and an endpoint (RFC 7695, section 4.1).
 
 ghost use Rattle.std.specs.Prelude.{◌≡◌, ◌≤◌, length, All, IfOk};
-ghost use Rattle.hn_own.specs.HeldPairs.{AreHeldPairs, no_pairs, published_of, published_in, without_private};
+ghost use Rattle.hn_own.specs.HeldPairs.{AreHeldPairs, no_pairs, publication_of, published_in, without_private};
 
 use crate::posts::PRIVATE_POST;
 use hn_assign::{Assigned, Held};
@@ -30,7 +30,7 @@ impl Model for HeldPairs {
 
 /// What a router publishes of an assignment, if it publishes it.
 fn published_of(c: &Assigned) -> Option<AssignedPrefix>
-    ensures { result ≡ published_of c.now }
+    ensures { result ≡ publication_of c.now }
 {
     let priority = c.published?;
     Some(AssignedPrefix {

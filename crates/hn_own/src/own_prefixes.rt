@@ -1,8 +1,8 @@
 //! A router's own delegated prefixes.
 
 ghost use Rattle.std.specs.Prelude.{◌≡◌, ◌≤◌, ◌^◌, [], true, false, vec_len, vec_capacity, IfOk, OnOk, OnErr};
-ghost use Rattle.hn_base.specs.Sooner.{IsSooner, IsOfOne};
-ghost use Rattle.hn_own.specs.Due.{IsEndOf, IsOwnEnd};
+ghost use Rattle.hn_base.specs.Sooner.{IsSooner, IsOfElement};
+ghost use Rattle.hn_own.specs.Due.{IsOwnPrefixEnd, IsOwnEnd};
 ghost use Rattle.hn_own.specs.Lifetimes.{end_after, has_ended};
 ghost use Rattle.hn_own.specs.OwnPrefixes.{AreOwnPrefixes, is_delegated, may_delegate, delegated_with, delegated_without, delegated_after, has_ended_one, own_prefix};
 
@@ -40,7 +40,7 @@ impl OwnPrefix {
 
 /// The moment at which the valid lifetime of a prefix ends, where that is after now and before `best`; else `best`.
 fn next_of_prefix(own: &OwnPrefix, now: Moment, best: Moment) -> Moment
-    ensures { IsSooner (IsEndOf own.now) now best result }
+    ensures { IsSooner (IsOwnPrefixEnd own.now) now best result }
 {
     match own.valid_until {
         Some(end) => sooner(now, best, end),
@@ -59,7 +59,7 @@ fn leave(items: &mut Vec<OwnPrefix>, prefix: Prefix)
 
 /// The first of these moments.
 fn first_end(list: &[OwnPrefix], now: Moment, best: Moment) -> Moment
-    ensures { IsSooner (IsOfOne IsEndOf list.now) now best result }
+    ensures { IsSooner (IsOfElement IsOwnPrefixEnd list.now) now best result }
 {
     let mut first = best;
     for own in list {

@@ -4,12 +4,12 @@ use Rattle.std.proofs.Math.Nat.{le_refl}
 use Rattle.std.proofs.lemmas.List.Elements.{Contains-get_or}
 use Rattle.hn_base.specs.Prefix.{PlainPrefix}
 use Rattle.hn_base.specs.Exists.{Some! }
-use Rattle.hn_prefix.specs.Free.{sub_prefix_count, sub_prefix_after, IsFree, IsTaken}
+use Rattle.hn_prefix.specs.Free.{sub_prefix_count, sub_prefix_after, IsFree, IsTakenPrefix}
 use Rattle.hn_prefix.specs.Laws.{FreeOrFull, IsFirstFreeIfAny}
-use Rattle.hn_prefix.proofs.Rounds.{whole_round}
-use Rattle.hn_base.proofs.Somes.{IsFirstIfAny, some_then, some_first}
+use Rattle.hn_prefix.proofs.PlaceAfterStart.{whole_round}
+use Rattle.hn_base.proofs.SomeExists.{IsFirstIfAny, some_then, some_first}
 
-free_or_taken : (taken : List PlainPrefix) (p : PlainPrefix) → ¬ (IsFree taken p) → ¬ (IsTaken taken p) → ⊥
+free_or_taken : (taken : List PlainPrefix) (p : PlainPrefix) → ¬ (IsFree taken p) → ¬ (IsTakenPrefix taken p) → ⊥
 free_or_taken taken p not_free not_taken =
     not_free (λ k d within overlaps. let there = Contains-get_or taken k d within in not_taken (there.0, get_or taken k d, there.1, there.2, overlaps))
 
@@ -18,7 +18,7 @@ module _ (outer : PlainPrefix) (start : ℕ) (taken : List PlainPrefix) (len : �
   free_at j = IsFree taken (sub_prefix_after outer len start j)
 
   abbrev taken_at : ℕ → Type 0
-  taken_at j = IsTaken taken (sub_prefix_after outer len start j)
+  taken_at j = IsTakenPrefix taken (sub_prefix_after outer len start j)
 
   by_first : (o : Option ℕ) → IsFirstIfAny free_at taken_at (sub_prefix_count outer len) o → Some! (IsFirstFreeIfAny outer start taken len)
   by_first None all none = none None (whole_round taken outer len start (sub_prefix_count outer len) (le_refl (sub_prefix_count outer len)) (record { taken_at = all }))

@@ -1,10 +1,10 @@
-mod Blocks
+mod InsideAndOverlap
 mod FreeOrFull
 mod GapLemmas
-mod Jumps
+mod JumpsLeft
 mod Masks
 mod OneRead
-mod Places
+mod SubPrefixAtPlace
 mod ReadLemmas
-mod Rounds
+mod PlaceAfterStart
 mod WriteLemmas

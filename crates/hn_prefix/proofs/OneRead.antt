@@ -3,7 +3,7 @@ use Rattle.std.proofs.Common.{◌≡◌, ℕ, List, [], ◌∷◌, length, sym, 
 use Rattle.hn_base.specs.Splits.{SplitsAt}
 use Rattle.hn_base.proofs.NumeralLemmas.{same_number}
 use Rattle.hn_base.proofs.SplitLemmas.{same_split, no_split}
-use Rattle.hn_prefix.specs.AddressText.{IsGroups, IsGroupsText, IsAddressText, address_of}
+use Rattle.hn_prefix.specs.AddressText.{IsGroups, IsGroupsText, IsAddressText, address_of_groups}
 use Rattle.hn_base.specs.Prefix.{PlainPrefix}
 use Rattle.hn_prefix.specs.PrefixText.{IsPrefixText}
 use Rattle.hn_prefix.proofs.ReadLemmas.{HasNoGap-front, Lacks-group, empty_groups, groups_no_gap, elided, without_gap, with_gap, prefix_parts, address_lacks_slash, plain_prefix}
@@ -30,7 +30,7 @@ same_groups_text text gs hs (inr h) k =
     h.value ∙ ap (λ l. elided l h.right) left ∙ ap (λ r. elided other.0 r) right ∙ sym other.5
 
 pub same_address : (text : List ℕ) (one other : ℕ) → IsAddressText text one → IsAddressText text other → one ≡ other
-same_address text one other h k = sym h.2 ∙ ap address_of (same_groups_text text h.0 k.0 h.1 k.1) ∙ k.2
+same_address text one other h k = sym h.2 ∙ ap address_of_groups (same_groups_text text h.0 k.0 h.1 k.1) ∙ k.2
 
 pub same_prefix : (text : List ℕ) (one other : PlainPrefix) → IsPrefixText text one → IsPrefixText text other → one ≡ other
 same_prefix text one other h k =

@@ -148,7 +148,8 @@ pub with_gap : (text front back gs : List ℕ) → SplitsAtGap text front back �
 with_gap text front back gs cut (inl all) =
     absurd (gap_in front back (subst HasNoGap (cut.parts ∙ regroup front back) (HasNoGap-front text (58 ∷ []) (groups_no_gap text gs all.0))))
 with_gap text front back gs cut (inr h) =
-    let same = same_gap front back h.left_text h.right_text cut.first (groups_no_gap h.left_text h.left h.left_groups) (sym (regroup front back) ∙ sym cut.parts ∙ h.parts ∙ regroup h.left_text h.right_text) in
+    let same = same_gap front back h.left_text h.right_text cut.first (groups_no_gap h.left_text h.left h.left_groups)
+    (sym (regroup front back) ∙ sym cut.parts ∙ h.parts ∙ regroup h.left_text h.right_text) in
     (h.left, h.right, subst (λ t. IsGroups t h.left) (sym same.0) h.left_groups, subst (λ t. IsGroups t h.right) (sym same.1) h.right_groups, h.room, h.value)
 
 -- ---- what `Prefix::parse` answers
@@ -164,7 +165,8 @@ pub address_lacks_slash : (text : List ℕ) (ip : ℕ) → IsAddressText text ip
 address_lacks_slash text ip (gs, inl all, is) = groups_lack_slash text gs all.0
 address_lacks_slash text ip (gs, inr h, is) =
     subst (Lacks 47) (sym (h.parts ∙ regroup h.left_text h.right_text))
-    (Lacks-append 47 h.left_text (58 ∷ 58 ∷ h.right_text) (groups_lack_slash h.left_text h.left h.left_groups) ((λ e. absurd (omega arith)), ((λ e. absurd (omega arith)), groups_lack_slash h.right_text h.right h.right_groups)))
+    (Lacks-append 47 h.left_text (58 ∷ 58 ∷ h.right_text) (groups_lack_slash h.left_text h.left h.left_groups)
+    ((λ e. absurd (omega arith)), ((λ e. absurd (omega arith)), groups_lack_slash h.right_text h.right h.right_groups)))
 
 -- what stands on both sides of the first `/`
 pub prefix_parts : (text address len : List ℕ) (p : PlainPrefix) → SplitsAt 47 text address len → IsPrefixText text p → (IsAddressText address p.bits × IsShortNumeral 10 3 len p.len)

@@ -1,5 +1,6 @@
 -- The written form: which run it shortens, how long it is, and that it is a read form.
-use Rattle.std.proofs.Common.{◌≡◌, ℕ, ◌+◌, ◌-◌, ◌*◌, ◌/◌, ◌%◌, ◌^◌, ◌<◌, ◌≤◌, List, [], ◌∷◌, ◌++◌, Option, None, Some, length, take, drop, refl, sym, ap, subst, ◌∙◌, inl, inr, length-append, length-drop, take-append-drop, take-add, arith}
+use Rattle.std.proofs.Common.{◌≡◌, ℕ, ◌+◌, ◌-◌, ◌*◌, ◌/◌, ◌%◌, ◌^◌, ◌<◌, ◌≤◌, List, [], ◌∷◌, ◌++◌, Option, None, Some, length, take, drop, refl, sym, ap, subst, ◌∙◌, inl, inr, length-append}
+use Rattle.std.proofs.Common.{length-drop, take-append-drop, take-add, arith}
 use Rattle.std.specs.Prelude.{codes}
 use Rattle.std.specs.Char.{digit_char}
 use Rattle.std.specs.Fmt.{decimal}
@@ -17,8 +18,9 @@ use Rattle.std.proofs.lemmas.List.{append-nil, length-take-le}
 use Rattle.std.proofs.Math.Nat.{div-div-eq-div-mul}
 use Rattle.hn_base.specs.Numeral.{numeral}
 use Rattle.hn_base.proofs.NumeralLemmas.{numeral_one, numeral_step, numeral_is_short, decimal_is_short}
-use Rattle.hn_base.proofs.Recursions.{AllByRecursion-take, AllByRecursion-drop}
-use Rattle.hn_prefix.specs.AddressText.{groups, address_of, group_text, groups_text, IsFirstLongestRun, shortened_text, IsZeroRun, IsWrittenForm, address_text_of, IsGroups, IsGroupsText, IsAddressText}
+use Rattle.hn_base.proofs.EachByRecursion.{AllByRecursion-take, AllByRecursion-drop}
+use Rattle.hn_prefix.specs.AddressText.{groups, address_of_groups, group_text, groups_text, IsFirstLongestRun, shortened_text, IsZeroRun, IsWrittenForm, address_text_of, IsGroups, IsGroupsText}
+use Rattle.hn_prefix.specs.AddressText.{IsAddressText}
 use Rattle.hn_base.specs.Prefix.{PlainPrefix, IsPrefix}
 use Rattle.hn_prefix.specs.PrefixText.{prefix_text_of, text_of, IsPrefixText}
 
@@ -63,12 +65,14 @@ unfolding IsIpv6OfBits address_text_of
 groups_shown address ip is = ap hex_groups_text (is ∙ segments_are ip)
 
 -- what is printed of an address, and of a prefix
-pub address_printed : (shown : HexGroups) (address : Ipv6Addr) (ip : ℕ) (len : Option ℕ) (text : List ℕ) → hex_groups_addr shown ≡ address → IsIpv6OfBits address ip → len ≡ None → text_of ip len ≡ text
+pub address_printed : (shown : HexGroups) (address : Ipv6Addr) (ip : ℕ) (len : Option ℕ) (text : List ℕ) → hex_groups_addr shown ≡ address
+    → IsIpv6OfBits address ip → len ≡ None → text_of ip len ≡ text
     → hex_groups_text (ipv6_segments (hex_groups_addr shown)) ≡ text
 address_printed shown address ip len text at is none view =
     ap (λ a. hex_groups_text (ipv6_segments a)) at ∙ groups_shown address ip is ∙ ap (text_of ip) (sym none) ∙ view
 
-pub prefix_printed : (shown : HexGroups) (address : Ipv6Addr) (ip : ℕ) (len : Option ℕ) (l : ℕ) (text : List ℕ) → hex_groups_addr shown ≡ address → IsIpv6OfBits address ip → len ≡ Some l → text_of ip len ≡ text
+pub prefix_printed : (shown : HexGroups) (address : Ipv6Addr) (ip : ℕ) (len : Option ℕ) (l : ℕ) (text : List ℕ) → hex_groups_addr shown ≡ address
+    → IsIpv6OfBits address ip → len ≡ Some l → text_of ip len ≡ text
     → hex_groups_text (ipv6_segments (hex_groups_addr shown)) ++ (codes "/" ++ decimal l) ≡ text
 unfolding prefix_text_of
 prefix_printed shown address ip len l text at is some view =
@@ -203,7 +207,13 @@ length-written gs eight fits =
     let front = length-front start gs (omega (arith, run.inside)) fits in
     let back = length-back (start + len) gs fits in
     elim (cases_lt 1 len) [
-      | inl long ↦ omega (arith, run.inside, ap length (form_shortened gs fits long), length-append (groups_text (take start gs) ++ codes "::") (groups_text (drop (start + len) gs)), length-append (groups_text (take start gs)) (codes "::"))
+      | inl long ↦ omega (
+        arith,
+        run.inside,
+        ap length (form_shortened gs fits long),
+        length-append (groups_text (take start gs) ++ codes "::") (groups_text (drop (start + len) gs)),
+        length-append (groups_text (take start gs)) (codes "::"),
+      )
       | inr short ↦ omega (arith, ap length (form_whole gs fits short), length-groups_text-le gs fits)
     ]
 
@@ -246,7 +256,7 @@ written_is_read gs eight fits =
 one_group_more : (n m : ℕ) → n / (m * 65536) * 65536 + n / m % 65536 ≡ n / m
 one_group_more n m = rw (← div-div-eq-div-mul n m 65536) (omega arith)
 
-pub address_of-groups : (ip : ℕ) → ip < 2 ^ 128 → address_of (groups ip) ≡ ip
+pub address_of-groups : (ip : ℕ) → ip < 2 ^ 128 → address_of_groups (groups ip) ≡ ip
 unfolding groups
 address_of-groups ip fits =
     let s112 : 0 + ip / 2 ^ 112 % 65536 ≡ ip / 2 ^ 112 = omega arith in
@@ -273,7 +283,7 @@ low_of v g fits = omega arith
 high_after : (n m v g : ℕ) → n / m ≡ v * 65536 + g → g < 65536 → n / (m * 65536) ≡ v
 high_after n m v g is fits = sym (div-div-eq-div-mul n m 65536) ∙ ap (λ q. q / 65536) is ∙ high_of v g fits
 
-eight_back : (a b c d e f g h : ℕ) → AllFit (a ∷ b ∷ c ∷ d ∷ e ∷ f ∷ g ∷ h ∷ []) → groups (address_of (a ∷ b ∷ c ∷ d ∷ e ∷ f ∷ g ∷ h ∷ [])) ≡ a ∷ b ∷ c ∷ d ∷ e ∷ f ∷ g ∷ h ∷ []
+eight_back : (a b c d e f g h : ℕ) → AllFit (a ∷ b ∷ c ∷ d ∷ e ∷ f ∷ g ∷ h ∷ []) → groups (address_of_groups (a ∷ b ∷ c ∷ d ∷ e ∷ f ∷ g ∷ h ∷ [])) ≡ a ∷ b ∷ c ∷ d ∷ e ∷ f ∷ g ∷ h ∷ []
 unfolding groups
 eight_back a b c d e f g h fits =
     let v1 : ℕ = 0 + a in
@@ -301,7 +311,7 @@ eight_back a b c d e f g h fits =
     let eighth : ip % 2 ^ 16 ≡ h = low_of v7 h fits.1.1.1.1.1.1.1.0 in
     cc
 
-pub groups-address_of : (gs : List ℕ) → length gs ≡ 8 → AllFit gs → groups (address_of gs) ≡ gs
+pub groups-address_of : (gs : List ℕ) → length gs ≡ 8 → AllFit gs → groups (address_of_groups gs) ≡ gs
 groups-address_of (a ∷ b ∷ c ∷ d ∷ e ∷ f ∷ g ∷ h ∷ []) eight fits = eight_back a b c d e f g h fits
 groups-address_of _ eight fits = absurd (omega arith)
 

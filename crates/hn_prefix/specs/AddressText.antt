@@ -11,8 +11,8 @@ groups ip =
     ∷ ip / 2 ^ 48 % 2 ^ 16 ∷ ip / 2 ^ 32 % 2 ^ 16 ∷ ip / 2 ^ 16 % 2 ^ 16 ∷ ip % 2 ^ 16 ∷ []
 
 -- the address of some groups, which are its digits in base 65536
-abbrev pub address_of : List ℕ → ℕ
-address_of gs = number_from_digits 65536 gs
+abbrev pub address_of_groups : List ℕ → ℕ
+address_of_groups gs = number_from_digits 65536 gs
 
 -- ---- the written form (RFC 5952, section 4)
 
@@ -87,4 +87,4 @@ IsGroupsText text gs = (IsGroups text gs × (length gs ≡ 8)) ⊎ IsShortened t
 
 -- the text is a read form of the address
 abbrev pub IsAddressText : List ℕ → ℕ → Type 0
-IsAddressText text ip = (gs : List ℕ) × IsGroupsText text gs × (address_of gs ≡ ip)
+IsAddressText text ip = (gs : List ℕ) × IsGroupsText text gs × (address_of_groups gs ≡ ip)

@@ -30,12 +30,12 @@ next_place outer len address = min ((address - outer.bits) / 2 ^ (128 - len) + 1
 abbrev pub IsFree : List PlainPrefix → PlainPrefix → Type 0
 IsFree taken p = All (λ t. ¬ Overlaps t p) taken
 
-abbrev pub IsTaken : List PlainPrefix → PlainPrefix → Type 0
-IsTaken taken p = Any (λ t. Overlaps t p) taken
+abbrev pub IsTakenPrefix : List PlainPrefix → PlainPrefix → Type 0
+IsTakenPrefix taken p = Any (λ t. Overlaps t p) taken
 
 -- each prefix of the length inside is taken
 abbrev pub IsFull : PlainPrefix → List PlainPrefix → ℕ → Type 0
-IsFull outer taken len = (place : ℕ) → place < sub_prefix_count outer len → IsTaken taken (sub_prefix outer len place)
+IsFull outer taken len = (place : ℕ) → place < sub_prefix_count outer len → IsTakenPrefix taken (sub_prefix outer len place)
 
 -- the first free prefix of the length inside, in cyclic order from a start
 pub record IsFirstFree (outer : PlainPrefix) (start : ℕ) (taken : List PlainPrefix) (len : ℕ) (found : PlainPrefix) : Type 0 where
@@ -43,4 +43,4 @@ pub record IsFirstFree (outer : PlainPrefix) (start : ℕ) (taken : List PlainPr
   pub below_count : ahead < sub_prefix_count outer len
   pub at_place : found ≡ sub_prefix_after outer len start ahead
   pub free : IsFree taken found
-  pub each_before_taken : (j : ℕ) → j < ahead → IsTaken taken (sub_prefix_after outer len start j)
+  pub each_before_taken : (j : ℕ) → j < ahead → IsTakenPrefix taken (sub_prefix_after outer len start j)

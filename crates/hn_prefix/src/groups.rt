@@ -1,7 +1,7 @@
 //! The groups of 16 bits of an IPv6 address (RFC 4291, section 2.2).
 
 ghost use Rattle.std.specs.Prelude.{◌≡◌, ℕ, ◌+◌, ◌<◌, ◌≤◌, List, [], ◌∷◌, ◌++◌, length, take, replicate};
-ghost use Rattle.hn_prefix.specs.AddressText.{address_of};
+ghost use Rattle.hn_prefix.specs.AddressText.{address_of_groups};
 
 use std::marker::Model;
 
@@ -78,7 +78,7 @@ impl Groups {
 /// The address of some groups: the number that they write in base 65536.
 pub fn address(groups: &[u16]) -> u128
     requires { length groups.now ≤ 8 }
-    ensures { result ≡ address_of groups.now }
+    ensures { result ≡ address_of_groups groups.now }
 {
     let mut address = 0;
     for group in groups {

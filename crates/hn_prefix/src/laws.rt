@@ -3,14 +3,14 @@
 
 ghost use Rattle.std.specs.Prelude.{◌≡◌, ℕ, ◌^◌, ◌<◌, List, length};
 ghost use Rattle.std.specs.List.{AllByRecursion};
-ghost use Rattle.hn_prefix.specs.AddressText.{groups, address_of, address_text_of, IsAddressText, IsWrittenForm};
+ghost use Rattle.hn_prefix.specs.AddressText.{groups, address_of_groups, address_text_of, IsAddressText, IsWrittenForm};
 ghost use Rattle.hn_prefix.specs.Laws.{PrefixTextIsRead, PrefixTextIsOfOne, FreeOrFull, InsideAreSubPrefixes};
 
 /// Eight groups of 16 bits and an address of 128 bits are one value.
 pub fn groups_are_the_address()
-    ensures address { (ip : ℕ) → ip < 2 ^ 128 → address_of (groups ip) ≡ ip }
+    ensures address { (ip : ℕ) → ip < 2 ^ 128 → address_of_groups (groups ip) ≡ ip }
     ensures groups { (gs : List ℕ) → length gs ≡ 8 → AllByRecursion (λ g. g < 2 ^ 16) gs
-        → groups (address_of gs) ≡ gs }
+        → groups (address_of_groups gs) ≡ gs }
 {}
 
 /// An address has a written form (RFC 5952, section 4), and no other one.

@@ -10,7 +10,7 @@ use Rattle.std.proofs.lemmas.List.Elements.{All-contains, All-push, All-take, Co
 use Rattle.std.proofs.lemmas.Map.Keys.{Less-from_sorted}
 use Rattle.std.proofs.lemmas.Option.{get_or_from_slice_get, slice_get_within}
 use Rattle.hn_base.proofs.AscendingLists.{nothing_in, Contains-map, Contains-from_map, sorted_push, sorted_parts}
-use Rattle.hn_base.proofs.Parts.{contains_at, one_of_ascending}
+use Rattle.hn_base.proofs.PartsAtPlaces.{contains_at, one_of_ascending}
 use Rattle.hn_base.specs.declared.ids.EpId.{EpId}
 use Rattle.hn_base.specs.Prefix.{PlainPrefix, IsPrefix, IsWithin, prefix_cmp}
 use Rattle.hn_advert.specs.declared.advert.Info.{Info}
@@ -26,7 +26,7 @@ use Rattle.hn_rules.specs.Seen.{seen_by}
 use Rattle.hn_router.specs.Advertising.{AreInfos}
 use Rattle.hn_router.specs.Infos.{IsInfoFrom, HasNoInfo}
 use Rattle.hn_base.proofs.Prefixes.{prefix_total}
-use Rattle.hn_base.proofs.Fronts.{front_at}
+use Rattle.hn_base.proofs.FrontOfList.{front_at}
 
 -- ---- orders
 

@@ -7,7 +7,7 @@ use Rattle.std.proofs.lemmas.List.{map-append}
 use Rattle.hn_base.specs.declared.ids.EpId.{EpId}
 use Rattle.hn_tlv.specs.Grammar.{PlainTlv}
 use Rattle.hn_dncp.specs.declared.port.Port.{Port}
-use Rattle.hn_dncp.specs.Port.{begun}
+use Rattle.hn_dncp.specs.Port.{attached_port}
 use Rattle.hn_own.specs.Ports.{endpoints_of, attached}
 use Rattle.hn_rules.specs.declared.state.State.{State}
 use Rattle.hn_rules.specs.declared.running.Running.{Running}
@@ -104,7 +104,7 @@ module _ (laws : HasLaws) where
   follows_rule Tick r a holds = keeps_tick laws r a holds
   follows_rule (Attach at) r a (between, is, refreshes) =
       refreshed (Attach at) r between a
-      (ap (λ (x : Running). x.state.moment) is.gives, ap (λ (x : Running). endpoints_of x.state.ports) is.gives ∙ attached_endpoints (begun at r.state.moment is.word) r.state.ports) refreshes
+      (ap (λ (x : Running). x.state.moment) is.gives, ap (λ (x : Running). endpoints_of x.state.ports) is.gives ∙ attached_endpoints (attached_port at r.state.moment is.word) r.state.ports) refreshes
   follows_rule (Detach at) r a (between, is, refreshes) =
       refreshed (Detach at) r between a
       (ap (λ (x : Running). x.state.moment) is, ap (λ (x : Running). endpoints_of x.state.ports) is ∙ filter_parts (λ (e : EpId). not (e.0 == at.0)) (λ (p : Port). p.id) r.state.ports) refreshes

@@ -16,8 +16,8 @@ use Rattle.hn_rules.specs.Events.{IsAttaching, detaching, setting_caps, setting_
 use Rattle.hn_rules.specs.Refresh.{IsRefresh}
 use Rattle.hn_router.specs.Act.{PlainEvent, Arrive, Tick, Attach, Detach, External, Withdraw, SetCaps, Private, Addresses, Restart, IsFar, IsMalformed, IsRead, is_refused, IsEventRule, IsEvent}
 use Rattle.hn_rules.specs.Ticks.{IsTick}
-use Rattle.hn_base.proofs.Soles.{sole_given, sole_plain, sole_both, sole_from, sole_or, sole_where, sole_some}
-use Rattle.hn_base.proofs.Decisions.{not_both}
+use Rattle.hn_base.proofs.OneResult.{sole_given, sole_plain, sole_both, sole_from, sole_or, sole_where, sole_some}
+use Rattle.hn_base.proofs.DecidingTests.{not_both}
 
 -- what the laws say of lists of TLVs and of the rules
 pub record HasLaws : Type 0 where

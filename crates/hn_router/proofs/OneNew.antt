@@ -7,7 +7,7 @@ use Rattle.hn_own.specs.Own.{links_of}
 use Rattle.hn_own.specs.Laws.{OwnDataIsUnique}
 use Rattle.hn_rules.specs.Refresh.{own_items, network_state_hash}
 use Rattle.hn_router.specs.Laws.{NewIsUnique}
-use Rattle.hn_base.proofs.Fields.{same_caps}
+use Rattle.hn_base.proofs.KnownByFields.{same_caps}
 
 one_caps : (a b : Caps) → plain_caps a ≡ plain_caps b → a ≡ b
 one_caps a b same =

@@ -11,7 +11,7 @@ use Rattle.std.proofs.lemmas.Option.{same_Some}
 use Rattle.hn_base.proofs.AscendingLists.{Contains-tail, Contains-map, sorted_parts}
 use Rattle.hn_base.proofs.Elements.{found_passes, in_filter, in_filter_map, from_filter_map, passing_found}
 use Rattle.hn_base.proofs.Keys.{same_node}
-use Rattle.hn_base.proofs.Parts.{one_of_ascending}
+use Rattle.hn_base.proofs.PartsAtPlaces.{one_of_ascending}
 use Rattle.hn_base.specs.Prefix.{PlainPrefix}
 use Rattle.hn_base.specs.declared.ids.NodeId.{NodeId}
 use Rattle.hn_data.specs.Peers.{HasPeer}

@@ -27,7 +27,7 @@ use Rattle.hn_rules.specs.Rules.{AtPort, Ran, noted, with_port, with_words, word
 use Rattle.hn_rules.specs.NodeEndpoint.{met, greeting_port, named, node_endpoint}
 use Rattle.hn_rules.specs.Refresh.{Publishes, IsRefresh}
 use Rattle.hn_rules.specs.Arrival.{IsTlvRule, IsTlvs, IsAnswering, IsArrival}
-use Rattle.hn_base.proofs.Rans.{ran_plain, ran_both, ran_more, each_words, on_some_words}
+use Rattle.hn_base.proofs.RulesInTurn.{ran_plain, ran_both, ran_more, each_words, on_some_words}
 
 pub some_answer_words : (about : Subject) (item : Option PlainItem) (r : Running) → (with_some_answer about item r).done.words ≡ r.done.words
 some_answer_words about None r = refl

@@ -16,7 +16,7 @@ use Rattle.hn_data.specs.declared.said.AssignedPrefix.{AssignedPrefix}
 use Rattle.hn_data.specs.declared.view.Entry.{Entry}
 use Rattle.hn_deleg.specs.Used.{AreUsable}
 use Rattle.hn_graph.specs.Laws.{ReachabilityStays}
-use Rattle.hn_own.specs.HeldPairs.{published_in, published_of}
+use Rattle.hn_own.specs.HeldPairs.{published_in, publication_of}
 use Rattle.hn_own.specs.Laws.{NoneEnds}
 use Rattle.hn_own.specs.Ports.{ArePorts, endpoints_of}
 use Rattle.hn_own.specs.declared.own.OwnItems.{OwnItems}
@@ -61,13 +61,13 @@ only rule sole r a holds rests =
 
 -- ---- assignments that differ in marks alone
 
-published_unmarked : (xs : List Assigned) → filter_map published_of (map unmarked xs) ≡ published_in xs
+published_unmarked : (xs : List Assigned) → filter_map publication_of (map unmarked xs) ≡ published_in xs
 published_unmarked [] = refl
-published_unmarked (c ∷ xs) = ap (cons_option (published_of c)) (published_unmarked xs)
+published_unmarked (c ∷ xs) = ap (cons_option (publication_of c)) (published_unmarked xs)
 
 -- they publish the same
 pub same_published : (before after : List Assigned) → IsUnchanged before after → published_in after ≡ published_in before
-same_published before after same = sym (published_unmarked after) ∙ ap (filter_map published_of) same ∙ published_unmarked before
+same_published before after same = sym (published_unmarked after) ∙ ap (filter_map publication_of) same ∙ published_unmarked before
 
 with_held : (s : State) (ran : Held) → IsUnchanged s.held.assigned ran.assigned → IsFresh s → IsFresh (record s { held = ran })
 with_held s ran same is = record {

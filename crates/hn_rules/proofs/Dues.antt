@@ -1,11 +1,11 @@
 -- When something is next due for a router.
 use Rattle.std.proofs.Common.{◌≡◌, ◌∙◌, ◌⊎◌, ℕ, ◌^◌, List, Option, Some, None, Result, Ok, Err, IfOk, sym, ap, subst}
 use Rattle.std.specs.List.{filter_map}
-use Rattle.hn_base.proofs.Sooners.{sooner_same, sooner_both, sooner_is_one}
-use Rattle.hn_base.specs.Sooner.{IsSooner, IsOfOne}
+use Rattle.hn_base.proofs.NextDue.{sooner_same, sooner_both, sooner_is_one}
+use Rattle.hn_base.specs.Sooner.{IsSooner, IsOfElement}
 use Rattle.hn_base.specs.declared.ids.EpId.{EpId}
 use Rattle.hn_base.specs.declared.memory.NoMemory.{NoMemory}
-use Rattle.hn_timers.specs.Due.{IsExpiry}
+use Rattle.hn_timers.specs.Due.{IsExpiryMoment}
 use Rattle.hn_typed.specs.Item.{PlainItem}
 use Rattle.hn_data.specs.Laws.{ItemsAreUnique}
 use Rattle.hn_data.specs.Said.{interval_of, keep_alive_of}
@@ -33,12 +33,12 @@ one_interval one (Some stored) e m n (xs, are, is) (ys, also, other) =
     is ∙ ap (λ (items : List PlainItem). keep_alive_of (filter_map interval_of items) e.0) (one stored.body xs ys are also) ∙ sym other
 
 pub peer_end : ItemsAreUnique → (s : State) (peer : Neighbour) (interval best n : ℕ) → HasInterval (held s.table.entries peer.node.0) peer.endpoint interval
-    → IsSooner (IsExpiry peer.contact interval) s.moment best n → IsSooner (IsPeerEnd s.table.entries peer) s.moment best n
+    → IsSooner (IsExpiryMoment peer.contact interval) s.moment best n → IsSooner (IsPeerEnd s.table.entries peer) s.moment best n
 peer_end one s peer interval best n promised h =
-    sooner_same (IsExpiry peer.contact interval) (IsPeerEnd s.table.entries peer) s.moment best n
+    sooner_same (IsExpiryMoment peer.contact interval) (IsPeerEnd s.table.entries peer) s.moment best n
     (λ m. (
       λ ends. record { interval = interval; promised = promised; ends = ends },
-      λ end. subst (λ (k : ℕ). IsExpiry peer.contact k m) (one_interval one (held s.table.entries peer.node.0) peer.endpoint end.interval interval end.promised promised) end.ends,
+      λ end. subst (λ (k : ℕ). IsExpiryMoment peer.contact k m) (one_interval one (held s.table.entries peer.node.0) peer.endpoint end.interval interval end.promised promised) end.ends,
     ))
     h
 
@@ -59,9 +59,9 @@ seen_due s view nodes best a n is are ends limits =
 pub one_next_due : NextDueIsOne
 one_next_due s m n = sooner_is_one (IsDueAt s) s.moment (2 ^ 49) m n
 
-pub due_of_parts : (s : State) (ports kept : ℕ) (first : Result ℕ NoMemory) → IsSooner (IsOfOne (IsDueAtPort s.table.entries) s.ports) s.moment (2 ^ 49) ports
+pub due_of_parts : (s : State) (ports kept : ℕ) (first : Result ℕ NoMemory) → IsSooner (IsOfElement (IsDueAtPort s.table.entries) s.ports) s.moment (2 ^ 49) ports
     → IsSooner (IsKeptDue s) s.moment ports kept → IfOk first (λ n. IsSooner (IsSeenDue s) s.moment kept n) → IfOk first (IsNextDue s)
 due_of_parts s ports kept (Err e) of_ports of_kept of_seen = tt
 due_of_parts s ports kept (Ok first) of_ports of_kept of_seen =
-    sooner_both (IsOfOne (IsDueAtPort s.table.entries) s.ports) (λ m. IsKeptDue s m ⊎ IsSeenDue s m) s.moment (2 ^ 49) ports first of_ports
+    sooner_both (IsOfElement (IsDueAtPort s.table.entries) s.ports) (λ m. IsKeptDue s m ⊎ IsSeenDue s m) s.moment (2 ^ 49) ports first of_ports
     (sooner_both (IsKeptDue s) (IsSeenDue s) s.moment ports kept first of_kept of_seen)

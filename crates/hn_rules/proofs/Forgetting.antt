@@ -24,7 +24,7 @@ use Rattle.hn_rules.specs.declared.running.Running.{Running}
 use Rattle.hn_rules.specs.Nodes.{held_entry, own_entry, IsReach, part_of, parts_of}
 use Rattle.hn_rules.specs.Tick.{forgetting}
 use Rattle.hn_rules.specs.Router.{IsRefreshed}
-use Rattle.hn_base.proofs.Passing.{find-filter}
+use Rattle.hn_base.proofs.PassingElements.{find-filter}
 
 -- ---- lists
 

@@ -4,7 +4,7 @@ use Rattle.std.specs.List.{filter_map}
 use Rattle.std.specs.Option.{option_map}
 use Rattle.std.proofs.lemmas.Bool.{cases_eq}
 use Rattle.hn_base.proofs.AscendingLists.{Contains-map, Contains-from_map}
-use Rattle.hn_base.proofs.Sooners.{next_stays}
+use Rattle.hn_base.proofs.NextDue.{next_stays}
 use Rattle.hn_base.specs.Sooner.{IsSooner}
 use Rattle.hn_base.specs.declared.ids.NodeId.{NodeId}
 use Rattle.hn_data.specs.Later.{IsLater, aged_entry}

@@ -16,7 +16,7 @@ use Rattle.hn_own.specs.Posts.{posts_of}
 use Rattle.hn_base.proofs.Pigeonhole.{no_longer}
 use Rattle.hn_rules.specs.declared.state.State.{State}
 use Rattle.hn_rules.specs.Assigning.{AreAsked}
-use Rattle.hn_base.proofs.Parts.{contains_at}
+use Rattle.hn_base.proofs.PartsAtPlaces.{contains_at}
 
 -- ---- all pairs of a usable prefix and a post
 

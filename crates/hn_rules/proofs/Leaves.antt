@@ -22,7 +22,7 @@ use Rattle.hn_rules.proofs.Known.{held_all}
 -- ---- a node's part is that of its leaf, and its number has 32 bits
 
 abbrev leaf_part : Entry → Part
-leaf_part n = network.part_of (leaf_of n)
+leaf_part n = network.leaf_part (leaf_of n)
 
 abbrev IsNumberedEntry : Entry → Type 0
 IsNumberedEntry n = n.number < 2 ^ 32
@@ -74,9 +74,9 @@ module _ (held_of_entry : HeldIsOfAnEntry) (s : State) (well : IsWell s) where
 
 -- ---- the texts are the same
 
-texts_are : (ns : List Entry) → flat_map network.part_entry (map leaf_part ns) ≡ flat_map network.entry_of (map leaf_of ns)
+texts_are : (ns : List Entry) → flat_map network.part_entry (map leaf_part ns) ≡ flat_map network.leaf_entry (map leaf_of ns)
 texts_are [] = refl
-texts_are (n ∷ ns) = ap (λ rest. network.entry_of (leaf_of n) ++ rest) (texts_are ns)
+texts_are (n ∷ ns) = ap (λ rest. network.leaf_entry (leaf_of n) ++ rest) (texts_are ns)
 
 pub hash_of_leaves : HeldIsOfAnEntry → HashIsOfLeaves
 hash_of_leaves held_of_entry s router =

@@ -20,7 +20,7 @@ use Rattle.hn_typed.specs.Written.{tlv_of}
 use Rattle.hn_typed.specs.Table.{IsItem}
 use Rattle.hn_typed.specs.Fault.{IsItemFault}
 use Rattle.hn_typed.specs.Laws.{ItemIsUnique, ItemHasNoFault, ItemFaultIsUnique}
-use Rattle.hn_timers.specs.Interval.{started}
+use Rattle.hn_timers.specs.Interval.{interval_from}
 use Rattle.hn_deleg.specs.declared.delegated.Delegated.{Delegated}
 use Rattle.hn_deleg.specs.Laws.{UsableIsUnique}
 use Rattle.hn_assign.specs.declared.assigned.Wish.{Wish}
@@ -30,7 +30,7 @@ use Rattle.hn_assign.specs.Subroutine.{IsSubroutine}
 use Rattle.hn_assign.specs.Laws.{SubroutineHasOneResult}
 use Rattle.hn_dncp.specs.declared.peers.Neighbour.{Neighbour}
 use Rattle.hn_dncp.specs.declared.port.Port.{Port}
-use Rattle.hn_dncp.specs.Port.{begun}
+use Rattle.hn_dncp.specs.Port.{attached_port}
 use Rattle.hn_dncp.specs.Hash.{asks_for_state}
 use Rattle.hn_dncp.specs.Tick.{ticked, tick_sends}
 use Rattle.hn_dncp.specs.Laws.{PackingIsUnique}
@@ -57,7 +57,7 @@ use Rattle.hn_rules.specs.Assigning.{AreAsked, IsAssigned, IsAssigning}
 use Rattle.hn_rules.specs.Seen.{seen_by}
 use Rattle.hn_rules.specs.NodeEndpoint.{node_endpoint}
 use Rattle.hn_rules.specs.NetworkState.{network_state}
-use Rattle.hn_base.proofs.Decisions.{not_both}
+use Rattle.hn_base.proofs.DecidingTests.{not_both}
 use Rattle.hn_rules.specs.Requests.{state_item, is_reached, with_state, IsNetworkRequest, request_node}
 use Rattle.hn_rules.specs.Claim.{IsFirstFree, IsFirstClaim, IsSecondClaim, IsClaim, is_taken}
 use Rattle.hn_rules.specs.NodeState.{took_noted, IsTaken, IsNodeState}
@@ -68,7 +68,7 @@ use Rattle.hn_rules.specs.Delegating.{ending}
 use Rattle.hn_rules.specs.Events.{IsAttaching, IsPortRestart, emptied, IsRestarting}
 use Rattle.hn_base.proofs.FirstWords.{begins_front, begins_back, begins_along}
 use Rattle.hn_rules.proofs.Arriving.{some_answer_words, node_endpoint_words}
-use Rattle.hn_base.proofs.Soles.{sole_drawn, sole_given, sole_plain, sole_both, sole_each, sole_word, sole_from, sole_start, sole_after, sole_on, sole_or, sole_where, sole_some}
+use Rattle.hn_base.proofs.OneResult.{sole_drawn, sole_given, sole_plain, sole_both, sole_each, sole_word, sole_from, sole_start, sole_after, sole_on, sole_or, sole_where, sole_some}
 
 -- the laws of the crates below on which it rests
 pub record HasLaws : Type 0 where
@@ -125,7 +125,7 @@ sole_reaching laws =
 
 sole_port_reset : (port : Port) → IsSole (IsPortReset port)
 sole_port_reset port =
-    let reset : ℕ → Running → Running = λ word r. with_words (word ∷ []) (with_port (record port { trickle = started r.state.moment 200 word }) r) in
+    let reset : ℕ → Running → Running = λ word r. with_words (word ∷ []) (with_port (record port { trickle = interval_from r.state.moment 200 word }) r) in
     sole_or words_of (λ r a. (port.trickle.len ≡ 200) × (a ≡ r)) (λ r a. (port.trickle.len ≢ 200) × ((word : ℕ) × (a ≡ reset word r)))
     (sole_where words_of (λ r. port.trickle.len ≡ 200) (λ r a. a ≡ r) (sole_plain words_of (λ r. r) (λ r. refl)))
     (sole_where words_of (λ r. port.trickle.len ≢ 200) (λ r a. (word : ℕ) × (a ≡ reset word r)) (sole_word words_of reset (λ word r. refl)))
@@ -323,12 +323,12 @@ sole_assigning laws = record {
 
 pub sole_attaching : (at : EpId) → IsSole (IsAttaching at)
 sole_attaching at =
-    let rule : ℕ → Running → Running = λ word r. with_words (word ∷ []) (record r { state = record r.state { ports = attached (begun at r.state.moment word) r.state.ports } }) in
+    let rule : ℕ → Running → Running = λ word r. with_words (word ∷ []) (record r { state = record r.state { ports = attached (attached_port at r.state.moment word) r.state.ports } }) in
     sole_from words_of (IsAttaching at) (λ r a. (word : ℕ) × (a ≡ rule word r)) (λ r a h. (h.word, h.gives)) (sole_word words_of rule (λ word r. refl))
 
 sole_port_restart : (port : Port) → IsSole (IsPortRestart port)
 sole_port_restart port =
-    let rule : ℕ → Running → Running = λ word r. with_words (word ∷ []) (with_port (begun port.id r.state.moment word) r) in
+    let rule : ℕ → Running → Running = λ word r. with_words (word ∷ []) (with_port (attached_port port.id r.state.moment word) r) in
     sole_from words_of (IsPortRestart port) (λ r a. (word : ℕ) × (a ≡ rule word r)) (λ r a h. (h.word, h.gives)) (sole_word words_of rule (λ word r. refl))
 
 pub sole_restarting : HasLaws → IsSole IsRestarting

@@ -6,14 +6,14 @@ use Rattle.std.proofs.lemmas.List.Elements.{All-nil, All-map, All-push}
 use Rattle.hn_base.specs.declared.ids.NodeId.{NodeId}
 use Rattle.hn_base.specs.declared.ids.EpId.{EpId}
 use Rattle.hn_base.specs.declared.addr.Addr.{Addr}
-use Rattle.hn_timers.specs.Interval.{Interval, started, has_to_send, has_ended}
+use Rattle.hn_timers.specs.Interval.{Interval, interval_from, has_to_send, is_interval_over}
 use Rattle.hn_timers.specs.Length.{next_length}
 use Rattle.hn_timers.specs.KeepAlive.{is_silent}
 use Rattle.hn_dncp.specs.declared.peers.Neighbour.{Neighbour}
 use Rattle.hn_dncp.specs.declared.port.Port.{Port}
 use Rattle.hn_dncp.specs.Peers.{is_peer, has_peer, IsOther, ArePeers}
-use Rattle.hn_dncp.specs.Port.{begun}
-use Rattle.hn_dncp.specs.Greet.{met, greeted}
+use Rattle.hn_dncp.specs.Port.{attached_port}
+use Rattle.hn_dncp.specs.Greet.{peers_heard, greeted}
 use Rattle.hn_dncp.specs.Ask.{may_ask, asked_at, asked}
 use Rattle.hn_dncp.specs.Hash.{contacted, hashed}
 use Rattle.hn_dncp.specs.Tick.{after_firing, after_interval, after_keep_alive, ticked, interval_words}
@@ -40,7 +40,7 @@ ArePeers-without P peers kept without are = record {
 abbrev pub IsHeardBy : ℕ → Neighbour → Type 0
 IsHeardBy now peer = peer.contact ≤ now
 
-heard-met : (now : ℕ) (peer : Neighbour) (peers : List Neighbour) → peer.contact ≤ now → All (IsHeardBy now) peers → All (IsHeardBy now) (met peer peers)
+heard-met : (now : ℕ) (peer : Neighbour) (peers : List Neighbour) → peer.contact ≤ now → All (IsHeardBy now) peers → All (IsHeardBy now) (peers_heard peer peers)
 heard-met now peer peers one all =
     let renewed = map (λ other. cond (is_peer peer.node peer.endpoint other) peer other) peers in
     cond_both (has_peer peer.node peer.endpoint peers) renewed (cond (length peers == 64) peers (peers ++ peer ∷ [])) (All (IsHeardBy now))
@@ -61,14 +61,14 @@ module _ (now : ℕ) where
   By moment = moment ≤ now
 
   -- one that begins
-  pub well-begun : (at : EpId) (word : ℕ) → IsPortWell now (begun at now word)
+  pub well-begun : (at : EpId) (word : ℕ) → IsPortWell now (attached_port at now word)
   well-begun at word = record {
     peers = record { few = omega arith; once = λ i j d less within. absurd (omega arith) };
     past = record { begun = omega arith; sent = omega arith; asked = tt; heard = All-nil (IsHeardBy now) };
   }
 
   -- one that begins an interval
-  pub well-started : (len word : ℕ) (port : Port) → IsPortWell now port → IsPortWell now (record port { trickle = started now len word })
+  pub well-started : (len word : ℕ) (port : Port) → IsPortWell now port → IsPortWell now (record port { trickle = interval_from now len word })
   well-started len word port well = record {
     peers = well.peers;
     past = record { begun = omega arith; sent = well.past.sent; asked = well.past.asked; heard = well.past.heard };
@@ -96,12 +96,12 @@ module _ (now : ℕ) where
   well-greeted known node endpoint from multicast port well =
       let peer : Neighbour = record { node = node; endpoint = endpoint; contact = now; addr = from } in
       record {
-        peers = cond_both multicast port.peers (met peer port.peers) ArePeers (λ _. well.peers) (λ _. known.peers_met peer port.peers well.peers);
+        peers = cond_both multicast port.peers (peers_heard peer port.peers) ArePeers (λ _. well.peers) (λ _. known.peers_met peer port.peers well.peers);
         past = record {
           begun = well.past.begun;
           sent = well.past.sent;
           asked = well.past.asked;
-          heard = cond_both multicast port.peers (met peer port.peers) (All (IsHeardBy now)) (λ _. well.past.heard) (λ _. heard-met now peer port.peers (omega arith) well.past.heard);
+          heard = cond_both multicast port.peers (peers_heard peer port.peers) (All (IsHeardBy now)) (λ _. well.past.heard) (λ _. heard-met now peer port.peers (omega arith) well.past.heard);
         };
       }
 
@@ -136,7 +136,7 @@ module _ (now : ℕ) where
   well-interval word port well = record {
     peers = well.peers;
     past = record {
-      begun = cond_both (has_ended now port.trickle) (started now (next_length port.trickle.len) word) port.trickle BegunBy (λ _. omega arith) (λ _. well.past.begun);
+      begun = cond_both (is_interval_over now port.trickle) (interval_from now (next_length port.trickle.len) word) port.trickle BegunBy (λ _. omega arith) (λ _. well.past.begun);
       sent = well.past.sent;
       asked = well.past.asked;
       heard = well.past.heard;
@@ -147,7 +147,7 @@ module _ (now : ℕ) where
   well-keep_alive word port well = record {
     peers = well.peers;
     past = record {
-      begun = cond_both (is_silent port.sent now) (started now port.trickle.len word) port.trickle BegunBy (λ _. omega arith) (λ _. well.past.begun);
+      begun = cond_both (is_silent port.sent now) (interval_from now port.trickle.len word) port.trickle BegunBy (λ _. omega arith) (λ _. well.past.begun);
       sent = cond_both (is_silent port.sent now) now port.sent By (λ _. omega arith) (λ _. well.past.sent);
       asked = well.past.asked;
       heard = well.past.heard;

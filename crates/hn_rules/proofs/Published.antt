@@ -2,7 +2,7 @@
 use Rattle.std.proofs.Common.{◌≡◌, ◌⊎◌, ◌∙◌, ℕ, List, [], ◌++◌, Option, Some, None, inl, inr, refl, sym, subst}
 use Rattle.std.specs.Prelude.{Contains}
 use Rattle.std.proofs.lemmas.List.Elements.{Contains-append_left, Contains-append_right, Contains-append_cases}
-use Rattle.hn_base.proofs.Decisions.{texts_cases}
+use Rattle.hn_base.proofs.DecidingTests.{texts_cases}
 use Rattle.hn_hash.specs.Hash.{hash_of}
 use Rattle.hn_tlv.specs.Grammar.{PlainTlv}
 use Rattle.hn_store.specs.Acceptance.{PlainState}

@@ -16,7 +16,7 @@ use Rattle.hn_rules.specs.Nodes.{age_at, held_entry, own_entry, IsReach}
 use Rattle.hn_rules.specs.Refresh.{IsReaching, IsRefresh}
 use Rattle.hn_rules.specs.Router.{IsRefreshed, IsFresh}
 use Rattle.hn_rules.proofs.Forgetting.{between, among_reach, IsMarked}
-use Rattle.hn_base.proofs.Decisions.{from_is_none}
+use Rattle.hn_base.proofs.DecidingTests.{from_is_none}
 
 -- ---- moments of loss
 

@@ -12,7 +12,7 @@ use Rattle.hn_base.specs.declared.ids.NodeId.{NodeId}
 use Rattle.hn_base.specs.declared.ids.EpId.{EpId}
 use Rattle.hn_data.specs.declared.view.Entry.{Entry}
 use Rattle.hn_graph.specs.Path.{IsReachable}
-use Rattle.hn_timers.specs.Interval.{started}
+use Rattle.hn_timers.specs.Interval.{interval_from}
 use Rattle.hn_dncp.specs.declared.port.Port.{Port}
 use Rattle.hn_dncp.specs.Tick.{ticked}
 use Rattle.hn_store.specs.declared.stored.HeldNode.{HeldNode}
@@ -201,7 +201,7 @@ with_hash s net is same = record {
 
 pub reset_keeps : KeepsLinks IsPortReset
 reset_keeps start port r a (inl (shortest, is)) changed kept = subst (Kept start) (sym is) kept
-reset_keeps start port r a (inr (longer, (word, is))) changed kept = subst (Kept start) (sym is) (changed (record port { trickle = started r.state.moment 200 word }) refl refl)
+reset_keeps start port r a (inr (longer, (word, is))) changed kept = subst (Kept start) (sym is) (changed (record port { trickle = interval_from r.state.moment 200 word }) refl refl)
 
 fresh_hashing : (r a : Running) → IsHashing r a → ArePorts r.state.ports → IsReached r.state → IsFresh a.state
 fresh_hashing r a (inl (same, is)) are reached = subst (λ (x : Running). IsFresh x.state) (sym is) (with_hash r.state r.state.net reached (sym same))

@@ -2,7 +2,7 @@
 use Rattle.std.proofs.Common.{◌≡◌, ◌≢◌, ◌∙◌, ℕ, List, [], ◌∷◌, ◌++◌, Option, Some, ap, refl, sym, subst, inl, inr}
 use Rattle.hn_base.specs.declared.ids.EpId.{EpId}
 use Rattle.hn_base.specs.Words.{Drew}
-use Rattle.hn_timers.specs.Interval.{Interval, started}
+use Rattle.hn_timers.specs.Interval.{Interval, interval_from}
 use Rattle.hn_dncp.specs.declared.port.Port.{Port}
 use Rattle.hn_rules.specs.declared.done.Publication.{Publication}
 use Rattle.hn_rules.specs.declared.running.Running.{Running}
@@ -41,12 +41,12 @@ ran_refresh told told_after before published reached after publishing reaching h
 
 -- Trickle of an endpoint is reset
 pub reset_one : (at : EpId) (port copy : Port) (trickle : Interval) (word now : ℕ) (told told_after : Option (ℕ → ℕ)) (ports : List Port) (before between after : Running)
-    → Some port ≡ port_at at ports → ports ≡ before.state.ports → port.trickle.len ≢ 200 → copy ≡ port → now ≡ before.state.moment → trickle ≡ started now 200 word
+    → Some port ≡ port_at at ports → ports ≡ before.state.ports → port.trickle.len ≢ 200 → copy ≡ port → now ≡ before.state.moment → trickle ≡ interval_from now 200 word
     → between ≡ with_words (word ∷ []) before → Drew told before.done.words told_after between.done.words
     → after ≡ with_port (record copy { trickle = trickle }) between
     → Ran (AtPort at IsPortReset) told told_after before after
 reset_one at port copy trickle word now told told_after ports before between after here same_ports long same present began took drew gives =
-    let whole : after ≡ with_words (word ∷ []) (with_port (record port { trickle = started before.state.moment 200 word }) before) = cc in
+    let whole : after ≡ with_words (word ∷ []) (with_port (record port { trickle = interval_from before.state.moment 200 word }) before) = cc in
     record {
       holds = at_port at port ports IsPortReset before after here same_ports (inr (long, (word, whole)));
       drew = subst (λ (ws : List ℕ). Drew told before.done.words told_after ws) (ap (λ (r : Running). r.done.words) (sym gives)) drew;

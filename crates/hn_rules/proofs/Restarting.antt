@@ -3,7 +3,7 @@ use Rattle.std.proofs.Common.{◌≡◌, ◌∙◌, ℕ, true, List, [], ◌∷�
 use Rattle.hn_base.specs.declared.ids.EpId.{EpId}
 use Rattle.hn_base.specs.Words.{Drew}
 use Rattle.hn_dncp.specs.declared.port.Port.{Port}
-use Rattle.hn_dncp.specs.Port.{begun}
+use Rattle.hn_dncp.specs.Port.{attached_port}
 use Rattle.hn_rules.specs.declared.running.Running.{Running}
 use Rattle.hn_own.specs.Ports.{port_at, endpoints_of}
 use Rattle.hn_base.specs.Rules.{Then, Each}
@@ -14,7 +14,7 @@ use Rattle.hn_rules.proofs.AtPorts.{at_port, found_id}
 
 -- an endpoint that is attached begins anew
 pub restart_one : (at : EpId) (ports : List Port) (port : Port) (now word : ℕ) (told told_after : Option (ℕ → ℕ)) (before between after : Running)
-    → is_some (port_at at ports) ≡ true → ports ≡ before.state.ports → now ≡ between.state.moment → port ≡ begun at now word
+    → is_some (port_at at ports) ≡ true → ports ≡ before.state.ports → now ≡ between.state.moment → port ≡ attached_port at now word
     → between ≡ with_words (word ∷ []) before → Drew told before.done.words told_after between.done.words → after ≡ with_port port between
     → Ran (AtPort at IsPortRestart) told told_after before after
 restart_one at ports port now word told told_after before between after attached same present is began drew gives = record {
@@ -22,14 +22,14 @@ restart_one at ports port now word told told_after before between after attached
   drew = subst (λ (ws : List ℕ). Drew told before.done.words told_after ws) (ap (λ (r : Running). r.done.words) (sym gives)) drew;
 }
   where
-    whole : after ≡ with_words (word ∷ []) (with_port (begun at before.state.moment word) before)
-    whole = gives ∙ ap (with_port port) began ∙ ap (λ (p : Port). with_port p (with_words (word ∷ []) before)) (is ∙ ap (λ (n : ℕ). begun at n word) (present ∙ ap (λ (r : Running). r.state.moment) began))
+    whole : after ≡ with_words (word ∷ []) (with_port (attached_port at before.state.moment word) before)
+    whole = gives ∙ ap (with_port port) began ∙ ap (λ (p : Port). with_port p (with_words (word ∷ []) before)) (is ∙ ap (λ (n : ℕ). attached_port at n word) (present ∙ ap (λ (r : Running). r.state.moment) began))
 
     by_port : (found : Option Port) → found ≡ port_at at ports → is_some found ≡ true → AtPort at IsPortRestart before after
     by_port None here some = cc
     by_port (Some old) here some =
         at_port at old ports IsPortRestart before after here same
-        (record { word = word; gives = whole ∙ ap (λ (e : EpId). with_words (word ∷ []) (with_port (begun e before.state.moment word) before)) (sym (found_id at old ports here)) })
+        (record { word = word; gives = whole ∙ ap (λ (e : EpId). with_words (word ∷ []) (with_port (attached_port e before.state.moment word) before)) (sym (found_id at old ports here)) })
 
 -- a restart in three steps
 pub ran_restart : (told told_after : Option (ℕ → ℕ)) (before cleared restarted after : Running)

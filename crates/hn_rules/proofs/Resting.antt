@@ -118,7 +118,7 @@ named_stays from node endpoint port r multicast passes are found =
     same : greeting_port from node endpoint r.state.moment port ≡ port
     same =
         let peer : Neighbour = record { node = node; endpoint = endpoint; contact = r.state.moment; addr = from.from } in
-        ap (λ (b : Bool). let p : Port = record port { peers = cond b port.peers (dncp.met peer port.peers) } in p) multicast
+        ap (λ (b : Bool). let p : Port = record port { peers = cond b port.peers (dncp.peers_heard peer port.peers) } in p) multicast
 
 -- ---- a Node State
 

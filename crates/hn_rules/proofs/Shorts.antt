@@ -12,7 +12,7 @@ use Rattle.hn_typed.specs.Fields.{IsHash}
 use Rattle.hn_typed.specs.Item.{PlainItem, NetworkState, NodeState}
 use Rattle.hn_typed.specs.Written.{value_of, tlv_of}
 use Rattle.hn_dncp.specs.Laws.{PackingIsShort}
-use Rattle.hn_dncp.specs.Packing.{IsShort}
+use Rattle.hn_dncp.specs.Packing.{IsShortDatagram}
 use Rattle.hn_store.specs.Laws.{HeldIsOfAnEntry}
 use Rattle.hn_store.specs.Nodes.{held, IsIntact}
 use Rattle.hn_store.specs.declared.stored.Stored.{Stored}
@@ -91,7 +91,7 @@ abbrev AreShortTlvs : List (List ℕ) → Type 0
 AreShortTlvs = All (λ tlv. length tlv ≤ most_answer)
 
 -- datagrams of short TLVs are short
-datagram_short : (tlvs : List (List ℕ)) → AreShortTlvs tlvs → (datagram : List ℕ) → IsShort tlvs datagram → length datagram ≤ most_datagram
+datagram_short : (tlvs : List (List ℕ)) → AreShortTlvs tlvs → (datagram : List ℕ) → IsShortDatagram tlvs datagram → length datagram ≤ most_datagram
 datagram_short tlvs short datagram (inl few) = omega arith
 datagram_short tlvs short datagram (inr (tlv, there, is)) =
     let one : length tlv ≤ most_answer = All-contains (λ (tlv : List ℕ). length tlv ≤ most_answer) tlvs tlv short there in
@@ -100,7 +100,7 @@ datagram_short tlvs short datagram (inr (tlv, there, is)) =
 sends_short : PackingIsShort → (r : Running) (sends : List Outgoing) → IsHash r.state.net → All (λ a. length a.tlv ≤ most_answer) r.answers → ArePacked r sends → All (λ o. length o.bytes ≤ most_datagram) sends
 sends_short packing r sends hash short packed =
     let each : All (λ datagram. length datagram ≤ most_datagram) packed.datagrams =
-    All-weaker (IsShort packed.tlvs) _ (datagram_short packed.tlvs (tlvs_short packed.tlvs_are)) packed.datagrams (packing r.state.id packed.endpoint packed.tlvs packed.datagrams packed.packed) in
+    All-weaker (IsShortDatagram packed.tlvs) _ (datagram_short packed.tlvs (tlvs_short packed.tlvs_are)) packed.datagrams (packing r.state.id packed.endpoint packed.tlvs packed.datagrams packed.packed) in
     subst (All (λ (o : Outgoing). length o.bytes ≤ most_datagram)) (sym packed.sends_are)
     (All-map (λ (o : Outgoing). length o.bytes ≤ most_datagram) (λ (bytes : List ℕ). let o : Outgoing = record { endpoint = packed.endpoint; to = packed.to; bytes = bytes } in o) packed.datagrams each)
   where

@@ -9,7 +9,7 @@ use Rattle.std.proofs.lemmas.Cmp.{nat_cmp_total}
 use Rattle.std.proofs.lemmas.List.Elements.{All-contains}
 use Rattle.hn_base.proofs.AscendingLists.{sorted_parts}
 use Rattle.hn_base.proofs.Elements.{all_of, found_passes, in_filter_map, passing_found}
-use Rattle.hn_base.proofs.Parts.{one_of_ascending, part_at, part_stands}
+use Rattle.hn_base.proofs.PartsAtPlaces.{one_of_ascending, part_at, part_stands}
 use Rattle.hn_data.specs.View.{PlainView}
 use Rattle.hn_data.specs.declared.view.Entry.{Entry}
 use Rattle.hn_dncp.specs.Due.{IsPortStill}

@@ -9,7 +9,7 @@ use Rattle.hn_base.specs.Rules.{Then}
 use Rattle.hn_rules.specs.Rules.{AtPort, Ran, words_of}
 use Rattle.hn_rules.specs.Tick.{IsPortExpiry, IsExpiry, forgetting, IsPortsTick}
 use Rattle.hn_rules.specs.Ticks.{IsLosing, IsSettling, IsTick}
-use Rattle.hn_base.proofs.Rans.{ran_plain, ran_both, ran_after, each_words, on_some_words}
+use Rattle.hn_base.proofs.RulesInTurn.{ran_plain, ran_both, ran_after, each_words, on_some_words}
 
 pub ran_losing : (told told_after : Option (ℕ → ℕ)) (before expired ended after : Running)
     → IsExpiry before expired → ended ≡ ending expired → Ran IsRefresh told told_after ended after → Ran IsLosing told told_after before after

@@ -4,7 +4,7 @@ use Rattle.std.specs.List.{slice_get}
 use Rattle.std.proofs.lemmas.Bool.{cases_lt, leb-false, ne_eqb}
 use Rattle.hn_base.proofs.AscendingLists.{Contains-map, Contains-from_map}
 use Rattle.hn_base.proofs.Elements.{any_from}
-use Rattle.hn_base.proofs.Parts.{contains_at, part_at, part_stands}
+use Rattle.hn_base.proofs.PartsAtPlaces.{contains_at, part_at, part_stands}
 use Rattle.hn_base.specs.Prefix.{PlainPrefix}
 use Rattle.hn_base.specs.declared.ids.NodeId.{NodeId}
 use Rattle.hn_data.specs.View.{PlainView}

@@ -6,7 +6,7 @@ use Rattle.std.proofs.lemmas.Bool.{or_parts}
 use Rattle.std.proofs.lemmas.List.Elements.{All-nil, All-filter}
 use Rattle.hn_base.specs.declared.ids.EpId.{EpId}
 use Rattle.hn_tlv.specs.Grammar.{PlainTlv}
-use Rattle.hn_dncp.specs.Port.{begun}
+use Rattle.hn_dncp.specs.Port.{attached_port}
 use Rattle.hn_dncp.specs.declared.port.Port.{Port}
 use Rattle.hn_store.specs.Nodes.{held}
 use Rattle.hn_store.specs.declared.stored.Stored.{Stored}
@@ -161,7 +161,7 @@ each_well laws tlvs c r may well = well_from (change c r).state (each_made laws 
 
 pub keeps_attaching : (at : EpId) (r a : Running) → 0 < at.0 → at.0 < 2 ^ 32 → length r.state.ports < 16 → IsAttaching at r a → Made r → Made a
 keeps_attaching at r a some fits room is made =
-    let port = begun at r.state.moment is.word in
+    let port = attached_port at r.state.moment is.word in
     subst Made (sym is.gives) (record {
       ports = ports-attached r.state.moment port r.state.ports (well-begun r.state.moment at is.word) (some, fits) room made.ports;
       table = made.table;

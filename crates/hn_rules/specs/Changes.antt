@@ -8,7 +8,7 @@ use Rattle.hn_base.specs.declared.caps.Caps.{Caps}
 use Rattle.hn_base.specs.declared.ids.EpId.{EpId}
 use Rattle.hn_base.specs.declared.ids.NodeId.{NodeId}
 use Rattle.hn_tlv.specs.Grammar.{PlainTlv, spelling}
-use Rattle.hn_timers.specs.Interval.{started}
+use Rattle.hn_timers.specs.Interval.{interval_from}
 use Rattle.hn_typed.specs.Item.{PlainItem}
 use Rattle.hn_typed.specs.Item as item
 use Rattle.hn_typed.specs.Table.{InRange, IsItem}
@@ -19,7 +19,7 @@ use Rattle.hn_dncp.specs.Ask.{asked}
 use Rattle.hn_dncp.specs.Greet.{greeted}
 use Rattle.hn_dncp.specs.Hash.{hashed}
 use Rattle.hn_dncp.specs.Packing.{IsPacking}
-use Rattle.hn_dncp.specs.Port.{begun}
+use Rattle.hn_dncp.specs.Port.{attached_port}
 use Rattle.hn_dncp.specs.Tick.{ticked, tick_words}
 use Rattle.hn_store.specs.Nodes.{Nodes}
 use Rattle.hn_store.specs.Acceptance.{PlainState, Accepts}
@@ -66,13 +66,13 @@ pub data PortChange : Type 0 where
 -- the endpoint after it: Trickle is reset, a sender is greeted, the network state is asked for, a network state hash is
 -- heard, silent peers are gone, a tick has moved it on, it begins anew
 abbrev pub port_after : PortChange → Running → Port → Port
-port_after (Reset word) r port = record port { trickle = started r.state.moment 200 word }
+port_after (Reset word) r port = record port { trickle = interval_from r.state.moment 200 word }
 port_after (Meet node endpoint from multicast) r port = greeted node endpoint from multicast r.state.moment port
 port_after Ask r port = asked r.state.moment port
 port_after (Hear hash) r port = hashed (bytes_eq hash r.state.net) r.sender r.state.moment port
 port_after (Expire peers) r port = record port { peers = peers }
 port_after (Move words) r port = ticked r.state.moment words port
-port_after (Begin word) r port = begun port.id r.state.moment word
+port_after (Begin word) r port = attached_port port.id r.state.moment word
 
 -- who may be named as the sender: another node, at an endpoint that is not 0
 pub record IsSender (tlvs : List PlainTlv) (s : State) (node : NodeId) (endpoint : EpId) : Type 0 where

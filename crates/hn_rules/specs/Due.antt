@@ -1,7 +1,7 @@
 -- When something is next due for a router.
 use Rattle.std.specs.Prelude.{◌≡◌, ℕ, ◌+◌, ◌-◌, ◌^◌, ◌⊎◌, List}
-use Rattle.hn_base.specs.Sooner.{IsSooner, IsOfOne}
-use Rattle.hn_timers.specs.Due.{IsExpiry}
+use Rattle.hn_base.specs.Sooner.{IsSooner, IsOfElement}
+use Rattle.hn_timers.specs.Due.{IsExpiryMoment}
 use Rattle.hn_dncp.specs.Due.{IsPortDue}
 use Rattle.hn_dncp.specs.declared.peers.Neighbour.{Neighbour}
 use Rattle.hn_dncp.specs.declared.port.Port.{Port}
@@ -21,12 +21,12 @@ use Rattle.hn_rules.specs.Tick.{HasInterval}
 pub record IsPeerEnd (entries : List HeldNode) (peer : Neighbour) (m : ℕ) : Type 0 where
   pub interval : ℕ
   pub promised : HasInterval (held entries peer.node.0) peer.endpoint interval
-  pub ends : IsExpiry peer.contact interval m
+  pub ends : IsExpiryMoment peer.contact interval m
 
 -- something is due at an endpoint: a peer's keep-alives have stopped, an interval fires or ends, or a keep-alive is to be
 -- sent
 abbrev pub IsDueAtPort : List HeldNode → Port → ℕ → Type 0
-IsDueAtPort entries port m = IsOfOne (IsPeerEnd entries) port.peers m ⊎ IsPortDue port m
+IsDueAtPort entries port m = IsOfElement (IsPeerEnd entries) port.peers m ⊎ IsPortDue port m
 
 -- the own node data come to the age at which they are published again (RFC 7787, section 4.3)
 abbrev pub IsOwnAgeDue : State → ℕ → Type 0
@@ -43,7 +43,7 @@ IsSeenDue s m = IsLifetimeEnd (seen_by s) m ⊎ IsAgeLimit (view_of s) s.moment 
 
 -- something is due for a router then
 abbrev pub IsDueAt : State → ℕ → Type 0
-IsDueAt s m = IsOfOne (IsDueAtPort s.table.entries) s.ports m ⊎ (IsKeptDue s m ⊎ IsSeenDue s m)
+IsDueAt s m = IsOfElement (IsDueAtPort s.table.entries) s.ports m ⊎ (IsKeptDue s m ⊎ IsSeenDue s m)
 
 -- the first of these moments that is after the router's; 2^49, where none comes before
 abbrev pub IsNextDue : State → ℕ → Type 0

@@ -5,7 +5,7 @@ use Rattle.std.specs.Option.{option_eq}
 use Rattle.hn_base.specs.declared.ids.EpId.{EpId}
 use Rattle.hn_base.specs.declared.caps.Caps.{Caps}
 use Rattle.hn_dncp.specs.declared.port.Port.{Port}
-use Rattle.hn_dncp.specs.Port.{begun}
+use Rattle.hn_dncp.specs.Port.{attached_port}
 use Rattle.hn_rules.specs.declared.running.Running.{Running}
 use Rattle.hn_own.specs.Addresses.{OwnAddress, addresses_without}
 use Rattle.hn_own.specs.HeldPairs.{no_pairs, without_private}
@@ -17,7 +17,7 @@ use Rattle.hn_rules.specs.Refresh.{Publishes}
 -- an endpoint is attached, with a word for its first interval
 pub record IsAttaching (at : EpId) (before after : Running) : Type 0 where
   pub word : ℕ
-  pub gives : after ≡ with_words (word ∷ []) (record before { state = record before.state { ports = attached (begun at before.state.moment word) before.state.ports } })
+  pub gives : after ≡ with_words (word ∷ []) (record before { state = record before.state { ports = attached (attached_port at before.state.moment word) before.state.ports } })
 
 -- an endpoint is detached, with its peers and its addresses
 abbrev pub detaching : EpId → Running → Running
@@ -31,7 +31,7 @@ setting_caps caps r = record r { state = record r.state { caps = caps } }
 -- an endpoint begins anew, with a word for its first interval
 pub record IsPortRestart (port : Port) (before after : Running) : Type 0 where
   pub word : ℕ
-  pub gives : after ≡ with_words (word ∷ []) (with_port (begun port.id before.state.moment word) before)
+  pub gives : after ≡ with_words (word ∷ []) (with_port (attached_port port.id before.state.moment word) before)
 
 -- The private link is set or ended. Where its length changes, what is held for it is destroyed.
 abbrev pub setting_private : Option ℕ → Running → Running

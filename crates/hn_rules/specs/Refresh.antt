@@ -4,7 +4,7 @@ use Rattle.std.specs.Prelude.{◌≡◌, ◌≢◌, ℕ, ◌+◌, ◌-◌, ◌%�
 use Rattle.hn_base.specs.declared.ids.NodeId.{NodeId}
 use Rattle.hn_hash.specs.Hash.{hash_of}
 use Rattle.hn_hash.specs.Network.{part_text}
-use Rattle.hn_timers.specs.Interval.{started}
+use Rattle.hn_timers.specs.Interval.{interval_from}
 use Rattle.hn_dncp.specs.declared.port.Port.{Port}
 use Rattle.hn_store.specs.Loss.{marked}
 use Rattle.hn_own.specs.declared.own.OwnItems.{OwnItems}
@@ -72,7 +72,7 @@ abbrev pub IsPortReset : Port → Rule
 IsPortReset port before after =
     ((port.trickle.len ≡ 200) × (after ≡ before))
     ⊎ ((port.trickle.len ≢ 200)
-    × ((word : ℕ) × (after ≡ with_words (word ∷ []) (with_port (record port { trickle = started before.state.moment 200 word }) before))))
+    × ((word : ℕ) × (after ≡ with_words (word ∷ []) (with_port (record port { trickle = interval_from before.state.moment 200 word }) before))))
 
 -- Trickle is reset on each endpoint, in ascending order
 abbrev pub IsReset : Rule

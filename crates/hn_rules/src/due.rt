@@ -1,7 +1,7 @@
 //! When something is next due for a router.
 
 ghost use Rattle.std.specs.Prelude.{IfOk};
-ghost use Rattle.hn_base.specs.Sooner.{IsSooner, IsOfOne};
+ghost use Rattle.hn_base.specs.Sooner.{IsSooner, IsOfElement};
 ghost use Rattle.hn_rules.specs.Due.{IsPeerEnd, IsDueAtPort, IsKeptDue, IsSeenDue, IsNextDue};
 
 use crate::refresh::OLDEST_OWN_DATA;
@@ -30,7 +30,7 @@ impl State {
 
     /// The first of these moments of peers.
     fn next_of_peers(&self, peers: &[Neighbour], best: Moment) -> Moment
-        ensures { IsSooner (IsOfOne (IsPeerEnd self.now.table.entries) peers.now) self.now.moment best result }
+        ensures { IsSooner (IsOfElement (IsPeerEnd self.now.table.entries) peers.now) self.now.moment best result }
     {
         let mut first = best;
         for peer in peers {
@@ -49,7 +49,7 @@ impl State {
 
     /// The first of these moments of the endpoints.
     fn next_of_ports(&self, best: Moment) -> Moment
-        ensures { IsSooner (IsOfOne (IsDueAtPort self.now.table.entries) self.now.ports) self.now.moment best result }
+        ensures { IsSooner (IsOfElement (IsDueAtPort self.now.table.entries) self.now.ports) self.now.moment best result }
     {
         let mut first = best;
         for port in self.ports.get().as_slice() {

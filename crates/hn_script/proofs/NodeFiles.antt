@@ -4,8 +4,8 @@ use Rattle.hn_base.specs.Causes.{OnCause, NoCause}
 use Rattle.hn_base.specs.declared.caps.Caps.{Caps as PriorityCaps}
 use Rattle.hn_base.specs.declared.version.Version.TheVariants.{One}
 use Rattle.hn_base.specs.Prefix.{PlainPrefix}
-use Rattle.hn_base.proofs.Fields.{same_caps}
-use Rattle.hn_base.proofs.Fronts.{tail_is}
+use Rattle.hn_base.proofs.KnownByFields.{same_caps}
+use Rattle.hn_base.proofs.FrontOfList.{tail_is}
 use Rattle.hn_prefix.specs.Laws.{PrefixTextIsOfOne}
 use Rattle.hn_script.specs.Entries.{AreLines, numbered}
 use Rattle.hn_script.specs.Fault.{IsUnknown, FirstWordFault}

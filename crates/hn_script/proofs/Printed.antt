@@ -15,7 +15,7 @@ use Rattle.hn_base.specs.NameText.{is_name_byte}
 use Rattle.hn_base.specs.Numeral.{IsShortNumeral}
 use Rattle.hn_base.specs.Splits.{Lacks}
 use Rattle.hn_base.proofs.NumeralLemmas.{decimal_is_short}
-use Rattle.hn_base.proofs.Recursions.{AllByRecursion-append}
+use Rattle.hn_base.proofs.EachByRecursion.{AllByRecursion-append}
 use Rattle.hn_base.proofs.SplitLemmas.{Lacks-from_fact}
 use Rattle.hn_prefix.specs.PrefixText.{prefix_text_of}
 use Rattle.hn_prefix.specs.Laws.{PrefixTextIsRead}

@@ -2,7 +2,7 @@
 use Rattle.std.proofs.Common.{◌≡◌, ℕ, ◌+◌, List, [], ◌∷◌, Option, Some, None, inl, inr, refl, ap, ◌∙◌, sym, arith}
 use Rattle.std.specs.List.{AllZip}
 use Rattle.hn_base.specs.Causes.{OnCause, NoCause}
-use Rattle.hn_base.proofs.Causes.{one_cause}
+use Rattle.hn_base.proofs.FirstCause.{one_cause}
 use Rattle.hn_script.specs.Entries.{IsEntry, FaultFrom, BytesFault}
 use Rattle.hn_script.specs.Fault.{IsUnknown, IsMiscounted, IsMalformed, TextFault, WordsFault, LineFault}
 use Rattle.hn_script.specs.Language.{Language, SpellsLine, Gives}

@@ -3,7 +3,7 @@ use Rattle.std.proofs.Common.{◌≡◌, ◌≢◌, ◌≤◌, ℕ, List, [], �
 use Rattle.hn_base.specs.Causes.{OnCause, NoCause}
 use Rattle.hn_base.specs.declared.version.Version.{Version}
 use Rattle.hn_base.specs.declared.version.Version.TheVariants.{One, Two}
-use Rattle.hn_base.proofs.Fronts.{head_is, tail_is}
+use Rattle.hn_base.proofs.FrontOfList.{head_is, tail_is}
 use Rattle.hn_prefix.specs.Laws.{PrefixTextIsOfOne}
 use Rattle.hn_script.specs.Entries.{AreLines, FaultFrom, numbered}
 use Rattle.hn_script.specs.Fault.{IsPlain}

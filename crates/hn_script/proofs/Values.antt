@@ -1,7 +1,7 @@
 -- Names are what their texts say: the facts that their type keeps have one proof each.
 use Rattle.std.proofs.Common.{◌≡◌, ℕ, ◌-◌, ◌≤◌, List, ◌++◌, length, refl, sym, ap, ◌∙◌, arith, take-append-drop, length-take, replicate}
 use Rattle.std.proofs.Props.{props}
-use Rattle.hn_base.proofs.Fields.{same_made}
+use Rattle.hn_base.proofs.KnownByFields.{same_made}
 use Rattle.hn_base.specs.declared.name.Name.{Name}
 use Rattle.hn_base.specs.Name.{name_text}
 use Rattle.hn_base.specs.NameText.{IsNameText, IsPadded, first_bytes}

@@ -7,7 +7,7 @@ use Rattle.std.proofs.lemmas.Str.Ascii.{IsAscii-nil, IsAscii-cons}
 use Rattle.std.specs.List.{AllByRecursion, list_all}
 use Rattle.std.specs.Str.{IsAscii, IsUtf8}
 use Rattle.hn_base.specs.Splits.{Lacks}
-use Rattle.hn_base.proofs.Recursions.{AllByRecursion-weaker}
+use Rattle.hn_base.proofs.EachByRecursion.{AllByRecursion-weaker}
 use Rattle.hn_base.proofs.SplitLemmas.{Lacks-from_fact}
 use Rattle.hn_script.specs.Fault.{IsPlain}
 

@@ -10,13 +10,13 @@ use Rattle.hn_assign.specs.declared.assigned.Advertised.{Advertised}
 use Rattle.hn_assign.specs.declared.assigned.Assigned.{Assigned}
 use Rattle.hn_assign.specs.declared.assigned.Wish.{Wish}
 use Rattle.hn_sound.specs.AtRest.{EachPair, PairFact, IsAssignmentOf}
-use Rattle.hn_sound.specs.Home.{Home, Endpoint, Held, HasAssignment, advertised, wish_of}
+use Rattle.hn_sound.specs.Home.{Home, Endpoint, Held, EndpointHasAssignment, advertised, wish_of}
 use Rattle.hn_sound.specs.Premises.{Premise, Meets, IsHome, IsHomeBut}
 use Rattle.hn_sound.specs.Premises.Premise.{OneLink, OnceOnLink, UsedApart, ForUsed, PublishedInside, OneEach, PriorityTwo}
 use Rattle.hn_base.proofs.Elements.{in_filter, from_filter}
 use Rattle.hn_base.proofs.Prefixes.{is_one_prefix, prefix_decided}
 use Rattle.hn_base.proofs.Elements.{any_of}
-use Rattle.hn_sound.proofs.Tests.{implies, then_true, each_passes, is_within, within_from, may_overlap, to_may_overlap}
+use Rattle.hn_sound.proofs.PrefixTests.{implies, then_true, each_passes, is_within, within_from, may_overlap, to_may_overlap}
 
 -- ---- the assignments of a pair
 
@@ -33,11 +33,11 @@ to_is_of e d c id is =
     (and_from (e.node.0 == e.node.0) (c.endpoint.0 == e.id.0) (eq-eqb e.node.0 e.node.0 refl) (eq-eqb c.endpoint.0 e.id.0 (ap (λ (i : _). i.0) id)))
     ((prefix_decided c.delegated d).1 is)
 
-pub to_assignments_of : (home : Home) (e : Endpoint) (d : PlainPrefix) (c : Assigned) → HasAssignment home e d c → Contains (assignments_of home e d) (record { node = e.node; assigned = c })
+pub to_assignments_of : (home : Home) (e : Endpoint) (d : PlainPrefix) (c : Assigned) → EndpointHasAssignment home e d c → Contains (assignments_of home e d) (record { node = e.node; assigned = c })
 to_assignments_of home e d c has =
     in_filter (is_of e d) home.assignments (record { node = e.node; assigned = c }) has.held (to_is_of e d c has.of_endpoint has.of_delegated)
 
-from_assignments_of : (home : Home) (e : Endpoint) (d : PlainPrefix) (h : Held) → Contains home.endpoints e → Contains (assignments_of home e d) h → HasAssignment home e d h.assigned
+from_assignments_of : (home : Home) (e : Endpoint) (d : PlainPrefix) (h : Held) → Contains home.endpoints e → Contains (assignments_of home e d) h → EndpointHasAssignment home e d h.assigned
 from_assignments_of home e d h e_there contained =
     let found = from_filter (is_of e d) home.assignments h contained in
     let parts = and_parts ((h.node.0 == e.node.0) && (h.assigned.endpoint.0 == e.id.0)) (is_one_prefix h.assigned.delegated d) found.1 in
@@ -58,7 +58,8 @@ first_of_list (h ∷ hs) = Some h.assigned
 first_is : (home : Home) (e : Endpoint) (d : PlainPrefix) → Contains home.endpoints e → IsAssignmentOf home e d (first_of_list (assignments_of home e d))
 first_is home e d e_there = go (assignments_of home e d) (to_assignments_of home e d) (λ h contained. from_assignments_of home e d h e_there contained)
   where
-    go : (hs : List Held) → ((c : Assigned) → HasAssignment home e d c → Contains hs (record { node = e.node; assigned = c })) → ((h : Held) → Contains hs h → HasAssignment home e d h.assigned) → IsAssignmentOf home e d (first_of_list hs)
+    go : (hs : List Held) → ((c : Assigned) → EndpointHasAssignment home e d c → Contains hs (record { node = e.node; assigned = c }))
+        → ((h : Held) → Contains hs h → EndpointHasAssignment home e d h.assigned) → IsAssignmentOf home e d (first_of_list hs)
     go [] complete _ = λ c has. nothing_in (record { node = e.node; assigned = c }) (complete c has)
     go (h ∷ hs) _ has = has h (Contains-head h hs)
 
@@ -73,7 +74,8 @@ pair_passes test home e d = test (advertised home) e.node.0 (wish_of home e d) (
 abbrev pub each_pair : PairTest → Home → Bool
 each_pair test home = list_all (λ e. list_all (pair_passes test home e) home.used) home.endpoints
 
-pub each_pair_from : (P : PairFact) (test : PairTest) → ((adv : List Advertised) (own : ℕ) (wish : Wish) (o : Option Assigned) → test adv own wish o ≡ true → P adv own wish o) → (home : Home) → each_pair test home ≡ true → EachPair P home
+pub each_pair_from : (P : PairFact) (test : PairTest) → ((adv : List Advertised) (own : ℕ) (wish : Wish) (o : Option Assigned) → test adv own wish o ≡ true → P adv own wish o)
+    → (home : Home) → each_pair test home ≡ true → EachPair P home
 each_pair_from P test tells home h e d e_there d_used =
     let of_e = each_passes (λ x. list_all (pair_passes test home x) home.used) home.endpoints e h e_there in
     let of_d = each_passes (pair_passes test home e) home.used d of_e d_used in
@@ -86,7 +88,8 @@ abbrev pub each_assignment : (Held → Bool) → Home → Bool
 each_assignment test home =
     list_all (λ (e : Endpoint). list_all (λ (h : Held). implies (is_of e h.assigned.delegated h) (test h)) home.assignments) home.endpoints
 
-assignment_passes : (test : Held → Bool) (home : Home) (e : Endpoint) (d : PlainPrefix) (c : Assigned) → each_assignment test home ≡ true → HasAssignment home e d c → test (record { node = e.node; assigned = c }) ≡ true
+assignment_passes : (test : Held → Bool) (home : Home) (e : Endpoint) (d : PlainPrefix) (c : Assigned) → each_assignment test home ≡ true
+    → EndpointHasAssignment home e d c → test (record { node = e.node; assigned = c }) ≡ true
 assignment_passes test home e d c h has =
     let it : Held = record { node = e.node; assigned = c } in
     let of_e = each_passes (λ (x : Endpoint). list_all (λ (k : Held). implies (is_of x k.assigned.delegated k) (test k)) home.assignments) home.endpoints e h has.there in
@@ -172,9 +175,11 @@ meets_from home PublishedInside h = λ e d c priority published.
     subst (IsWithin c.prefix) published.has.of_delegated (inside_from c.published c.prefix c.delegated priority passes published.published)
 meets_from home OneEach h = λ e d c other has other_has.
     let of_e = each_passes (λ (x : Endpoint). list_all (λ (k : Held). has_at_most_one (assignments_of home x k.assigned.delegated)) home.assignments) home.endpoints e h has.there in
-    let of_c : has_at_most_one (assignments_of home e c.delegated) ≡ true = each_passes (λ (k : Held). has_at_most_one (assignments_of home e k.assigned.delegated)) home.assignments (record { node = e.node; assigned = c }) of_e has.held in
+    let of_c : has_at_most_one (assignments_of home e c.delegated) ≡ true =
+    each_passes (λ (k : Held). has_at_most_one (assignments_of home e k.assigned.delegated)) home.assignments (record { node = e.node; assigned = c }) of_e has.held in
     let of_d : has_at_most_one (assignments_of home e d) ≡ true = subst (λ x. has_at_most_one (assignments_of home e x) ≡ true) has.of_delegated of_c in
-    ap (λ (k : Held). k.assigned) (one_only (assignments_of home e d) (record { node = e.node; assigned = c }) (record { node = e.node; assigned = other }) of_d (to_assignments_of home e d c has) (to_assignments_of home e d other other_has))
+    ap (λ (k : Held). k.assigned) (one_only (assignments_of home e d) (record { node = e.node; assigned = c })
+    (record { node = e.node; assigned = other }) of_d (to_assignments_of home e d c has) (to_assignments_of home e d other other_has))
 meets_from home PriorityTwo h = λ e d c priority published.
     two_from c.published priority (assignment_passes (λ (k : Held). is_two_where_published k.assigned.published) home e d c h published.has) published.published
 

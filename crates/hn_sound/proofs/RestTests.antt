@@ -21,8 +21,8 @@ use Rattle.hn_sound.specs.Conditions.{Condition, MeetsRest, IsAtRestBut}
 use Rattle.hn_sound.specs.Conditions.Condition.{NothingToDo, Published, Valid, GreaterKey, Unpublished, BestPrefix}
 use Rattle.hn_base.proofs.Prefixes.{is_one_prefix, prefix_decided}
 use Rattle.hn_base.proofs.Elements.{any_of, any_from}
-use Rattle.hn_sound.proofs.Tests.{implies, then_true, each_passes, begins_with, to_begins_with, is_within, within_from, may_overlap, to_may_overlap}
-use Rattle.hn_base.proofs.Decisions.{from_is_none}
+use Rattle.hn_sound.proofs.PrefixTests.{implies, then_true, each_passes, begins_with, to_begins_with, is_within, within_from, may_overlap, to_may_overlap}
+use Rattle.hn_base.proofs.DecidingTests.{from_is_none}
 
 not_less : (r : Ordering) → not (is_lt r) ≡ true → ¬ (r ≡ Less)
 not_less r h e = let less : is_lt r ≡ true = ap is_lt e in let no : is_lt r ≡ false = not-true (is_lt r) h in absurd (cc)
@@ -109,7 +109,8 @@ from_is_valid adv own common c h a there off overlap =
     let passes = each_passes (λ x. is_on_link common x || implies (may_overlap x.prefix c.prefix) (not (is_lt (key_cmp (key_of 2 own c.endpoint.0) x.key)))) adv a h there in
     elim (or_cases (is_on_link common a) (implies (may_overlap a.prefix c.prefix) (not (is_lt (key_cmp (key_of 2 own c.endpoint.0) a.key)))) passes) [
       | inl on ↦ λ _. off (from_is_on_link common a on)
-      | inr then ↦ not_less (key_cmp (key_of 2 own c.endpoint.0) a.key) (then_true (may_overlap a.prefix c.prefix) (not (is_lt (key_cmp (key_of 2 own c.endpoint.0) a.key))) then (to_may_overlap a.prefix c.prefix overlap))
+      | inr then ↦ not_less (key_cmp (key_of 2 own c.endpoint.0) a.key)
+          (then_true (may_overlap a.prefix c.prefix) (not (is_lt (key_cmp (key_of 2 own c.endpoint.0) a.key))) then (to_may_overlap a.prefix c.prefix overlap))
     ]
 
 -- the delegated prefix is advertised as a whole

@@ -4,12 +4,12 @@ use Rattle.std.specs.Prelude.{Contains, IsTrue}
 use Rattle.hn_base.specs.Prefix.{PlainPrefix}
 use Rattle.hn_assign.specs.declared.assigned.Assigned.{Assigned}
 use Rattle.hn_assign.specs.Best.{IsFreeIn}
-use Rattle.hn_sound.specs.Home.{Home, Endpoint, HasAssignment, HasPublished, advertised}
-use Rattle.hn_sound.specs.Sound.{IsSound, IsServed, HasNoPublisher}
+use Rattle.hn_sound.specs.Home.{Home, Endpoint, EndpointHasAssignment, HasPublished, advertised}
+use Rattle.hn_sound.specs.Sound.{IsSoundHome, IsLinkServed, HasNoPublisher}
 
-module _ (home : Home) (is_sound : IsSound home) (d : PlainPrefix) (used : Contains home.used d) where
+module _ (home : Home) (is_sound : IsSoundHome home) (d : PlainPrefix) (used : Contains home.used d) where
   -- where an endpoint has an assignment, its link is served
-  serves : (e : Endpoint) (c : Assigned) → HasAssignment home e d c → IsServed home e.link d
+  serves : (e : Endpoint) (c : Assigned) → EndpointHasAssignment home e d c → IsLinkServed home e.link d
   serves e c has =
       elim (is_sound.each_link e d has.there used) [
         | inl served ↦ served
@@ -25,23 +25,24 @@ module _ (home : Home) (is_sound : IsSound home) (d : PlainPrefix) (used : Conta
       (of_e.0 ∙ sym of_f.0, of_e.1 ∙ sym of_f.1)
 
   -- where one endpoint has an assignment, the others of the link have one
-  pub no_lonely : (e f : Endpoint) (c : Assigned) → HasAssignment home e d c → Contains home.endpoints f → f.link ≡ e.link → (k : Assigned) × HasAssignment home f d k
+  pub no_lonely : (e f : Endpoint) (c : Assigned) → EndpointHasAssignment home e d c → Contains home.endpoints f → f.link ≡ e.link → (k : Assigned) × EndpointHasAssignment home f d k
   no_lonely e f c has there link = (serves e c has).every f there link
 
   -- and some one is published
-  pub no_unpublished : (e : Endpoint) (c : Assigned) → HasAssignment home e d c → ¬ (HasNoPublisher home e.link d)
+  pub no_unpublished : (e : Endpoint) (c : Assigned) → EndpointHasAssignment home e d c → ¬ (HasNoPublisher home e.link d)
   no_unpublished e c has none =
       let served = serves e c has in
       none served.publisher served.assignment served.priority served.on_link served.published
 
   -- and they have one prefix
-  pub same_prefixes : (e f : Endpoint) (c k : Assigned) → HasAssignment home e d c → HasAssignment home f d k → f.link ≡ e.link → c.prefix ≡ k.prefix
+  pub same_prefixes : (e f : Endpoint) (c k : Assigned) → EndpointHasAssignment home e d c → EndpointHasAssignment home f d k → f.link ≡ e.link → c.prefix ≡ k.prefix
   same_prefixes e f c k has l link =
       let served = serves e c has in
       served.one_prefix e c refl has ∙ sym (served.one_prefix f k link l)
 
   -- what is wanted and free is assigned
-  pub no_unassigned : (e : Endpoint) (p : PlainPrefix) → Contains home.endpoints e → IsTrue (home.wants e.node d) → IsFreeIn (advertised home) d (home.length e) p → (c : Assigned) × HasAssignment home e d c
+  pub no_unassigned : (e : Endpoint) (p : PlainPrefix) → Contains home.endpoints e → IsTrue (home.wants e.node d)
+      → IsFreeIn (advertised home) d (home.length e) p → (c : Assigned) × EndpointHasAssignment home e d c
   no_unassigned e p there wanted free =
       elim (is_sound.each_link e d there used) [
         | inl served ↦ served.every e there refl

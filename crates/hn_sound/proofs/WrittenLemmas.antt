@@ -4,19 +4,19 @@ use Rattle.std.specs.Prelude.{Contains}
 use Rattle.hn_base.proofs.AscendingLists.{nothing_in}
 use Rattle.hn_base.specs.Prefix.{PlainPrefix, Overlaps}
 use Rattle.hn_assign.specs.declared.assigned.Assigned.{Assigned}
-use Rattle.hn_sound.specs.Home.{Home, Endpoint, HasAssignment, HasPublished}
+use Rattle.hn_sound.specs.Home.{Home, Endpoint, EndpointHasAssignment, HasPublished}
 use Rattle.hn_sound.specs.Homes.{first, second}
 use Rattle.hn_sound.specs.Written.{subnet, has}
 use Rattle.hn_sound.proofs.HomeTests.{assignments_of, to_assignments_of}
 
 module _ (home : Home) (e : Endpoint) (d prefix : PlainPrefix) (there : Contains home.endpoints e) where
-  pub has_it : (published : Option ℕ) → Contains home.assignments (has e d prefix published) → HasAssignment home e d (has e d prefix published).assigned
+  pub has_it : (published : Option ℕ) → Contains home.assignments (has e d prefix published) → EndpointHasAssignment home e d (has e d prefix published).assigned
   has_it published held = record { there = there; held = held; of_endpoint = refl; of_delegated = refl }
 
   pub publishes_it : (priority : ℕ) → Contains home.assignments (has e d prefix (Some priority)) → HasPublished home e d (has e d prefix (Some priority)).assigned priority
   publishes_it priority held = record { has = has_it (Some priority) held; published = refl }
 
-pub has_none : (home : Home) (e : Endpoint) (d : PlainPrefix) (c : Assigned) → assignments_of home e d ≡ [] → ¬ (HasAssignment home e d c)
+pub has_none : (home : Home) (e : Endpoint) (d : PlainPrefix) (c : Assigned) → assignments_of home e d ≡ [] → ¬ (EndpointHasAssignment home e d c)
 has_none home e d c none h =
     nothing_in (record { node = e.node; assigned = c }) (subst (λ hs. Contains hs (record { node = e.node; assigned = c })) none (to_assignments_of home e d c h))
 

@@ -5,12 +5,12 @@ use Rattle.hn_assign.specs.declared.assigned.Advertised.{Advertised}
 use Rattle.hn_assign.specs.declared.assigned.Assigned.{Assigned}
 use Rattle.hn_assign.specs.declared.assigned.Wish.{Wish}
 use Rattle.hn_assign.specs.Rest.{IsAtRest}
-use Rattle.hn_sound.specs.Home.{Home, Endpoint, HasAssignment, advertised, wish_of}
+use Rattle.hn_sound.specs.Home.{Home, Endpoint, EndpointHasAssignment, advertised, wish_of}
 
 -- the assignment of an endpoint for a used prefix, if it has one
 abbrev pub IsAssignmentOf : Home → Endpoint → PlainPrefix → Option Assigned → Type 0
-IsAssignmentOf home e d None = (c : Assigned) → ¬ HasAssignment home e d c
-IsAssignmentOf home e d (Some c) = HasAssignment home e d c
+IsAssignmentOf home e d None = (c : Assigned) → ¬ EndpointHasAssignment home e d c
+IsAssignmentOf home e d (Some c) = EndpointHasAssignment home e d c
 
 -- a fact of a pair, as its router sees the home: the advertised prefixes, the identifier of the router, the wish, and
 -- the assignment of the pair, if it has one

@@ -32,7 +32,7 @@ pub record Home : Type 0 where
   pub assignments : List Held
 
 -- an endpoint of the home has the assignment, which is for the delegated prefix d
-pub record HasAssignment (home : Home) (e : Endpoint) (d : PlainPrefix) (c : Assigned) : Type 0 where
+pub record EndpointHasAssignment (home : Home) (e : Endpoint) (d : PlainPrefix) (c : Assigned) : Type 0 where
   pub there : Contains home.endpoints e
   pub held : Contains home.assignments (record { node = e.node; assigned = c })
   pub of_endpoint : c.endpoint ≡ e.id
@@ -40,7 +40,7 @@ pub record HasAssignment (home : Home) (e : Endpoint) (d : PlainPrefix) (c : Ass
 
 -- and its router publishes it with the priority
 pub record HasPublished (home : Home) (e : Endpoint) (d : PlainPrefix) (c : Assigned) (priority : ℕ) : Type 0 where
-  pub has : HasAssignment home e d c
+  pub has : EndpointHasAssignment home e d c
   pub published : c.published ≡ Some priority
 
 -- the key of an endpoint's assignments that are published with the priority

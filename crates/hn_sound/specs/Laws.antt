@@ -11,13 +11,13 @@ use Rattle.hn_assign.specs.Advertised.{Link}
 use Rattle.hn_assign.specs.Rest.{IsAtRest}
 use Rattle.hn_sound.specs.AtRest.{IsHomeAtRest}
 use Rattle.hn_sound.specs.Home.{Home, Endpoint, advertised, common_link}
-use Rattle.hn_sound.specs.Members.{IsAdvertised, IsOnLinkOf, IsSeenAtRest}
+use Rattle.hn_sound.specs.Members.{IsAdvertisedInHome, IsOnLinkOf, IsSeenAtRest}
 use Rattle.hn_sound.specs.Premises.{IsHome}
-use Rattle.hn_sound.specs.Sound.{IsSound}
+use Rattle.hn_sound.specs.Sound.{IsSoundHome}
 
 -- The advertised prefixes of a home are those that its routers publish.
 abbrev pub AdvertisedIsExact : Type 0
-AdvertisedIsExact = (home : Home) (a : Advertised) → Contains (advertised home) a ↔ IsAdvertised home a
+AdvertisedIsExact = (home : Home) (a : Advertised) → Contains (advertised home) a ↔ IsAdvertisedInHome home a
 
 -- The Common Link of an endpoint is the endpoints on its link.
 abbrev pub CommonLinkIsExact : Type 0
@@ -41,4 +41,4 @@ HomeRestsAsSeen =
 
 -- A home at rest is sound.
 abbrev pub HomeAtRestIsSound : Type 0
-HomeAtRestIsSound = (home : Home) → IsHome home → IsHomeAtRest home → IsSound home
+HomeAtRestIsSound = (home : Home) → IsHome home → IsHomeAtRest home → IsSoundHome home

@@ -11,7 +11,7 @@ use Rattle.hn_sound.specs.AtRest.{IsAssignmentOf}
 use Rattle.hn_sound.specs.Home.{Home, Endpoint, Held, wish_of}
 
 -- a router of the home publishes it
-pub record IsAdvertised (home : Home) (a : Advertised) : Type 0 where
+pub record IsAdvertisedInHome (home : Home) (a : Advertised) : Type 0 where
   pub held : Held
   pub there : Contains home.assignments held
   pub priority : ℕ
@@ -30,7 +30,7 @@ pub record IsOnLinkOf (home : Home) (e : Endpoint) (node : NodeId) (id : EpId) :
 -- a pair is at rest as its router sees it, in lists of its own
 pub record IsSeenAtRest (home : Home) (e : Endpoint) (d : PlainPrefix) : Type 0 where
   pub adv : List Advertised
-  pub advertised : (a : Advertised) → Contains adv a ↔ IsAdvertised home a
+  pub advertised : (a : Advertised) → Contains adv a ↔ IsAdvertisedInHome home a
   pub common : Link
   pub on_link : (node : NodeId) (id : EpId) → Contains common (node, id) ↔ IsOnLinkOf home e node id
   pub assignment : Option Assigned

@@ -3,7 +3,7 @@
 use Rattle.std.specs.Prelude.{◌≡◌, ◌≢◌, ℕ, ◌≤◌, Contains}
 use Rattle.hn_base.specs.Prefix.{PlainPrefix, IsWithin, Overlaps}
 use Rattle.hn_assign.specs.declared.assigned.Assigned.{Assigned}
-use Rattle.hn_sound.specs.Home.{Home, Endpoint, HasAssignment, HasPublished}
+use Rattle.hn_sound.specs.Home.{Home, Endpoint, EndpointHasAssignment, HasPublished}
 
 pub data Premise : Type 0 where
   OneLink : Premise
@@ -29,14 +29,14 @@ Meets home UsedApart =
     (d other : PlainPrefix) → Contains home.used d → Contains home.used other → Overlaps d other → d ≡ other
 -- each assignment is for a used prefix
 Meets home ForUsed =
-    (e : Endpoint) (d : PlainPrefix) (c : Assigned) → HasAssignment home e d c → Contains home.used d
+    (e : Endpoint) (d : PlainPrefix) (c : Assigned) → EndpointHasAssignment home e d c → Contains home.used d
 -- a published prefix is inside the delegated one that it is for
 Meets home PublishedInside =
     (e : Endpoint) (d : PlainPrefix) (c : Assigned) (priority : ℕ) → HasPublished home e d c priority
     → IsWithin c.prefix d
 -- an endpoint has one assignment for a delegated prefix
 Meets home OneEach =
-    (e : Endpoint) (d : PlainPrefix) (c other : Assigned) → HasAssignment home e d c → HasAssignment home e d other
+    (e : Endpoint) (d : PlainPrefix) (c other : Assigned) → EndpointHasAssignment home e d c → EndpointHasAssignment home e d other
     → c ≡ other
 -- no priority is below 2, with which an assignment is judged to be valid
 Meets home PriorityTwo =

@@ -5,13 +5,13 @@ use Rattle.hn_base.specs.Key.{IsAbove}
 use Rattle.hn_base.specs.Prefix.{PlainPrefix, Overlaps}
 use Rattle.hn_assign.specs.declared.assigned.Assigned.{Assigned}
 use Rattle.hn_assign.specs.Best.{HasNoFree}
-use Rattle.hn_sound.specs.Home.{Home, Endpoint, HasAssignment, HasPublished, advertised, key_at}
+use Rattle.hn_sound.specs.Home.{Home, Endpoint, EndpointHasAssignment, HasPublished, advertised, key_at}
 
 -- every endpoint on the link has an assignment for d, all with one prefix, and exactly one of them is published
-pub record IsServed (home : Home) (link : ℕ) (d : PlainPrefix) : Type 0 where
-  pub every : (e : Endpoint) → Contains home.endpoints e → e.link ≡ link → (c : Assigned) × HasAssignment home e d c
+pub record IsLinkServed (home : Home) (link : ℕ) (d : PlainPrefix) : Type 0 where
+  pub every : (e : Endpoint) → Contains home.endpoints e → e.link ≡ link → (c : Assigned) × EndpointHasAssignment home e d c
   pub prefix : PlainPrefix
-  pub one_prefix : (e : Endpoint) (c : Assigned) → e.link ≡ link → HasAssignment home e d c → c.prefix ≡ prefix
+  pub one_prefix : (e : Endpoint) (c : Assigned) → e.link ≡ link → EndpointHasAssignment home e d c → c.prefix ≡ prefix
   pub publisher : Endpoint
   pub on_link : publisher.link ≡ link
   pub assignment : Assigned
@@ -22,24 +22,24 @@ pub record IsServed (home : Home) (link : ℕ) (d : PlainPrefix) : Type 0 where
       → (e ≡ publisher) × (c ≡ assignment)
 
 -- none has one, and for each the router does not want d, or nothing in d is free for the endpoint
-pub record IsWithout (home : Home) (link : ℕ) (d : PlainPrefix) : Type 0 where
-  pub none : (e : Endpoint) (c : Assigned) → e.link ≡ link → ¬ HasAssignment home e d c
+pub record IsLinkWithout (home : Home) (link : ℕ) (d : PlainPrefix) : Type 0 where
+  pub none : (e : Endpoint) (c : Assigned) → e.link ≡ link → ¬ EndpointHasAssignment home e d c
   pub no_use :
       (e : Endpoint) → Contains home.endpoints e → e.link ≡ link
       → ¬ (IsTrue (home.wants e.node d)) ⊎ HasNoFree (advertised home) d (home.length e)
 
-pub record IsSound (home : Home) : Type 0 where
+pub record IsSoundHome (home : Home) : Type 0 where
   -- for each link that has an endpoint
   pub each_link :
       (e : Endpoint) (d : PlainPrefix) → Contains home.endpoints e → Contains home.used d
-      → IsServed home e.link d ⊎ IsWithout home e.link d
+      → IsLinkServed home e.link d ⊎ IsLinkWithout home e.link d
   -- prefixes held on different links do not overlap
   pub links_apart :
-      (e f : Endpoint) (d other : PlainPrefix) (c k : Assigned) → HasAssignment home e d c → HasAssignment home f other k
+      (e f : Endpoint) (d other : PlainPrefix) (c k : Assigned) → EndpointHasAssignment home e d c → EndpointHasAssignment home f other k
       → e.link ≢ f.link → ¬ Overlaps c.prefix k.prefix
 
 -- on the link of the endpoint no key published for d is greater than that of its assignment
-pub record IsGreatest (home : Home) (e : Endpoint) (d : PlainPrefix) (c : Assigned) (priority : ℕ) : Type 0 where
+pub record IsGreatestOnLink (home : Home) (e : Endpoint) (d : PlainPrefix) (c : Assigned) (priority : ℕ) : Type 0 where
   pub published : HasPublished home e d c priority
   pub greatest :
       (f : Endpoint) (k : Assigned) (q : ℕ) → f.link ≡ e.link → HasPublished home f d k q

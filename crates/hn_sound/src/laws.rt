@@ -7,11 +7,11 @@ ghost use Rattle.hn_base.specs.Prefix.{PlainPrefix, IsWithin, Overlaps};
 ghost use Rattle.hn_assign.specs.declared.assigned.Assigned.{Assigned};
 ghost use Rattle.hn_assign.specs.Best.{IsBest, HasNoBest, HasNoFree};
 ghost use Rattle.hn_sound.specs.AtRest.{IsHomeAtRest};
-ghost use Rattle.hn_sound.specs.Home.{Home, Endpoint, HasAssignment, HasPublished, advertised, common_link, key_at};
+ghost use Rattle.hn_sound.specs.Home.{Home, Endpoint, EndpointHasAssignment, HasPublished, advertised, common_link, key_at};
 ghost use Rattle.hn_sound.specs.Laws.{AdvertisedIsExact, CommonLinkIsExact, RestKnowsNoOrder, HomeRestsAsSeen, HomeAtRestIsSound};
 ghost use Rattle.hn_sound.specs.Premises.{Meets, IsHome};
 ghost use Rattle.hn_sound.specs.Premises.Premise.{OneLink};
-ghost use Rattle.hn_sound.specs.Sound.{IsGreatest, HasNoPublisher};
+ghost use Rattle.hn_sound.specs.Sound.{IsGreatestOnLink, HasNoPublisher};
 
 /// The advertised prefixes of a home are those that its routers publish, and the Common Link of an endpoint is the
 /// endpoints on its link.
@@ -41,12 +41,12 @@ pub fn key_tells_endpoint()
 /// every other endpoint on the link, whether the home is at rest or not.
 pub fn greatest_key_is_best()
     ensures best { (home : Home) (e f : Endpoint) (d : PlainPrefix) (c : Assigned) (p : ℕ)
-        → IsHome home → IsGreatest home e d c p
+        → IsHome home → IsGreatestOnLink home e d c p
         → Contains home.endpoints f → f.link ≡ e.link → f ≢ e
         → IsBest (advertised home) f.node.0 (common_link home f) d
         (record { key = key_at p e; prefix = c.prefix }) }
     ensures one_is_greatest { (home : Home) (link : ℕ) (d : PlainPrefix)
-        → ((e : Endpoint) × (c : Assigned) × (p : ℕ) × (e.link ≡ link) × IsGreatest home e d c p)
+        → ((e : Endpoint) × (c : Assigned) × (p : ℕ) × (e.link ≡ link) × IsGreatestOnLink home e d c p)
         ⊎ HasNoPublisher home link d }
 {}
 
@@ -68,14 +68,14 @@ pub fn link_follows_its_publisher()
     ensures every { (home : Home) (e f : Endpoint) (d : PlainPrefix) (c : Assigned) (p : ℕ)
         → IsHome home → IsHomeAtRest home
         → HasPublished home e d c p → Contains home.endpoints f → f.link ≡ e.link
-        → (k : Assigned) × HasAssignment home f d k × (k.prefix ≡ c.prefix) }
+        → (k : Assigned) × EndpointHasAssignment home f d k × (k.prefix ≡ c.prefix) }
     ensures inside { (home : Home) (e : Endpoint) (d : PlainPrefix) (c : Assigned)
         → IsHome home → IsHomeAtRest home
-        → HasAssignment home e d c → IsWithin c.prefix d }
+        → EndpointHasAssignment home e d c → IsWithin c.prefix d }
     ensures none { (home : Home) (f : Endpoint) (d : PlainPrefix)
         → IsHome home → IsHomeAtRest home
         → Contains home.endpoints f → Contains home.used d → HasNoPublisher home f.link d
-        → ((k : Assigned) → ¬ HasAssignment home f d k)
+        → ((k : Assigned) → ¬ EndpointHasAssignment home f d k)
         × (¬ IsTrue (home.wants f.node d) ⊎ HasNoFree (advertised home) d (home.length f)) }
 {}
 

@@ -2,7 +2,7 @@
 
 ghost use Rattle.hn_sound.specs.AtRest.{IsHomeAtRest};
 ghost use Rattle.hn_sound.specs.Premises.{IsHome};
-ghost use Rattle.hn_sound.specs.Sound.{IsSound};
+ghost use Rattle.hn_sound.specs.Sound.{IsSoundHome};
 ghost use Rattle.hn_sound.specs.Worked.{worked, home_with, overlapping};
 ghost use Rattle.hn_sound.specs.Written.{subnet};
 
@@ -11,7 +11,7 @@ ghost use Rattle.hn_sound.specs.Written.{subnet};
 pub fn worked_home_is_sound()
     ensures is_home { IsHome worked }
     ensures at_rest { IsHomeAtRest worked }
-    ensures sound { IsSound worked }
+    ensures sound { IsSoundHome worked }
 {}
 
 /// The same home is not at rest where the prefix that is published on one link overlaps those of others, whether the

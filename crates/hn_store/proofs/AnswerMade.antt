@@ -5,8 +5,8 @@ use Rattle.std.specs.Ordering.{nat_cmp}
 use Rattle.std.proofs.lemmas.Cmp.{nat_cmp_total}
 use Rattle.hn_base.specs.Causes.{LineElse}
 use Rattle.hn_base.proofs.AscendingLists.{exact_nat}
-use Rattle.hn_base.proofs.Decided.{Decided, both_decided}
-use Rattle.hn_base.proofs.Decisions.{texts_cases, cases_by}
+use Rattle.hn_base.proofs.SoOrNot.{Decided, both_decided}
+use Rattle.hn_base.proofs.DecidingTests.{texts_cases, cases_by}
 use Rattle.hn_tlv.specs.Grammar.{HasTlvs}
 use Rattle.hn_hash.specs.Hash.{hash_of}
 use Rattle.hn_hash.specs.declared.part.Part.{Part}

@@ -5,10 +5,10 @@ use Rattle.std.specs.Option.{option_map}
 use Rattle.std.specs.Ordering.{nat_cmp}
 use Rattle.std.proofs.lemmas.Bool.{eqb-true, eq-eqb}
 use Rattle.hn_base.specs.declared.ids.NodeId.{NodeId}
-use Rattle.hn_base.proofs.Decisions.{texts_cases}
+use Rattle.hn_base.proofs.DecidingTests.{texts_cases}
 use Rattle.hn_base.proofs.Elements.{from_filter, passing_found, found_passes}
 use Rattle.hn_base.proofs.AscendingLists.{sorted_parts}
-use Rattle.hn_base.proofs.Parts.{one_of_ascending}
+use Rattle.hn_base.proofs.PartsAtPlaces.{one_of_ascending}
 use Rattle.std.proofs.lemmas.Cmp.{nat_cmp_total}
 use Rattle.hn_hash.specs.Hash.{hash_of}
 use Rattle.hn_hash.specs.declared.part.Part.{Part}

@@ -12,7 +12,7 @@ use Rattle.std.specs.Ordering.{ordering_index}
 use Rattle.std.specs.declared.cmp.Ordering.TheVariants.{Less, Equal, Greater}
 use Rattle.std.proofs.lemmas.List.{get_or_default, get_or-map, length-map, set_split}
 use Rattle.std.proofs.lemmas.Map.Keys.{below_from_sorted}
-use Rattle.hn_base.proofs.Fronts.{filter-front, filter-back, find-at, find-none}
+use Rattle.hn_base.proofs.FrontOfList.{filter-front, filter-back, find-at, find-none}
 use Rattle.hn_store.specs.declared.stored.Stored.{Stored}
 use Rattle.hn_store.specs.declared.stored.HeldNode.{HeldNode}
 use Rattle.hn_store.specs.Nodes.{ids_of, held, entry, put}

@@ -12,9 +12,9 @@ use Rattle.hn_store.specs.declared.state.Took.TheVariants.{Kept, Renumbered, Ask
 use Rattle.hn_store.specs.Nodes.{Nodes, held, entry, put}
 use Rattle.hn_store.specs.Acceptance.{PlainState, IsAnswer, kept, renumbered, changed, entries_after}
 use Rattle.hn_store.specs.Laws.{PutChangesOneNode, AcceptanceIsUnique, OthersStay, OwnStays}
-use Rattle.hn_base.proofs.Causes.{both_lines}
-use Rattle.hn_base.proofs.Fronts.{find-none}
-use Rattle.hn_base.proofs.Passing.{find-filter}
+use Rattle.hn_base.proofs.FirstCause.{both_lines}
+use Rattle.hn_base.proofs.FrontOfList.{find-none}
+use Rattle.hn_base.proofs.PassingElements.{find-filter}
 use Rattle.std.proofs.lemmas.List.Elements.{All-from_recursion}
 
 -- ---- the first line that holds is one

@@ -13,7 +13,7 @@ use Rattle.hn_base.specs.declared.name.Name.{Name}
 use Rattle.hn_base.specs.declared.version.Version.{Version}
 use Rattle.hn_base.proofs.AscendingLists.{nothing_in, Contains-tail, Contains-map, Contains-from_map}
 use Rattle.hn_base.proofs.Elements.{from_filter, passing_found}
-use Rattle.hn_base.proofs.Parts.{contains_at}
+use Rattle.hn_base.proofs.PartsAtPlaces.{contains_at}
 use Rattle.hn_dncp.specs.declared.port.Port.{Port}
 use Rattle.hn_dncp.specs.Packing.{datagram_of}
 use Rattle.hn_own.specs.Ports.{ArePorts, endpoints_of, is_attached, is_port}

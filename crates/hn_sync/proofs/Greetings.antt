@@ -56,7 +56,7 @@ named_heard from node endpoint port r unicast up found known =
     peer = record { node = node; endpoint = endpoint; contact = r.state.moment; addr = from.from }
 
     same : sign after ≡ sign port
-    same = ap (λ (b : Bool). sign (record port { peers = cond b port.peers (greet.met peer port.peers) })) unicast ∙ (λ i. (port.id, met_signs peer port.peers known i))
+    same = ap (λ (b : Bool). sign (record port { peers = cond b port.peers (greet.peers_heard peer port.peers) })) unicast ∙ (λ i. (port.id, met_signs peer port.peers known i))
 
 pub endpoint_heard : (from : Origin) (node : NodeId) (endpoint : EpId) (r a : Running) → from.multicast ≡ false → Ascend r.state.ports → knows_at from.endpoint node endpoint r.state.ports ≡ true
     → AtPort from.endpoint (λ port b a. a ≡ node_endpoint from node endpoint port b) r a → IsHeard r a

@@ -5,7 +5,7 @@ use Rattle.std.proofs.lemmas.List.Elements.{Contains-append_cases}
 use Rattle.std.proofs.lemmas.List.Folds.{find_at}
 use Rattle.std.proofs.lemmas.Option.{same_Some}
 use Rattle.hn_base.proofs.AscendingLists.{nothing_in, Contains-head, Contains-tail}
-use Rattle.hn_base.proofs.Parts.{contains_at}
+use Rattle.hn_base.proofs.PartsAtPlaces.{contains_at}
 
 -- an element that was put, and the others
 pub set_is : {A : Type 0} (xs : List A) (i : ℕ) (x y : A) → slice_get xs i ≡ Some x → slice_get (slice_set xs i y) i ≡ Some y

@@ -11,11 +11,11 @@ use Rattle.hn_base.specs.declared.ids.EpId.{EpId}
 use Rattle.hn_base.specs.declared.ids.NodeId.{NodeId}
 use Rattle.hn_base.proofs.AscendingLists.{Contains-head, Contains-tail, sorted_parts}
 use Rattle.hn_base.proofs.Elements.{found_passes}
-use Rattle.hn_base.proofs.Parts.{one_of_ascending}
+use Rattle.hn_base.proofs.PartsAtPlaces.{one_of_ascending}
 use Rattle.hn_data.specs.declared.said.PeerLink.{PeerLink}
 use Rattle.hn_dncp.specs.declared.peers.Neighbour.{Neighbour}
 use Rattle.hn_dncp.specs.declared.port.Port.{Port}
-use Rattle.hn_dncp.specs.Greet.{met}
+use Rattle.hn_dncp.specs.Greet.{peers_heard}
 use Rattle.hn_dncp.specs.Hash.{contacted, hashed}
 use Rattle.hn_dncp.specs.Peers.{is_peer, has_peer}
 use Rattle.hn_own.specs.Own.{links_at, links_of}
@@ -135,7 +135,7 @@ same_who peer other is =
     ap (λ (n : ℕ). pair n peer.endpoint.0) (sym (eqb-true other.node.0 peer.node.0 parts.0)) ∙ ap (pair other.node.0) (sym (eqb-true other.endpoint.0 peer.endpoint.0 parts.1))
 
 -- one that is known is met
-pub met_signs : (peer : Neighbour) (peers : List Neighbour) → has_peer peer.node peer.endpoint peers ≡ true → map who (met peer peers) ≡ map who peers
+pub met_signs : (peer : Neighbour) (peers : List Neighbour) → has_peer peer.node peer.endpoint peers ≡ true → map who (peers_heard peer peers) ≡ map who peers
 met_signs peer peers known = rw known
     (map_alike (λ (other : Neighbour). cond (is_peer peer.node peer.endpoint other) peer other) who
     (λ other. cond_both (is_peer peer.node peer.endpoint other) peer other (λ (p : Neighbour). who p ≡ who other) (same_who peer other) (λ _. refl)) peers)

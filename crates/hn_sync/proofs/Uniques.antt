@@ -6,7 +6,7 @@ use Rattle.std.proofs.lemmas.Option.{same_Some, slice_get_past}
 use Rattle.hn_base.specs.Words.{Begins, IsAt}
 use Rattle.hn_base.specs.declared.name.Name.{Name}
 use Rattle.hn_base.proofs.FirstWords.{begins_front, begins_back}
-use Rattle.hn_base.proofs.Fronts.{head_is}
+use Rattle.hn_base.proofs.FrontOfList.{head_is}
 use Rattle.hn_rules.specs.declared.done.Note.{Note}
 use Rattle.hn_world.specs.declared.event.Traced.{Traced}
 use Rattle.hn_world.specs.declared.event.WEvent.{WEvent}

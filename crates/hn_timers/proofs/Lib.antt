@@ -1,2 +1,2 @@
 pub mod Lengths
-mod Stays
+mod StillUntilDue

@@ -13,5 +13,5 @@ pub record IsIntervalStill (now : ℕ) (i : Interval) : Type 0 where
   pub lasts : now < i.begin + i.len
 
 -- a peer that promised keep-alives is gone from this moment on, if nothing is heard of it
-abbrev pub IsExpiry : ℕ → ℕ → ℕ → Type 0
-IsExpiry contact interval m = (0 < interval) × (m ≡ expires_at contact interval)
+abbrev pub IsExpiryMoment : ℕ → ℕ → ℕ → Type 0
+IsExpiryMoment contact interval m = (0 < interval) × (m ≡ expires_at contact interval)

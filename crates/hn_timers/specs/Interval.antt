@@ -19,8 +19,8 @@ pub record IsInterval (i : Interval) : Type 0 where
   pub before_end : i.fire < i.begin + i.len
 
 -- The interval that begins then, with this length; the word says when in its second half it fires (step 2).
-abbrev pub started : ℕ → ℕ → ℕ → Interval
-started begin len word = record {
+abbrev pub interval_from : ℕ → ℕ → ℕ → Interval
+interval_from begin len word = record {
   begin = begin;
   len = len;
   fire = begin + len / 2 + word % (len / 2);
@@ -29,8 +29,8 @@ started begin len word = record {
 }
 
 -- a consistent message is counted (step 3); the count stays at 2^32 - 1
-abbrev pub counted : Interval → Interval
-counted i = record i { heard = min (i.heard + 1) (2 ^ 32 - 1) }
+abbrev pub one_more_heard : Interval → Interval
+one_more_heard i = record i { heard = min (i.heard + 1) (2 ^ 32 - 1) }
 
 -- the timer's time has come, it has not fired, and no consistent message was heard: so a message is sent (step 4)
 abbrev pub has_to_send : ℕ → Interval → Bool
@@ -41,5 +41,5 @@ abbrev pub fired : ℕ → Interval → Interval
 fired now i = record i { done = i.done || nat_le i.fire now }
 
 -- the interval is over (step 5)
-abbrev pub has_ended : ℕ → Interval → Bool
-has_ended now i = nat_le (i.begin + i.len) now
+abbrev pub is_interval_over : ℕ → Interval → Bool
+is_interval_over now i = nat_le (i.begin + i.len) now

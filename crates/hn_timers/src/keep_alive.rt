@@ -1,6 +1,6 @@
 ghost use Rattle.std.specs.Prelude.{◌≡◌, ◌≤◌, ◌^◌};
 ghost use Rattle.hn_base.specs.Sooner.{IsSooner};
-ghost use Rattle.hn_timers.specs.Due.{IsExpiry};
+ghost use Rattle.hn_timers.specs.Due.{IsExpiryMoment};
 ghost use Rattle.hn_timers.specs.KeepAlive.{is_expired, is_silent, silence_end};
 
 use hn_base::{KEEP_ALIVE_INTERVAL, Moment, sooner};
@@ -26,7 +26,7 @@ pub fn expired(contact: Moment, interval: u32, now: Moment) -> bool
 
 /// The moment at which such a peer expires, where that is after now and before `best`; else `best`. Never allocates.
 pub fn next_expiry(contact: Moment, interval: u32, now: Moment, best: Moment) -> Moment
-    ensures { IsSooner (IsExpiry contact interval) now best result }
+    ensures { IsSooner (IsExpiryMoment contact interval) now best result }
 {
     if interval == 0 {
         return best;

@@ -44,14 +44,14 @@ impl Model for Trickle {
 }
 
 impl Trickle {
-    ghost use Rattle.hn_timers.specs.Interval.{started, counted, has_to_send, fired, has_ended};
+    ghost use Rattle.hn_timers.specs.Interval.{interval_from, one_more_heard, has_to_send, fired, is_interval_over};
 
     /// An interval of `len` milliseconds that begins now; `word`, a random number, says when in its second half it
     /// fires (RFC 6206, section 4.2, steps 1 and 2). Never allocates.
     pub fn start(now: Moment, len: u32, word: u32) -> Trickle
         requires of_length { IsLength len }
         requires now_in_range { now ≤ 2 ^ 48 }
-        ensures { result ≡ started now len word }
+        ensures { result ≡ interval_from now len word }
     {
         let half = len / 2;
         Trickle {
@@ -65,7 +65,7 @@ impl Trickle {
 
     /// Counts a consistent message (RFC 6206, section 4.2, step 3). The count stays at 2^32 - 1. Never allocates.
     pub fn hear(&mut self)
-        ensures { self.new ≡ counted self.old }
+        ensures { self.new ≡ one_more_heard self.old }
     {
         self.heard = self.heard.saturating_add(1);
     }
@@ -88,7 +88,7 @@ impl Trickle {
     /// Whether the interval is over (RFC 6206, section 4.2, step 5). Never allocates.
     pub fn ended(&self, now: Moment) -> bool
         requires { now ≤ 2 ^ 48 }
-        ensures { result ≡ has_ended now self.now }
+        ensures { result ≡ is_interval_over now self.now }
     {
         now >= self.begin + u64::from(self.len)
     }
@@ -118,7 +118,7 @@ impl Trickle {
     /// step 5). Never allocates.
     pub fn next(&mut self, now: Moment, word: u32)
         requires { now ≤ 2 ^ 48 }
-        ensures { self.new ≡ started now (next_length self.old.len) word }
+        ensures { self.new ≡ interval_from now (next_length self.old.len) word }
     {
         *self = Trickle::start(now, (2 * self.len).min(LONGEST_INTERVAL), word);
     }
@@ -127,7 +127,7 @@ impl Trickle {
     /// Never allocates.
     pub fn again(&mut self, now: Moment, word: u32)
         requires { now ≤ 2 ^ 48 }
-        ensures { self.new ≡ started now self.old.len word }
+        ensures { self.new ≡ interval_from now self.old.len word }
     {
         *self = Trickle::start(now, self.len, word);
     }
@@ -137,7 +137,7 @@ impl Trickle {
     pub fn reset(&mut self, now: Moment, word: u32)
         requires longer { self.old.len ≢ SHORTEST_INTERVAL }
         requires now_in_range { now ≤ 2 ^ 48 }
-        ensures { self.new ≡ started now SHORTEST_INTERVAL word }
+        ensures { self.new ≡ interval_from now SHORTEST_INTERVAL word }
     {
         *self = Trickle::start(now, SHORTEST_INTERVAL, word);
     }

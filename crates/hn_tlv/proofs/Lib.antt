@@ -1,7 +1,7 @@
-pub mod Outcome
-pub mod Unique
-pub mod Places
+pub mod BeginningOfTlvs
+pub mod OneReading
+pub mod TlvAtPlace
 pub mod PadBytes
-pub mod Split
-pub mod Covered
+pub mod TakenApart
+pub mod ListOrFault
 mod SpelledBytes

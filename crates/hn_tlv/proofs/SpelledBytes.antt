@@ -9,7 +9,8 @@ use Rattle.hn_tlv.specs.Grammar.{PlainTlv, IsTlv, padding, header, unpadded, spe
 
 pub spelling_bytes : (tlv : PlainTlv) → IsTlv tlv → All IsByte (spelling tlv)
 spelling_bytes tlv valid =
-    let front : All IsByte (header tlv.kind (length tlv.value)) = All-append IsByte (to_be_bytes w16 tlv.kind) (to_be_bytes w16 (length tlv.value)) (number_bytes 2 tlv.kind) (number_bytes 2 (length tlv.value)) in
+    let front : All IsByte (header tlv.kind (length tlv.value)) =
+    All-append IsByte (to_be_bytes w16 tlv.kind) (to_be_bytes w16 (length tlv.value)) (number_bytes 2 tlv.kind) (number_bytes 2 (length tlv.value)) in
     let plain : All IsByte (unpadded tlv) = All-append IsByte (header tlv.kind (length tlv.value)) tlv.value front valid.bytes in
     All-append IsByte (unpadded tlv) (replicate (padding (length tlv.value)) 0) plain (All-replicate IsByte (padding (length tlv.value)) 0 (omega arith))
 

@@ -51,7 +51,7 @@ pub record IsTlvAt (bytes : List ℕ) (at : ℕ) (tlv : PlainTlv) (after : ℕ) 
   pub within : after ≤ length bytes
 
 -- one to three bytes, too few for a type and a length
-pub record IsHeaderCut (bytes : List ℕ) (offset : ℕ) : Type 0 where
+pub record IsTlvHeaderCut (bytes : List ℕ) (offset : ℕ) : Type 0 where
   pub not_empty : 0 < length bytes
   pub too_short : length bytes < 4
   pub offset_is : offset ≡ 0
@@ -92,7 +92,7 @@ pub record IsPaddingNotZero (bytes : List ℕ) (offset : ℕ) : Type 0 where
 -- 1, too few bytes; 2, the value passes the end; 3, a pad byte is missing; 4, a pad byte is not zero.
 abbrev pub IsFault : List ℕ → ℕ → ℕ → Type 0
 IsFault bytes offset why =
-    ((why ≡ 1) × IsHeaderCut bytes offset)
+    ((why ≡ 1) × IsTlvHeaderCut bytes offset)
     ⊎ (((why ≡ 2) × IsValueCut bytes offset)
     ⊎ (((why ≡ 3) × IsPaddingCut bytes offset)
     ⊎ ((why ≡ 4) × IsPaddingNotZero bytes offset)))

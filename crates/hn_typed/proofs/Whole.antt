@@ -11,7 +11,7 @@ use Rattle.hn_typed.specs.Fields.{word, two_in_byte, prefix_field, ThenSubs, Has
 use Rattle.hn_typed.specs.Table.{IsOtherKind, IsItem}
 use Rattle.hn_typed.specs.Fault.{Layout, Subs, PrefixAndSubs, Text, Anything, layout, layout_of, prefix_size, IsPrefixTooLong, HasBitPastPrefix, IsMalformedAfter, IsNoText, IsFirstCause, IsItemFault}
 use Rattle.hn_base.specs.Causes.{OnCause, NoCause}
-use Rattle.hn_base.proofs.Causes.{one_cause}
+use Rattle.hn_base.proofs.FirstCause.{one_cause}
 use Rattle.hn_typed.proofs.Causes.{past_prefix, length-prefix_field}
 
 -- no cause holds

@@ -5,9 +5,9 @@ use Rattle.std.proofs.lemmas.List.{append-nil}
 use Rattle.hn_base.specs.Words.{IsAt, Took}
 use Rattle.hn_base.specs.Words.{Begins}
 use Rattle.hn_base.specs.Prefix.{PlainPrefix}
-use Rattle.hn_base.proofs.Causes.{both_lines}
+use Rattle.hn_base.proofs.FirstCause.{both_lines}
 use Rattle.hn_base.proofs.FirstWords.{same_taken, begins_along}
-use Rattle.hn_base.proofs.Fronts.{head_is, tail_is}
+use Rattle.hn_base.proofs.FrontOfList.{head_is, tail_is}
 use Rattle.hn_rules.specs.declared.state.State.{State}
 use Rattle.hn_ula.specs.Ula.{IsGreatestOwn, MustGo, HasTwo, IsToAnnounce, Withdraws, Announces, Decides, IsStill, made_of}
 use Rattle.hn_ula.specs.declared.decision.Ula.{Ula}

@@ -8,7 +8,7 @@ use Rattle.std.proofs.lemmas.Bool.Decides.{not_from_Decides, Decides-eqb}
 use Rattle.hn_base.specs.Prefix.{PlainPrefix, prefix_cmp}
 use Rattle.hn_base.specs.declared.ids.NodeId.{NodeId}
 use Rattle.hn_base.proofs.AscendingLists.{nothing_in, not_below_itself}
-use Rattle.hn_base.proofs.Fronts.{front_at}
+use Rattle.hn_base.proofs.FrontOfList.{front_at}
 use Rattle.hn_base.proofs.Prefixes.{prefix_total, exact_prefix}
 use Rattle.hn_ula.specs.Found.{HasOf, IsGreater, IsFoundOf}
 use Rattle.hn_ula.specs.declared.generated.Generated.{Generated}

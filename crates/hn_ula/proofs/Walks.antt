@@ -3,7 +3,7 @@ use Rattle.std.proofs.Common.{◌≡◌, ◌⊎◌, ◌↔◌, ℕ, ◌+◌, Lis
 use Rattle.std.proofs.lemmas.List.Elements.{Contains-push, Contains-push_cases, Contains-append_left}
 use Rattle.hn_base.specs.declared.ids.NodeId.{NodeId}
 use Rattle.hn_base.proofs.AscendingLists.{nothing_in}
-use Rattle.hn_base.proofs.Fronts.{front_at}
+use Rattle.hn_base.proofs.FrontOfList.{front_at}
 use Rattle.hn_data.specs.Said.{HasVersion}
 use Rattle.hn_data.specs.Delegations.{HasDelegation}
 use Rattle.hn_data.specs.View.{PlainView}

@@ -11,7 +11,7 @@ use Rattle.std.proofs.lemmas.List.Elements.{All-head, All-tail}
 use Rattle.std.proofs.lemmas.Option.{same_Some}
 use Rattle.std.proofs.lemmas.List.{map_push}
 use Rattle.std.specs.Prelude.{option_to_list}
-use Rattle.hn_base.proofs.Parts.{filter_map-push}
+use Rattle.hn_base.proofs.PartsAtPlaces.{filter_map-push}
 use Rattle.hn_base.specs.declared.ids.NodeId.{NodeId}
 use Rattle.hn_base.specs.NodeIds.{node_cmp}
 use Rattle.hn_base.proofs.AscendingLists.{ascending_unique, Contains-head, Contains-tail, Contains-map, Contains-from_map}

@@ -4,9 +4,9 @@ use Rattle.std.proofs.Common.{◌≡◌, ◌∙◌, ℕ, ◌^◌, ◌<◌, ◌�
 use Rattle.std.proofs.lemmas.List.{append-nil}
 use Rattle.std.proofs.lemmas.Option.{slice_get_within, slice_get-get_or}
 use Rattle.std.proofs.lemmas.Grind.{common_steps}
-use Rattle.hn_base.proofs.Decisions.{some_there}
-use Rattle.hn_base.proofs.Fronts.{find-none}
-use Rattle.hn_base.proofs.Passing.{none_passes}
+use Rattle.hn_base.proofs.DecidingTests.{some_there}
+use Rattle.hn_base.proofs.FrontOfList.{find-none}
+use Rattle.hn_base.proofs.PassingElements.{none_passes}
 use Rattle.hn_base.specs.Name.{name_text}
 use Rattle.hn_base.specs.declared.ids.NodeId.{NodeId}
 use Rattle.hn_base.specs.declared.name.Name.{Name}

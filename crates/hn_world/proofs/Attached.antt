@@ -31,13 +31,13 @@ use Rattle.hn_world.specs.Refusal.{of_router, of_link, unless_running, unless_fr
 use Rattle.hn_world.specs.Routed.{routed}
 use Rattle.hn_world.specs.Step.{ActsAt, DoesElse, DoesAt, attached_to, beside, detached_from, stopped}
 use Rattle.hn_world.specs.Replay.{Replays, IsAttachedMember, AreAttached}
-use Rattle.hn_base.proofs.Decisions.{neither_given, some_there}
+use Rattle.hn_base.proofs.DecidingTests.{neither_given, some_there}
 use Rattle.hn_world.proofs.Accepted.{not_so}
 use Rattle.hn_world.proofs.Acting.{arrival_of}
 use Rattle.hn_world.proofs.Onces.{Any}
 use Rattle.hn_world.proofs.Places.{found_at}
 use Rattle.hn_world.proofs.Sounds.{all_at, replay_keeps}
-use Rattle.hn_base.proofs.Passing.{each_fails}
+use Rattle.hn_base.proofs.PassingElements.{each_fails}
 
 -- ---- what an accepted event says
 

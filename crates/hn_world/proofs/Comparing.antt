@@ -1,7 +1,7 @@
 -- Two lists of leaves agree in one way.
 use Rattle.std.proofs.Common.{◌≡◌, ◌≢◌, ◌∙◌, ℕ, List, inl, inr, refl, sym, ap}
 use Rattle.std.proofs.lemmas.Bool.{cases_order}
-use Rattle.hn_hash.specs.Agreement.{body_at, IsFirstDifference, IsShown, IsExhibited}
+use Rattle.hn_hash.specs.Agreement.{body_at, IsFirstDifference, IsCollisionShown, IsExhibited}
 use Rattle.hn_hash.specs.Hash.{hash_of}
 use Rattle.hn_hash.specs.Network.{leaf_text, network_hash}
 use Rattle.hn_hash.specs.declared.agreement.Agreement.{Agreement}
@@ -29,7 +29,7 @@ one_first a b i k h l = elim (cases_order i k) [
   | inr apart ↦ elim apart [ inl less ↦ absurd (h.here (l.before i less)) | inr more ↦ absurd (l.here (h.before k more)) ]
 ]
 
-one_shown : (a b : List Leaf) (left right other another : List ℕ) → IsShown a b left right → IsShown a b other another → (left ≡ other) × (right ≡ another)
+one_shown : (a b : List Leaf) (left right other another : List ℕ) → IsCollisionShown a b left right → IsCollisionShown a b other another → (left ≡ other) × (right ≡ another)
 one_shown a b left right other another (inl x) (inl y) = (x.1 ∙ sym y.1, x.2 ∙ sym y.2)
 one_shown a b left right other another (inl x) (inr y) = absurd (x.0 y.0)
 one_shown a b left right other another (inr x) (inl y) = absurd (y.0 x.0)

@@ -3,7 +3,7 @@ use Rattle.std.proofs.Common.{◌≡◌, ◌≤◌, ◌⊎◌, ℕ, Bool, true, 
 use Rattle.std.specs.Option.{option_or, option_map_or}
 use Rattle.std.proofs.lemmas.Bool.{ltb-false}
 use Rattle.std.proofs.lemmas.List.Elements.{All-nil, All-push, All-set, All-weaker, All-contains}
-use Rattle.hn_base.proofs.Parts.{contains_at}
+use Rattle.hn_base.proofs.PartsAtPlaces.{contains_at}
 use Rattle.hn_base.specs.Name.{name_text}
 use Rattle.hn_base.specs.declared.name.Name.{Name}
 use Rattle.hn_rules.specs.declared.done.Note.{Note}

@@ -3,8 +3,8 @@ use Rattle.std.proofs.lemmas.List.{take_all}
 use Rattle.std.proofs.lemmas.Option.{slice_get_read}
 use Rattle.hn_assign.specs.declared.assigned.Assigned.{Assigned}
 use Rattle.hn_base.specs.Rules.{Each}
-use Rattle.hn_base.proofs.Fronts.{front_at}
-use Rattle.hn_base.proofs.Rans.{each_more}
+use Rattle.hn_base.proofs.FrontOfList.{front_at}
+use Rattle.hn_base.proofs.RulesInTurn.{each_more}
 use Rattle.hn_rules.specs.Seen.{seen_by}
 use Rattle.hn_addr.specs.Addresses.{IsChosenFor, none_chosen}
 use Rattle.hn_addr.specs.declared.choosing.Choosing.{Choosing}

@@ -1,4 +1,4 @@
-use Rattle.hn_base.proofs.Sooners.{sooner_each}
+use Rattle.hn_base.proofs.NextDue.{sooner_each}
 use Rattle.hn_assign.specs.Due.{IsBackoffDue}
 use Rattle.hn_assign.proofs.due.first_due.Goals as goal
 

@@ -1,7 +1,7 @@
 use Rattle.std.proofs.Common.{take}
-use Rattle.hn_base.specs.Sooner.{IsSooner, IsOfOne}
+use Rattle.hn_base.specs.Sooner.{IsSooner, IsOfElement}
 use Rattle.hn_assign.specs.Due.{IsMarkDue}
 use Rattle.hn_assign.proofs.due.first_mark.Given as goal
 
 abbrev pub invariant-loop-c : goal.invariant-loop-c
-invariant-loop-c l = IsSooner (IsOfOne IsMarkDue (take l.c-index l.assigned)) l.now l.best l.first
+invariant-loop-c l = IsSooner (IsOfElement IsMarkDue (take l.c-index l.assigned)) l.now l.best l.first

@@ -3,7 +3,7 @@ use Rattle.hn_data.specs.View.{plain_view}
 use Rattle.hn_assign.specs.declared.assigned.Wish.{Wish}
 use Rattle.hn_assign.specs.Gathered.{AreAdvertised}
 use Rattle.hn_assign.specs.Subroutine.{AreSteps}
-use Rattle.hn_base.proofs.Fronts.{front_more}
+use Rattle.hn_base.proofs.FrontOfList.{front_more}
 use Rattle.hn_assign.proofs.Walks.{steps_more, took_more}
 use Rattle.hn_assign.proofs.subroutines.run.Goals as goal
 use Rattle.hn_assign.proofs.subroutines.run.Goals.{then-branch+in_ok-known-2, else-branch}

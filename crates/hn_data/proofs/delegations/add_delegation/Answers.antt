@@ -1,7 +1,7 @@
 use Rattle.std.proofs.Common.{List, [], ◌∷◌, ◌++◌, option_to_list, sym, ap, ◌∙◌}
 use Rattle.std.proofs.lemmas.Result.{on_ok_weaker}
 use Rattle.std.proofs.lemmas.List.{append-nil}
-use Rattle.hn_base.proofs.Parts.{filter_map-push}
+use Rattle.hn_base.proofs.PartsAtPlaces.{filter_map-push}
 use Rattle.hn_tlv.specs.View.{plain}
 use Rattle.hn_typed.specs.View.{plain_item}
 use Rattle.hn_data.specs.Delegations.{delegation_of}

@@ -6,7 +6,7 @@ use Rattle.std.proofs.lemmas.List.Sorted.{answers_always}
 use Rattle.std.proofs.lemmas.Option.{IfSome_then}
 use Rattle.hn_data.specs.View.{ids_of}
 use Rattle.hn_base.proofs.AscendingLists.{exact_nat}
-use Rattle.hn_base.proofs.Parts.{found_by}
+use Rattle.hn_base.proofs.PartsAtPlaces.{found_by}
 use Rattle.hn_data.proofs.Places.{said_of_ok}
 use Rattle.hn_data.proofs.place.place_of.Goals as goal
 

@@ -1,4 +1,4 @@
-use Rattle.hn_base.proofs.Sooners.{sooner_both}
+use Rattle.hn_base.proofs.NextDue.{sooner_both}
 use Rattle.hn_deleg.specs.Due.{IsEnd}
 use Rattle.hn_deleg.proofs.ends.next_of_delegation.Goals as goal
 

@@ -1,7 +1,7 @@
 use Rattle.std.proofs.Common.{◌≡◌, refl, length, Contains, Some, slice_get}
 use Rattle.std.proofs.lemmas.List.Elements.{All-contains, All-push}
 use Rattle.std.proofs.lemmas.Option.{slice_get_read}
-use Rattle.hn_base.proofs.Parts.{contains_at}
+use Rattle.hn_base.proofs.PartsAtPlaces.{contains_at}
 use Rattle.hn_deleg.specs.Steps.{HasLifetimesIn}
 use Rattle.hn_deleg.specs.Used.{prefixes_of}
 use Rattle.hn_deleg.proofs.Whole.{prefixes_more}

@@ -1,4 +1,4 @@
-use Rattle.hn_dncp.proofs.Hearing.{ArePeers-met, ArePeers-contacted}
+use Rattle.hn_dncp.proofs.HeardPeersStay.{ArePeers-met, ArePeers-contacted}
 use Rattle.hn_dncp.proofs.laws.peers_stay.Goals as goal
 
 pub returns-clause-met : goal.returns-clause-met

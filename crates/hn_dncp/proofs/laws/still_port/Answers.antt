@@ -1,4 +1,4 @@
-use Rattle.hn_dncp.proofs.Stills.{still_is_idle}
+use Rattle.hn_dncp.proofs.TickWhenNothingIsDue.{still_is_idle}
 use Rattle.hn_dncp.proofs.laws.still_port.Goals as goal
 
 pub returns : goal.returns

@@ -1,4 +1,4 @@
-use Rattle.hn_dncp.proofs.Stills.{still_later}
+use Rattle.hn_dncp.proofs.TickWhenNothingIsDue.{still_later}
 use Rattle.hn_dncp.proofs.laws.still_port_stays.Goals as goal
 
 pub returns : goal.returns

@@ -6,7 +6,7 @@ use Rattle.std.proofs.lemmas.Cmp.{nat_cmp_total}
 use Rattle.std.proofs.lemmas.List.Sorted.{answers_always}
 use Rattle.hn_data.specs.View.{ids_of}
 use Rattle.hn_base.proofs.AscendingLists.{exact_nat}
-use Rattle.hn_base.proofs.Parts.{found_by}
+use Rattle.hn_base.proofs.PartsAtPlaces.{found_by}
 use Rattle.hn_graph.proofs.search.search.Goals as goal
 
 both : (r : Result ℕ ℕ) (P : ℕ → Type 0) (Q : Type 0) → MatchResult r P (λ _. Q) → IfOk r P × IfErr r (λ _. Q)

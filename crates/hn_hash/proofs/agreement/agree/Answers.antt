@@ -1,8 +1,8 @@
 use Rattle.std.proofs.Common.{◌≡◌, sym, ◌∙◌}
 use Rattle.hn_hash.specs.Network.{leaf_text}
-use Rattle.hn_hash.proofs.Laws.{same_from_ne, same_from_bodies, exhibited_in_place}
-use Rattle.hn_hash.proofs.Leaves.{IsAlike-from_texts}
-use Rattle.hn_hash.proofs.Places.{body_at-read}
+use Rattle.hn_hash.proofs.SameOrCollide.{same_from_ne, same_from_bodies, exhibited_in_place}
+use Rattle.hn_hash.proofs.AlikeLeaves.{IsAlike-from_texts}
+use Rattle.hn_hash.proofs.FirstDifference.{body_at-read}
 use Rattle.hn_hash.proofs.agreement.agree.Goals as goal
 use Rattle.hn_hash.proofs.agreement.agree.Goals.{Else-ne-2}
 

@@ -5,7 +5,7 @@ use Rattle.std.proofs.lemmas.List.Elements.{All-more}
 use Rattle.hn_hash.specs.Hash.{hash_of}
 use Rattle.hn_hash.specs.Network.{part_text}
 use Rattle.hn_hash.specs.declared.part.Part.{Part}
-use Rattle.hn_hash.proofs.Parts.{part_text-map, AreNumbered-from_parts}
+use Rattle.hn_hash.proofs.PartsOfLeaves.{part_text-map, AreNumbered-from_parts}
 use Rattle.hn_hash.proofs.network_state.network_of.Goals as goal
 
 pub loop-part-preserved : goal.loop-part-preserved

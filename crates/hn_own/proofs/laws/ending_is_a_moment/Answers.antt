@@ -1,4 +1,4 @@
-use Rattle.hn_own.proofs.Endings.{ended_from}
+use Rattle.hn_own.proofs.LifetimesEnd.{ended_from}
 use Rattle.hn_own.proofs.laws.ending_is_a_moment.Goals as goal
 
 pub returns : goal.returns

@@ -8,6 +8,7 @@ loop-a-preserved c =
     let i = c.loop-a.a-index in
     let piece = c.in_ok-encode_address.field-0 in
     record {
-      pieces = rw c.in_ok-push.ensures.items (encodings_more address_item addresses i _ c.args.pieces.now.items c.loop-a.pieces.items piece c.loop-a-test.true c.loop-a.invariant.pieces c.in_ok-encode_address.ensures);
+      pieces = rw c.in_ok-push.ensures.items (encodings_more address_item addresses i _ c.args.pieces.now.items c.loop-a.pieces.items piece
+          c.loop-a-test.true c.loop-a.invariant.pieces c.in_ok-encode_address.ensures);
       writable = writable_more address_item addresses i _ piece c.loop-a-test.true c.loop-a.invariant.writable c.in_ok-encode_address.ensures;
     }

@@ -10,7 +10,8 @@ use Rattle.hn_own.proofs.own.add_external_piece.Goals as goal
 
 pub encode-requires-clause-short : goal.encode-requires-clause-short
 encode-requires-clause-short c =
-    let small : length (value_of (External c.as_slice.result.now)) ≤ 256 = external_short c.args.now c.args.list.now c.as_slice.result.now c.requires (c.as_slice.ensures.value ∙ c.in_ok-subs.ensures.bytes) in
+    let small : length (value_of (External c.as_slice.result.now)) ≤ 256 =
+    external_short c.args.now c.args.list.now c.as_slice.result.now c.requires (c.as_slice.ensures.value ∙ c.in_ok-subs.ensures.bytes) in
     omega arith
 
 pub encode-requires-clause-subs : goal.encode-requires-clause-subs

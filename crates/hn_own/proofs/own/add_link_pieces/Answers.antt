@@ -10,6 +10,7 @@ loop-link-preserved c =
     let none : PeerLink = record { endpoint = record { 0 = 0 }; peer = record { 0 = 0 }; peer_endpoint = record { 0 = 0 } } in
     let piece = c.in_ok-encode_link.field-0 in
     record {
-      pieces = rw c.in_ok-push.ensures.items (encodings_more peer_item links i none c.args.pieces.now.items c.loop-link.pieces.items piece c.loop-link-test.true c.loop-link.invariant.pieces c.in_ok-encode_link.ensures);
+      pieces = rw c.in_ok-push.ensures.items (encodings_more peer_item links i none c.args.pieces.now.items c.loop-link.pieces.items piece
+          c.loop-link-test.true c.loop-link.invariant.pieces c.in_ok-encode_link.ensures);
       writable = writable_more peer_item links i none piece c.loop-link-test.true c.loop-link.invariant.writable c.in_ok-encode_link.ensures;
     }

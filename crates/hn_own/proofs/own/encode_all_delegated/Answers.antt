@@ -14,6 +14,7 @@ loop-own-preserved c =
     let piece = c.in_ok-encode_delegated.field-0 in
     let encoding : IsEncoding piece (item (get_or list i own)) = subst (λ (x : OwnPrefix). IsEncoding piece (item x)) c.own-item.is c.in_ok-encode_delegated.ensures in
     record {
-      bytes = rw (c.in_ok-extend_from_slice.ensures.items, c.as_slice-in-loop-own.ensures) (bytes_more item list i own c.loop-own.bytes.items piece c.loop-own-test.true c.loop-own.invariant.bytes encoding);
+      bytes = rw (c.in_ok-extend_from_slice.ensures.items, c.as_slice-in-loop-own.ensures)
+          (bytes_more item list i own c.loop-own.bytes.items piece c.loop-own-test.true c.loop-own.invariant.bytes encoding);
       writable = writable_more item list i own piece c.loop-own-test.true c.loop-own.invariant.writable encoding;
     }

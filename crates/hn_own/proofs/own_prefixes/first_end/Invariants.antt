@@ -1,7 +1,7 @@
 use Rattle.std.proofs.Common.{take}
-use Rattle.hn_base.specs.Sooner.{IsSooner, IsOfOne}
-use Rattle.hn_own.specs.Due.{IsEndOf}
+use Rattle.hn_base.specs.Sooner.{IsSooner, IsOfElement}
+use Rattle.hn_own.specs.Due.{IsOwnPrefixEnd}
 use Rattle.hn_own.proofs.own_prefixes.first_end.Given as goal
 
 abbrev pub invariant-loop-own : goal.invariant-loop-own
-invariant-loop-own l = IsSooner (IsOfOne IsEndOf (take l.own-index l.list)) l.now l.best l.first
+invariant-loop-own l = IsSooner (IsOfElement IsOwnPrefixEnd (take l.own-index l.list)) l.now l.best l.first

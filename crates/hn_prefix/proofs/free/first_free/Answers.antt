@@ -1,10 +1,10 @@
 use Rattle.std.proofs.Common.{◌≡◌, ℕ, ◌+◌, ◌%◌, ◌<◌, ap, subst, sym, ◌∙◌, arith}
 use Rattle.std.proofs.lemmas.Nat.{mod_below}
 use Rattle.hn_base.specs.Prefix.{PlainPrefix, IsWithin, last_address}
-use Rattle.hn_prefix.specs.Free.{sub_prefix, sub_prefix_count, next_place, IsTaken}
-use Rattle.hn_prefix.proofs.Jumps.{few_jumps, jump_counts}
-use Rattle.hn_prefix.proofs.Places.{blocked, sub_prefix_is_within, reaches, later_place}
-use Rattle.hn_prefix.proofs.Rounds.{place_now, place_at, not_both, jumped, whole_round}
+use Rattle.hn_prefix.specs.Free.{sub_prefix, sub_prefix_count, next_place, IsTakenPrefix}
+use Rattle.hn_prefix.proofs.JumpsLeft.{few_jumps, jump_counts}
+use Rattle.hn_prefix.proofs.SubPrefixAtPlace.{blocked, sub_prefix_is_within, reaches, later_place}
+use Rattle.hn_prefix.proofs.PlaceAfterStart.{place_now, place_at, not_both, jumped, whole_round}
 use Rattle.hn_prefix.proofs.free.first_free.Goals as goal
 
 pub loop-ahead-init : goal.loop-ahead-init
@@ -37,7 +37,7 @@ returns-in_default-clause-none c =
     let at =
     place_at c.args.outer.now c.args.len c.args.start c.loop-ahead.ahead c.sub_prefix_count-count.result c.sub_prefix_count-count.ensures.valid
     c.requires.not_shorter c.requires.len_in_range c.sub_prefix_count-count.ensures.value c.loop-ahead-test.true in
-    let P : PlainPrefix → Type 0 = λ p. IsTaken c.args.taken.now p in (
+    let P : PlainPrefix → Type 0 = λ p. IsTakenPrefix c.args.taken.now p in (
       (λ never. absurd (cc)),
       (λ full. absurd (not_both c.args.taken.now c.sub_prefix-candidate.result c.in_default.ensures.none (subst P (sym c.sub_prefix-candidate.ensures) (full _ at.below_count)))),
     )
@@ -56,7 +56,8 @@ loop-ahead-preserved c =
     place_at c.args.outer.now c.args.len c.args.start c.loop-ahead.ahead c.sub_prefix_count-count.result c.sub_prefix_count-count.ensures.valid
     c.requires.not_shorter c.requires.len_in_range c.sub_prefix_count-count.ensures.value c.loop-ahead-test.true in
     let blocks = blocked c.args.outer.now c.in-Some.blocker.now c.sub_prefix-candidate.result c.args.len _ at c.last_address.ensures.valid c.sub_prefix-candidate.ensures c.in-Some.ensures.found.0 in
-    let following : c.next_place.result ≡ next_place c.args.outer.now c.args.len (last_address c.in-Some.blocker.now) = c.next_place.ensures ∙ ap (λ a. next_place c.args.outer.now c.args.len a) c.last_address.ensures.value in
+    let following : c.next_place.result ≡ next_place c.args.outer.now c.args.len (last_address c.in-Some.blocker.now) =
+    c.next_place.ensures ∙ ap (λ a. next_place c.args.outer.now c.args.len a) c.last_address.ensures.value in
     let place = place_now c.args.start c.loop-ahead.ahead c.sub_prefix_count-count.result (sub_prefix_count c.args.outer.now c.args.len) c.sub_prefix_count-count.ensures.value in
     record {
       each_taken_before = jumped c.args.taken.now c.args.outer.now c.in-Some.blocker.now c.args.len c.args.start c.loop-ahead.ahead _ c.next_place.result
@@ -70,7 +71,8 @@ loop-ahead-smaller c =
     place_at c.args.outer.now c.args.len c.args.start c.loop-ahead.ahead c.sub_prefix_count-count.result c.sub_prefix_count-count.ensures.valid
     c.requires.not_shorter c.requires.len_in_range c.sub_prefix_count-count.ensures.value c.loop-ahead-test.true in
     let blocks = blocked c.args.outer.now c.in-Some.blocker.now c.sub_prefix-candidate.result c.args.len _ at c.last_address.ensures.valid c.sub_prefix-candidate.ensures c.in-Some.ensures.found.0 in
-    let following : c.next_place.result ≡ next_place c.args.outer.now c.args.len (last_address c.in-Some.blocker.now) = c.next_place.ensures ∙ ap (λ a. next_place c.args.outer.now c.args.len a) c.last_address.ensures.value in
+    let following : c.next_place.result ≡ next_place c.args.outer.now c.args.len (last_address c.in-Some.blocker.now) =
+    c.next_place.ensures ∙ ap (λ a. next_place c.args.outer.now c.args.len a) c.last_address.ensures.value in
     let later = later_place c.args.outer.now c.in-Some.blocker.now c.args.len _ blocks in
     let from_start : c.args.start % c.sub_prefix_count-count.result < c.sub_prefix_count-count.result = mod_below _ _ (omega arith) in
     let so_far : ℕ = c.args.start % c.sub_prefix_count-count.result + c.loop-ahead.ahead in

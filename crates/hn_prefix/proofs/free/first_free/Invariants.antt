@@ -1,6 +1,6 @@
 use Rattle.std.proofs.Common.{◌+◌, ◌*◌, ◌≤◌, length}
-use Rattle.hn_prefix.proofs.Jumps.{jumps_left}
-use Rattle.hn_prefix.proofs.Rounds.{EachTakenBefore}
+use Rattle.hn_prefix.proofs.JumpsLeft.{jumps_left}
+use Rattle.hn_prefix.proofs.PlaceAfterStart.{EachTakenBefore}
 use Rattle.hn_prefix.proofs.free.first_free.Given as goal
 
 abbrev pub invariant-loop-ahead : goal.invariant-loop-ahead

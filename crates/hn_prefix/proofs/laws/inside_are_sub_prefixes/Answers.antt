@@ -1,4 +1,4 @@
-use Rattle.hn_prefix.proofs.Places.{sub_prefixes_are_all_lem}
+use Rattle.hn_prefix.proofs.SubPrefixAtPlace.{sub_prefixes_are_all_lem}
 use Rattle.hn_prefix.proofs.laws.inside_are_sub_prefixes.Goals as goal
 
 pub returns : goal.returns

@@ -1,6 +1,6 @@
 use Rattle.std.proofs.Common.{◌≡◌, ◌<◌, ◌^◌, ℕ, List, Ok, ap, sym, subst, ◌∙◌}
 use Rattle.std.proofs.lemmas.Option.{none-some, same_Some}
-use Rattle.hn_prefix.specs.AddressText.{address_of, address_text_of, IsAddressText}
+use Rattle.hn_prefix.specs.AddressText.{address_of_groups, address_text_of, IsAddressText}
 use Rattle.hn_prefix.proofs.WriteLemmas.{address_text_is_read}
 use Rattle.hn_prefix.proofs.parse.parse_address.Goals as goal
 
@@ -8,7 +8,7 @@ pub returns-clause-every : goal.returns-clause-every
 returns-clause-every c =
     λ ip h.
     let same = same_Some _ _ (sym c.in_ok-groups.ensures.ok_part ∙ c.all_groups.ensures.every h.0 h.1) in
-    ap Ok (c.address.ensures ∙ ap address_of (c.as_slice.ensures ∙ same) ∙ h.2)
+    ap Ok (c.address.ensures ∙ ap address_of_groups (c.as_slice.ensures ∙ same) ∙ h.2)
 
 -- a written form is a read form
 read_back : {text : List ℕ} (ip : ℕ) → ip < 2 ^ 128 → text ≡ address_text_of ip → IsAddressText text ip

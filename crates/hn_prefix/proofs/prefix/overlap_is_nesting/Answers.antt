@@ -1,4 +1,4 @@
-use Rattle.hn_prefix.proofs.Blocks.{overlap_is_nesting_lem}
+use Rattle.hn_prefix.proofs.InsideAndOverlap.{overlap_is_nesting_lem}
 use Rattle.hn_prefix.proofs.prefix.overlap_is_nesting.Goals as goal
 
 pub returns : goal.returns

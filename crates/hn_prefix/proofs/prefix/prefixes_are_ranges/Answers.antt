@@ -1,4 +1,4 @@
-use Rattle.hn_prefix.proofs.Blocks.{within_range, overlap_range}
+use Rattle.hn_prefix.proofs.InsideAndOverlap.{within_range, overlap_range}
 use Rattle.hn_prefix.proofs.prefix.prefixes_are_ranges.Goals as goal
 
 pub returns-clause-within : goal.returns-clause-within

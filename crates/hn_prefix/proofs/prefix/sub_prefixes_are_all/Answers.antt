@@ -1,6 +1,6 @@
 use Rattle.std.proofs.Common.{subst}
 use Rattle.hn_base.specs.Prefix.{IsPrefix}
-use Rattle.hn_prefix.proofs.Places.{sub_prefixes_are_all_lem}
+use Rattle.hn_prefix.proofs.SubPrefixAtPlace.{sub_prefixes_are_all_lem}
 use Rattle.hn_prefix.proofs.prefix.sub_prefixes_are_all.Goals as goal
 
 pub returns : goal.returns

@@ -2,7 +2,7 @@ use Rattle.std.proofs.Common.{◌∙◌, ap, inl, inr, sym}
 use Rattle.std.proofs.lemmas.Result.{on_ok_weaker}
 use Rattle.hn_rules.specs.Rules.{words_of}
 use Rattle.hn_rules.specs.declared.running.Running.{Running}
-use Rattle.hn_base.proofs.Rans.{ran_plain}
+use Rattle.hn_base.proofs.RulesInTurn.{ran_plain}
 use Rattle.hn_router.specs.Act.{plain_event, IsEvent, HasRun}
 use Rattle.hn_router.proofs.act.run.Goals as goal
 

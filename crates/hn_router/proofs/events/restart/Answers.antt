@@ -2,7 +2,7 @@ use Rattle.std.proofs.lemmas.Result.{on_ok_weaker}
 use Rattle.hn_rules.specs.Rules.{words_of}
 use Rattle.hn_rules.specs.Events.{IsRestarting}
 use Rattle.hn_rules.specs.Refresh.{IsRefresh}
-use Rattle.hn_base.proofs.Rans.{ran_both}
+use Rattle.hn_base.proofs.RulesInTurn.{ran_both}
 use Rattle.hn_router.proofs.events.restart.Goals as goal
 
 pub returns : goal.returns

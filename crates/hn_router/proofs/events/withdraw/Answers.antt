@@ -3,7 +3,7 @@ use Rattle.std.proofs.lemmas.Result.{on_ok_weaker}
 use Rattle.hn_rules.specs.Rules.{words_of}
 use Rattle.hn_rules.specs.Delegating.{withdrawing}
 use Rattle.hn_rules.specs.Refresh.{IsRefresh}
-use Rattle.hn_base.proofs.Rans.{ran_after}
+use Rattle.hn_base.proofs.RulesInTurn.{ran_after}
 use Rattle.hn_router.proofs.events.withdraw.Goals as goal
 
 pub returns : goal.returns

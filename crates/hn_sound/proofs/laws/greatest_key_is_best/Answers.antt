@@ -1,5 +1,5 @@
 use Rattle.std.proofs.Common.{inl, inr}
-use Rattle.hn_sound.proofs.Greatest.{top_is_best, top_or_none}
+use Rattle.hn_sound.proofs.GreatestIsBest.{top_is_best, top_or_none}
 use Rattle.hn_sound.proofs.laws.greatest_key_is_best.Goals as goal
 
 pub returns-clause-best : goal.returns-clause-best

@@ -1,4 +1,4 @@
-use Rattle.hn_sound.proofs.Orders.{at_rest_as_seen}
+use Rattle.hn_sound.proofs.RestByElements.{at_rest_as_seen}
 use Rattle.hn_sound.proofs.laws.home_rests_as_seen.Goals as goal
 
 pub returns : goal.returns

@@ -1,5 +1,5 @@
-use Rattle.hn_sound.proofs.Links.{is_inside}
-use Rattle.hn_sound.proofs.Publishers.{every_follows, none_without_publisher}
+use Rattle.hn_sound.proofs.RestIsSound.{is_inside}
+use Rattle.hn_sound.proofs.OnePublisher.{every_follows, none_without_publisher}
 use Rattle.hn_sound.proofs.laws.link_follows_its_publisher.Goals as goal
 
 pub returns-clause-every : goal.returns-clause-every

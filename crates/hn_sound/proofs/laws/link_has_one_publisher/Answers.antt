@@ -1,4 +1,4 @@
-use Rattle.hn_sound.proofs.Publishers.{one_publisher, not_beside_best}
+use Rattle.hn_sound.proofs.OnePublisher.{one_publisher, not_beside_best}
 use Rattle.hn_sound.proofs.laws.link_has_one_publisher.Goals as goal
 
 pub returns-clause-one : goal.returns-clause-one

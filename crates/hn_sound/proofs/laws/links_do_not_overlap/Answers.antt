@@ -1,4 +1,4 @@
-use Rattle.hn_sound.proofs.Links.{links_apart}
+use Rattle.hn_sound.proofs.RestIsSound.{links_apart}
 use Rattle.hn_sound.proofs.laws.links_do_not_overlap.Goals as goal
 
 pub returns : goal.returns

@@ -1,4 +1,4 @@
-use Rattle.hn_sound.proofs.Views.{to_advertised, from_advertised, to_common_link, from_common_link}
+use Rattle.hn_sound.proofs.AdvertisedAndLinks.{to_advertised, from_advertised, to_common_link, from_common_link}
 use Rattle.hn_sound.proofs.laws.lists_are_exact.Goals as goal
 
 pub returns-clause-advertised : goal.returns-clause-advertised

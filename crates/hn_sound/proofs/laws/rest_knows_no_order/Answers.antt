@@ -1,4 +1,4 @@
-use Rattle.hn_sound.proofs.Orders.{same_rest}
+use Rattle.hn_sound.proofs.RestByElements.{same_rest}
 use Rattle.hn_sound.proofs.laws.rest_knows_no_order.Goals as goal
 
 pub returns : goal.returns

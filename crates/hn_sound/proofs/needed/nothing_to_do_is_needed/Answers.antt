@@ -7,7 +7,7 @@ use Rattle.hn_sound.specs.Conditions.Condition.{NothingToDo}
 use Rattle.hn_sound.specs.Written.{delegated, subnet}
 use Rattle.hn_sound.proofs.HomeTests.{home_from, each_pair_from}
 use Rattle.hn_sound.proofs.RestTests.{is_at_rest_but, at_rest_but_from}
-use Rattle.hn_sound.proofs.Tests.{within_from}
+use Rattle.hn_sound.proofs.PrefixTests.{within_from}
 use Rattle.hn_sound.proofs.Unsound.{no_unassigned}
 use Rattle.hn_sound.proofs.WrittenLemmas.{has_none}
 use Rattle.hn_sound.proofs.needed.nothing_to_do_is_needed.Goals as goal

@@ -4,7 +4,7 @@ use Rattle.hn_sound.specs.Sound.{HasNoPublisher}
 use Rattle.hn_sound.specs.Homes.{no_publisher, first}
 use Rattle.hn_sound.specs.Conditions.Condition.{Published}
 use Rattle.hn_sound.specs.Written.{delegated, subnet}
-use Rattle.hn_sound.proofs.Greatest.{is_advertised}
+use Rattle.hn_sound.proofs.GreatestIsBest.{is_advertised}
 use Rattle.hn_sound.proofs.HomeTests.{home_from, each_pair_from}
 use Rattle.hn_sound.proofs.RestTests.{is_at_rest_but, at_rest_but_from}
 use Rattle.hn_sound.proofs.Unsound.{no_unpublished}

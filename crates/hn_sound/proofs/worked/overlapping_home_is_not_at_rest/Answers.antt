@@ -1,12 +1,12 @@
 use Rattle.std.proofs.Common.{refl, arith, Some}
 use Rattle.hn_base.specs.Prefix.{PlainPrefix}
 use Rattle.hn_sound.specs.AtRest.{IsHomeAtRest}
-use Rattle.hn_sound.specs.Home.{HasAssignment}
+use Rattle.hn_sound.specs.Home.{EndpointHasAssignment}
 use Rattle.hn_sound.specs.Premises.{IsHome}
 use Rattle.hn_sound.specs.Worked.{home_with, overlapping}
 use Rattle.hn_sound.specs.Written.{delegated, subnet, endpoint, has}
 use Rattle.hn_sound.proofs.HomeTests.{home_from}
-use Rattle.hn_sound.proofs.Links.{sound}
+use Rattle.hn_sound.proofs.RestIsSound.{sound}
 use Rattle.hn_sound.proofs.WrittenLemmas.{has_it}
 use Rattle.hn_sound.proofs.worked.overlapping_home_is_not_at_rest.Goals as goal
 
@@ -14,8 +14,10 @@ use Rattle.hn_sound.proofs.worked.overlapping_home_is_not_at_rest.Goals as goal
 not_at_rest : (followed : PlainPrefix) → IsHome (home_with overlapping followed) → ¬ IsHomeAtRest (home_with overlapping followed)
 not_at_rest followed is_home at_rest =
     let home = home_with overlapping followed in
-    let on_1 : HasAssignment home (endpoint 2 1 1) delegated (has (endpoint 2 1 1) delegated overlapping (Some 2)).assigned = has_it home (endpoint 2 1 1) delegated overlapping (2, omega arith, refl) (Some 2) (0, omega arith, refl) in
-    let on_2 : HasAssignment home (endpoint 3 1 2) delegated (has (endpoint 3 1 2) delegated (subnet 2) (Some 2)).assigned = has_it home (endpoint 3 1 2) delegated (subnet 2) (4, omega arith, refl) (Some 2) (2, omega arith, refl) in
+    let on_1 : EndpointHasAssignment home (endpoint 2 1 1) delegated (has (endpoint 2 1 1) delegated overlapping (Some 2)).assigned =
+    has_it home (endpoint 2 1 1) delegated overlapping (2, omega arith, refl) (Some 2) (0, omega arith, refl) in
+    let on_2 : EndpointHasAssignment home (endpoint 3 1 2) delegated (has (endpoint 3 1 2) delegated (subnet 2) (Some 2)).assigned =
+    has_it home (endpoint 3 1 2) delegated (subnet 2) (4, omega arith, refl) (Some 2) (2, omega arith, refl) in
     (sound home is_home at_rest).links_apart (endpoint 2 1 1) (endpoint 3 1 2) delegated delegated _ _ on_1 on_2
     (λ same. absurd (omega arith))
     ((subnet 2).bits, refl, refl)

@@ -4,7 +4,7 @@ use Rattle.hn_sound.proofs.HomeTests.{home_from, each_pair_from}
 use Rattle.hn_sound.proofs.RestTests.{is_at_rest, at_rest_from}
 use Rattle.hn_sound.specs.Premises.{IsHome}
 use Rattle.hn_sound.specs.AtRest.{IsHomeAtRest}
-use Rattle.hn_sound.proofs.Links.{sound}
+use Rattle.hn_sound.proofs.RestIsSound.{sound}
 use Rattle.hn_sound.proofs.worked.worked_home_is_sound.Goals as goal
 
 worked_is_home : IsHome worked

@@ -1,4 +1,4 @@
-use Rattle.hn_base.proofs.Sooners.{sooner_each}
+use Rattle.hn_base.proofs.NextDue.{sooner_each}
 use Rattle.hn_store.specs.Due.{IsForgottenFrom}
 use Rattle.hn_store.proofs.loss.first_forgotten.Goals as goal
 

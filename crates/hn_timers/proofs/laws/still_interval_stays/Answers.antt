@@ -1,4 +1,4 @@
-use Rattle.hn_timers.proofs.Stays.{stays}
+use Rattle.hn_timers.proofs.StillUntilDue.{stays}
 use Rattle.hn_timers.proofs.laws.still_interval_stays.Goals as goal
 
 pub returns : goal.returns

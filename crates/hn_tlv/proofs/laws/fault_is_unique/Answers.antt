@@ -1,4 +1,4 @@
-use Rattle.hn_tlv.proofs.Unique.{no_tlv, same_fault}
+use Rattle.hn_tlv.proofs.OneReading.{no_tlv, same_fault}
 use Rattle.hn_tlv.proofs.laws.fault_is_unique.Goals as goal
 
 pub returns-clause-no_tlv : goal.returns-clause-no_tlv

@@ -1,4 +1,4 @@
-use Rattle.hn_tlv.proofs.Unique.{no_list, same_first_fault}
+use Rattle.hn_tlv.proofs.OneReading.{no_list, same_first_fault}
 use Rattle.hn_tlv.proofs.laws.first_fault_is_unique.Goals as goal
 
 pub returns-clause-no_list : goal.returns-clause-no_list

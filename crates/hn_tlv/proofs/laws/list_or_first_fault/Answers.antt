@@ -1,4 +1,4 @@
-use Rattle.hn_tlv.proofs.Covered.{covered}
+use Rattle.hn_tlv.proofs.ListOrFault.{covered}
 use Rattle.hn_tlv.proofs.laws.list_or_first_fault.Goals as goal
 
 pub returns : goal.returns

@@ -1,4 +1,4 @@
-use Rattle.hn_tlv.proofs.Places.{only_one, read_again}
+use Rattle.hn_tlv.proofs.TlvAtPlace.{only_one, read_again}
 use Rattle.hn_tlv.proofs.laws.spelling_is_read.Goals as goal
 
 pub returns-clause-as_a_list : goal.returns-clause-as_a_list

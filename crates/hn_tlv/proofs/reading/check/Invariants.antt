@@ -1,5 +1,5 @@
 use Rattle.std.proofs.Common.{◌-◌, length}
-use Rattle.hn_tlv.proofs.Places.{IsReadTo}
+use Rattle.hn_tlv.proofs.TlvAtPlace.{IsReadTo}
 use Rattle.hn_tlv.proofs.reading.check.Given as goal
 
 abbrev pub invariant-loop-after : goal.invariant-loop-after

@@ -2,7 +2,7 @@ use Rattle.std.proofs.Common.{◌≡◌, ℕ, ◌-◌, length, drop, arith, subs
 use Rattle.hn_tlv.specs.Grammar.{padding}
 use Rattle.hn_tlv.specs.Padding.{IsPaddingFault}
 use Rattle.hn_tlv.specs.View.{plain}
-use Rattle.hn_tlv.proofs.Split.{IsSplit, faulty_padding, whole_tlv}
+use Rattle.hn_tlv.proofs.TakenApart.{IsSplit, faulty_padding, whole_tlv}
 use Rattle.hn_tlv.proofs.reading.first.Goals as goal
 
 pub returns-in-None : goal.returns-in-None

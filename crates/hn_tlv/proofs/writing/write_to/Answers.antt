@@ -2,7 +2,7 @@ use Rattle.std.proofs.Common.{arith}
 use Rattle.std.proofs.lemmas.Grind.{common_steps}
 use Rattle.std.proofs.lemmas.List.{get_or_default}
 use Rattle.hn_tlv.specs.Grammar.{PlainTlv, IsTlv}
-use Rattle.hn_tlv.proofs.Places.{alone}
+use Rattle.hn_tlv.proofs.TlvAtPlace.{alone}
 use Rattle.hn_tlv.proofs.writing.write_to.Goals as goal
 
 pub returns-clause-spelled : goal.returns-clause-spelled

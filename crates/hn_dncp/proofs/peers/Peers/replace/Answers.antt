@@ -1,7 +1,7 @@
 use Rattle.std.proofs.Common.{◌≡◌, position, None, sym}
 use Rattle.hn_dncp.specs.declared.peers.Neighbour.{Neighbour}
 use Rattle.hn_dncp.specs.Peers.{is_peer}
-use Rattle.hn_base.proofs.Passing.{map-unpassed}
+use Rattle.hn_base.proofs.PassingElements.{map-unpassed}
 use Rattle.hn_dncp.proofs.PeerLemmas.{renewed, found_key, ArePeers-set}
 use Rattle.hn_dncp.proofs.peers.Peers.replace.Goals as goal
 
@@ -14,7 +14,8 @@ invariant_of-self c =
 pub returns-in-Some : goal.returns-in-Some
 returns-in-Some c =
     let peer = c.args.peer in
-    rw (← c.self.view_is) (sym (renewed peer.node peer.endpoint (λ (_ : Neighbour). peer) c.self.inside.items.items c.in-Some.place c.index_mut.result.now c.self.invariant (cc) c.index_mut.ensures.value))
+    rw (← c.self.view_is) (sym (renewed peer.node peer.endpoint
+    (λ (_ : Neighbour). peer) c.self.inside.items.items c.in-Some.place c.index_mut.result.now c.self.invariant (cc) c.index_mut.ensures.value))
 
 pub returns-in_default : goal.returns-in_default
 returns-in_default c =

@@ -18,5 +18,6 @@ returns-clause-drew g c =
       | in-Some-None-2 w ↦ grind (arith, common_steps)
     ]
     in
-    let both = c.words_join.ensures (g.D.Draw.words c.args.draw.now) (g.D.Draw.words c.begin_next-next.new.draw) (g.D.Draw.words c.keep_alive-again.new.draw) next again c.begin_next-next.ensures.drew c.keep_alive-again.ensures.drew in
+    let both = c.words_join.ensures (g.D.Draw.words c.args.draw.now) (g.D.Draw.words c.begin_next-next.new.draw)
+    (g.D.Draw.words c.keep_alive-again.new.draw) next again c.begin_next-next.ensures.drew c.keep_alive-again.ensures.drew in
     subst (λ (taken : List ℕ). Took (g.D.Draw.words c.args.draw.now) taken (g.D.Draw.words c.keep_alive-again.new.draw)) in_order both

@@ -26,7 +26,8 @@ returns-then-eq-4 c =
     let assigned : Decides c.if-eq-3.value ((((a.caps ≡ b.caps) × (a.links ≡ b.links)) × (a.delegated ≡ b.delegated)) × (a.assigned ≡ b.assigned)) =
     elim c.if-eq-3.branch [
       | then-eq-3 w ↦
-          then_next _ _ _ delegated (lists_decided assigned_decided a.assigned b.assigned _ _ _ w.eq-then-eq-3.ensures w.as_slice-then-eq-3.ensures w.as_slice-then-eq-3-2.ensures) w.if-eq-3.true w.value-is
+          then_next _ _ _ delegated (lists_decided assigned_decided a.assigned b.assigned _ _ _ w.eq-then-eq-3.ensures w.as_slice-then-eq-3.ensures w.as_slice-then-eq-3-2.ensures)
+          w.if-eq-3.true w.value-is
       | else-eq-3 w ↦ else_false (a.assigned ≡ b.assigned) _ _ delegated w.if-eq-3.false w.value-is
     ]
     in
@@ -55,7 +56,8 @@ returns-else-eq-4 c =
     let assigned : Decides c.if-eq-3.value ((((a.caps ≡ b.caps) × (a.links ≡ b.links)) × (a.delegated ≡ b.delegated)) × (a.assigned ≡ b.assigned)) =
     elim c.if-eq-3.branch [
       | then-eq-3 w ↦
-          then_next _ _ _ delegated (lists_decided assigned_decided a.assigned b.assigned _ _ _ w.eq-then-eq-3.ensures w.as_slice-then-eq-3.ensures w.as_slice-then-eq-3-2.ensures) w.if-eq-3.true w.value-is
+          then_next _ _ _ delegated (lists_decided assigned_decided a.assigned b.assigned _ _ _ w.eq-then-eq-3.ensures w.as_slice-then-eq-3.ensures w.as_slice-then-eq-3-2.ensures)
+          w.if-eq-3.true w.value-is
       | else-eq-3 w ↦ else_false (a.assigned ≡ b.assigned) _ _ delegated w.if-eq-3.false w.value-is
     ]
     in

@@ -19,4 +19,5 @@ returns-clause-writable c =
     let external = subst (λ (list : List OwnPrefix). All IsWritable (external_items c.args.now list)) c.as_slice-2.ensures c.in_ok-add_external_piece.ensures.writable in
     let assigned = subst (λ (assigned : List AssignedPrefix). All IsWritable (map assigned_item assigned)) c.as_slice-3.ensures c.in_ok-add_assigned_pieces.ensures.writable in
     let addresses = subst (λ (addresses : List OwnAddress). All IsWritable (map address_item addresses)) c.as_slice-4.ensures c.in_ok-add_address_pieces.ensures.writable in
-    writable_together (version ∷ []) (map peer_item own.links) (external_items c.args.now own.delegated) (map assigned_item own.assigned) (map address_item own.addresses) first links external assigned addresses
+    writable_together (version ∷ []) (map peer_item own.links) (external_items c.args.now own.delegated) (map assigned_item own.assigned)
+    (map address_item own.addresses) first links external assigned addresses

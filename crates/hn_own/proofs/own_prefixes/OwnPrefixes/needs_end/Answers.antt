@@ -15,5 +15,6 @@ returns-clause-ended c =
 pub returns-clause-kept : goal.returns-clause-kept
 returns-clause-kept c none =
     let ended = λ (p : OwnPrefix). has_ended c.args.now p.valid_until in
-    let any : c.any.result ≡ list_any ended c.args.self.now = any_from_yields_List ended _ _ c.any.result c.any.ensures.ran (YieldsList-from_slice c.args.self.now cc) (λ x b q k. search (rules, tests)) in
+    let any : c.any.result ≡ list_any ended c.args.self.now =
+    any_from_yields_List ended _ _ c.any.result c.any.ensures.ran (YieldsList-from_slice c.args.self.now cc) (λ x b q k. search (rules, tests)) in
     filter_none_passes ended c.args.self.now (sym any ∙ none)

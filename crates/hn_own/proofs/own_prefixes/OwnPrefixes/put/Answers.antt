@@ -20,7 +20,8 @@ place c =
     let list = c.deref.result.now in
     let same : list ≡ delegated_without at c.args.self.now = c.deref.ensures.value ∙ others c in
     let are : AreOwnPrefixes list = subst AreOwnPrefixes (sym same) (own-filter (λ (p : OwnPrefix). not (is_prefix at p)) c.args.self.now (before c)) in
-    let parts = IsPartitionPoint-from_clause (λ (p : OwnPrefix). is_before p.prefix at) list i c.partition_point-place.ensures.partitioned (AreOwnPrefixes-partitioned c.order_is_total.ensures at list are) (λ a r f k. search (rules, tests)) in
+    let parts = IsPartitionPoint-from_clause (λ (p : OwnPrefix). is_before p.prefix at) list i c.partition_point-place.ensures.partitioned
+    (AreOwnPrefixes-partitioned c.order_is_total.ensures at list are) (λ a r f k. search (rules, tests)) in
     let within : i ≤ length list = c.partition_point-place.ensures.bound in
     place_for c.order_is_total.ensures at c.args.self.now i (rw (← same) within)
     (subst (λ (xs : List OwnPrefix). IsPartitionPoint (λ p. is_before p.prefix at ≡ true) (λ p. is_before p.prefix at ≡ false) xs i) same parts)

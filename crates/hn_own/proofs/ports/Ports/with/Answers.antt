@@ -3,7 +3,7 @@ use Rattle.std.proofs.Math.Seq.{take-length}
 use Rattle.std.proofs.lemmas.List.{take-append-drop, take_more_set, drop-set-lt, length-drop}
 use Rattle.std.proofs.lemmas.List.Quantifiers.{position-Some}
 use Rattle.hn_dncp.specs.declared.port.Port.{Port}
-use Rattle.hn_base.proofs.Passing.{map-unpassed}
+use Rattle.hn_base.proofs.PassingElements.{map-unpassed}
 use Rattle.hn_own.specs.Ports.{is_port}
 use Rattle.hn_own.proofs.PortLists.{ArePorts-set, put_port-set}
 use Rattle.hn_own.proofs.ports.Ports.with.Goals as goal
@@ -15,7 +15,8 @@ rest : (xs : List Port) (n : ℕ) → take (length xs - n) (drop n xs) ≡ drop 
 rest xs n = ap (λ k. take k (drop n xs)) (sym (length-drop n xs)) ∙ take-length (drop n xs)
 
 -- the copies before the place, the endpoint, and the copies after it
-parts : (xs front one all : List Port) (i : ℕ) (y : Port) → i < length xs → front ≡ [] ++ take i xs → one ≡ front ++ y ∷ [] → all ≡ one ++ take (length xs - (i + 1)) (drop (i + 1) xs) → all ≡ set xs i y
+parts : (xs front one all : List Port) (i : ℕ) (y : Port) → i < length xs → front ≡ [] ++ take i xs → one ≡ front ++ y ∷ []
+    → all ≡ one ++ take (length xs - (i + 1)) (drop (i + 1) xs) → all ≡ set xs i y
 parts xs front one all i y within fronts ones alls = alls ∙ rw (rest xs (i + 1), ones, fronts) (joined xs i y within)
 
 pub returns-in_default : goal.returns-in_default

@@ -1,7 +1,7 @@
 use Rattle.std.proofs.Common.{◌≡◌, ap, subst, arith}
 use Rattle.std.proofs.lemmas.Bool.Decides.{nat_tests}
 use Rattle.hn_base.specs.Prefix.{PlainPrefix, IsPrefix}
-use Rattle.hn_prefix.proofs.Blocks.{within_range}
+use Rattle.hn_prefix.proofs.InsideAndOverlap.{within_range}
 use Rattle.hn_prefix.proofs.prefix.Prefix.contains.Goals as goal
 
 pub returns-then-self-other : goal.returns-then-self-other

@@ -1,5 +1,5 @@
 use Rattle.std.proofs.Common.{◌≤◌, ◌-◌, arith}
-use Rattle.hn_prefix.proofs.Blocks.{block_fits}
+use Rattle.hn_prefix.proofs.InsideAndOverlap.{block_fits}
 use Rattle.hn_prefix.proofs.prefix.Prefix.last_address.Goals as goal
 
 pub overflow_add-result : goal.overflow_add-result

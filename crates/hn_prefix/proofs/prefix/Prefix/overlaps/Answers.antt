@@ -1,7 +1,7 @@
 use Rattle.std.proofs.Common.{◌≡◌, ap, arith}
 use Rattle.std.proofs.lemmas.Bool.Decides.{nat_tests}
 use Rattle.hn_base.specs.Prefix.{PlainPrefix}
-use Rattle.hn_prefix.proofs.Blocks.{overlap_range}
+use Rattle.hn_prefix.proofs.InsideAndOverlap.{overlap_range}
 use Rattle.hn_prefix.proofs.prefix.Prefix.overlaps.Goals as goal
 
 pub returns-then-self-last_address : goal.returns-then-self-last_address

@@ -3,7 +3,7 @@ use Rattle.std.proofs.lemmas.Result.{on_ok_weaker}
 use Rattle.hn_rules.specs.Rules.{words_of}
 use Rattle.hn_own.specs.Ports.{ArePorts}
 use Rattle.hn_rules.specs.Refresh.{IsRefresh}
-use Rattle.hn_base.proofs.Rans.{ran_plain}
+use Rattle.hn_base.proofs.RulesInTurn.{ran_plain}
 use Rattle.hn_rules.proofs.Recent.{recent_fresh, same_refresh}
 use Rattle.hn_rules.proofs.Refreshes.{fresh_refresh}
 use Rattle.hn_rules.proofs.Refreshing.{ran_refresh}

@@ -1,6 +1,6 @@
 use Rattle.std.proofs.Common.{◌∙◌, ℕ, ap, refl, sym, subst, inl, inr}
 use Rattle.hn_dncp.specs.Tick.{tick_sends}
-use Rattle.hn_base.proofs.Rans.{ran_plain}
+use Rattle.hn_base.proofs.RulesInTurn.{ran_plain}
 use Rattle.hn_own.specs.Ports.{ArePorts, port_at}
 use Rattle.hn_dncp.specs.Due.{IsPortStill}
 use Rattle.hn_rules.specs.Rules.{AtPort, words_of}

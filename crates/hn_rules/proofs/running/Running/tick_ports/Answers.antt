@@ -3,7 +3,7 @@ use Rattle.hn_own.specs.Ports.{ArePorts}
 use Rattle.hn_rules.proofs.Resting.{ports_rest}
 use Rattle.hn_rules.specs.Rules.{AtPort, words_of}
 use Rattle.hn_rules.specs.Tick.{IsPortTick, IsPortsTick}
-use Rattle.hn_base.proofs.Rans.{ran_plain, ran_next}
+use Rattle.hn_base.proofs.RulesInTurn.{ran_plain, ran_next}
 use Rattle.hn_rules.proofs.running.Running.tick_ports.Goals as goal
 
 pub returns-then-are_ports_still : goal.returns-then-are_ports_still

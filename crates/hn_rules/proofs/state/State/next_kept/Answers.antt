@@ -6,7 +6,7 @@ use Rattle.hn_own.specs.declared.own_prefixes.OwnPrefix.{OwnPrefix}
 use Rattle.hn_store.specs.Due.{IsForgetting}
 use Rattle.hn_store.specs.Nodes.{Nodes}
 use Rattle.hn_base.specs.Sooner.{IsSooner}
-use Rattle.hn_base.proofs.Sooners.{sooner_cut}
+use Rattle.hn_base.proofs.NextDue.{sooner_cut}
 use Rattle.hn_rules.proofs.Dues.{kept_due}
 use Rattle.hn_rules.proofs.state.State.next_kept.Goals as goal
 

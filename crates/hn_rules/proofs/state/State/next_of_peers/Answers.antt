@@ -1,5 +1,5 @@
 use Rattle.std.proofs.Common.{refl}
-use Rattle.hn_base.proofs.Sooners.{sooner_each}
+use Rattle.hn_base.proofs.NextDue.{sooner_each}
 use Rattle.hn_rules.specs.Due.{IsPeerEnd}
 use Rattle.hn_rules.proofs.state.State.next_of_peers.Goals as goal
 

@@ -1,7 +1,7 @@
 use Rattle.std.proofs.Common.{take}
-use Rattle.hn_base.specs.Sooner.{IsSooner, IsOfOne}
+use Rattle.hn_base.specs.Sooner.{IsSooner, IsOfElement}
 use Rattle.hn_rules.specs.Due.{IsPeerEnd}
 use Rattle.hn_rules.proofs.state.State.next_of_peers.Given as goal
 
 abbrev pub invariant-loop-peer : goal.invariant-loop-peer
-invariant-loop-peer l = IsSooner (IsOfOne (IsPeerEnd l.self.table.entries) (take l.peer-index l.peers)) l.self.moment l.best l.first
+invariant-loop-peer l = IsSooner (IsOfElement (IsPeerEnd l.self.table.entries) (take l.peer-index l.peers)) l.self.moment l.best l.first

@@ -1,6 +1,6 @@
 use Rattle.std.proofs.Common.{List, ℕ, subst}
-use Rattle.hn_base.proofs.Sooners.{sooner_both}
-use Rattle.hn_base.specs.Sooner.{IsSooner, IsOfOne}
+use Rattle.hn_base.proofs.NextDue.{sooner_both}
+use Rattle.hn_base.specs.Sooner.{IsSooner, IsOfElement}
 use Rattle.hn_dncp.specs.Due.{IsPortDue}
 use Rattle.hn_dncp.specs.declared.peers.Neighbour.{Neighbour}
 use Rattle.hn_rules.specs.Due.{IsPeerEnd}
@@ -11,6 +11,6 @@ returns c =
     let s = c.args.self.now in
     let port = c.args.port.now in
     let first = c.next_of_peers-first.result in
-    sooner_both (IsOfOne (IsPeerEnd s.table.entries) port.peers) (IsPortDue port) s.moment c.args.best first c.next_due.result
-    (subst (λ (peers : List Neighbour). IsSooner (IsOfOne (IsPeerEnd s.table.entries) peers) s.moment c.args.best first) c.as_slice.ensures.peers c.next_of_peers-first.ensures)
+    sooner_both (IsOfElement (IsPeerEnd s.table.entries) port.peers) (IsPortDue port) s.moment c.args.best first c.next_due.result
+    (subst (λ (peers : List Neighbour). IsSooner (IsOfElement (IsPeerEnd s.table.entries) peers) s.moment c.args.best first) c.as_slice.ensures.peers c.next_of_peers-first.ensures)
     (subst (λ (t : ℕ). IsSooner (IsPortDue port) t first c.next_due.result) c.get.ensures.moment c.next_due.ensures)

@@ -1,10 +1,10 @@
 use Rattle.std.proofs.Common.{◌≡◌, take}
-use Rattle.hn_base.specs.Sooner.{IsSooner, IsOfOne}
+use Rattle.hn_base.specs.Sooner.{IsSooner, IsOfElement}
 use Rattle.hn_rules.specs.Due.{IsDueAtPort}
 use Rattle.hn_rules.proofs.state.State.next_of_ports.Given as goal
 
 abbrev pub invariant-loop-port : goal.invariant-loop-port
 invariant-loop-port l = record {
   all : l.port-items ≡ l.self.ports;
-  so_far : IsSooner (IsOfOne (IsDueAtPort l.self.table.entries) (take l.port-index l.port-items)) l.self.moment l.best l.first;
+  so_far : IsSooner (IsOfElement (IsDueAtPort l.self.table.entries) (take l.port-index l.port-items)) l.self.moment l.best l.first;
 }

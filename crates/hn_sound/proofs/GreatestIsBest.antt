@@ -18,14 +18,14 @@ use Rattle.hn_assign.specs.declared.assigned.Advertised.{Advertised}
 use Rattle.hn_assign.specs.declared.assigned.Assigned.{Assigned}
 use Rattle.hn_assign.specs.Advertised.{key_of, IsOnLink, advertised_cmp}
 use Rattle.hn_assign.specs.Best.{IsCandidate, IsBest}
-use Rattle.hn_sound.specs.Home.{Home, Endpoint, Held, HasAssignment, HasPublished, advertised, common_link, key_at}
+use Rattle.hn_sound.specs.Home.{Home, Endpoint, Held, EndpointHasAssignment, HasPublished, advertised, common_link, key_at}
 use Rattle.hn_sound.specs.Premises.{Meets, IsHome}
 use Rattle.hn_sound.specs.Premises.Premise.{OneLink, OnceOnLink, UsedApart, ForUsed, PublishedInside, OneEach}
-use Rattle.hn_sound.specs.Sound.{IsGreatest, HasNoPublisher}
-use Rattle.hn_sound.proofs.Endpoints.{same_endpoint, cases_node, cases_id, cases_prefix}
+use Rattle.hn_sound.specs.Sound.{IsGreatestOnLink, HasNoPublisher}
+use Rattle.hn_sound.proofs.SameOrNot.{same_endpoint, cases_node, cases_id, cases_prefix}
 use Rattle.hn_base.proofs.Greatest.{IsGreatestOf, greatest_of}
-use Rattle.hn_sound.proofs.Members.{find_one}
-use Rattle.hn_sound.proofs.Views.{to_advertised, from_advertised, to_common_link, from_common_link}
+use Rattle.hn_sound.proofs.FoundOrNone.{find_one}
+use Rattle.hn_sound.proofs.AdvertisedAndLinks.{to_advertised, from_advertised, to_common_link, from_common_link}
 
 -- an assignment that is published for a delegated prefix, with its endpoint
 pub record Published (home : Home) (d : PlainPrefix) : Type 0 where
@@ -40,7 +40,7 @@ advert x = record { key = key_at x.priority x.endpoint; prefix = x.assigned.pref
 
 -- no key that is published on its link is greater
 abbrev pub IsTop : {home : Home} {d : PlainPrefix} → Published home d → Type 0
-IsTop {home} {d} x = IsGreatest home x.endpoint d x.assigned x.priority
+IsTop {home} {d} x = IsGreatestOnLink home x.endpoint d x.assigned x.priority
 
 -- what is advertised on the link of an endpoint is published there, for the delegated prefix
 pub record OnLink (home : Home) (f : Endpoint) (d : PlainPrefix) (a : Advertised) : Type 0 where
@@ -67,7 +67,8 @@ module _ (home : Home) where
       let node : at.endpoint.node ≡ from.held.node = at.of_node ∙ ap (λ (k : Key). k.node) from.key in
       let id : at.endpoint.id ≡ from.held.assigned.endpoint = at.of_id ∙ ap (λ (k : Key). k.endpoint) from.key in
       let held : from.held ≡ record { node = at.endpoint.node; assigned = from.held.assigned } = λ i. record { node = sym node i; assigned = from.held.assigned } in
-      let same_key : key_of from.priority from.held.node.0 from.held.assigned.endpoint.0 ≡ key_at from.priority at.endpoint = λ i. record { priority = from.priority; node = sym node i; endpoint = sym id i } in
+      let same_key : key_of from.priority from.held.node.0 from.held.assigned.endpoint.0 ≡ key_at from.priority at.endpoint =
+      λ i. record { priority = from.priority; node = sym node i; endpoint = sym id i } in
       let key : a.key ≡ key_at from.priority at.endpoint = from.key ∙ same_key in (
         from.held.assigned.delegated,
         record {
@@ -119,7 +120,8 @@ module _ (home : Home) (is_home : IsHome home) where
   one_endpoint e f e_there f_there node link = same_endpoint e f node (is_home OnceOnLink e f e_there f_there node link) link
 
   -- what an endpoint publishes is a candidate for each other endpoint of its link
-  pub to_candidate : (d : PlainPrefix) (x : Published home d) (f : Endpoint) → Contains home.endpoints f → f.link ≡ x.endpoint.link → f ≢ x.endpoint → IsCandidate (advertised home) f.node.0 (common_link home f) d (advert x)
+  pub to_candidate : (d : PlainPrefix) (x : Published home d) (f : Endpoint) → Contains home.endpoints f → f.link ≡ x.endpoint.link → f ≢ x.endpoint
+      → IsCandidate (advertised home) f.node.0 (common_link home f) d (advert x)
   to_candidate d x f there link other = record {
     advertised = is_advertised home d x;
     of_another = λ same. other (sym (one_endpoint x.endpoint f x.fact.has.there there (same_node x.endpoint.node f.node same) (sym link)));
@@ -130,7 +132,7 @@ module _ (home : Home) (is_home : IsHome home) where
   -- one endpoint publishes one assignment
   pub one_assigned : (d : PlainPrefix) (x y : Published home d) → x.endpoint ≡ y.endpoint → x.assigned ≡ y.assigned
   one_assigned d x y same =
-      is_home OneEach x.endpoint d x.assigned y.assigned x.fact.has (subst (λ (e : Endpoint). HasAssignment home e d y.assigned) (sym same) y.fact.has)
+      is_home OneEach x.endpoint d x.assigned y.assigned x.fact.has (subst (λ (e : Endpoint). EndpointHasAssignment home e d y.assigned) (sym same) y.fact.has)
 
   -- the greatest is not below what is published on the link
   top_not_below : (d : PlainPrefix) (x y : Published home d) → IsTop x → y.endpoint.link ≡ x.endpoint.link → ¬ (advertised_cmp (advert x) (advert y) ≡ Less)
@@ -147,7 +149,8 @@ module _ (home : Home) (is_home : IsHome home) where
           let tied : prefix_cmp x.assigned.prefix y.assigned.prefix ≡ Equal = sym prefixes ∙ tied_itself total x.assigned.prefix in
           absurd (cc)
 
-  pub top_is_best : (d : PlainPrefix) (x : Published home d) (f : Endpoint) → IsTop x → Contains home.endpoints f → f.link ≡ x.endpoint.link → f ≢ x.endpoint → IsBest (advertised home) f.node.0 (common_link home f) d (advert x)
+  pub top_is_best : (d : PlainPrefix) (x : Published home d) (f : Endpoint) → IsTop x → Contains home.endpoints f → f.link ≡ x.endpoint.link
+      → f ≢ x.endpoint → IsBest (advertised home) f.node.0 (common_link home f) d (advert x)
   top_is_best d x f top there link other = record {
     candidate = to_candidate d x f there link other;
     greatest = λ a candidate less.
@@ -253,7 +256,8 @@ module _ (home : Home) (link : ℕ) (d : PlainPrefix) where
           greatest = λ f k q same_link k_published above.
               let y : Published home d = record { endpoint = f; assigned = k; priority = q; fact = k_published } in
               let of = to_of_link y (same_link ∙ g.fact.on_link) in
-              let keys : key_cmp (held_key h) (held_key (record { node = f.node; assigned = k })) ≡ key_cmp (advert x).key (advert y).key = λ i. key_cmp (its_key h g.fact i) (its_key (record { node = f.node; assigned = k }) of i) in
+              let keys : key_cmp (held_key h) (held_key (record { node = f.node; assigned = k })) ≡ key_cmp (advert x).key (advert y).key =
+              λ i. key_cmp (its_key h g.fact i) (its_key (record { node = f.node; assigned = k }) of i) in
               g.greatest (record { node = f.node; assigned = k }) k_published.has.held of (keys ∙ above);
         },
       )

@@ -2,7 +2,7 @@
 use Rattle.std.proofs.Common.{◌≡◌, ℕ, ◌+◌, ◌-◌, ◌*◌, ◌≤◌, List, [], ◌∷◌, ◌++◌, length, take, drop, replicate, refl, sym, ap, subst, ◌∙◌, append_assoc, arith}
 use Rattle.std.proofs.lemmas.List.{append-nil, take-append-drop, length-append, length-replicate, length-take-le, length_push, drop-drop, drop_at, take_at, take_all}
 use Rattle.hn_tlv.specs.Grammar.{PlainTlv, IsTlv, padding, tlv_size, spelling, IsTlvList, IsTlvAt, IsFault, FirstFault}
-use Rattle.hn_tlv.proofs.Unique.{same_begin, joined, rest_of}
+use Rattle.hn_tlv.proofs.OneReading.{same_begin, joined, rest_of}
 
 pub length-spelling : (t : PlainTlv) → length (spelling t) ≡ tlv_size (length t.value)
 length-spelling t =
@@ -15,7 +15,8 @@ pub read_again : (t : PlainTlv) (front rest : List ℕ) → IsTlv t → IsTlvAt 
 read_again t front rest valid =
     let all = front ++ (spelling t ++ rest) in
     let here : drop (length front) all ≡ spelling t ++ rest = drop_at front (spelling t ++ rest) (length front) refl in
-    let later : drop (length front + tlv_size (length t.value)) all ≡ rest = sym (drop-drop (tlv_size (length t.value)) (length front) all) ∙ ap (drop (tlv_size (length t.value))) here ∙ drop_at (spelling t) rest (tlv_size (length t.value)) (length-spelling t) in
+    let later : drop (length front + tlv_size (length t.value)) all ≡ rest =
+    sym (drop-drop (tlv_size (length t.value)) (length front) all) ∙ ap (drop (tlv_size (length t.value))) here ∙ drop_at (spelling t) rest (tlv_size (length t.value)) (length-spelling t) in
     let len : length all ≡ length front + (length (spelling t) + length rest) = length-append front (spelling t ++ rest) ∙ ap (λ n. length front + n) (length-append (spelling t) rest) in
     record {
       valid = valid;
@@ -38,7 +39,8 @@ alone t bytes valid e =
 pub goes_on : (bytes : List ℕ) (at after : ℕ) (t : PlainTlv) (ts : List PlainTlv) → IsTlvAt bytes at t after → IsTlvList ts (drop after bytes) → IsTlvList (t ∷ ts) (drop at bytes)
 goes_on bytes at after t ts here l = (drop after bytes, here.valid, here.spelled, l)
 
-pub splits : (bytes : List ℕ) (at after : ℕ) (t : PlainTlv) (all : List PlainTlv) → IsTlvAt bytes at t after → IsTlvList all (drop at bytes) → (ts : List PlainTlv) × (all ≡ t ∷ ts) × IsTlvList ts (drop after bytes)
+pub splits : (bytes : List ℕ) (at after : ℕ) (t : PlainTlv) (all : List PlainTlv) → IsTlvAt bytes at t after → IsTlvList all (drop at bytes)
+    → (ts : List PlainTlv) × (all ≡ t ∷ ts) × IsTlvList ts (drop after bytes)
 splits bytes at after t all here l = rest_of t all (drop at bytes) (drop after bytes) here.valid here.spelled l
 
 -- the TLV that begins the bytes from a place on is the one at that place
@@ -57,7 +59,8 @@ same_place bytes at m n t u first here =
 
 take_after : (bytes : List ℕ) (at after : ℕ) (t : PlainTlv) → IsTlvAt bytes at t after → take after bytes ≡ take at bytes ++ spelling t
 take_after bytes at after t here =
-    let split : bytes ≡ (take at bytes ++ spelling t) ++ drop after bytes = sym (take-append-drop at bytes) ∙ ap (λ (z : List ℕ). take at bytes ++ z) here.spelled ∙ sym (append_assoc (take at bytes) (spelling t) (drop after bytes)) in
+    let split : bytes ≡ (take at bytes ++ spelling t) ++ drop after bytes =
+    sym (take-append-drop at bytes) ∙ ap (λ (z : List ℕ). take at bytes ++ z) here.spelled ∙ sym (append_assoc (take at bytes) (spelling t) (drop after bytes)) in
     let front_len : length (take at bytes) ≡ at = length-take-le at bytes (omega (arith, here.ends, here.within)) in
     let len : length (take at bytes ++ spelling t) ≡ after = length-append (take at bytes) (spelling t) ∙ omega (arith, front_len, length-spelling t, here.ends) in
     ap (take after) split ∙ take_at (take at bytes ++ spelling t) (drop after bytes) after len
@@ -67,7 +70,8 @@ pub grows : (bytes : List ℕ) (at after : ℕ) (t : PlainTlv) (ts : List PlainT
 grows bytes at after t ts l here = subst (IsTlvList (ts ++ t ∷ [])) (sym (take_after bytes at after t here)) (joined ts (t ∷ []) (take at bytes) (spelling t) l (only_one t here.valid))
 
 -- a list up to a place, and a fault there
-pub breaks_off : (bytes : List ℕ) (at place why : ℕ) (ts : List PlainTlv) → at ≤ length bytes → IsTlvList ts (take at bytes) → at ≤ place → IsFault (drop at bytes) (place - at) why → FirstFault bytes place why
+pub breaks_off : (bytes : List ℕ) (at place why : ℕ) (ts : List PlainTlv) → at ≤ length bytes → IsTlvList ts (take at bytes) → at ≤ place
+    → IsFault (drop at bytes) (place - at) why → FirstFault bytes place why
 breaks_off bytes at place why ts within l later f = record {
   tlvs = ts;
   front = take at bytes;

@@ -43,7 +43,8 @@ no_more_reach outer taken len a b below =
     sum_by-le-sum_by (λ t. cond (nat_lt b (next_place outer len (last_address t))) 1 0) (λ t. cond (nat_lt a (next_place outer len (last_address t))) 1 0) taken
     (λ t. counted_less a b (next_place outer len (last_address t)) below)
 
-fewer_reach : (outer : PlainPrefix) (taken : List PlainPrefix) (blocker : PlainPrefix) (len place : ℕ) → Contains taken blocker → place < next_place outer len (last_address blocker) → reaching outer taken len (next_place outer len (last_address blocker)) < reaching outer taken len place
+fewer_reach : (outer : PlainPrefix) (taken : List PlainPrefix) (blocker : PlainPrefix) (len place : ℕ) → Contains taken blocker
+    → place < next_place outer len (last_address blocker) → reaching outer taken len (next_place outer len (last_address blocker)) < reaching outer taken len place
 fewer_reach outer taken blocker len place among below =
     fewer_by (λ t. cond (nat_lt (next_place outer len (last_address blocker)) (next_place outer len (last_address t))) 1 0) (λ t. cond (nat_lt place (next_place outer len (last_address t))) 1 0) taken
     among.0 blocker among.1 among.2
@@ -51,7 +52,9 @@ fewer_reach outer taken blocker len place among below =
     (counted_once place (next_place outer len (last_address blocker)) below)
 
 -- a jump to the place after a taken prefix leaves fewer jumps to come
-pub jump_counts : (taken : List PlainPrefix) (outer blocker : PlainPrefix) (len at next place following : ℕ) → Contains taken blocker → following ≡ next_place outer len (last_address blocker) → at < 2 * sub_prefix_count outer len → place ≡ at % sub_prefix_count outer len → place < following → next ≡ at + (following - place) → jumps_left outer taken len next < jumps_left outer taken len at
+pub jump_counts : (taken : List PlainPrefix) (outer blocker : PlainPrefix) (len at next place following : ℕ) → Contains taken blocker
+    → following ≡ next_place outer len (last_address blocker) → at < 2 * sub_prefix_count outer len → place ≡ at % sub_prefix_count outer len
+    → place < following → next ≡ at + (following - place) → jumps_left outer taken len next < jumps_left outer taken len at
 jump_counts taken outer blocker len at next place following among following_is two_rounds place_is later next_is =
     let count : ℕ = sub_prefix_count outer len in
     elim (cases_lt at count) [

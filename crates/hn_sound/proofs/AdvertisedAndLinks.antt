@@ -8,24 +8,26 @@ use Rattle.hn_base.proofs.AscendingLists.{Contains-map, Contains-from_map}
 use Rattle.hn_assign.specs.declared.assigned.Advertised.{Advertised}
 use Rattle.hn_assign.specs.Advertised.{key_of}
 use Rattle.hn_sound.specs.Home.{Home, Endpoint, Held, advertised, advertised_as, common_link}
-use Rattle.hn_sound.specs.Members.{IsAdvertised, IsOnLinkOf}
+use Rattle.hn_sound.specs.Members.{IsAdvertisedInHome, IsOnLinkOf}
 use Rattle.hn_base.proofs.Elements.{in_filter, from_filter, in_filter_map, from_filter_map}
 
 -- what a published assignment is advertised as
 as_published : (h : Held) (priority : ℕ) → h.assigned.published ≡ Some priority → advertised_as h ≡ Some (record { key = key_of priority h.node.0 h.assigned.endpoint.0; prefix = h.assigned.prefix })
 as_published h priority is = ap (option_map (λ p. record { key = key_of p h.node.0 h.assigned.endpoint.0; prefix = h.assigned.prefix })) is
 
-pub to_advertised : (home : Home) (a : Advertised) → IsAdvertised home a → Contains (advertised home) a
+pub to_advertised : (home : Home) (a : Advertised) → IsAdvertisedInHome home a → Contains (advertised home) a
 to_advertised home a from =
-    let is : record { key = key_of from.priority from.held.node.0 from.held.assigned.endpoint.0; prefix = from.held.assigned.prefix } ≡ a = λ i. record { key = sym from.key i; prefix = sym from.prefix i } in
+    let is : record { key = key_of from.priority from.held.node.0 from.held.assigned.endpoint.0; prefix = from.held.assigned.prefix } ≡ a =
+    λ i. record { key = sym from.key i; prefix = sym from.prefix i } in
     in_filter_map advertised_as home.assignments from.held a from.there (as_published from.held from.priority from.published ∙ ap Some is)
 
-pub from_advertised : (home : Home) (a : Advertised) → Contains (advertised home) a → IsAdvertised home a
+pub from_advertised : (home : Home) (a : Advertised) → Contains (advertised home) a → IsAdvertisedInHome home a
 from_advertised home a h =
     let found = from_filter_map advertised_as home.assignments a h in
     go found.0 found.1 found.0.assigned.published refl found.2
   where
-    go : (held : Held) → Contains home.assignments held → (o : Option ℕ) → held.assigned.published ≡ o → option_map (λ priority. record { key = key_of priority held.node.0 held.assigned.endpoint.0; prefix = held.assigned.prefix }) o ≡ Some a → IsAdvertised home a
+    go : (held : Held) → Contains home.assignments held → (o : Option ℕ) → held.assigned.published ≡ o
+        → option_map (λ priority. record { key = key_of priority held.node.0 held.assigned.endpoint.0; prefix = held.assigned.prefix }) o ≡ Some a → IsAdvertisedInHome home a
     go held there None is e = absurd (cc)
     go held there (Some priority) is e =
         let same : record { key = key_of priority held.node.0 held.assigned.endpoint.0; prefix = held.assigned.prefix } ≡ a = cc in

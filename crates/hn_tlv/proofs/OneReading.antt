@@ -2,8 +2,8 @@
 use Rattle.std.proofs.Common.{◌≡◌, ℕ, ◌+◌, List, [], ◌∷◌, ◌++◌, length, refl, sym, ap, subst, ◌∙◌, append_assoc, arith}
 use Rattle.std.proofs.lemmas.List.{length-append}
 use Rattle.hn_tlv.specs.Grammar.{PlainTlv, IsTlv, spelling, IsTlvList, HasTlvs, IsFault, FirstFault}
-use Rattle.hn_base.proofs.Outcomes as begin
-use Rattle.hn_tlv.proofs.Outcome.{outcome, tlv_told}
+use Rattle.hn_base.proofs.BeginningOfBytes as begin
+use Rattle.hn_tlv.proofs.BeginningOfTlvs.{outcome, tlv_told}
 
 pub same_begin : (t u : PlainTlv) (x y : List ℕ) → IsTlv t → IsTlv u → spelling t ++ x ≡ spelling u ++ y → (t ≡ u) × (x ≡ y)
 same_begin = begin.same_begin spelling IsTlv IsFault outcome tlv_told

@@ -39,8 +39,11 @@ first_from_zip a b len None all_same =
     λ k lt.
     let pair = pair_at a b k lt (omega arith) (empty_leaf, empty_leaf) in
     sym pair.0 ∙ all_same k (empty_leaf, empty_leaf) zero-le (omega (arith, length-zip a b)) ∙ pair.1
-    in
-    (tt, ext_get_or [] (bodies a) (bodies b) (omega (arith, length-map a (λ (l : Leaf). l.body), length-map b (λ (l : Leaf). l.body))) (λ k lt. body_is k (omega (arith, length-map a (λ (l : Leaf). l.body)))))
+    in (
+      tt,
+      ext_get_or [] (bodies a) (bodies b) (omega (arith, length-map a (λ (l : Leaf). l.body), length-map b (λ (l : Leaf). l.body)))
+          (λ k lt. body_is k (omega (arith, length-map a (λ (l : Leaf). l.body)))),
+    )
 first_from_zip a b len (Some i) found =
     let in_a : i < length a = omega (arith, length-zip a b, found.0) in
     let in_b : i < length b = omega arith in

@@ -3,13 +3,13 @@ use Rattle.std.proofs.Common.{◌≡◌, ◌^◌, ◌<◌, List, [], ◌∷◌, 
 use Rattle.std.specs.Prelude.{All}
 use Rattle.std.specs.List.{AllByRecursion}
 use Rattle.std.proofs.lemmas.List.Elements.{recursion_from_All, All-from_recursion}
-use Rattle.hn_hash.specs.Network.{part_of, entry_of, part_text, leaf_text, ArePartsOf, AreNumbered}
+use Rattle.hn_hash.specs.Network.{leaf_part, leaf_entry, part_text, leaf_text, ArePartsOf, AreNumbered}
 use Rattle.hn_hash.specs.declared.leaf.Leaf.{Leaf}
 use Rattle.hn_hash.specs.declared.part.Part.{Part}
 
-pub part_text-map : (leaves : List Leaf) → part_text (map part_of leaves) ≡ leaf_text leaves
+pub part_text-map : (leaves : List Leaf) → part_text (map leaf_part leaves) ≡ leaf_text leaves
 part_text-map [] = refl
-part_text-map (x ∷ xs) = ap (λ rest. entry_of x ++ rest) (part_text-map xs)
+part_text-map (x ∷ xs) = ap (λ rest. leaf_entry x ++ rest) (part_text-map xs)
 
 abbrev PartHasNumber : Part → Type 0
 PartHasNumber part = part.number < 2 ^ 32
@@ -18,7 +18,7 @@ PartHasNumber part = part.number < 2 ^ 32
 abbrev pub HasNumber : Leaf → Type 0
 HasNumber leaf = leaf.number < 2 ^ 32
 
-numbers_of_leaves : (leaves : List Leaf) → AllByRecursion PartHasNumber (map part_of leaves) → AllByRecursion HasNumber leaves
+numbers_of_leaves : (leaves : List Leaf) → AllByRecursion PartHasNumber (map leaf_part leaves) → AllByRecursion HasNumber leaves
 numbers_of_leaves [] fits = tt
 numbers_of_leaves (x ∷ xs) fits = (fits.0, numbers_of_leaves xs fits.1)
 

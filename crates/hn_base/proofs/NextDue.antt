@@ -3,7 +3,7 @@ use Rattle.std.proofs.Common.{◌≡◌, ◌∙◌, ◌↔◌, ℕ, ◌<◌, ◌
 use Rattle.std.proofs.lemmas.Bool.{cases_lt}
 use Rattle.std.proofs.lemmas.List.{take_more}
 use Rattle.std.proofs.lemmas.List.Elements.{Contains-append_cases, Contains-append_left, Contains-append_right}
-use Rattle.hn_base.specs.Sooner.{IsSooner, IsOfOne}
+use Rattle.hn_base.specs.Sooner.{IsSooner, IsOfElement}
 use Rattle.hn_base.proofs.AscendingLists.{nothing_in, Contains-head, Contains-one}
 
 -- ---- one after another
@@ -81,27 +81,28 @@ sooner_cut now best n moment cut most within is h = record {
 -- ---- of a list
 
 module _ {A : Type 0} (P : A → ℕ → Type 0) (now : ℕ) where
-  pub sooner_empty : (best : ℕ) → IsSooner (IsOfOne P []) now best best
-  sooner_empty best = sooner_none (IsOfOne P []) now best (λ m (x, there, p). nothing_in x there)
+  pub sooner_empty : (best : ℕ) → IsSooner (IsOfElement P []) now best best
+  sooner_empty best = sooner_none (IsOfElement P []) now best (λ m (x, there, p). nothing_in x there)
 
   -- one more
-  pub sooner_more : (xs : List A) (x : A) (b c d : ℕ) → IsSooner (IsOfOne P xs) now b c → IsSooner (P x) now c d → IsSooner (IsOfOne P (xs ++ x ∷ [])) now b d
+  pub sooner_more : (xs : List A) (x : A) (b c d : ℕ) → IsSooner (IsOfElement P xs) now b c → IsSooner (P x) now c d → IsSooner (IsOfElement P (xs ++ x ∷ [])) now b d
   sooner_more xs x b c d h k =
-      sooner_same (λ m. IsOfOne P xs m ⊎ P x m) (IsOfOne P (xs ++ x ∷ [])) now b d (λ m. (up m, down m)) (sooner_both (IsOfOne P xs) (P x) now b c d h k)
+      sooner_same (λ m. IsOfElement P xs m ⊎ P x m) (IsOfElement P (xs ++ x ∷ [])) now b d (λ m. (up m, down m)) (sooner_both (IsOfElement P xs) (P x) now b c d h k)
     where
-      up : (m : ℕ) → IsOfOne P xs m ⊎ P x m → IsOfOne P (xs ++ x ∷ []) m
+      up : (m : ℕ) → IsOfElement P xs m ⊎ P x m → IsOfElement P (xs ++ x ∷ []) m
       up m (inl (y, there, p)) = (y, Contains-append_left xs (x ∷ []) y there, p)
       up m (inr p) = (x, Contains-append_right xs (x ∷ []) x (Contains-head x []), p)
 
-      down : (m : ℕ) → IsOfOne P (xs ++ x ∷ []) m → IsOfOne P xs m ⊎ P x m
+      down : (m : ℕ) → IsOfElement P (xs ++ x ∷ []) m → IsOfElement P xs m ⊎ P x m
       down m (y, there, p) = elim (Contains-append_cases xs (x ∷ []) y there) [
         | inl before ↦ inl (y, before, p)
         | inr last ↦ inr (subst (λ (z : A). P z m) (sym (Contains-one x y last)) p)
       ]
 
   -- as a `for` goes over a slice
-  pub sooner_each : (xs : List A) (i : ℕ) (x d : A) (b c e : ℕ) → i < length xs → x ≡ get_or xs i d → IsSooner (IsOfOne P (take i xs)) now b c → IsSooner (P x) now c e → IsSooner (IsOfOne P (take (i + 1) xs)) now b e
+  pub sooner_each : (xs : List A) (i : ℕ) (x d : A) (b c e : ℕ) → i < length xs → x ≡ get_or xs i d → IsSooner (IsOfElement P (take i xs)) now b c
+      → IsSooner (P x) now c e → IsSooner (IsOfElement P (take (i + 1) xs)) now b e
   sooner_each xs i x d b c e within is h k =
       let more : take (i + 1) xs ≡ take i xs ++ get_or xs i d ∷ [] = take_more xs i d within in
       let here : IsSooner (P (get_or xs i d)) now c e = subst (λ (y : A). IsSooner (P y) now c e) is k in
-      subst (λ (l : List A). IsSooner (IsOfOne P l) now b e) (sym more) (sooner_more (take i xs) (get_or xs i d) b c e h here)
+      subst (λ (l : List A). IsSooner (IsOfElement P l) now b e) (sym more) (sooner_more (take i xs) (get_or xs i d) b c e h here)

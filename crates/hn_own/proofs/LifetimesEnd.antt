@@ -4,7 +4,7 @@ use Rattle.std.specs.List.{list_any}
 use Rattle.std.proofs.lemmas.Bool.{leb-true, le-leb}
 use Rattle.hn_base.proofs.Elements.{any_of, any_from, from_filter}
 use Rattle.hn_own.specs.declared.own_prefixes.OwnPrefix.{OwnPrefix}
-use Rattle.hn_own.specs.Due.{IsEndOf}
+use Rattle.hn_own.specs.Due.{IsOwnPrefixEnd}
 use Rattle.hn_own.specs.Laws.{EndingIsAMoment, NoneEnds}
 use Rattle.hn_own.specs.Lifetimes.{has_ended}
 use Rattle.hn_own.proofs.PrefixLists.{filter_none_passes}
@@ -12,11 +12,11 @@ use Rattle.hn_own.proofs.PrefixLists.{filter_none_passes}
 abbrev ends : ℕ → OwnPrefix → Bool
 ends now own = has_ended now own.valid_until
 
-from_moment : (now : ℕ) (own : OwnPrefix) (until : Option ℕ) → own.valid_until ≡ until → has_ended now until ≡ true → (m : ℕ) × IsEndOf own m × (m ≤ now)
+from_moment : (now : ℕ) (own : OwnPrefix) (until : Option ℕ) → own.valid_until ≡ until → has_ended now until ≡ true → (m : ℕ) × IsOwnPrefixEnd own m × (m ≤ now)
 from_moment now own None is passes = absurd cc
 from_moment now own (Some end) is passes = (end, is, leb-true end now passes)
 
-at_moment : (now m : ℕ) (own : OwnPrefix) → IsEndOf own m → m ≤ now → ends now own ≡ true
+at_moment : (now m : ℕ) (own : OwnPrefix) → IsOwnPrefixEnd own m → m ≤ now → ends now own ≡ true
 at_moment now m own is past = ap (has_ended now) is ∙ le-leb m now past
 
 pub ended_from : EndingIsAMoment

@@ -48,7 +48,8 @@ module _ {A : Type 0} (p : A → Bool) where
   map-unpassed f (x ∷ xs) none = unchanged f (x ∷ xs) x (λ k less. none_passes (x ∷ xs) none k x less)
 
   -- those that pass are changed, and one does
-  pub map-one : (f : A → A) (xs : List A) (i : ℕ) (d : A) → i < length xs → p (get_or xs i d) ≡ true → ((k : ℕ) → k < length xs → k ≢ i → p (get_or xs k d) ≡ false) → map (λ x. if p x then f x else x) xs ≡ slice_set xs i (f (get_or xs i d))
+  pub map-one : (f : A → A) (xs : List A) (i : ℕ) (d : A) → i < length xs → p (get_or xs i d) ≡ true
+      → ((k : ℕ) → k < length xs → k ≢ i → p (get_or xs k d) ≡ false) → map (λ x. if p x then f x else x) xs ≡ slice_set xs i (f (get_or xs i d))
   map-one f [] i d within here others = absurd (omega arith)
   map-one f (x ∷ xs) zero d within here others =
       rw here (ap (λ zs. f x ∷ zs) (unchanged f xs d (λ k less. others (suc k) (omega arith) (omega arith))))

@@ -8,7 +8,7 @@ use Rattle.hn_base.specs.declared.ids.NodeId.{NodeId}
 use Rattle.hn_base.specs.declared.ids.EpId.{EpId}
 use Rattle.hn_dncp.specs.declared.peers.Neighbour.{Neighbour}
 use Rattle.hn_dncp.specs.Peers.{is_peer, has_peer, IsOther, ArePeers}
-use Rattle.hn_dncp.specs.Greet.{met}
+use Rattle.hn_dncp.specs.Greet.{peers_heard}
 use Rattle.hn_dncp.specs.Hash.{contacted}
 use Rattle.hn_dncp.proofs.PeerLemmas.{ArePeers-push}
 
@@ -33,7 +33,7 @@ renewed_endpoint : (peer other : Neighbour) → (cond (is_peer peer.node peer.en
 renewed_endpoint peer other =
     cond_both (is_peer peer.node peer.endpoint other) peer other (λ (p : Neighbour). p.endpoint.0 ≡ other.endpoint.0) (λ is. sym (eqb-true _ _ (and_parts _ _ is).1)) (λ _. refl)
 
-pub ArePeers-met : (peer : Neighbour) (peers : List Neighbour) → ArePeers peers → ArePeers (met peer peers)
+pub ArePeers-met : (peer : Neighbour) (peers : List Neighbour) → ArePeers peers → ArePeers (peers_heard peer peers)
 ArePeers-met peer peers are =
     let renewed = map (λ other. cond (is_peer peer.node peer.endpoint other) peer other) peers in
     let added = peers ++ peer ∷ [] in

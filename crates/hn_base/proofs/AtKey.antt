@@ -5,8 +5,8 @@ use Rattle.std.specs.List.Sorted.{IsStrictlySortedBy}
 use Rattle.std.specs.Ordering.{on}
 use Rattle.hn_base.specs.Ascending.{IsExact, HasAt}
 use Rattle.hn_base.proofs.AscendingLists.{nothing_in, Contains-head, Contains-tail, Contains-cases}
-use Rattle.hn_base.proofs.Decisions.{cases_by}
-use Rattle.hn_base.proofs.Parts.{one_of_ascending}
+use Rattle.hn_base.proofs.DecidingTests.{cases_by}
+use Rattle.hn_base.proofs.PartsAtPlaces.{one_of_ascending}
 
 module _ {A K : Type 0} (key_of : A → K) (R : K → K → Ordering) (total : IsTotalOrder R) where
   -- by an exact order of the keys, a list has an element for a key, or none

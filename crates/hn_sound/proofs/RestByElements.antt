@@ -12,7 +12,7 @@ use Rattle.hn_sound.specs.AtRest.{IsHomeAtRest}
 use Rattle.hn_sound.specs.Home.{Home, Endpoint, advertised, common_link, wish_of}
 use Rattle.hn_base.specs.Ascending.{HaveSame}
 use Rattle.hn_sound.specs.Members.{IsSeenAtRest}
-use Rattle.hn_sound.proofs.Views.{to_advertised, from_advertised, to_common_link, from_common_link}
+use Rattle.hn_sound.proofs.AdvertisedAndLinks.{to_advertised, from_advertised, to_common_link, from_common_link}
 
 module _ (adv others : List Advertised) (own : ℕ) (wish : Wish) (common : Link) (same : HaveSame adv others) (same_link : HaveSame wish.common common) where
   to_candidate : (a : Advertised) → IsCandidate adv own wish.common wish.delegated a → IsCandidate others own common wish.delegated a

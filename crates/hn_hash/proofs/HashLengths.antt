@@ -4,9 +4,9 @@ use Rattle.std.specs.Int.{w32, to_be_bytes}
 use Rattle.std.proofs.lemmas.List.{length-take-le}
 use Rattle.md5.specs.Md5.{md5, digest_bytes}
 use Rattle.hn_hash.specs.Hash.{hash_of}
-use Rattle.hn_hash.specs.Network.{entry_of}
+use Rattle.hn_hash.specs.Network.{leaf_entry}
 use Rattle.hn_hash.specs.declared.leaf.Leaf.{Leaf}
-use Rattle.hn_base.proofs.Fronts.{same_parts}
+use Rattle.hn_base.proofs.FrontOfList.{same_parts}
 
 pub length-md5 : (text : List ℕ) → length (md5 text) ≡ 16
 unfolding md5 digest_bytes
@@ -15,11 +15,11 @@ length-md5 text = refl
 pub length-hash_of : (text : List ℕ) → length (hash_of text) ≡ 8
 length-hash_of text = length-take-le 8 (md5 text) (omega (arith, length-md5 text))
 
-pub length-entry_of : (leaf : Leaf) → length (entry_of leaf) ≡ 12
+pub length-entry_of : (leaf : Leaf) → length (leaf_entry leaf) ≡ 12
 length-entry_of leaf =
     omega (arith, length-append (to_be_bytes w32 leaf.number) (hash_of leaf.body), length-hash_of leaf.body)
 
 -- what equal entries say
-pub same_entries : (x y : Leaf) → entry_of x ≡ entry_of y
+pub same_entries : (x y : Leaf) → leaf_entry x ≡ leaf_entry y
     → (to_be_bytes w32 x.number ≡ to_be_bytes w32 y.number) × (hash_of x.body ≡ hash_of y.body)
 same_entries x y e = same_parts (to_be_bytes w32 x.number) (to_be_bytes w32 y.number) _ _ refl e

@@ -3,7 +3,7 @@ use Rattle.std.proofs.Math.Nat.{le_refl, div-add-mod, div-mul-le_self, add-mul-m
 use Rattle.std.proofs.lemmas.Nat.{pow_pos, pow-add, mul-le, mod-pow-add, le-div, shl-shr}
 use Rattle.hn_base.specs.Prefix.{PlainPrefix, IsPrefix, IsWithin, Overlaps, last_address}
 use Rattle.hn_prefix.specs.Free.{sub_prefix, sub_prefix_count, next_place, IsSubPrefix, IsPrefixInside}
-use Rattle.hn_prefix.proofs.Blocks.{block_fits, within_range, overlap_range}
+use Rattle.hn_prefix.proofs.InsideAndOverlap.{block_fits, within_range, overlap_range}
 
 -- the place of a sub-prefix
 pub record IsPlace (outer : PlainPrefix) (len place : ℕ) : Type 0 where
@@ -58,12 +58,14 @@ pub record Blocks (outer blocker : PlainPrefix) (len place : ℕ) : Type 0 where
   pub valid : IsPrefix blocker
   pub overlap : Overlaps blocker (sub_prefix outer len place)
 
-pub blocked : (outer blocker candidate : PlainPrefix) (len place : ℕ) → IsPlace outer len place → IsPrefix blocker → candidate ≡ sub_prefix outer len place → Overlaps blocker candidate → Blocks outer blocker len place
+pub blocked : (outer blocker candidate : PlainPrefix) (len place : ℕ) → IsPlace outer len place → IsPrefix blocker
+    → candidate ≡ sub_prefix outer len place → Overlaps blocker candidate → Blocks outer blocker len place
 blocked outer blocker candidate len place at valid is overlap =
     let P : PlainPrefix → Type 0 = λ p. Overlaps blocker p in
     record { at = at; valid = valid; overlap = subst P is overlap }
 
-blocked_range : (outer blocker : PlainPrefix) (len place : ℕ) → Blocks outer blocker len place → (blocker.bits ≤ last_address (sub_prefix outer len place)) × ((sub_prefix outer len place).bits ≤ last_address blocker)
+blocked_range : (outer blocker : PlainPrefix) (len place : ℕ) → Blocks outer blocker len place
+    → (blocker.bits ≤ last_address (sub_prefix outer len place)) × ((sub_prefix outer len place).bits ≤ last_address blocker)
 blocked_range outer blocker len place blocks =
     (overlap_range blocker (sub_prefix outer len place) blocks.valid (sub_prefix_is_prefix outer len place blocks.at)).0 blocks.overlap
 
@@ -81,7 +83,8 @@ later_place outer blocker len place blocks =
     omega (arith, blocks.at.below_count)
 
 -- and it overlaps each sub-prefix between the two
-pub overlaps_between : (outer blocker : PlainPrefix) (len place k : ℕ) → Blocks outer blocker len place → place ≤ k → k < next_place outer len (last_address blocker) → Overlaps blocker (sub_prefix outer len k)
+pub overlaps_between : (outer blocker : PlainPrefix) (len place k : ℕ) → Blocks outer blocker len place → place ≤ k
+    → k < next_place outer len (last_address blocker) → Overlaps blocker (sub_prefix outer len k)
 overlaps_between outer blocker len place k blocks from_place before =
     let start = blocked_range outer blocker len place blocks in
     let lower : place * 2 ^ (128 - len) ≤ k * 2 ^ (128 - len) = mul-le _ _ _ _ from_place (le_refl (2 ^ (128 - len))) in

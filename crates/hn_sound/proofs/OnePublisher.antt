@@ -13,12 +13,12 @@ use Rattle.hn_assign.specs.declared.assigned.Assigned.{Assigned}
 use Rattle.hn_assign.specs.Best.{IsCandidate, HasNoBest, HasNoFree}
 use Rattle.hn_assign.specs.Rest.{IsAtRest, IsAheadOfBest, IsFollowing}
 use Rattle.hn_sound.specs.AtRest.{IsHomeAtRest, IsAssignmentOf}
-use Rattle.hn_sound.specs.Home.{Home, Endpoint, HasAssignment, advertised, common_link, wish_of, key_at}
+use Rattle.hn_sound.specs.Home.{Home, Endpoint, EndpointHasAssignment, advertised, common_link, wish_of, key_at}
 use Rattle.hn_sound.specs.Premises.{IsHome}
 use Rattle.hn_sound.specs.Premises.Premise.{ForUsed, OneEach}
 use Rattle.hn_sound.specs.Sound.{HasNoPublisher}
-use Rattle.hn_sound.proofs.Endpoints.{cases_node}
-use Rattle.hn_sound.proofs.Greatest.{Published, advert, IsTop, from_candidate, one_endpoint, to_candidate, one_assigned, top_or_none}
+use Rattle.hn_sound.proofs.SameOrNot.{cases_node}
+use Rattle.hn_sound.proofs.GreatestIsBest.{Published, advert, IsTop, from_candidate, one_endpoint, to_candidate, one_assigned, top_or_none}
 
 -- what is above one key is above each key that is not greater than that one
 above_lower : (a b x : Key) (r : Ordering) → ¬ (ordering_then (key_cmp a b) r ≡ Less) → key_cmp a x ≡ Less → key_cmp b x ≡ Less
@@ -31,7 +31,7 @@ above_lower a b x r not_below above = go (key_cmp a b) refl not_below
 
 -- an endpoint has the prefix
 abbrev HasPrefix : Home → Endpoint → PlainPrefix → PlainPrefix → Type 0
-HasPrefix home f d prefix = (k : Assigned) × HasAssignment home f d k × (k.prefix ≡ prefix)
+HasPrefix home f d prefix = (k : Assigned) × EndpointHasAssignment home f d k × (k.prefix ≡ prefix)
 
 module _ (home : Home) (is_home : IsHome home) (at_rest : IsHomeAtRest home) where
   -- the pair of an endpoint and a delegated prefix is at rest with the assignment
@@ -42,7 +42,7 @@ module _ (home : Home) (is_home : IsHome home) (at_rest : IsHomeAtRest home) whe
   used d x = is_home ForUsed x.endpoint d x.assigned x.fact.has
 
   -- the assignment that an endpoint has is at rest
-  pub assignment_rests : (e : Endpoint) (d : PlainPrefix) (c : Assigned) → HasAssignment home e d c → IsAtRest (advertised home) e.node.0 (wish_of home e d) (Some c)
+  pub assignment_rests : (e : Endpoint) (d : PlainPrefix) (c : Assigned) → EndpointHasAssignment home e d c → IsAtRest (advertised home) e.node.0 (wish_of home e d) (Some c)
   assignment_rests e d c has =
       let pair = at_rest e d has.there (is_home ForUsed e d c has) in
       go pair.0 pair.1 pair.2
@@ -98,7 +98,8 @@ module _ (home : Home) (is_home : IsHome home) (at_rest : IsHomeAtRest home) whe
   -- ---- the others follow
 
   -- the best that an endpoint follows is what is published on its link
-  best_prefix : (d : PlainPrefix) (x : Published home d) (f : Endpoint) (k : Assigned) → f.link ≡ x.endpoint.link → IsFollowing (advertised home) f.node.0 (wish_of home f d) k → k.prefix ≡ x.assigned.prefix
+  best_prefix : (d : PlainPrefix) (x : Published home d) (f : Endpoint) (k : Assigned) → f.link ≡ x.endpoint.link
+      → IsFollowing (advertised home) f.node.0 (wish_of home f d) k → k.prefix ≡ x.assigned.prefix
   best_prefix d x f k link a =
       let on = from_candidate home is_home f d a.best (used d x) a.is_best.candidate in
       let one = one_publisher d x on.by (sym (on.link ∙ link)) in
@@ -113,7 +114,7 @@ module _ (home : Home) (is_home : IsHome home) (at_rest : IsHomeAtRest home) whe
       candidate : IsCandidate (advertised home) f.node.0 (common_link home f) d (advert x)
       candidate = to_candidate home is_home d x f there link other
 
-      not_published : (k : Assigned) (q : ℕ) → HasAssignment home f d k → k.published ≡ Some q → ⊥
+      not_published : (k : Assigned) (q : ℕ) → EndpointHasAssignment home f d k → k.published ≡ Some q → ⊥
       not_published k q has is =
           let y : Published home d = record { endpoint = f; assigned = k; priority = q; fact = record { has = has; published = is } } in
           other (one_publisher d y x link).0
@@ -124,24 +125,26 @@ module _ (home : Home) (is_home : IsHome home) (at_rest : IsHomeAtRest home) whe
       go (Some k) has (inr (inl ahead)) = absurd (not_published k ahead.priority has ahead.published)
       go (Some k) has (inr (inr following)) = (k, has, best_prefix d x f k link following)
 
-  pub every_follows : (d : PlainPrefix) (x : Published home d) (f : Endpoint) → Contains home.endpoints f → f.link ≡ x.endpoint.link → (k : Assigned) × HasAssignment home f d k × (k.prefix ≡ x.assigned.prefix)
+  pub every_follows : (d : PlainPrefix) (x : Published home d) (f : Endpoint) → Contains home.endpoints f → f.link ≡ x.endpoint.link → (k : Assigned)
+      × EndpointHasAssignment home f d k × (k.prefix ≡ x.assigned.prefix)
   every_follows d x f there link =
       elim (cases_node f.node x.endpoint.node) [
         | inl same ↦
             let is : f ≡ x.endpoint = one_endpoint home is_home f x.endpoint there x.fact.has.there same link in
-            (x.assigned, subst (λ (e : Endpoint). HasAssignment home e d x.assigned) (sym is) x.fact.has, refl)
+            (x.assigned, subst (λ (e : Endpoint). EndpointHasAssignment home e d x.assigned) (sym is) x.fact.has, refl)
         | inr differ ↦ other_follows d x f there link (λ same. differ (ap (λ (e : Endpoint). e.node) same))
       ]
 
   -- ---- where none is published
 
-  pub none_without_publisher : (f : Endpoint) (d : PlainPrefix) → Contains home.endpoints f → Contains home.used d → HasNoPublisher home f.link d → ((k : Assigned) → ¬ HasAssignment home f d k) × (¬ (IsTrue (home.wants f.node d)) ⊎ HasNoFree (advertised home) d (home.length f))
+  pub none_without_publisher : (f : Endpoint) (d : PlainPrefix) → Contains home.endpoints f → Contains home.used d → HasNoPublisher home f.link d
+      → ((k : Assigned) → ¬ EndpointHasAssignment home f d k) × (¬ (IsTrue (home.wants f.node d)) ⊎ HasNoFree (advertised home) d (home.length f))
   none_without_publisher f d there d_used no_publisher = go pair.0 pair.1 pair.2
     where
       pair : (o : Option Assigned) × IsAssignmentOf home f d o × PairRests f d o
       pair = at_rest f d there d_used
 
-      not_published : (k : Assigned) (q : ℕ) → HasAssignment home f d k → k.published ≡ Some q → ⊥
+      not_published : (k : Assigned) (q : ℕ) → EndpointHasAssignment home f d k → k.published ≡ Some q → ⊥
       not_published k q has is = no_publisher f k q refl (record { has = has; published = is })
 
       not_followed : (a : Advertised) → ¬ (IsCandidate (advertised home) f.node.0 (common_link home f) d a)
@@ -149,7 +152,8 @@ module _ (home : Home) (is_home : IsHome home) (at_rest : IsHomeAtRest home) whe
           let on = from_candidate home is_home f d a d_used candidate in
           no_publisher on.by.endpoint on.by.assigned on.by.priority on.link on.by.fact
 
-      go : (o : Option Assigned) → IsAssignmentOf home f d o → PairRests f d o → ((k : Assigned) → ¬ HasAssignment home f d k) × (¬ (IsTrue (home.wants f.node d)) ⊎ HasNoFree (advertised home) d (home.length f))
+      go : (o : Option Assigned) → IsAssignmentOf home f d o → PairRests f d o → ((k : Assigned) → ¬ EndpointHasAssignment home f d k)
+          × (¬ (IsTrue (home.wants f.node d)) ⊎ HasNoFree (advertised home) d (home.length f))
       go None none idle = (none, idle.nothing_to_do)
       go (Some k) has (inl alone) = absurd (not_published k alone.published.0 has alone.published.1)
       go (Some k) has (inr (inl ahead)) = absurd (not_published k ahead.priority has ahead.published)

@@ -43,7 +43,8 @@ pub filter-front : {X : Type 0} (p : X → Bool) (xs : List X) (i : ℕ) → ((k
 filter-front p [] i front back = sym (take-nil i)
 filter-front p (x ∷ xs) zero front back = filter_none p (x ∷ xs) (λ k d lt. back k d (omega arith) lt)
 filter-front p (x ∷ xs) (suc i) front back =
-    rw (front 0 x (omega arith) (omega arith)) (ap (λ ys. x ∷ ys) (filter-front p xs i (λ k d lt in'. front (suc k) d (omega arith) (omega arith)) (λ k d le lt. back (suc k) d (omega arith) (omega arith))))
+    rw (front 0 x (omega arith) (omega arith)) (ap (λ ys. x ∷ ys)
+    (filter-front p xs i (λ k d lt in'. front (suc k) d (omega arith) (omega arith)) (λ k d le lt. back (suc k) d (omega arith) (omega arith))))
 
 pub filter-back : {X : Type 0} (p : X → Bool) (xs : List X) (i : ℕ) → ((k : ℕ) (d : X) → k < i → k < length xs → p (get_or xs k d) ≡ false)
     → ((k : ℕ) (d : X) → i ≤ k → k < length xs → p (get_or xs k d) ≡ true) → filter p xs ≡ drop i xs

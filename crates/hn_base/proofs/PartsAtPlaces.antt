@@ -1,5 +1,6 @@
 -- Elements at their places, and lists seen by a part of each element.
-use Rattle.std.proofs.Common.{◌≡◌, ℕ, ◌<◌, ◌≤◌, List, [], ◌∷◌, ◌++◌, length, get_or, map, Option, Some, None, option_to_list, Ok, Err, Result, Ordering, MatchResult, Contains, refl, sym, ◌∙◌, ap, subst, ⊎_elim, arith, slice_get, suc, zero}
+use Rattle.std.proofs.Common.{◌≡◌, ℕ, ◌<◌, ◌≤◌, List, [], ◌∷◌, ◌++◌, length, get_or, map, Option, Some, None, option_to_list, Ok, Err, Result, Ordering, MatchResult, Contains, refl, sym, ◌∙◌, ap}
+use Rattle.std.proofs.Common.{subst, ⊎_elim, arith, slice_get, suc, zero}
 use Rattle.std.specs.declared.cmp.Ordering.TheVariants.{Less, Equal, Greater}
 use Rattle.std.specs.Cmp.{IsTotalOrder}
 use Rattle.std.specs.List.{filter_map, cons_option}

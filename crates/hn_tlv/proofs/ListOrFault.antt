@@ -5,7 +5,7 @@ use Rattle.std.proofs.lemmas.Bool.{cases_lt}
 use Rattle.std.proofs.lemmas.List.{take-append-drop, length-append, length-drop, length-take-le, get_or-drop}
 use Rattle.hn_tlv.specs.Grammar.{PlainTlv, padding, tlv_size, header, spelling, HasTlvs, IsTlvAt, IsFault, FirstFault}
 use Rattle.hn_tlv.specs.Padding.{IsPaddingFault}
-use Rattle.hn_tlv.proofs.Split.{IsSplit, is_split, faulty_padding, whole_tlv}
+use Rattle.hn_tlv.proofs.TakenApart.{IsSplit, is_split, faulty_padding, whole_tlv}
 use Rattle.hn_base.proofs.BigEndian.{AreOctets, octets, two_bytes, two_small}
 use Rattle.std.proofs.lemmas.List.Elements.{recursion_from_All}
 use Rattle.hn_base.specs.Byte.{IsByte}

@@ -2,7 +2,7 @@
 use Rattle.std.proofs.Common.{◌≡◌, ◌∙◌, ℕ, ◌+◌, ◌-◌, ◌⊎◌, Bool, true, false, not, ◌&&◌, ◌||◌, cond, [], slice_index, inl, inr, refl, sym, ap, arith}
 use Rattle.std.specs.Prelude.{nat_le, ◌==◌}
 use Rattle.std.proofs.lemmas.Bool.{leb-false, lt-leb}
-use Rattle.hn_timers.specs.Interval.{Interval, started, has_to_send, fired, has_ended}
+use Rattle.hn_timers.specs.Interval.{Interval, interval_from, has_to_send, fired, is_interval_over}
 use Rattle.hn_timers.specs.Length.{next_length}
 use Rattle.hn_timers.specs.KeepAlive.{is_silent, silence_end}
 use Rattle.hn_timers.specs.Laws.{StillIntervalStays}
@@ -47,19 +47,19 @@ module _ (now : ℕ) (p : Port) where
       ap (λ (b : Bool). let q : Port = record p { trickle = record i { done = b }; sent = cond (has_to_send now i) now p.sent } in q) done
       ∙ ap (λ (b : Bool). let q : Port = record p { sent = cond b now p.sent } in q) sends
 
-  interval_same : (word : ℕ) → has_ended now i ≡ false → after_interval now word p ≡ p
-  interval_same word ended = ap (λ (b : Bool). let q : Port = record p { trickle = cond b (started now (next_length i.len) word) i } in q) ended
+  interval_same : (word : ℕ) → is_interval_over now i ≡ false → after_interval now word p ≡ p
+  interval_same word ended = ap (λ (b : Bool). let q : Port = record p { trickle = cond b (interval_from now (next_length i.len) word) i } in q) ended
 
   keep_alive_same : (word : ℕ) → is_silent p.sent now ≡ false → after_keep_alive now word p ≡ p
   keep_alive_same word silent =
-      ap (λ (b : Bool). let q : Port = record p { trickle = cond b (started now i.len word) i; sent = cond b now p.sent } in q) silent
+      ap (λ (b : Bool). let q : Port = record p { trickle = cond b (interval_from now i.len word) i; sent = cond b now p.sent } in q) silent
 
   pub idle : IsPortStill now p → IsIdleAt now p
   idle still =
       let waits : (i.done ≡ true) ⊎ (nat_le i.fire now ≡ false) = elim still.interval.waits [ inl done ↦ inl done | inr before ↦ inr (lt-leb i.fire now before) ] in
       let sends : has_to_send now i ≡ false = not_sent i.done (nat_le i.fire now) (i.heard == 0) waits in
       let firing = firing_same (stays_done i.done (nat_le i.fire now) waits) sends in
-      let ended : has_ended now i ≡ false = lt-leb (i.begin + i.len) now still.interval.lasts in
+      let ended : is_interval_over now i ≡ false = lt-leb (i.begin + i.len) now still.interval.lasts in
       let silent : is_silent p.sent now ≡ false = (let recent = still.recent in lt-leb 20000 (now - p.sent) (omega (arith, recent))) in
       let keep : has_keep_alive now p ≡ false = ap (λ (q : Port). is_silent q.sent now) firing ∙ silent in
       record {
@@ -73,14 +73,14 @@ module _ (now : ℕ) (p : Port) where
   pub still : IsIdleAt now p → IsPortStill now p
   still is =
       let none = none_or (has_to_send now i) (has_keep_alive now p) is.unsent in
-      let ended : has_ended now i ≡ false = no_word (has_ended now i) (cond (has_keep_alive now p) 1 0) is.untaken in
+      let ended : is_interval_over now i ≡ false = no_word (is_interval_over now i) (cond (has_keep_alive now p) 1 0) is.untaken in
       let silent : is_silent p.sent now ≡ false = sym (ap (λ (b : Bool). is_silent (cond b now p.sent) now) none.0) ∙ none.1 in
       let next : Port = after_interval now (slice_index [] 0) (after_firing now p) in
       let before : (ticked now [] p).trickle.done ≡ next.trickle.done =
-      ap (λ (b : Bool). (let t : Interval = cond b (started now next.trickle.len (slice_index [] (interval_words now p))) next.trickle in t).done) none.1
+      ap (λ (b : Bool). (let t : Interval = cond b (interval_from now next.trickle.len (slice_index [] (interval_words now p))) next.trickle in t).done) none.1
       in
       let first : next.trickle.done ≡ i.done || nat_le i.fire now =
-      ap (λ (b : Bool). (let t : Interval = cond b (started now (next_length i.len) (slice_index [] 0)) (fired now i) in t).done) ended
+      ap (λ (b : Bool). (let t : Interval = cond b (interval_from now (next_length i.len) (slice_index [] 0)) (fired now i) in t).done) ended
       in
       let done : i.done || nat_le i.fire now ≡ i.done = sym first ∙ sym before ∙ ap (λ (q : Port). q.trickle.done) is.same in
       record {

@@ -2,11 +2,11 @@
 use Rattle.std.proofs.Common.{◌≡◌, ℕ, zero, suc, ◌<◌, List, [], ◌∷◌, length, map, refl, sym, ap, ◌∙◌, arith, length-append}
 use Rattle.std.specs.Int.{w32, to_be_bytes}
 use Rattle.hn_hash.specs.Hash.{hash_of}
-use Rattle.hn_hash.specs.Network.{entry_of, leaf_text}
+use Rattle.hn_hash.specs.Network.{leaf_entry, leaf_text}
 use Rattle.hn_hash.specs.Agreement.{body_at}
 use Rattle.hn_hash.specs.declared.leaf.Leaf.{Leaf}
-use Rattle.hn_hash.proofs.Hashes.{length-entry_of, same_entries}
-use Rattle.hn_base.proofs.Fronts.{same_parts, head_is, tail_is}
+use Rattle.hn_hash.proofs.HashLengths.{length-entry_of, same_entries}
+use Rattle.hn_base.proofs.FrontOfList.{same_parts, head_is, tail_is}
 
 abbrev pub number_bytes : List Leaf → List (List ℕ)
 number_bytes leaves = map (λ leaf. to_be_bytes w32 leaf.number) leaves
@@ -21,14 +21,14 @@ pub record IsAlike (a b : List Leaf) : Type 0 where
   pub one_hash : hashes a ≡ hashes b
 
 not_empty : (x : Leaf) (xs : List Leaf) → leaf_text (x ∷ xs) ≡ [] → ⊥
-not_empty x xs e = omega (arith, ap length e, length-append (entry_of x) (leaf_text xs), length-entry_of x)
+not_empty x xs e = omega (arith, ap length e, length-append (leaf_entry x) (leaf_text xs), length-entry_of x)
 
 pub IsAlike-from_texts : (a b : List Leaf) → leaf_text a ≡ leaf_text b → IsAlike a b
 IsAlike-from_texts [] [] e = record { len = refl; numbers = refl; one_hash = refl }
 IsAlike-from_texts [] (y ∷ ys) e = absurd (not_empty y ys (sym e))
 IsAlike-from_texts (x ∷ xs) [] e = absurd (not_empty x xs e)
 IsAlike-from_texts (x ∷ xs) (y ∷ ys) e =
-    let parts = same_parts (entry_of x) (entry_of y) (leaf_text xs) (leaf_text ys) (length-entry_of x ∙ sym (length-entry_of y)) e in
+    let parts = same_parts (leaf_entry x) (leaf_entry y) (leaf_text xs) (leaf_text ys) (length-entry_of x ∙ sym (length-entry_of y)) e in
     let first = same_entries x y parts.0 in
     let rest = IsAlike-from_texts xs ys parts.1 in
     let len_is = rest.len in

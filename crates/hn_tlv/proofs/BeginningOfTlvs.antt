@@ -5,7 +5,7 @@ use Rattle.std.specs.Int.{w16, from_be_bytes}
 use Rattle.std.proofs.lemmas.Bool.{le-ltb, lt-ltb}
 use Rattle.std.proofs.lemmas.List.{take_at, drop_at, length-append}
 use Rattle.std.proofs.lemmas.Nat.{from_be_bytes-to_be_bytes_2}
-use Rattle.hn_base.proofs.Outcomes.{Outcome, Ends, Begins, Faults, IsTold}
+use Rattle.hn_base.proofs.BeginningOfBytes.{Outcome, Ends, Begins, Faults, IsTold}
 use Rattle.hn_tlv.specs.Grammar.{PlainTlv, IsTlv, padding, header, unpadded, spelling, IsFault}
 
 -- so many pad bytes have to come, the first of them at this offset
@@ -104,12 +104,14 @@ outcome_fault bytes offset why (inr (inl f)) =
 outcome_fault bytes offset why (inr (inr (inl f))) =
     let h = f.1 in
     let len : length (unpadded h.tlv) ≡ 4 + length h.tlv.value = omega arith in
-    rw (f.0, h.offset_is, len) (ap outcome h.parts ∙ outcome_unpadded h.tlv (replicate h.zeros 0) h.valid ∙ pads_cut h.tlv (4 + length h.tlv.value) (padding (length h.tlv.value)) h.zeros h.within_padding)
+    rw (f.0, h.offset_is, len) (ap outcome h.parts ∙ outcome_unpadded h.tlv (replicate h.zeros 0) h.valid
+    ∙ pads_cut h.tlv (4 + length h.tlv.value) (padding (length h.tlv.value)) h.zeros h.within_padding)
 outcome_fault bytes offset why (inr (inr (inr f))) =
     let h = f.1 in
     let len : length (unpadded h.tlv) ≡ 4 + length h.tlv.value = omega arith in
     let parts : bytes ≡ unpadded h.tlv ++ (replicate h.zeros 0 ++ h.byte ∷ h.rest) = h.parts ∙ append_assoc (unpadded h.tlv) (replicate h.zeros 0) (h.byte ∷ h.rest) in
-    rw (f.0, h.offset_is, len) (ap outcome parts ∙ outcome_unpadded h.tlv (replicate h.zeros 0 ++ h.byte ∷ h.rest) h.valid ∙ pads_not_zero h.tlv (4 + length h.tlv.value) (padding (length h.tlv.value)) h.zeros h.byte h.rest h.within_padding h.not_zero)
+    rw (f.0, h.offset_is, len) (ap outcome parts ∙ outcome_unpadded h.tlv (replicate h.zeros 0 ++ h.byte ∷ h.rest) h.valid
+    ∙ pads_not_zero h.tlv (4 + length h.tlv.value) (padding (length h.tlv.value)) h.zeros h.byte h.rest h.within_padding h.not_zero)
 
 pub tlv_told : IsTold spelling IsTlv IsFault outcome
 tlv_told = record { nothing = outcome_nothing; begins = outcome_spelling; faults = outcome_fault }

@@ -15,13 +15,13 @@ use Rattle.hn_assign.specs.Advertised.{key_of, IsOnLink}
 use Rattle.hn_assign.specs.Best.{IsValid}
 use Rattle.hn_assign.specs.Rest.{IsAtRest}
 use Rattle.hn_sound.specs.AtRest.{IsHomeAtRest}
-use Rattle.hn_sound.specs.Home.{Home, Endpoint, HasAssignment, advertised, common_link, wish_of, key_at}
+use Rattle.hn_sound.specs.Home.{Home, Endpoint, EndpointHasAssignment, advertised, common_link, wish_of, key_at}
 use Rattle.hn_sound.specs.Premises.{IsHome}
 use Rattle.hn_sound.specs.Premises.Premise.{OneLink, ForUsed, PublishedInside, OneEach, PriorityTwo}
-use Rattle.hn_sound.specs.Sound.{HasNoPublisher, IsServed, IsWithout, IsSound}
-use Rattle.hn_sound.proofs.Greatest.{Published, advert, is_advertised, key_tells, top_or_none}
-use Rattle.hn_sound.proofs.Publishers.{assignment_rests, one_publisher, not_beside_best, every_follows, none_without_publisher}
-use Rattle.hn_sound.proofs.Views.{from_common_link}
+use Rattle.hn_sound.specs.Sound.{HasNoPublisher, IsLinkServed, IsLinkWithout, IsSoundHome}
+use Rattle.hn_sound.proofs.GreatestIsBest.{Published, advert, is_advertised, key_tells, top_or_none}
+use Rattle.hn_sound.proofs.OnePublisher.{assignment_rests, one_publisher, not_beside_best, every_follows, none_without_publisher}
+use Rattle.hn_sound.proofs.AdvertisedAndLinks.{from_common_link}
 
 -- ---- keys neither of which is above the other's with priority 2
 
@@ -70,9 +70,11 @@ module _ (home : Home) (is_home : IsHome home) (at_rest : IsHomeAtRest home) whe
       differ (sym at.on_link ∙ is_home OneLink at.endpoint x.endpoint at.there x.fact.has.there at.of_node at.of_id)
 
   -- and its key is not above the key of an assignment that it overlaps
-  not_above : (d other : PlainPrefix) (x : Published home d) (y : Published home other) → x.endpoint.link ≢ y.endpoint.link → Overlaps y.assigned.prefix x.assigned.prefix → ¬ (IsAbove (advert y).key (key_at 2 x.endpoint))
+  not_above : (d other : PlainPrefix) (x : Published home d) (y : Published home other) → x.endpoint.link ≢ y.endpoint.link
+      → Overlaps y.assigned.prefix x.assigned.prefix → ¬ (IsAbove (advert y).key (key_at 2 x.endpoint))
   not_above d other x y differ overlap above =
-      let judged : IsAbove (advert y).key (key_of 2 x.endpoint.node.0 x.assigned.endpoint.0) = subst (λ (id : EpId). IsAbove (advert y).key (key_of 2 x.endpoint.node.0 id.0)) (sym x.fact.has.of_endpoint) above in
+      let judged : IsAbove (advert y).key (key_of 2 x.endpoint.node.0 x.assigned.endpoint.0) =
+      subst (λ (id : EpId). IsAbove (advert y).key (key_of 2 x.endpoint.node.0 id.0)) (sym x.fact.has.of_endpoint) above in
       valid d x (advert y) (is_advertised home other y) (of_other_link x.endpoint other y differ) overlap judged
 
   pub links_apart : (d other : PlainPrefix) (x : Published home d) (y : Published home other) → x.endpoint.link ≢ y.endpoint.link → ¬ (Overlaps x.assigned.prefix y.assigned.prefix)
@@ -87,13 +89,13 @@ module _ (home : Home) (is_home : IsHome home) (at_rest : IsHomeAtRest home) whe
   -- ---- a home at rest is sound
 
   -- what an endpoint has is what is published on its link
-  has_prefix : (d : PlainPrefix) (x : Published home d) (e : Endpoint) (c : Assigned) → e.link ≡ x.endpoint.link → HasAssignment home e d c → c.prefix ≡ x.assigned.prefix
+  has_prefix : (d : PlainPrefix) (x : Published home d) (e : Endpoint) (c : Assigned) → e.link ≡ x.endpoint.link → EndpointHasAssignment home e d c → c.prefix ≡ x.assigned.prefix
   has_prefix d x e c link has =
       let followed = every_follows home is_home at_rest d x e has.there link in
       ap (λ (b : Assigned). b.prefix) (is_home OneEach e d c followed.0 has followed.1) ∙ followed.2
 
   -- where an endpoint has an assignment, one is published on its link
-  publisher_of : (e : Endpoint) (d : PlainPrefix) (c : Assigned) → HasAssignment home e d c → (x : Published home d) × (x.endpoint.link ≡ e.link)
+  publisher_of : (e : Endpoint) (d : PlainPrefix) (c : Assigned) → EndpointHasAssignment home e d c → (x : Published home d) × (x.endpoint.link ≡ e.link)
   publisher_of e d c has =
       elim (top_or_none home e.link d) [
         | inl found ↦ (found.0, found.1)
@@ -101,13 +103,13 @@ module _ (home : Home) (is_home : IsHome home) (at_rest : IsHomeAtRest home) whe
       ]
 
   -- and so what it has is inside the delegated prefix
-  pub is_inside : (e : Endpoint) (d : PlainPrefix) (c : Assigned) → HasAssignment home e d c → IsWithin c.prefix d
+  pub is_inside : (e : Endpoint) (d : PlainPrefix) (c : Assigned) → EndpointHasAssignment home e d c → IsWithin c.prefix d
   is_inside e d c has =
       let x = publisher_of e d c has in
       let same = has_prefix d x.0 e c (sym x.1) has in
       subst (λ (p : PlainPrefix). IsWithin p d) (sym same) (is_home PublishedInside x.0.endpoint d x.0.assigned x.0.priority x.0.fact)
 
-  served : (d : PlainPrefix) (x : Published home d) → IsServed home x.endpoint.link d
+  served : (d : PlainPrefix) (x : Published home d) → IsLinkServed home x.endpoint.link d
   served d x = record {
     every = λ f there link. let found = every_follows home is_home at_rest d x f there link in (found.0, found.1);
     prefix = x.assigned.prefix;
@@ -122,7 +124,7 @@ module _ (home : Home) (is_home : IsHome home) (at_rest : IsHomeAtRest home) whe
         one_publisher home is_home at_rest d y x link;
   }
 
-  without : (link : ℕ) (d : PlainPrefix) → Contains home.used d → HasNoPublisher home link d → IsWithout home link d
+  without : (link : ℕ) (d : PlainPrefix) → Contains home.used d → HasNoPublisher home link d → IsLinkWithout home link d
   without link d d_used none = record {
     none = λ f k on has. (none_without_publisher home is_home at_rest f d has.there d_used (here f on)).0 k has;
     no_use = λ f there on. (none_without_publisher home is_home at_rest f d there d_used (here f on)).1;
@@ -131,11 +133,11 @@ module _ (home : Home) (is_home : IsHome home) (at_rest : IsHomeAtRest home) whe
       here : (f : Endpoint) → f.link ≡ link → HasNoPublisher home f.link d
       here f on e c p e_on = none e c p (e_on ∙ on)
 
-  pub sound : IsSound home
+  pub sound : IsSoundHome home
   sound = record {
     each_link = λ e d there d_used.
         elim (top_or_none home e.link d) [
-          | inl found ↦ inl (subst (λ l. IsServed home l d) found.1 (served d found.0))
+          | inl found ↦ inl (subst (λ l. IsLinkServed home l d) found.1 (served d found.0))
           | inr none ↦ inr (without e.link d d_used none)
         ];
     links_apart = λ e f d other c k c_has k_has differ overlap.

@@ -10,9 +10,9 @@ use Rattle.hn_hash.specs.Network.{leaf_text, bodies, AreNumbered}
 use Rattle.hn_hash.specs.Agreement.{body_at, CollidesInPlace, IsFirstDifference, IsExhibited, EqualHashesAgreeOrCollide}
 use Rattle.hn_hash.specs.declared.leaf.Leaf.{Leaf}
 use Rattle.hn_base.proofs.BigEndian.{same_words}
-use Rattle.hn_hash.proofs.Parts.{HasNumber}
-use Rattle.hn_hash.proofs.Leaves.{IsAlike, IsAlike-from_texts, IsAlike-tail, IsAlike-head, same_hash_at}
-use Rattle.hn_base.proofs.Decisions.{texts_cases}
+use Rattle.hn_hash.proofs.PartsOfLeaves.{HasNumber}
+use Rattle.hn_hash.proofs.AlikeLeaves.{IsAlike, IsAlike-from_texts, IsAlike-tail, IsAlike-head, same_hash_at}
+use Rattle.hn_base.proofs.DecidingTests.{texts_cases}
 
 pub same_leaf : (x y : Leaf) → x.number ≡ y.number → x.body ≡ y.body → x ≡ y
 same_leaf x y number_is body_is =

@@ -1,6 +1,6 @@
 use crate::cases::says;
 use hn_advert::{PREFIX_TOO_LONG, RaFault, ReadFault};
-use hn_base::{Bytes, Name, NoMemory, NodeId, NodeIds, Shared, sort_to_set};
+use hn_base::{Bytes, Name, NoMemory, NodeId, NodeIds, Shared, older, sort_to_set};
 use hn_script::ScriptFault;
 use hn_tlv::{ListFault, PADDING_NOT_ZERO, TlvFault};
 use hn_typed::{ItemFault, NO_TEXT};
@@ -28,6 +28,16 @@ fn a_value_is_shared(rt: HostRuntime) -> Result<(), Fail> {
     let shared = Shared::new(rt.alloc(), 7u32)?;
     assert!(rt; *shared.clone()?.get() == 7);
     Ok(())
+}
+
+/// Sequence numbers around the wrap, and 2^31 apart (RFC 7787, section 4.4).
+#[test]
+fn older_numbers(rt: HostRuntime) {
+    assert!(rt; older(4_294_967_295, 0));
+    assert!(rt; older(0, 2_147_483_648));
+    assert!(rt; older(2_147_483_648, 0));
+    assert!(rt; !older(5, 5));
+    assert!(rt; !older(0, 4_294_967_295));
 }
 
 /// The texts of names and faults.

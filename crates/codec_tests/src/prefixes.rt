@@ -1,6 +1,6 @@
 use crate::cases::{parts, says};
 use hn_base::number;
-use hn_prefix::{Prefix, address_text, parse_address};
+use hn_prefix::{Prefix, address_text, first_free, parse_address};
 use std::test::Fail;
 
 /// A read form, the address in hexadecimal digits, and its written form: the examples of RFC 5952, sections 1 and 4, and of
@@ -79,5 +79,17 @@ fn prefixes_are_read_and_written(rt: HostRuntime) -> Result<(), Fail> {
         let prefix = Prefix::parse(read.as_bytes())?;
         says(&rt, rt.alloc(), &prefix.text(), written)?;
     }
+    Ok(())
+}
+
+#[test]
+fn the_first_free_prefix(rt: HostRuntime) -> Result<(), Fail> {
+    let outer = Prefix::parse(b"2001:db8::/62")?;
+    let first = Prefix::parse(b"2001:db8::/64")?;
+    let second = Prefix::parse(b"2001:db8:0:1::/64")?;
+    let upper = Prefix::parse(b"2001:db8:0:2::/63")?;
+    assert!(rt; first_free(&outer, 0, &[first, upper], 64) == Some(second));
+    assert!(rt; first_free(&outer, 2, &[first, upper], 64) == Some(second));
+    assert!(rt; first_free(&outer, 2, &[first, second, upper], 64).is_none());
     Ok(())
 }

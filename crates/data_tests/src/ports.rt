@@ -1,6 +1,7 @@
 use hn_base::{Addr, Bytes, EpId, Moment, NodeId};
 use hn_dncp::{Greet, Port, pack};
 use hn_io::Listed;
+use hn_timers::Trickle;
 use hn_typed::{Item, write};
 use std::alloc::Global;
 use std::process::Abort;
@@ -176,4 +177,12 @@ fn datagrams(rt: HostRuntime) -> Result<(), Fail> {
     are_packed(&rt, rt.alloc(), &[1_988, 2_000, 4], &[4_000, 16])?;
     are_packed(&rt, rt.alloc(), &[1_992, 2_000, 1_988], &[2_004, 4_000])?;
     are_packed(&rt, rt.alloc(), &[8, 4_000, 8, 4], &[20, 4_012, 24])
+}
+
+/// An interval of 200 ms fires in its second half; the random number says where.
+#[test]
+fn an_interval_fires_in_its_second_half(rt: HostRuntime) {
+    assert!(rt; Trickle::start(0, 200, 0).fire == 100);
+    assert!(rt; Trickle::start(0, 200, 99).fire == 199);
+    assert!(rt; Trickle::start(0, 200, 100).fire == 100);
 }

@@ -1,5 +1,11 @@
-//! Compares texts with transcripts. Each script of the folder that the program is run in is played, and each datagram is
-//! read there; the text must be that of the transcript beside it. A line is written for each, with its status.
+//! Compares texts with those that are wanted. In the folder that the program is run in, the input of a text is the file
+//! beside it that has its stem:
+//! - a script `STEM.script`, which is played: `STEM.transcript` is wanted;
+//! - a datagram in hexadecimal, `STEM.hex`, which is read: `STEM.transcript` is wanted;
+//! - a home `STEM.home`, which is a script that is looked at: `STEM.log`, `STEM.why-NAME` and `STEM.table-NAME` are
+//!   wanted, as `hnlook log`, `hnlook why NAME` and `hnlook table NAME` write them.
+//!
+//! A line is written for each script, each datagram and each look, with its status.
 #![tactic(auto)]
 
 use hn_decode::decode;
@@ -11,23 +17,65 @@ use std::alloc::{AllocError, Global};
 use std::io::{Error, ErrorKind};
 use std::{fs, io};
 
-/// What an input came to: its status, as the program `hncp` ends with it, and its text.
-#[derive(Drop)]
+/// What an input came to.
+#[derive(Clone, Copy)]
 struct Outcome {
+    /// The status, as the program `hncp` or `hnlook` ends with it.
     status: u8,
-    text: Vec<u8>,
+    /// The number of the first line that is not that of the wanted text.
+    other_line: Option<usize>,
+}
+
+/// The number of the first line in which two texts differ; `None` if they are the same.
+fn other_line(text: &[u8], wanted: &[u8]) -> Option<usize> {
+    if text == wanted {
+        return None;
+    }
+    let same = text.iter().zip(wanted).take_while(|pair| pair.0 == pair.1);
+    let at = same.count();
+    Some(1 + text.iter().take(at).filter(|byte| **byte == b'\n').count())
 }
 
 /// Plays a script.
-fn played(alloc: Global, script: Vec<u8>) -> Result<Outcome, AllocError> {
+fn played(alloc: Global, script: Vec<u8>, wanted: &[u8]) -> Outcome {
     let mut source = MemSource::new(script, Vec::new(alloc));
     let mut sink = MemSink::new(alloc, Vec::new(alloc));
     let mut wire = MemWire::new(alloc, Vec::new(alloc));
     let played = lab(alloc, &mut source, &mut sink, &mut wire, None);
-    Ok(Outcome {
+    Outcome {
         status: played.status,
-        text: sink.held().to_vec(alloc)?,
-    })
+        other_line: other_line(sink.held(), wanted),
+    }
+}
+
+/// Plays a script, and looks at its home.
+fn looked(alloc: Global, words: &[String], script: Vec<u8>, wanted: &[u8]) -> Outcome {
+    let mut source = MemSource::new(script, Vec::new(alloc));
+    let mut sink = MemSink::new(alloc, Vec::new(alloc));
+    let status = hn_look::run(alloc, words, &mut source, &mut sink);
+    Outcome {
+        status,
+        other_line: other_line(sink.held(), wanted),
+    }
+}
+
+/// Reads a datagram.
+fn contents(alloc: Global, datagram: &[u8], wanted: &[u8]) -> io::Result<Outcome> {
+    match decode(alloc, datagram) {
+        Ok(text) => Ok(Outcome {
+            status: DONE,
+            other_line: other_line(text.as_bytes(), wanted),
+        }),
+        Err(ListFault::Malformed(fault)) => {
+            let (place, why) = (fault.place, fault.why);
+            let line = format!(in alloc; "malformed place={place} why={why}\n")?;
+            Ok(Outcome {
+                status: REFUSED,
+                other_line: other_line(line.as_bytes(), wanted),
+            })
+        }
+        Err(ListFault::NoMemory) => Err(Error::from(ErrorKind::OutOfMemory)),
+    }
 }
 
 /// The octets that hexadecimal text writes, in which spaces and LF are skipped.
@@ -39,54 +87,55 @@ fn octets(alloc: Global, text: &str) -> io::Result<Vec<u8>> {
     hex::decode(alloc, digits.as_str()).map_err(|_| Error::from(ErrorKind::InvalidData))
 }
 
-/// Reads a datagram.
-fn contents(alloc: Global, datagram: &[u8]) -> io::Result<Outcome> {
-    match decode(alloc, datagram) {
-        Ok(text) => Ok(Outcome {
-            status: DONE,
-            text: text.into_bytes(),
-        }),
-        Err(ListFault::Malformed(fault)) => {
-            let (place, why) = (fault.place, fault.why);
-            let line = format!(in alloc; "malformed place={place} why={why}\n")?;
-            Ok(Outcome {
-                status: REFUSED,
-                text: line.into_bytes(),
-            })
-        }
-        Err(ListFault::NoMemory) => Err(Error::from(ErrorKind::OutOfMemory)),
+/// The words of the command line for a look: `why-NAME` is `hnlook why NAME`.
+fn words_of(alloc: Global, look: &str) -> Result<Vec<String>, AllocError> {
+    let mut words = Vec::new(alloc);
+    words.push(String::from_str(alloc, "hnlook")?)?;
+    for word in look.splitn(2, '-') {
+        words.push(String::from_str(alloc, word)?)?;
     }
+    Ok(words)
 }
 
-/// What the file of this name and kind comes to.
-fn come_to(rt: &HostRuntime, file: &str, kind: &str) -> io::Result<Outcome> {
-    let alloc = rt.alloc();
-    if kind == "script" {
-        return Ok(played(alloc, fs::read(rt, file)?)?);
-    }
-    let text = fs::read_to_string(rt, file)?;
-    contents(alloc, &octets(alloc, text.as_str())?)
+/// The octets of the file of a stem and a kind.
+fn read(rt: &HostRuntime, stem: &str, kind: &str) -> io::Result<Vec<u8>> {
+    let file = format!(in rt.alloc(); "{stem}.{kind}")?;
+    fs::read(rt, file.as_str())
 }
 
-/// The number of the first line in which two texts differ.
-fn first_other_line(text: &[u8], wanted: &[u8]) -> usize {
-    let same = text.iter().zip(wanted).take_while(|pair| pair.0 == pair.1);
-    let at = same.count();
-    1 + text.iter().take(at).filter(|byte| **byte == b'\n').count()
+/// What a script comes to.
+fn of_script(rt: &HostRuntime, stem: &str) -> io::Result<Outcome> {
+    let script = read(rt, stem, "script")?;
+    let wanted = read(rt, stem, "transcript")?;
+    Ok(played(rt.alloc(), script, &wanted))
 }
 
-/// The line of a file.
-fn verdict(rt: &HostRuntime, file: &str, stem: &str, kind: &str) -> io::Result<String> {
-    let alloc = rt.alloc();
-    let transcript = format!(in alloc; "{stem}.transcript")?;
-    let wanted = fs::read(rt, transcript.as_str())?;
-    let found = come_to(rt, file, kind)?;
-    let status = found.status;
-    if found.text == wanted {
-        return Ok(format!(in alloc; "{file} {status}")?);
+/// What a datagram comes to.
+fn of_datagram(rt: &HostRuntime, stem: &str) -> io::Result<Outcome> {
+    let text = fs::read_to_string(rt, format!(in rt.alloc(); "{stem}.hex")?.as_str())?;
+    let datagram = octets(rt.alloc(), text.as_str())?;
+    let wanted = read(rt, stem, "transcript")?;
+    contents(rt.alloc(), &datagram, &wanted)
+}
+
+/// What a look at a home comes to.
+fn of_look(rt: &HostRuntime, stem: &str, look: &str) -> io::Result<Outcome> {
+    let script = read(rt, stem, "home")?;
+    let wanted = read(rt, stem, look)?;
+    let words = words_of(rt.alloc(), look)?;
+    Ok(looked(rt.alloc(), &words, script, &wanted))
+}
+
+/// What the file of a stem and a kind comes to; `None` if there is nothing to compare.
+fn verdict(rt: &HostRuntime, stem: &str, kind: &str) -> io::Result<Option<Outcome>> {
+    match kind {
+        "script" => Ok(Some(of_script(rt, stem)?)),
+        "hex" => Ok(Some(of_datagram(rt, stem)?)),
+        look if look == "log" || look.starts_with("why-") || look.starts_with("table-") => Ok(Some(
+            of_look(rt, stem, look)?,
+        )),
+        _ => Ok(None),
     }
-    let line = first_other_line(&found.text, &wanted);
-    Ok(format!(in alloc; "{file} {status}, and line {line} is not that of {transcript}")?)
 }
 
 /// The names of the files of the folder, in ascending order.
@@ -101,14 +150,35 @@ fn files(rt: &HostRuntime) -> io::Result<Vec<String>> {
     Ok(names)
 }
 
+/// Writes the line of a file, if there is something to compare.
+fn tell(rt: &HostRuntime, file: &str) -> io::Result<()> {
+    let Some((stem, kind)) = file.rsplit_once('.') else {
+        return Ok(());
+    };
+    match verdict(rt, stem, kind)? {
+        None => Ok(()),
+        Some(
+            Outcome {
+                status,
+                other_line: None,
+            },
+        ) => rt.println(format!(in rt.alloc(); "{file} {status}")?),
+        Some(
+            Outcome {
+                status,
+                other_line: Some(line),
+            },
+        ) => {
+            rt.println(format!(in rt.alloc();
+                "{file} {status}, and line {line} is not the wanted one"
+            )?)
+        }
+    }
+}
+
 fn main(rt: HostRuntime) -> io::Result<()> {
     for file in files(&rt)? {
-        let Some((stem, kind)) = file.as_str().rsplit_once('.') else {
-            continue;
-        };
-        if kind == "script" || kind == "hex" {
-            rt.println(verdict(&rt, file.as_str(), stem, kind)?)?;
-        }
+        tell(&rt, file.as_str())?;
     }
     Ok(())
 }

@@ -126,14 +126,17 @@ fn of_look(rt: &HostRuntime, stem: &str, look: &str) -> io::Result<Outcome> {
     Ok(looked(rt.alloc(), &words, script, &wanted))
 }
 
+/// Whether a kind is that of the text of a look.
+fn is_look(kind: &str) -> bool {
+    kind == "log" || kind.starts_with("why-") || kind.starts_with("table-")
+}
+
 /// What the file of a stem and a kind comes to; `None` if there is nothing to compare.
-fn verdict(rt: &HostRuntime, stem: &str, kind: &str) -> io::Result<Option<Outcome>> {
+fn compared(rt: &HostRuntime, stem: &str, kind: &str) -> io::Result<Option<Outcome>> {
     match kind {
         "script" => Ok(Some(of_script(rt, stem)?)),
         "hex" => Ok(Some(of_datagram(rt, stem)?)),
-        look if look == "log" || look.starts_with("why-") || look.starts_with("table-") => Ok(Some(
-            of_look(rt, stem, look)?,
-        )),
+        look if is_look(look) => Ok(Some(of_look(rt, stem, look)?)),
         _ => Ok(None),
     }
 }
@@ -155,24 +158,15 @@ fn tell(rt: &HostRuntime, file: &str) -> io::Result<()> {
     let Some((stem, kind)) = file.rsplit_once('.') else {
         return Ok(());
     };
-    match verdict(rt, stem, kind)? {
-        None => Ok(()),
-        Some(
-            Outcome {
-                status,
-                other_line: None,
-            },
-        ) => rt.println(format!(in rt.alloc(); "{file} {status}")?),
-        Some(
-            Outcome {
-                status,
-                other_line: Some(line),
-            },
-        ) => {
-            rt.println(format!(in rt.alloc();
-                "{file} {status}, and line {line} is not the wanted one"
-            )?)
-        }
+    let Some(outcome) = compared(rt, stem, kind)? else {
+        return Ok(());
+    };
+    let status = outcome.status;
+    match outcome.other_line {
+        None => rt.println(format!(in rt.alloc(); "{file} {status}")?),
+        Some(line) => rt.println(format!(in rt.alloc();
+            "{file} {status}, and line {line} is not the wanted one"
+        )?),
     }
 }
 

@@ -36,42 +36,26 @@ fn reason(status: u8) -> &'static str {
     }
 }
 
-/// Runs the program on standard input, a writer, the machine's sockets and its clock.
-fn run_to<W: Write>(rt: &HostRuntime, words: &[String], writer: &mut W) -> u8 {
-    let mut source = ReaderSource::new(rt.reader());
-    let mut sink = WriterSink::new(writer);
-    let mut wire = UdpWire::new(rt.alloc(), rt);
-    let mut clock = MachineClock::new(rt);
-    run(
-        rt.alloc(),
-        words,
-        &mut source,
-        &mut sink,
-        &mut wire,
-        &mut clock,
-    )
-    .status
-}
-
 /// Runs the program on the system's streams. Standard output is written in blocks, the last one after the run; where
 /// that fails, the status is 4.
-fn run_on(rt: &HostRuntime, words: &[String]) -> u8 {
-    let Ok(mut writer) = BufWriter::new(rt.alloc(), io::writer(rt)) else {
+fn status_of(rt: &HostRuntime) -> u8 {
+    let alloc = rt.alloc();
+    let words = match words_of(rt, alloc) {
+        Ok(words) => words,
+        Err(error) if error.kind() == ErrorKind::OutOfMemory => return NO_MEMORY,
+        Err(_) => return BAD_USAGE,
+    };
+    let Ok(mut writer) = BufWriter::new(alloc, io::writer(rt)) else {
         return NO_MEMORY;
     };
-    let status = run_to(rt, words, &mut writer);
+    let mut source = ReaderSource::new(rt.reader());
+    let mut sink = WriterSink::new(&mut writer);
+    let mut wire = UdpWire::new(alloc, rt);
+    let mut clock = MachineClock::new(rt);
+    let outcome = run(alloc, &words, &mut source, &mut sink, &mut wire, &mut clock);
     match writer.flush() {
-        Ok(()) => status,
+        Ok(()) => outcome.status,
         Err(_) => SINK_FAILED,
-    }
-}
-
-/// Reads the words of the command line, and runs the program on them.
-fn status_of(rt: &HostRuntime) -> u8 {
-    match words_of(rt, rt.alloc()) {
-        Ok(words) => run_on(rt, &words),
-        Err(error) if error.kind() == ErrorKind::OutOfMemory => NO_MEMORY,
-        Err(_) => BAD_USAGE,
     }
 }
 

@@ -32,32 +32,24 @@ fn reason(status: u8) -> &'static str {
     }
 }
 
-/// Runs the program on standard input and a writer.
-fn run_to<W: Write>(rt: &HostRuntime, words: &[String], writer: &mut W) -> u8 {
-    let mut source = ReaderSource::new(rt.reader());
-    let mut sink = WriterSink::new(writer);
-    run(rt.alloc(), words, &mut source, &mut sink)
-}
-
 /// Runs the program on the system's streams. Standard output is written in blocks, the last one after the run; where
 /// that fails, the status is 4.
-fn run_on(rt: &HostRuntime, words: &[String]) -> u8 {
-    let Ok(mut writer) = BufWriter::new(rt.alloc(), io::writer(rt)) else {
+fn status_of(rt: &HostRuntime) -> u8 {
+    let alloc = rt.alloc();
+    let words = match words_of(rt, alloc) {
+        Ok(words) => words,
+        Err(error) if error.kind() == ErrorKind::OutOfMemory => return NO_MEMORY,
+        Err(_) => return BAD_USAGE,
+    };
+    let Ok(mut writer) = BufWriter::new(alloc, io::writer(rt)) else {
         return NO_MEMORY;
     };
-    let status = run_to(rt, words, &mut writer);
+    let mut source = ReaderSource::new(rt.reader());
+    let mut sink = WriterSink::new(&mut writer);
+    let status = run(alloc, &words, &mut source, &mut sink);
     match writer.flush() {
         Ok(()) => status,
         Err(_) => SINK_FAILED,
-    }
-}
-
-/// Reads the words of the command line, and runs the program on them.
-fn status_of(rt: &HostRuntime) -> u8 {
-    match words_of(rt, rt.alloc()) {
-        Ok(words) => run_on(rt, &words),
-        Err(error) if error.kind() == ErrorKind::OutOfMemory => NO_MEMORY,
-        Err(_) => BAD_USAGE,
     }
 }
 

@@ -1,3 +1,4 @@
+-- The addresses inside a prefix are a range; one prefix is within another, or overlaps it, where their ranges are or do.
 use Rattle.std.proofs.Common.{◌≡◌, ℕ, ◌+◌, ◌-◌, ◌*◌, ◌/◌, ◌%◌, ◌^◌, ◌<◌, ◌≤◌, ◌↔◌, ◌⊎◌, inl, inr, refl, arith, ap, ◌∙◌, sym}
 use Rattle.std.proofs.Math.Nat.{le_refl, div-add-mod, div-eq_of_lt-le}
 use Rattle.std.proofs.lemmas.Nat.{pow_below, pow_pos, pow-add, mul-le, shr_below}

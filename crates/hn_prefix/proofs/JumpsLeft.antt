@@ -1,3 +1,4 @@
+-- How many jumps past taken prefixes are still to come: at most two for each taken prefix, and fewer after each jump.
 use Rattle.std.proofs.Common.{◌≡◌, ℕ, ◌+◌, ◌-◌, ◌*◌, ◌%◌, ◌<◌, ◌≤◌, inl, inr, List, length, get_or, cond, arith, ap, ◌∙◌}
 use Rattle.std.specs.Prelude.{count_by, sum_by, nat_lt, Contains, remove}
 use Rattle.std.proofs.Math.Nat.{mod-eq_of_lt, add-mod_left}

@@ -1,3 +1,4 @@
+-- The place so far after a start, in cyclic order, and that each place before it is taken.
 use Rattle.std.proofs.Common.{◌≡◌, ℕ, ◌+◌, ◌-◌, ◌*◌, ◌/◌, ◌%◌, ◌<◌, ◌≤◌, arith, ap, ◌∙◌, sym, subst, inl, inr, List}
 use Rattle.std.proofs.Math.Nat.{div-add-mod, mod-add-mod, add-mod-mod}
 use Rattle.std.proofs.lemmas.Nat.{mod-mul-add, mod_below}

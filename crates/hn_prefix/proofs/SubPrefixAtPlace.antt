@@ -1,3 +1,4 @@
+-- The sub-prefix at a place: it is a prefix within the outer one, and what overlaps it leads to a later place.
 use Rattle.std.proofs.Common.{◌≡◌, ℕ, ◌+◌, ◌-◌, ◌*◌, ◌/◌, ◌%◌, ◌^◌, ◌<◌, ◌≤◌, ◌↔◌, refl, arith, ap, ◌∙◌, sym, subst}
 use Rattle.std.proofs.Math.Nat.{le_refl, div-add-mod, div-mul-le_self, add-mul-mod_self_right}
 use Rattle.std.proofs.lemmas.Nat.{pow_pos, pow-add, mul-le, mod-pow-add, le-div, shl-shr}

@@ -8,7 +8,6 @@ use Rattle.hn_base.proofs.Parts.{filter_map-push}
 use Rattle.hn_tlv.specs.Grammar.{PlainTlv}
 use Rattle.hn_typed.specs.Item.{PlainItem, PlainCaps, External}
 use Rattle.hn_typed.specs.Table.{IsItem}
-use Rattle.hn_typed.specs.Fault.{IsItemFault}
 use Rattle.hn_data.specs.Items.{IsReading, AreItems, Reads, first_of}
 use Rattle.hn_data.specs.Said.{caps_of, version_of}
 use Rattle.hn_data.specs.Delegations.{delegation_of, IsDelegatedIn, IsConnected}
@@ -21,13 +20,13 @@ use Rattle.hn_base.proofs.AscendingLists.{Contains-one}
 pub reads_one : (tlv : PlainTlv) (item : PlainItem) → IsItem tlv item → IsReading (tlv ∷ []) (item ∷ [])
 reads_one tlv item h = inl (item, [], h, refl, refl)
 
-pub reads_none : (tlv : PlainTlv) (why : ℕ) → IsItemFault tlv why → IsReading (tlv ∷ []) []
-reads_none tlv why h = inr (why, h, refl)
+pub reads_none : (tlv : PlainTlv) → ((item : PlainItem) → ¬ (IsItem tlv item)) → IsReading (tlv ∷ []) []
+reads_none tlv h = inr (h, refl)
 
 pub readings_join : (a b : List PlainTlv) (x y : List PlainItem) → IsReading a x → IsReading b y → IsReading (a ++ b) (x ++ y)
 readings_join [] b x y p q = subst (λ (xs : List PlainItem). IsReading b (xs ++ y)) (sym p) q
 readings_join (tlv ∷ a) b x y (inl p) q = inl (p.0, p.1 ++ y, p.2, ap (λ (xs : List PlainItem). xs ++ y) p.3, readings_join a b p.1 y p.4 q)
-readings_join (tlv ∷ a) b x y (inr p) q = inr (p.0, p.1, readings_join a b x y p.2 q)
+readings_join (tlv ∷ a) b x y (inr p) q = inr (p.0, readings_join a b x y p.1 q)
 
 -- ---- lists
 

@@ -3,14 +3,13 @@ use Rattle.std.specs.Prelude.{◌≡◌, ℕ, ◌⊎◌, List, [], ◌∷◌, Op
 use Rattle.hn_tlv.specs.Grammar.{PlainTlv, IsTlvList}
 use Rattle.hn_typed.specs.Item.{PlainItem}
 use Rattle.hn_typed.specs.Table.{IsItem}
-use Rattle.hn_typed.specs.Fault.{IsItemFault}
 
--- the items of TLVs in their order; a TLV that the item table refuses is none
+-- the items of TLVs in their order; a TLV that decodes to no item is left out
 abbrev pub IsReading : List PlainTlv → List PlainItem → Type 0
 IsReading [] items = items ≡ []
 IsReading (tlv ∷ tlvs) items =
     ((item : PlainItem) × (rest : List PlainItem) × IsItem tlv item × (items ≡ item ∷ rest) × IsReading tlvs rest)
-    ⊎ ((why : ℕ) × IsItemFault tlv why × IsReading tlvs items)
+    ⊎ (((item : PlainItem) → ¬ (IsItem tlv item)) × IsReading tlvs items)
 
 -- the bytes are a list of TLVs, and these are its items
 pub record AreItems (bytes : List ℕ) (items : List PlainItem) : Type 0 where

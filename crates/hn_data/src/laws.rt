@@ -17,7 +17,6 @@ pub fn items_are_unique()
 {
     list_is_unique();
     item_is_unique();
-    item_fault_is_unique();
 }
 
 /// Numbers are node data with items, or they are none.
@@ -27,6 +26,7 @@ pub fn items_or_none()
     list_is_of_bytes();
     first_fault_is_unique();
     list_or_first_fault();
+    item_fault_is_unique();
     item_or_fault();
 }
 

@@ -18,4 +18,4 @@ returns-in-Ok c =
     )) c.push_said.ensures
 
 pub returns-in-Err : goal.returns-in-Err
-returns-in-Err c = ([], reads_none (plain c.args.tlv.now) c.in-Err.field-0.why c.in-Err.ensures.fault, sym (append-nil c.args.list.now.items))
+returns-in-Err c = ([], reads_none (plain c.args.tlv.now) c.in-Err.ensures.at_item, sym (append-nil c.args.list.now.items))

@@ -18,5 +18,5 @@ returns-in-Ok c =
 pub returns-in-Err : goal.returns-in-Err
 returns-in-Err c tlvs kept =
     let tlv = plain c.args.tlv.now in
-    let read = readings_join tlvs (tlv ∷ []) kept.0 [] kept.1 (reads_none tlv c.in-Err.field-0.why c.in-Err.ensures.fault) in
+    let read = readings_join tlvs (tlv ∷ []) kept.0 [] kept.1 (reads_none tlv c.in-Err.ensures.at_item) in
     (kept.0, subst (λ (xs : List PlainItem). IsReading (tlvs ++ tlv ∷ []) xs) (append-nil kept.0) read, kept.2)

@@ -96,8 +96,12 @@ external_more items item old said was is =
 
 delegated_append : (xs ys : List PlainItem) (d : Delegation) → IsDelegatedIn (xs ++ ys) d ↔ (IsDelegatedIn xs d ⊎ IsDelegatedIn ys d)
 delegated_append xs ys d = (
-  λ h. ⊎_elim (λ g. inl (record { subs = h.subs; external = g; inside = h.inside })) (λ g. inr (record { subs = h.subs; external = g; inside = h.inside })) (Contains-append_cases xs ys (External h.subs) h.external),
-  λ h. ⊎_elim (λ g. record { subs = g.subs; external = Contains-append_left xs ys (External g.subs) g.external; inside = g.inside }) (λ g. record { subs = g.subs; external = Contains-append_right xs ys (External g.subs) g.external; inside = g.inside }) h,
+  λ h. ⊎_elim (λ g. inl (record { subs = h.subs; external = g; inside = h.inside }))
+      (λ g. inr (record { subs = h.subs; external = g; inside = h.inside }))
+      (Contains-append_cases xs ys (External h.subs) h.external),
+  λ h. ⊎_elim (λ g. record { subs = g.subs; external = Contains-append_left xs ys (External g.subs) g.external; inside = g.inside })
+      (λ g. record { subs = g.subs; external = Contains-append_right xs ys (External g.subs) g.external; inside = g.inside })
+      h,
 )
 
 pub delegations_more : (items : List PlainItem) (item : PlainItem) (old new : List Delegation)

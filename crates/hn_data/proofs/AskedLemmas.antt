@@ -17,8 +17,8 @@ is_there : {C : Type 0} (plain : C → PlainCaps) (kept : Option C) (caps : Plai
 is_there plain None caps e = absurd (cc)
 is_there plain (Some c) caps e = refl
 
-pub version_found : {C : Type 0} (plain : C → PlainCaps) (bytes : List ℕ) (items : List PlainItem) (kept : Option C) → HasOneReading bytes → AreItems bytes items → option_map plain kept ≡ version_of items
-    → IsSome kept ↔ HasVersion bytes
+pub version_found : {C : Type 0} (plain : C → PlainCaps) (bytes : List ℕ) (items : List PlainItem) (kept : Option C)
+    → HasOneReading bytes → AreItems bytes items → option_map plain kept ≡ version_of items → IsSome kept ↔ HasVersion bytes
 version_found plain bytes items kept one are is = (
   some_or_none plain bytes items kept are is,
   λ (caps, (others, read, first)). is_there plain kept caps (is ∙ ap version_of (one items others are read) ∙ first),

@@ -5,7 +5,7 @@ use Rattle.hn_base.proofs.Parts.{filter_map-push}
 use Rattle.hn_tlv.specs.View.{plain}
 use Rattle.hn_typed.specs.View.{plain_item}
 use Rattle.hn_data.specs.Delegations.{delegation_of}
-use Rattle.hn_data.proofs.Adding.{reads_one, reads_none}
+use Rattle.hn_data.proofs.OneMoreItem.{reads_one, reads_none}
 use Rattle.hn_data.proofs.delegations.add_delegation.Goals as goal
 
 pub returns-in-Ok : goal.returns-in-Ok

@@ -1,5 +1,5 @@
 use Rattle.std.proofs.lemmas.Result.{on_ok_weaker}
-use Rattle.hn_data.proofs.Adding.{inner_more}
+use Rattle.hn_data.proofs.OneMoreItem.{inner_more}
 use Rattle.hn_data.proofs.delegations.add_delegations.Goals as goal
 
 pub returns-in-External : goal.returns-in-External

@@ -7,8 +7,8 @@ use Rattle.hn_typed.specs.Item.{PlainItem}
 use Rattle.hn_data.specs.Items.{IsReading}
 use Rattle.hn_data.specs.Delegations.{delegation_of}
 use Rattle.hn_data.specs.declared.said.Delegation.{Delegation}
-use Rattle.hn_data.proofs.Adding.{readings_join}
-use Rattle.hn_data.proofs.Walking.{done_more}
+use Rattle.hn_data.proofs.OneMoreItem.{readings_join}
+use Rattle.hn_data.proofs.DoneUpTo.{done_more}
 use Rattle.hn_data.proofs.delegations.add_inner.Goals as goal
 
 -- the items of TLVs, and the delegations of these at the end of a list

@@ -1,4 +1,4 @@
-use Rattle.hn_data.proofs.Readings.{items_unique}
+use Rattle.hn_data.proofs.OneReading.{items_unique}
 use Rattle.hn_data.proofs.laws.items_are_unique.Goals as goal
 
 pub returns : goal.returns

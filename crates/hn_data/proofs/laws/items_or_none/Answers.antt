@@ -1,4 +1,4 @@
-use Rattle.hn_data.proofs.Existing.{has_items_or_none}
+use Rattle.hn_data.proofs.ItemsExist.{has_items_or_none}
 use Rattle.hn_data.proofs.laws.items_or_none.Goals as goal
 
 pub returns : goal.returns

@@ -7,7 +7,7 @@ use Rattle.std.proofs.lemmas.Option.{IfSome_then}
 use Rattle.hn_data.specs.View.{ids_of}
 use Rattle.hn_base.proofs.AscendingLists.{exact_nat}
 use Rattle.hn_base.proofs.Parts.{found_by}
-use Rattle.hn_data.proofs.Places.{said_of_ok}
+use Rattle.hn_data.proofs.PeerPlaces.{said_of_ok}
 use Rattle.hn_data.proofs.place.place_of.Goals as goal
 
 pub returns : goal.returns

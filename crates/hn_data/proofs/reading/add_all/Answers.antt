@@ -1,6 +1,6 @@
 use Rattle.hn_tlv.specs.View.{plain}
 use Rattle.hn_data.specs.Kept.{AreKeptOf}
-use Rattle.hn_data.proofs.Walking.{done_more}
+use Rattle.hn_data.proofs.DoneUpTo.{done_more}
 use Rattle.hn_data.proofs.reading.add_all.Goals as goal
 
 pub loop-tlv-preserved : goal.loop-tlv-preserved

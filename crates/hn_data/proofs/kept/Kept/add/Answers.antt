@@ -5,7 +5,7 @@ use Rattle.hn_tlv.specs.View.{plain}
 use Rattle.hn_typed.specs.Item.{PlainItem}
 use Rattle.hn_typed.specs.View.{plain_item}
 use Rattle.hn_data.specs.Items.{IsReading}
-use Rattle.hn_data.proofs.Adding.{reads_one, reads_none, readings_join}
+use Rattle.hn_data.proofs.OneMoreItem.{reads_one, reads_none, readings_join}
 use Rattle.hn_data.proofs.kept.Kept.add.Goals as goal
 
 pub returns-in-Ok : goal.returns-in-Ok

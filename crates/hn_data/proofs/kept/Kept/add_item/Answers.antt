@@ -2,7 +2,7 @@ use Rattle.std.proofs.lemmas.Result.{on_ok_weaker}
 use Rattle.hn_typed.specs.View.{plain_item, plain_caps}
 use Rattle.hn_data.specs.Peers.{peer_of}
 use Rattle.hn_data.specs.Said.{interval_of, assigned_of, address_of}
-use Rattle.hn_data.proofs.Adding.{set_more, list_more, version_more, external_more, delegations_more}
+use Rattle.hn_data.proofs.OneMoreItem.{set_more, list_more, version_more, external_more, delegations_more}
 use Rattle.hn_data.proofs.kept.Kept.add_item.Goals as goal
 
 pub returns : goal.returns

@@ -1,7 +1,7 @@
 use Rattle.std.proofs.Common.{Contains, ◌∙◌}
 use Rattle.std.specs.List.{filter_map}
 use Rattle.hn_data.specs.Said.{address_of}
-use Rattle.hn_data.proofs.Readings.{contains_read}
+use Rattle.hn_data.proofs.OneReading.{contains_read}
 use Rattle.hn_data.proofs.node_data.NodeData.addresses.Goals as goal
 
 pub returns : goal.returns

@@ -1,5 +1,5 @@
 use Rattle.hn_data.specs.Delegations.{IsDelegatedIn}
-use Rattle.hn_data.proofs.Readings.{contains_read}
+use Rattle.hn_data.proofs.OneReading.{contains_read}
 use Rattle.hn_data.proofs.node_data.NodeData.delegations.Goals as goal
 
 pub returns : goal.returns

@@ -1,4 +1,4 @@
--- What others ask of node data.
+-- The first version and the first interval among items.
 use Rattle.std.proofs.Common.{◌≡◌, ◌↔◌, ℕ, Bool, true, false, List, [], ◌∷◌, Option, Some, None, IsSome, refl, sym, ap, ◌∙◌, cond, ◌==◌}
 use Rattle.std.specs.Option.{option_map}
 use Rattle.std.specs.List.{filter_map, find, cons_option}
@@ -6,7 +6,7 @@ use Rattle.hn_typed.specs.Item.{PlainItem, PlainCaps}
 use Rattle.hn_data.specs.Items.{AreItems, first_of}
 use Rattle.hn_data.specs.Said.{version_of, interval_at, HasVersion}
 use Rattle.hn_data.specs.declared.said.Interval.{Interval}
-use Rattle.hn_data.proofs.Readings.{HasOneReading}
+use Rattle.hn_data.proofs.OneReading.{HasOneReading}
 
 some_or_none : {C : Type 0} (plain : C → PlainCaps) (bytes : List ℕ) (items : List PlainItem) (kept : Option C) → AreItems bytes items → option_map plain kept ≡ version_of items
     → IsSome kept → HasVersion bytes

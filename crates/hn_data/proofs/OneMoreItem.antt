@@ -12,7 +12,7 @@ use Rattle.hn_data.specs.Items.{IsReading, AreItems, Reads, first_of}
 use Rattle.hn_data.specs.Said.{caps_of, version_of}
 use Rattle.hn_data.specs.Delegations.{delegation_of, IsDelegatedIn, IsConnected}
 use Rattle.hn_data.specs.declared.said.Delegation.{Delegation}
-use Rattle.hn_data.proofs.Readings.{HasOneReading}
+use Rattle.hn_data.proofs.OneReading.{HasOneReading}
 use Rattle.hn_base.proofs.AscendingLists.{Contains-one}
 
 -- ---- readings

@@ -8,7 +8,7 @@ use Rattle.hn_base.proofs.Parts.{filter_map-push}
 use Rattle.hn_tlv.specs.Grammar.{PlainTlv}
 use Rattle.hn_typed.specs.Item.{PlainItem, PlainCaps, External}
 use Rattle.hn_typed.specs.Table.{IsItem}
-use Rattle.hn_data.specs.Items.{IsReading, AreItems, Reads, first_of}
+use Rattle.hn_data.specs.Items.{IsReading, AreItems, HasItems, first_of}
 use Rattle.hn_data.specs.Said.{caps_of, version_of}
 use Rattle.hn_data.specs.Delegations.{delegation_of, IsDelegatedIn, IsConnected}
 use Rattle.hn_data.specs.declared.said.Delegation.{Delegation}
@@ -129,7 +129,7 @@ delegates_inner subs inner d one are = (
 
 -- a list with the delegated prefixes inside an External-Connection
 pub inner_more : (subs : List ℕ) (old new : List Delegation)
-    → HasOneReading subs → Reads subs (λ inner. new ≡ old ++ filter_map delegation_of inner)
+    → HasOneReading subs → HasItems subs (λ inner. new ≡ old ++ filter_map delegation_of inner)
     → (d : Delegation) → Contains new d ↔ (Contains old d ⊎ IsDelegatedIn (External subs ∷ []) d)
 inner_more subs old new one r d =
     let said = filter_map delegation_of r.0 in

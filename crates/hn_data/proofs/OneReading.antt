@@ -4,7 +4,7 @@ use Rattle.hn_tlv.specs.Grammar.{PlainTlv}
 use Rattle.hn_tlv.specs.Laws.{ListIsUnique}
 use Rattle.hn_typed.specs.Item.{PlainItem}
 use Rattle.hn_typed.specs.Laws.{ItemIsUnique}
-use Rattle.hn_data.specs.Items.{IsReading, AreItems, Reads}
+use Rattle.hn_data.specs.Items.{IsReading, AreItems, HasItems}
 
 -- bytes have at most one list of items
 abbrev pub HasOneReading : List ℕ → Type 0
@@ -30,12 +30,12 @@ module _ (same_list : ListIsUnique) (same_item : ItemIsUnique) where
       reading_is_unique q.tlvs a b read q.read
 
 -- what holds of the items of bytes is what holds of one list of them
-pub reads_at : (bytes : List ℕ) (items : List PlainItem) (P : List PlainItem → Type 0) → HasOneReading bytes → AreItems bytes items → P items ↔ Reads bytes P
+pub reads_at : (bytes : List ℕ) (items : List PlainItem) (P : List PlainItem → Type 0) → HasOneReading bytes → AreItems bytes items → P items ↔ HasItems bytes P
 reads_at bytes items P one are = (λ p. (items, are, p), λ r. subst P (one r.0 items r.1 are) r.2)
 
 -- a list that has what some items of the bytes have, has what the items of the bytes have
 pub contains_read : {A : Type 0} (bytes : List ℕ) (items : List PlainItem) (kept shown : List A) (a : A) (P : List PlainItem → Type 0)
-    → shown ≡ kept → HasOneReading bytes → AreItems bytes items → (Contains kept a ↔ P items) → Contains shown a ↔ Reads bytes P
+    → shown ≡ kept → HasOneReading bytes → AreItems bytes items → (Contains kept a ↔ P items) → Contains shown a ↔ HasItems bytes P
 contains_read {A} bytes items kept shown a P same one are kept_are =
     let reads = reads_at bytes items P one are in (
       λ p. reads.0 (kept_are.0 (subst (λ (xs : List A). Contains xs a) same p)),

@@ -11,7 +11,7 @@ use Rattle.hn_typed.specs.Item.{PlainItem, RequestNetwork, RequestNode, NodeEndp
 use Rattle.hn_typed.specs.Table.{IsItem, InRange}
 use Rattle.hn_typed.specs.Written.{kind_of, value_of, tlv_of, IsWritable}
 use Rattle.hn_typed.specs.Laws.{ItemIsUnique, WrittenIsRead}
-use Rattle.hn_data.specs.Items.{IsReading, Reads}
+use Rattle.hn_data.specs.Items.{IsReading, HasItems}
 use Rattle.hn_data.specs.OwnData.{AreBytes, IsEncoded, IsWrittenIn, IsAscendingSet}
 
 front : {A : Type 0} (P : A → Type 0) (xs ys : List A) → All P (xs ++ ys) → All P xs
@@ -108,5 +108,5 @@ module _ (same_begin : SpellingIsPrefixFree) (same_item : ItemIsUnique) (written
         );
       }
 
-pub reads_written : (pieces : List (List ℕ)) (bytes now : List ℕ) → now ≡ bytes → AreWritten pieces bytes → Reads now (λ read. (item : PlainItem) → Contains read item ↔ IsWrittenIn pieces item)
+pub reads_written : (pieces : List (List ℕ)) (bytes now : List ℕ) → now ≡ bytes → AreWritten pieces bytes → HasItems now (λ read. (item : PlainItem) → Contains read item ↔ IsWrittenIn pieces item)
 reads_written pieces bytes now same written = (written.items, record { tlvs = written.tlvs; list = subst (IsTlvList written.tlvs) (sym same) written.list; read = written.read }, written.exact)

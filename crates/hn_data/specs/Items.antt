@@ -17,9 +17,9 @@ pub record AreItems (bytes : List ℕ) (items : List PlainItem) : Type 0 where
   pub list : IsTlvList tlvs bytes
   pub read : IsReading tlvs items
 
--- so it is of the items of the bytes
-abbrev pub Reads : List ℕ → (List PlainItem → Type 0) → Type 0
-Reads bytes P = (items : List PlainItem) × AreItems bytes items × P items
+-- the bytes have items, and of these it is so
+abbrev pub HasItems : List ℕ → (List PlainItem → Type 0) → Type 0
+HasItems bytes P = (items : List PlainItem) × AreItems bytes items × P items
 
 -- the first of a list
 abbrev pub first_of : {A : Type 0} → List A → Option A

@@ -16,7 +16,7 @@ use Rattle.hn_base.proofs.Elements.{all_of, in_filter_map, from_filter_map}
 use Rattle.hn_base.proofs.Prefixes.{prefix_total, exact_prefix}
 use Rattle.hn_typed.specs.Item.{PlainItem, PlainCaps, External}
 use Rattle.hn_data.specs.Delegations.{IsDelegatedIn, HasDelegation, delegation_of}
-use Rattle.hn_data.specs.Items.{AreItems, Reads}
+use Rattle.hn_data.specs.Items.{AreItems, HasItems}
 use Rattle.hn_data.specs.Laws.{ItemsAreUnique, ItemsOrNone}
 use Rattle.hn_data.specs.Said.{HasVersion, version_of}
 use Rattle.hn_data.specs.View.{PlainView}
@@ -64,13 +64,14 @@ module _ (items_or_none : ItemsOrNone) (items_unique : ItemsAreUnique) where
       by_first items are None is = inr (λ h. none-some h.0 (sym is ∙ subst (λ (l : List PlainItem). version_of l ≡ Some h.0) (items_unique bytes h.1.0 items h.1.1 are) h.1.2))
 
   -- the delegated prefixes inside some External-Connections
-  inside : (all : List (List ℕ)) → (ds : List Delegation) × ((d : Delegation) → Contains ds d ↔ ((subs : List ℕ) × Contains all subs × Reads subs (λ inner. Contains (filter_map delegation_of inner) d)))
+  inside : (all : List (List ℕ))
+      → (ds : List Delegation) × ((d : Delegation) → Contains ds d ↔ ((subs : List ℕ) × Contains all subs × HasItems subs (λ inner. Contains (filter_map delegation_of inner) d)))
   inside [] = ([], λ d. (λ h. absurd (nothing_in d h), λ h. absurd (nothing_in h.0 h.1)))
   inside (first ∷ all) = go (inside all) (items_or_none first)
     where
-      go : (ds : List Delegation) × ((d : Delegation) → Contains ds d ↔ ((subs : List ℕ) × Contains all subs × Reads subs (λ inner. Contains (filter_map delegation_of inner) d)))
+      go : (ds : List Delegation) × ((d : Delegation) → Contains ds d ↔ ((subs : List ℕ) × Contains all subs × HasItems subs (λ inner. Contains (filter_map delegation_of inner) d)))
           → ((items : List PlainItem) × AreItems first items) ⊎ ((items : List PlainItem) → ¬ (AreItems first items))
-          → (ds : List Delegation) × ((d : Delegation) → Contains ds d ↔ ((subs : List ℕ) × Contains (first ∷ all) subs × Reads subs (λ inner. Contains (filter_map delegation_of inner) d)))
+          → (ds : List Delegation) × ((d : Delegation) → Contains ds d ↔ ((subs : List ℕ) × Contains (first ∷ all) subs × HasItems subs (λ inner. Contains (filter_map delegation_of inner) d)))
       go (rest, exact) (inr none) = (
         rest,
         λ d. (

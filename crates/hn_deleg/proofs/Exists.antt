@@ -1,5 +1,6 @@
 -- A view has a list of usable prefixes.
-use Rattle.std.proofs.Common.{◌≡◌, ◌∙◌, ◌⊎◌, ◌↔◌, ℕ, ◌+◌, ◌≤◌, List, [], ◌∷◌, ◌++◌, Option, Some, None, length, take, get_or, slice_get, min, max, Contains, refl, sym, ap, subst, inl, inr, suc, zero, arith}
+use Rattle.std.proofs.Common.{◌≡◌, ◌∙◌, ◌⊎◌, ◌↔◌, ℕ, ◌+◌, ◌≤◌, List, [], ◌∷◌, ◌++◌, Option, Some, None, length, take, get_or, slice_get, min, max, Contains, refl, sym, ap, subst, inl, inr, suc}
+use Rattle.std.proofs.Common.{zero, arith}
 use Rattle.std.specs.Prelude.{All}
 use Rattle.std.specs.List.{filter_map}
 use Rattle.std.specs.List.Sorted.{IsStrictlySortedBy}
@@ -159,7 +160,8 @@ module _ (items_or_none : ItemsOrNone) (items_unique : ItemsAreUnique) where
       | inr none ↦ inr (λ c. none c.outer c.among c.inside)
     ]
 
-    filtered_first : (ascending : List PlainPrefix) → IsStrictlySortedBy prefix_cmp ascending → All IsPrefix ascending → (n : ℕ) → n ≤ length ascending → (kept : List PlainPrefix) × IsFiltered (take n ascending) kept
+    filtered_first : (ascending : List PlainPrefix) → IsStrictlySortedBy prefix_cmp ascending → All IsPrefix ascending → (n : ℕ)
+        → n ≤ length ascending → (kept : List PlainPrefix) × IsFiltered (take n ascending) kept
     filtered_first ascending up valid zero within = ([], filtered_none)
     filtered_first ascending up valid (suc n) within =
         let p = get_or ascending n (record { bits = 0; len = 0 }) in
@@ -168,9 +170,13 @@ module _ (items_or_none : ItemsOrNone) (items_unique : ItemsAreUnique) where
         let before = filtered_first ascending up valid n (omega (arith, within)) in
         next p at more before.0 before.1 (covered_or_not before.0 p (ready_at ascending before.0 n p at up valid before.1))
       where
-        next : (p : PlainPrefix) → slice_get ascending n ≡ Some p → n + 1 ≡ suc n → (kept : List PlainPrefix) → IsFiltered (take n ascending) kept → Decided (IsCovered kept p) → (kept : List PlainPrefix) × IsFiltered (take (suc n) ascending) kept
+        next : (p : PlainPrefix) → slice_get ascending n ≡ Some p → n + 1 ≡ suc n → (kept : List PlainPrefix) → IsFiltered (take n ascending) kept
+            → Decided (IsCovered kept p) → (kept : List PlainPrefix) × IsFiltered (take (suc n) ascending) kept
         next p at more kept f (inl c) = (kept, subst (λ (k : ℕ). IsFiltered (take k ascending) kept) more (filtered_same_at within_range ascending kept n p at up valid f c))
-        next p at more kept f (inr none) = (kept ++ p ∷ [], subst (λ (k : ℕ). IsFiltered (take k ascending) (kept ++ p ∷ [])) more (filtered_more_at within_range ascending kept n p at up valid f none))
+        next p at more kept f (inr none) = (
+          kept ++ p ∷ [],
+          subst (λ (k : ℕ). IsFiltered (take k ascending) (kept ++ p ∷ [])) more (filtered_more_at within_range ascending kept n p at up valid f none),
+        )
 
     outermost_of : (ascending : List PlainPrefix) → IsStrictlySortedBy prefix_cmp ascending → All IsPrefix ascending → (kept : List PlainPrefix) × AreOutermost ascending kept
     outermost_of ascending up valid =
@@ -199,7 +205,8 @@ module _ (items_or_none : ItemsOrNone) (items_unique : ItemsAreUnique) where
           max u.preferred preferred,
           subst (λ (k : ℕ). AreTops (take k live) p (max u.valid valid) (max u.preferred preferred)) more (tops_more_at live n u p valid preferred at tops is),
         )
-        next u at more (valid, preferred, tops) (inr other) = (valid, preferred, subst (λ (k : ℕ). AreTops (take k live) p valid preferred) more (tops_other_at live n u p valid preferred at tops other))
+        next u at more (valid, preferred, tops) (inr other) =
+            (valid, preferred, subst (λ (k : ℕ). AreTops (take k live) p valid preferred) more (tops_other_at live n u p valid preferred at tops other))
 
     with_lifetimes : (live : List Delegated) (p : PlainPrefix) → Contains (prefixes_of live) p → (u : Delegated) × (u.prefix ≡ p) × HasLifetimesIn live u
     with_lifetimes live p there =
@@ -227,7 +234,8 @@ module _ (items_or_none : ItemsOrNone) (items_unique : ItemsAreUnique) where
         let live = live_in view.nodes in
         let ps = prefixes_of live.0 in
         let sorted = ascending_of prefix_cmp prefix_total exact_prefix ps in
-        let prefixes : HasPrefixes live.0 = all_of (λ u. IsPrefix u.prefix) live.0 (λ u h. candidate_is_prefix view u.prefix (candidate_from_live view live.0 u.prefix live.1 (Contains-map (λ (x : Delegated). x.prefix) live.0 u h))) in
+        let prefixes : HasPrefixes live.0 = all_of (λ u. IsPrefix u.prefix) live.0
+        (λ u h. candidate_is_prefix view u.prefix (candidate_from_live view live.0 u.prefix live.1 (Contains-map (λ (x : Delegated). x.prefix) live.0 u h))) in
         let valid = valid_candidates live.0 sorted.0 prefixes sorted.2 in
         let outer = outermost_of sorted.0 sorted.1 valid in
         let there = kept_in_live live.0 sorted.0 outer.0 32 sorted.2 outer.1 in

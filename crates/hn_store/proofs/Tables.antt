@@ -31,7 +31,8 @@ has_held : (id : ℕ) (xs : List HeldNode) (stored : Stored) → held xs id ≡ 
 has_held id [] stored is = absurd cc
 has_held id (x ∷ xs) stored is = by_test (is_of id x) (has_held id xs stored) is
   where
-    by_test : (b : Bool) → (held xs id ≡ Some stored → list_any (is_of id) xs ≡ true) → option_map (λ (node : HeldNode). node.stored) (cond b (Some x) (find (is_of id) xs)) ≡ Some stored → (b || list_any (is_of id) xs) ≡ true
+    by_test : (b : Bool) → (held xs id ≡ Some stored → list_any (is_of id) xs ≡ true)
+        → option_map (λ (node : HeldNode). node.stored) (cond b (Some x) (find (is_of id) xs)) ≡ Some stored → (b || list_any (is_of id) xs) ≡ true
     by_test true more at = refl
     by_test false more at = more at
 

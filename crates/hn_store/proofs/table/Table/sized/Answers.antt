@@ -9,4 +9,5 @@ use Rattle.hn_store.proofs.table.Table.sized.Goals as goal
 pub invariant_of-result : goal.invariant_of-result
 invariant_of-result c =
     let latest : ℕ = 18446744073709551615 in
-    subst (λ (entries : List HeldNode). IsTable (record { limit = c.args.limit; entries = entries }) × AreYoungBefore latest entries) (sym c.new.ensures.items) (IsTable-none c.args.limit c.requires, young_none latest)
+    subst (λ (entries : List HeldNode). IsTable (record { limit = c.args.limit; entries = entries }) × AreYoungBefore latest entries)
+    (sym c.new.ensures.items) (IsTable-none c.args.limit c.requires, young_none latest)

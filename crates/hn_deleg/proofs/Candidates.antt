@@ -15,8 +15,8 @@ use Rattle.hn_deleg.specs.declared.delegated.Delegated.{Delegated}
 use Rattle.hn_deleg.specs.Candidates.{IsPreferred, SameCandidatesSameUsed, PreferredIsAnnounced, PreferredWasSo}
 use Rattle.hn_deleg.specs.Live.{remaining, IsAnnounced, IsCandidate}
 use Rattle.hn_deleg.specs.Used.{prefixes_of, IsOutermost, HasLifetimes, AreUsable}
-use Rattle.hn_deleg.proofs.Laters.{remaining_before}
-use Rattle.hn_deleg.proofs.Unique.{outermost_of}
+use Rattle.hn_deleg.proofs.LaterUsable.{remaining_before}
+use Rattle.hn_deleg.proofs.OneUsableList.{outermost_of}
 
 -- ---- the same candidates
 

@@ -30,8 +30,8 @@ use Rattle.hn_deleg.proofs.Filtered.{IsFiltered, filtered_none, ready_at, filter
 use Rattle.hn_deleg.proofs.Fits.{candidate_is_prefix}
 use Rattle.hn_deleg.proofs.Live.{live_added, live_same}
 use Rattle.hn_deleg.proofs.Prefixes.{WithinIsRange}
-use Rattle.hn_deleg.proofs.Tops.{AreTops, tops_none, tops_more_at, tops_other_at, lifetimes_from_tops}
-use Rattle.hn_deleg.proofs.Whole.{candidate_from_live, valid_candidates, kept_in_live, usable}
+use Rattle.hn_deleg.proofs.GreatestLifetimes.{AreTops, tops_none, tops_more_at, tops_other_at, lifetimes_from_tops}
+use Rattle.hn_deleg.proofs.UsableFromLive.{candidate_from_live, valid_candidates, kept_in_live, usable}
 
 -- ---- the External-Connections among items
 

@@ -12,7 +12,7 @@ use Rattle.std.proofs.lemmas.Option.{get_or_from_slice_get}
 use Rattle.hn_base.proofs.Parts.{contains_at}
 use Rattle.hn_base.proofs.AscendingLists.{nothing_in, sorted_push}
 use Rattle.hn_base.specs.Prefix.{PlainPrefix, IsPrefix, IsWithin, prefix_cmp}
-use Rattle.hn_deleg.proofs.Lists.{sorted_take}
+use Rattle.hn_deleg.proofs.FirstElements.{sorted_take}
 use Rattle.hn_deleg.proofs.Prefixes.{WithinIsRange, OverlapIsRange, OverlapIsNesting, less_bits, not_within_later}
 use Rattle.hn_deleg.specs.Steps.{AreOutermost, IsCovered, IsReadyFor}
 use Rattle.hn_base.proofs.Fronts.{front_at}

@@ -16,7 +16,7 @@ use Rattle.hn_deleg.specs.Live.{remaining, IsAnnounced, IsCandidate, IsGreatest}
 use Rattle.hn_deleg.specs.Steps.{live_of, HasPrefixes, IsLiveIn, IsOutermostIn, AreOutermost, IsGreatestIn, HasLifetimesIn}
 use Rattle.hn_deleg.specs.Used.{prefixes_of, IsOutermost, HasLifetimes, AreUsable}
 use Rattle.hn_deleg.proofs.Live.{leaves, left, left_of}
-use Rattle.hn_deleg.proofs.Lists.{sorted_take, taken_or_after, Contains-from_take}
+use Rattle.hn_deleg.proofs.FirstElements.{sorted_take, taken_or_after, Contains-from_take}
 use Rattle.hn_base.proofs.Fronts.{front_at}
 
 -- ---- candidates and lifetimes

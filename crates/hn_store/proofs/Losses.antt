@@ -19,7 +19,7 @@ use Rattle.std.proofs.lemmas.List.Elements.{All-map, All-weaker}
 use Rattle.std.proofs.lemmas.List.Filters.{length-filter_both}
 use Rattle.std.proofs.lemmas.List.Sums.{length-filter}
 use Rattle.hn_store.specs.Nodes.{IsTable, IsIntact, ids_of}
-use Rattle.hn_store.proofs.Places.{order_rises}
+use Rattle.hn_store.proofs.NodePlaces.{order_rises}
 use Rattle.hn_store.specs.Loss.{is_among, lost_after, marked_node, is_to_mark, is_forgotten}
 
 rises_from_test : (ids : List NodeId) → AllAdjacentBelow (λ x y. is_le (nat_cmp x.0 y.0) ≡ true) ids (length ids) → IsNonDecreasingBy (λ id. id.0) ids

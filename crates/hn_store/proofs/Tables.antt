@@ -18,7 +18,7 @@ use Rattle.hn_store.specs.Acceptance.{PlainState, known_of, CarriesData, HasWron
 use Rattle.hn_store.specs.Laws.{HeldIsOfAnEntry, AcceptanceKeepsTable}
 use Rattle.hn_store.proofs.Answering.{known_of-other}
 use Rattle.hn_base.proofs.AscendingNumbers.{around-few, around-fewer}
-use Rattle.hn_store.proofs.Maps.{are_put, IntactNode}
+use Rattle.hn_store.proofs.TableStays.{are_put, IntactNode}
 use Rattle.hn_base.proofs.Decisions.{texts_cases}
 use Rattle.hn_store.proofs.Listed.{not_not}
 

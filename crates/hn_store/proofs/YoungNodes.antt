@@ -8,7 +8,7 @@ use Rattle.hn_store.specs.declared.stored.HeldNode.{HeldNode}
 use Rattle.hn_store.specs.Nodes.{entry, put}
 use Rattle.hn_store.specs.Place.{IsGapFor}
 use Rattle.hn_store.specs.Loss.{marked_node}
-use Rattle.hn_store.proofs.Places.{put-in}
+use Rattle.hn_store.proofs.NodePlaces.{put-in}
 use Rattle.hn_store.specs.Young.{IsYoungBefore, AreYoungBefore}
 
 abbrev IsYoung : ℕ → HeldNode → Type 0

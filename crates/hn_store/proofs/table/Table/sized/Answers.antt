@@ -3,7 +3,7 @@ use Rattle.hn_store.specs.declared.stored.HeldNode.{HeldNode}
 use Rattle.hn_store.specs.Nodes.{IsTable}
 use Rattle.hn_store.specs.Young.{AreYoungBefore}
 use Rattle.hn_store.proofs.YoungNodes.{young_none}
-use Rattle.hn_store.proofs.Maps.{IsTable-none}
+use Rattle.hn_store.proofs.TableStays.{IsTable-none}
 use Rattle.hn_store.proofs.table.Table.sized.Goals as goal
 
 pub invariant_of-result : goal.invariant_of-result

@@ -5,9 +5,9 @@ use Rattle.hn_store.specs.Nodes.{Nodes, IsTable, held, entry, put}
 use Rattle.hn_store.specs.Place.{IsPlaceOf, IsGapFor}
 use Rattle.hn_store.specs.Acceptance.{plain_state, kept}
 use Rattle.hn_store.specs.Young.{AreYoungBefore}
-use Rattle.hn_store.proofs.Places.{held-none}
+use Rattle.hn_store.proofs.NodePlaces.{held-none}
 use Rattle.hn_store.proofs.YoungNodes.{young_set, young_insert}
-use Rattle.hn_store.proofs.Maps.{IsTable-insert}
+use Rattle.hn_store.proofs.TableStays.{IsTable-insert}
 use Rattle.hn_store.proofs.Changing.{IsTable-there, intact_kept, after_replaced, after_inserted}
 use Rattle.hn_store.proofs.table.Table.store.Goals as goal
 

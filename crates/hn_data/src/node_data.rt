@@ -83,7 +83,7 @@ impl NodeData {
     pub fn from_items(alloc: Global, items: &[Bytes]) -> Result<NodeData, NoMemory>
         requires { All IsEncoded items.now }
         ensures set { IfOk result (λ d. IsAscendingSet items.now d) }
-        ensures items { IfOk result (λ d. HasItems d (λ read. (item : PlainItem) → Contains read item ↔ IsWrittenIn items.now item)) }
+        ensures items { IfOk result (λ d. HasItems d (λ read. (one : PlainItem) → Contains read one ↔ IsWrittenIn items.now one)) }
     {
         spelling_is_prefix_free();
         item_is_unique();

@@ -9,7 +9,7 @@ use Rattle.hn_base.proofs.SoOrNot.{Decided}
 use Rattle.hn_typed.specs.Item.{PlainItem, PlainCaps}
 use Rattle.hn_data.specs.Items.{AreItems}
 use Rattle.hn_data.specs.Laws.{ItemsAreUnique, ItemsOrNone}
-use Rattle.hn_data.specs.Said.{HasAssigned, HasVersion, assigned_of, version_of}
+use Rattle.hn_data.specs.Said.{HasAssigned, HasVersion, assigned_prefix_of, version_of}
 use Rattle.hn_data.specs.declared.said.AssignedPrefix.{AssignedPrefix}
 use Rattle.hn_data.specs.declared.view.Entry.{Entry}
 use Rattle.hn_assign.specs.declared.assigned.Advertised.{Advertised}
@@ -97,10 +97,10 @@ module _ (items_or_none : ItemsOrNone) (items_unique : ItemsAreUnique) where
     where
       of_items : (items : List PlainItem) → AreItems entry.body items → Listed (IsOfNode entry)
       of_items items are =
-          let said = filter_map assigned_of items in
+          let said = filter_map assigned_prefix_of items in
           let exact : (s : AssignedPrefix) → Contains said s ↔ HasAssigned entry.body s = λ s. (
             λ h. (items, are, h),
-            λ h. subst (λ (l : List PlainItem). Contains (filter_map assigned_of l) s) (items_unique entry.body h.0 items h.1 are) h.2,
+            λ h. subst (λ (l : List PlainItem). Contains (filter_map assigned_prefix_of l) s) (items_unique entry.body h.0 items h.1 are) h.2,
           ) in (
             map (said_by entry.id) said,
             λ a. (

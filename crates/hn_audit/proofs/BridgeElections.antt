@@ -17,7 +17,7 @@ use Rattle.hn_base.specs.Caps.{PlainCaps, plain_caps}
 use Rattle.hn_base.specs.declared.ids.NodeId.{NodeId}
 use Rattle.hn_base.specs.declared.ids.EpId.{EpId}
 use Rattle.hn_base.specs.declared.letter.Letter.{Letter}
-use Rattle.hn_data.specs.Items.{Reads}
+use Rattle.hn_data.specs.Items.{HasItems}
 use Rattle.hn_data.specs.Laws.{ItemsAreUnique}
 use Rattle.hn_data.specs.Said.{version_of}
 use Rattle.hn_deleg.specs.declared.delegated.Delegated.{Delegated}
@@ -119,7 +119,7 @@ module _ (w : Parts) (r : Member) (usable : List Delegated) (case : IsCase w r u
         node = n.0;
         there = n.1;
         is_it = n.2.id ∙ (sym who.2.id ∙ serves.is_it);
-        version = subst (λ (bytes : List ℕ). Reads bytes (λ items. version_of items ≡ Some caps)) body serves.version;
+        version = subst (λ (bytes : List ℕ). HasItems bytes (λ items. version_of items ≡ Some caps)) body serves.version;
         offers = serves.offers;
       }
 
@@ -187,7 +187,7 @@ module _ (w : Parts) (r : Member) (usable : List Delegated) (case : IsCase w r u
           node = n.0;
           there = n.1;
           is_it = n.2.id;
-          version = subst (λ (bytes : List ℕ). Reads bytes (λ items. version_of items ≡ Some (caps_of m))) (sym n.2.body) (case.versions m.router (router_of w r case.known m is.reached));
+          version = subst (λ (bytes : List ℕ). HasItems bytes (λ items. version_of items ≡ Some (caps_of m))) (sym n.2.body) (case.versions m.router (router_of w r case.known m is.reached));
           offers = is.offers;
         };
       }
@@ -205,7 +205,8 @@ module _ (w : Parts) (r : Member) (usable : List Delegated) (case : IsCase w r u
       let who = of_view w r case.known s serves.node s_in serves.there in
       let node : who.0.router.id ≡ id = sym who.2.id ∙ serves.is_it in
       let own = case.versions who.0.router (router_of w r case.known who.0 who.1) in
-      let says : Reads who.0.router.own.body (λ items. version_of items ≡ Some caps) = subst (λ (bytes : List ℕ). Reads bytes (λ items. version_of items ≡ Some caps)) who.2.body serves.version in
+      let says : HasItems who.0.router.own.body (λ items. version_of items ≡ Some caps) =
+      subst (λ (bytes : List ℕ). HasItems bytes (λ items. version_of items ≡ Some caps)) who.2.body serves.version in
       let items : own.0 ≡ says.0 = one_items who.0.router.own.body own.0 says.0 own.1 says.1 in
       let same : caps_of who.0 ≡ caps = same_Some (caps_of who.0) caps (sym own.2 ∙ (ap version_of items ∙ says.2)) in (
         who.0,

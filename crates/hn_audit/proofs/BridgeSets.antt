@@ -7,7 +7,7 @@ use Rattle.hn_base.proofs.AscendingLists.{Contains-from_map}
 use Rattle.hn_base.proofs.Keys.{same_node}
 use Rattle.hn_base.specs.declared.ids.NodeId.{NodeId}
 use Rattle.hn_base.specs.Caps.{plain_caps}
-use Rattle.hn_data.specs.Items.{Reads}
+use Rattle.hn_data.specs.Items.{HasItems}
 use Rattle.hn_data.specs.Said.{version_of}
 use Rattle.hn_data.specs.declared.view.Entry.{Entry}
 use Rattle.hn_rules.specs.declared.state.State.{State}
@@ -26,7 +26,7 @@ use Rattle.hn_audit.proofs.BridgeLists.{one_passes, two_pass}
 
 -- the node data of a router has an HNCP-Version with its capabilities
 abbrev pub OwnVersions : Type 0
-OwnVersions = (s : State) → IsRouter s → Reads s.own.body (λ items. version_of items ≡ Some (plain_caps s.own.items.caps))
+OwnVersions = (s : State) → IsRouter s → HasItems s.own.body (λ items. version_of items ≡ Some (plain_caps s.own.items.caps))
 
 pub record IsKnown (w : Parts) (r : Member) : Type 0 where
   pub routers : (m : Member) → Contains w.members m → IsRouter m.router

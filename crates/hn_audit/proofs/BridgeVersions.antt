@@ -6,7 +6,7 @@ use Rattle.std.proofs.lemmas.List.Elements.{filter_map-append}
 use Rattle.hn_base.proofs.AscendingLists.{Contains-head, Contains-one, nothing_in}
 use Rattle.hn_base.specs.Caps.{PlainCaps, plain_caps}
 use Rattle.hn_typed.specs.Item.{PlainItem, Version}
-use Rattle.hn_data.specs.Items.{Reads, first_of}
+use Rattle.hn_data.specs.Items.{HasItems, first_of}
 use Rattle.hn_data.specs.Laws.{ItemsAreUnique}
 use Rattle.hn_data.specs.Said.{caps_of, version_of}
 use Rattle.hn_own.specs.declared.own.OwnItems.{OwnItems}
@@ -70,7 +70,7 @@ module _ (laws : ReadLaws) (s : State) (router : IsRouter s) where
       in_filter_map caps_of read version (plain_caps s.own.items.caps)
       (((laws.published s router).2 version).1 (Contains-head version _)) refl
 
-  pub own_version : Reads s.own.body (λ items. version_of items ≡ Some (plain_caps s.own.items.caps))
+  pub own_version : HasItems s.own.body (λ items. version_of items ≡ Some (plain_caps s.own.items.caps))
   own_version = (read, (laws.published s router).1, first_is (filter_map caps_of read) (plain_caps s.own.items.caps) version_read no_other)
 
 pub own_versions : ReadLaws → OwnVersions

@@ -1,9 +1,9 @@
-pub mod Places
-pub mod Readings
-pub mod Adding
-pub mod Walking
-pub mod AskedLemmas
-pub mod Pieces
-pub mod Written
-mod Laters
-mod Existing
+pub mod PeerPlaces
+pub mod OneReading
+pub mod OneMoreItem
+pub mod DoneUpTo
+pub mod FirstSaid
+pub mod JoinedPieces
+pub mod WrittenPieces
+mod LaterNetwork
+mod ItemsExist

@@ -2,7 +2,7 @@
 use Rattle.std.specs.Prelude.{ℕ, List, Option, Some, None, Contains}
 use Rattle.std.specs.List.{filter_map}
 use Rattle.hn_typed.specs.Item.{PlainItem, External, Delegated}
-use Rattle.hn_data.specs.Items.{Reads}
+use Rattle.hn_data.specs.Items.{HasItems}
 use Rattle.hn_data.specs.declared.said.Delegation.{Delegation}
 
 -- the delegation that a Delegated-Prefix has
@@ -14,7 +14,7 @@ delegation_of _ = None
 pub record IsDelegatedIn (items : List PlainItem) (d : Delegation) : Type 0 where
   pub subs : List ℕ
   pub external : Contains items (External subs)
-  pub inside : Reads subs (λ inner. Contains (filter_map delegation_of inner) d)
+  pub inside : HasItems subs (λ inner. Contains (filter_map delegation_of inner) d)
 
 -- one of the items is an External-Connection
 abbrev pub IsConnected : List PlainItem → Type 0
@@ -22,8 +22,8 @@ IsConnected items = (subs : List ℕ) × Contains items (External subs)
 
 -- the node data have that delegated prefix
 abbrev pub HasDelegation : List ℕ → Delegation → Type 0
-HasDelegation bytes d = Reads bytes (λ items. IsDelegatedIn items d)
+HasDelegation bytes d = HasItems bytes (λ items. IsDelegatedIn items d)
 
 -- the node data have an External-Connection
 abbrev pub HasExternal : List ℕ → Type 0
-HasExternal bytes = Reads bytes IsConnected
+HasExternal bytes = HasItems bytes IsConnected

@@ -3,14 +3,13 @@ use Rattle.std.specs.Prelude.{◌≡◌, ℕ, ◌⊎◌, List, [], ◌∷◌, Op
 use Rattle.hn_tlv.specs.Grammar.{PlainTlv, IsTlvList}
 use Rattle.hn_typed.specs.Item.{PlainItem}
 use Rattle.hn_typed.specs.Table.{IsItem}
-use Rattle.hn_typed.specs.Fault.{IsItemFault}
 
--- the items of TLVs in their order; a TLV that the item table refuses is none
+-- the items of TLVs in their order; a TLV that decodes to no item is left out
 abbrev pub IsReading : List PlainTlv → List PlainItem → Type 0
 IsReading [] items = items ≡ []
 IsReading (tlv ∷ tlvs) items =
     ((item : PlainItem) × (rest : List PlainItem) × IsItem tlv item × (items ≡ item ∷ rest) × IsReading tlvs rest)
-    ⊎ ((why : ℕ) × IsItemFault tlv why × IsReading tlvs items)
+    ⊎ (((item : PlainItem) → ¬ (IsItem tlv item)) × IsReading tlvs items)
 
 -- the bytes are a list of TLVs, and these are its items
 pub record AreItems (bytes : List ℕ) (items : List PlainItem) : Type 0 where
@@ -18,9 +17,9 @@ pub record AreItems (bytes : List ℕ) (items : List PlainItem) : Type 0 where
   pub list : IsTlvList tlvs bytes
   pub read : IsReading tlvs items
 
--- so it is of the items of the bytes
-abbrev pub Reads : List ℕ → (List PlainItem → Type 0) → Type 0
-Reads bytes P = (items : List PlainItem) × AreItems bytes items × P items
+-- the bytes have items, and of these it is so
+abbrev pub HasItems : List ℕ → (List PlainItem → Type 0) → Type 0
+HasItems bytes P = (items : List PlainItem) × AreItems bytes items × P items
 
 -- the first of a list
 abbrev pub first_of : {A : Type 0} → List A → Option A

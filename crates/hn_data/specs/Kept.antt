@@ -8,7 +8,7 @@ use Rattle.hn_typed.specs.Item.{PlainItem}
 use Rattle.hn_typed.specs.View.{plain_caps}
 use Rattle.hn_data.specs.Items.{IsReading, AreItems}
 use Rattle.hn_data.specs.Peers.{peer_of, peer_cmp}
-use Rattle.hn_data.specs.Said.{version_of, interval_of, assigned_of, address_of}
+use Rattle.hn_data.specs.Said.{version_of, interval_of, assigned_prefix_of, node_address_of}
 use Rattle.hn_data.specs.Delegations.{IsDelegatedIn, IsConnected}
 use Rattle.hn_data.specs.declared.said.PeerLink.{PeerLink}
 use Rattle.hn_data.specs.declared.said.Delegation.{Delegation}
@@ -21,15 +21,15 @@ pub record AreKept (items : List PlainItem) (kept : Kept) : Type 0 where
   pub peers_are : (link : PeerLink) → Contains kept.peers.items link ↔ Contains (filter_map peer_of items) link
   pub intervals_are : kept.intervals.items ≡ filter_map interval_of items
   pub delegations_are : (d : Delegation) → Contains kept.delegations.items d ↔ IsDelegatedIn items d
-  pub assigned_are : kept.assigned.items ≡ filter_map assigned_of items
-  pub addresses_are : kept.addresses.items ≡ filter_map address_of items
+  pub assigned_are : kept.assigned.items ≡ filter_map assigned_prefix_of items
+  pub addresses_are : kept.addresses.items ≡ filter_map node_address_of items
 
 -- the same of the items of TLVs
 abbrev pub AreKeptOf : List PlainTlv → Kept → Type 0
 AreKeptOf tlvs kept = (items : List PlainItem) × IsReading tlvs items × AreKept items kept
 
 -- the same of the items of bytes, with the peers in ascending order, each once
-pub record IsKept (bytes : List ℕ) (kept : Kept) : Type 0 where
+pub record IsKeptBeside (bytes : List ℕ) (kept : Kept) : Type 0 where
   pub items : List PlainItem
   pub are : AreItems bytes items
   pub says : AreKept items kept

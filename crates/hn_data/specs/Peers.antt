@@ -4,7 +4,7 @@ use Rattle.std.specs.declared.cmp.Ordering.{Ordering}
 use Rattle.std.specs.Ordering.{on, then_cmp, nat_cmp}
 use Rattle.std.specs.List.{filter_map}
 use Rattle.hn_typed.specs.Item.{PlainItem, Peer}
-use Rattle.hn_data.specs.Items.{Reads}
+use Rattle.hn_data.specs.Items.{HasItems}
 use Rattle.hn_data.specs.declared.said.PeerLink.{PeerLink}
 
 -- a peer, its endpoint and the node's own endpoint
@@ -18,7 +18,7 @@ peer_of _ = None
 
 -- the node data say that peer
 abbrev pub HasPeer : List ℕ → PeerLink → Type 0
-HasPeer bytes link = Reads bytes (λ items. Contains (filter_map peer_of items) link)
+HasPeer bytes link = HasItems bytes (λ items. Contains (filter_map peer_of items) link)
 
 -- peers in order: by the node's own endpoint, then the peer, then the peer's endpoint
 abbrev pub peer_cmp : PeerLink → PeerLink → Ordering

@@ -3,7 +3,7 @@ use Rattle.std.specs.Prelude.{◌≡◌, ℕ, List, ◌==◌, if◌then◌else�
 use Rattle.std.specs.List.{filter_map}
 use Rattle.hn_typed.specs.Item.{PlainCaps, PlainItem, Version, KeepAlive, Assigned, Address}
 use Rattle.hn_base.specs.declared.ids.EpId.{EpId}
-use Rattle.hn_data.specs.Items.{Reads, first_of}
+use Rattle.hn_data.specs.Items.{HasItems, first_of}
 use Rattle.hn_data.specs.declared.said.Interval.{Interval}
 use Rattle.hn_data.specs.declared.said.AssignedPrefix.{AssignedPrefix}
 
@@ -32,23 +32,23 @@ keep_alive_of intervals e =
     unwrap_or (first_of (filter_map (interval_at e) intervals)) (unwrap_or (first_of (filter_map (interval_at 0) intervals)) 20000)
 
 -- the prefix that an Assigned-Prefix has (RFC 7788, section 10.3)
-abbrev pub assigned_of : PlainItem → Option AssignedPrefix
-assigned_of (Assigned endpoint priority prefix subs) = Some (record { endpoint = record { 0 = endpoint }; priority = priority; prefix = prefix })
-assigned_of _ = None
+abbrev pub assigned_prefix_of : PlainItem → Option AssignedPrefix
+assigned_prefix_of (Assigned endpoint priority prefix subs) = Some (record { endpoint = record { 0 = endpoint }; priority = priority; prefix = prefix })
+assigned_prefix_of _ = None
 
 -- the node data have that assigned prefix
 abbrev pub HasAssigned : List ℕ → AssignedPrefix → Type 0
-HasAssigned bytes a = Reads bytes (λ items. Contains (filter_map assigned_of items) a)
+HasAssigned bytes a = HasItems bytes (λ items. Contains (filter_map assigned_prefix_of items) a)
 
 -- the endpoint and the address that a Node-Address has (RFC 7788, section 10.4)
-abbrev pub address_of : PlainItem → Option (EpId × ℕ)
-address_of (Address endpoint address subs) = Some (record { 0 = endpoint }, address)
-address_of _ = None
+abbrev pub node_address_of : PlainItem → Option (EpId × ℕ)
+node_address_of (Address endpoint address subs) = Some (record { 0 = endpoint }, address)
+node_address_of _ = None
 
 -- the node data have that address
 abbrev pub HasAddress : List ℕ → EpId × ℕ → Type 0
-HasAddress bytes a = Reads bytes (λ items. Contains (filter_map address_of items) a)
+HasAddress bytes a = HasItems bytes (λ items. Contains (filter_map node_address_of items) a)
 
 -- the node data have an HNCP-Version
 abbrev pub HasVersion : List ℕ → Type 0
-HasVersion bytes = (caps : PlainCaps) × Reads bytes (λ items. version_of items ≡ Some caps)
+HasVersion bytes = (caps : PlainCaps) × HasItems bytes (λ items. version_of items ≡ Some caps)

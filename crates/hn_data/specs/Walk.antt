@@ -8,7 +8,7 @@ use Rattle.hn_typed.specs.Fault.{IsItemFault}
 use Rattle.hn_typed.specs.View.{plain_item}
 
 -- a place where a TLV begins, or the end: up to it the bytes are a list of TLVs
-pub record IsPlace (bytes : List ℕ) (at : ℕ) : Type 0 where
+pub record IsTlvPlace (bytes : List ℕ) (at : ℕ) : Type 0 where
   pub within : at ≤ length bytes
   pub before : HasTlvs (take at bytes)
 

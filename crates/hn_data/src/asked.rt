@@ -5,7 +5,7 @@ ghost use Rattle.std.specs.Option.{option_map};
 ghost use Rattle.std.specs.List.{filter_map};
 ghost use Rattle.hn_typed.specs.Item.{PlainItem};
 ghost use Rattle.hn_typed.specs.View.{plain_caps};
-ghost use Rattle.hn_data.specs.Items.{AreItems, Reads, first_of};
+ghost use Rattle.hn_data.specs.Items.{AreItems, HasItems, first_of};
 ghost use Rattle.hn_data.specs.Peers.{IsLinked};
 ghost use Rattle.hn_data.specs.Said.{version_of, interval_of, interval_at, keep_alive_of, HasVersion};
 
@@ -33,7 +33,7 @@ pub fn linked(a: &NodeData, x: NodeId, e: EpId, b: &NodeData, y: NodeId, f: EpId
 
 /// The priorities of the first HNCP-Version of the data (RFC 7788, section 10.1). Never allocates.
 pub fn version(a: &NodeData) -> Option<Caps>
-    ensures some { Reads a.now (λ items. option_map plain_caps result ≡ version_of items) }
+    ensures some { HasItems a.now (λ items. option_map plain_caps result ≡ version_of items) }
     ensures each { (items : List PlainItem) → AreItems a.now items → option_map plain_caps result ≡ version_of items }
     ensures found { IsSome result ↔ HasVersion a.now }
 {
@@ -57,7 +57,7 @@ fn interval_at(intervals: &[Interval], e: EpId) -> Option<u32>
 /// The keep-alive interval of an endpoint, in milliseconds: that of the first Keep-Alive Interval for it, else of the
 /// first for endpoint 0, else 20,000 (RFC 7787, section 6.1.5; RFC 7788, section 3). Never allocates.
 pub fn keep_alive(a: &NodeData, e: EpId) -> u32
-    ensures some { Reads a.now (λ items. result ≡ keep_alive_of (filter_map interval_of items) e.0) }
+    ensures some { HasItems a.now (λ items. result ≡ keep_alive_of (filter_map interval_of items) e.0) }
     ensures each { (items : List PlainItem) → AreItems a.now items → result ≡ keep_alive_of (filter_map interval_of items) e.0 }
 {
     let intervals = a.kept().intervals.as_slice();

@@ -7,7 +7,7 @@ ghost use Rattle.hn_tlv.specs.View.{plain};
 ghost use Rattle.hn_typed.specs.Item.{PlainItem};
 ghost use Rattle.hn_typed.specs.Table.{IsItem};
 ghost use Rattle.hn_typed.specs.View.{plain_item};
-ghost use Rattle.hn_data.specs.Items.{IsReading, Reads};
+ghost use Rattle.hn_data.specs.Items.{IsReading, HasItems};
 ghost use Rattle.hn_data.specs.Delegations.{delegation_of, IsDelegatedIn};
 ghost use Rattle.hn_data.specs.declared.said.Delegation.{Delegation};
 
@@ -51,7 +51,7 @@ fn add_delegation(list: &mut Vec<Delegation>, tlv: &Tlv<'_>) -> Result<(), NoMem
 // Adds the delegated prefixes of sub-TLVs.
 fn add_inner(list: &mut Vec<Delegation>, subs: &[u8]) -> Result<(), NoMemory>
     requires { HasTlvs subs.now }
-    ensures { OnOk result (Reads subs.now (λ inner. list.new.items ≡ list.old.items ++ filter_map delegation_of inner)) }
+    ensures { OnOk result (HasItems subs.now (λ inner. list.new.items ≡ list.old.items ++ filter_map delegation_of inner)) }
 {
     list_grows();
     let mut place = 0;

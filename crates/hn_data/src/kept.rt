@@ -8,7 +8,7 @@ ghost use Rattle.hn_typed.specs.Item.{PlainItem};
 ghost use Rattle.hn_typed.specs.Table.{IsItem};
 ghost use Rattle.hn_typed.specs.View.{plain_item, plain_caps};
 ghost use Rattle.hn_data.specs.Peers.{peer_of};
-ghost use Rattle.hn_data.specs.Said.{caps_of, interval_of, assigned_of, address_of};
+ghost use Rattle.hn_data.specs.Said.{caps_of, interval_of, assigned_prefix_of, node_address_of};
 ghost use Rattle.hn_data.specs.Delegations.{IsConnected};
 ghost use Rattle.hn_data.specs.Kept.{AreKept, AreKeptOf};
 
@@ -84,8 +84,8 @@ fn interval_of(item: &Item<'_>) -> Option<Interval>
 }
 
 // What an Assigned-Prefix says.
-fn assigned_of(item: &Item<'_>) -> Option<AssignedPrefix>
-    ensures { result ≡ assigned_of (plain_item item.now) }
+fn assigned_prefix_of(item: &Item<'_>) -> Option<AssignedPrefix>
+    ensures { result ≡ assigned_prefix_of (plain_item item.now) }
 {
     match item {
         Item::Assigned {
@@ -103,8 +103,8 @@ fn assigned_of(item: &Item<'_>) -> Option<AssignedPrefix>
 }
 
 // What a Node-Address says.
-fn address_of(item: &Item<'_>) -> Option<(EpId, u128)>
-    ensures { result ≡ address_of (plain_item item.now) }
+fn node_address_of(item: &Item<'_>) -> Option<(EpId, u128)>
+    ensures { result ≡ node_address_of (plain_item item.now) }
 {
     match item {
         Item::Address {
@@ -151,8 +151,8 @@ impl Kept {
         self.external |= is_external(item);
         push_said(&mut self.peers, peer_of(item))?;
         push_said(&mut self.intervals, interval_of(item))?;
-        push_said(&mut self.assigned, assigned_of(item))?;
-        push_said(&mut self.addresses, address_of(item))?;
+        push_said(&mut self.assigned, assigned_prefix_of(item))?;
+        push_said(&mut self.addresses, node_address_of(item))?;
         add_delegations(&mut self.delegations, item)
     }
 

@@ -3,7 +3,7 @@
 //! Each is the contract of a function that does nothing: call it to know its law.
 
 ghost use Rattle.hn_tlv.specs.Grammar.{HasTlvs};
-ghost use Rattle.hn_data.specs.Items.{Reads};
+ghost use Rattle.hn_data.specs.Items.{HasItems};
 ghost use Rattle.hn_data.specs.Laws.{ItemsAreUnique, ItemsOrNone, AscendingSetIsUnique, LaterIsANetwork};
 ghost use Rattle.hn_data.specs.OwnData.{AreBytes};
 
@@ -17,7 +17,6 @@ pub fn items_are_unique()
 {
     list_is_unique();
     item_is_unique();
-    item_fault_is_unique();
 }
 
 /// Numbers are node data with items, or they are none.
@@ -27,13 +26,14 @@ pub fn items_or_none()
     list_is_of_bytes();
     first_fault_is_unique();
     list_or_first_fault();
+    item_fault_is_unique();
     item_or_fault();
 }
 
 /// Node data are a list of TLVs, and have items.
 pub fn node_data_has_items(node_data: &NodeData)
     ensures list { HasTlvs node_data.now }
-    ensures items { Reads node_data.now (λ _. Unit {0}) }
+    ensures items { HasItems node_data.now (λ _. Unit {0}) }
 {
     let _kept = node_data.kept();
 }

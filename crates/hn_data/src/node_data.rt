@@ -3,10 +3,10 @@ ghost use Rattle.std.specs.List.Sorted.{IsStrictlySortedBy};
 ghost use Rattle.hn_tlv.specs.Grammar.{PlainTlv, HasTlvs, IsTlvAt, FirstFault};
 ghost use Rattle.hn_tlv.specs.declared.list_fault.ListFault.TheVariants.{Malformed};
 ghost use Rattle.hn_typed.specs.Item.{PlainItem};
-ghost use Rattle.hn_data.specs.Items.{AreItems, Reads};
+ghost use Rattle.hn_data.specs.Items.{AreItems, HasItems};
 ghost use Rattle.hn_data.specs.OwnData.{IsEncoded, IsWrittenIn, IsAscendingSet};
-ghost use Rattle.hn_data.specs.Walk.{IsPlace, IsFoundAt, Decodes};
-ghost use Rattle.hn_data.specs.Kept.{IsKept};
+ghost use Rattle.hn_data.specs.Walk.{IsTlvPlace, IsFoundAt, Decodes};
+ghost use Rattle.hn_data.specs.Kept.{IsKeptBeside};
 ghost use Rattle.hn_data.specs.Peers.{HasPeer, peer_cmp};
 ghost use Rattle.hn_data.specs.Delegations.{HasDelegation, HasExternal};
 ghost use Rattle.hn_data.specs.Said.{HasAssigned, HasAddress};
@@ -41,13 +41,13 @@ pub struct NodeData {
 
 impl Model for NodeData {
     ghost use Rattle.std.specs.Prelude.{ℕ, List};
-    ghost use Rattle.hn_data.specs.Kept.{IsKept};
+    ghost use Rattle.hn_data.specs.Kept.{IsKeptBeside};
 
     ghost Value = { List ℕ };
 
     ghost view = { λ d. d.shared.value.bytes };
 
-    ghost invariant = { λ d. IsKept d.shared.value.bytes d.shared.value.kept };
+    ghost invariant = { λ d. IsKeptBeside d.shared.value.bytes d.shared.value.kept };
 }
 
 // Reads a list of TLVs.
@@ -83,7 +83,7 @@ impl NodeData {
     pub fn from_items(alloc: Global, items: &[Bytes]) -> Result<NodeData, NoMemory>
         requires { All IsEncoded items.now }
         ensures set { IfOk result (λ d. IsAscendingSet items.now d) }
-        ensures items { IfOk result (λ d. Reads d (λ read. (item : PlainItem) → Contains read item ↔ IsWrittenIn items.now item)) }
+        ensures items { IfOk result (λ d. HasItems d (λ read. (one : PlainItem) → Contains read one ↔ IsWrittenIn items.now one)) }
     {
         spelling_is_prefix_free();
         item_is_unique();
@@ -102,7 +102,7 @@ impl NodeData {
 
     /// What is kept beside the bytes, which is of all their items.
     pub(crate) fn kept(&self) -> &Kept
-        ensures kept { IsKept self.now result.now }
+        ensures kept { IsKeptBeside self.now result.now }
         ensures unique { (a b : List PlainItem) → AreItems self.now a → AreItems self.now b → a ≡ b }
     {
         items_are_unique();
@@ -112,11 +112,11 @@ impl NodeData {
     /// The TLV at a place: its item, or why it has none (RFC 7787, section 7; RFC 7788, section 10), and the place
     /// after it. `None` if and only if the place is the end. Never allocates.
     pub fn item(&self, at: usize) -> Option<(Result<Item<'_>, ItemFault>, usize)>
-        requires { IsPlace self.now at }
+        requires { IsTlvPlace self.now at }
         // What is answered is so.
         ensures end { IfNone result (at ≡ length self.now) }
         ensures found { IfSome result (IsFoundAt self.now at) }
-        ensures place { IfSome result (λ found. IsPlace self.now found.1) }
+        ensures place { IfSome result (λ found. IsTlvPlace self.now found.1) }
 
         // What is so is answered.
         ensures at_end { at ≡ length self.now → IsNone result }

@@ -2,8 +2,8 @@
 
 ghost use Rattle.std.specs.Prelude.{[], OnOk, IfOk};
 ghost use Rattle.hn_tlv.specs.Grammar.{HasTlvs};
-ghost use Rattle.hn_data.specs.Items.{Reads};
-ghost use Rattle.hn_data.specs.Kept.{AreKept, IsKept};
+ghost use Rattle.hn_data.specs.Items.{HasItems};
+ghost use Rattle.hn_data.specs.Kept.{AreKept, IsKeptBeside};
 
 use crate::kept::Kept;
 use crate::walk::tlv_at;
@@ -15,7 +15,7 @@ use std::alloc::Global;
 fn add_all(kept: &mut Kept, bytes: &[u8]) -> Result<(), NoMemory>
     requires none { AreKept [] kept.old }
     requires list { HasTlvs bytes.now }
-    ensures { OnOk result (Reads bytes.now (λ items. AreKept items kept.new)) }
+    ensures { OnOk result (HasItems bytes.now (λ items. AreKept items kept.new)) }
 {
     list_grows();
     let mut place = 0;
@@ -29,7 +29,7 @@ fn add_all(kept: &mut Kept, bytes: &[u8]) -> Result<(), NoMemory>
 /// What the bytes say.
 pub(crate) fn read_kept(alloc: Global, bytes: &[u8]) -> Result<Kept, NoMemory>
     requires { HasTlvs bytes.now }
-    ensures { IfOk result (IsKept bytes.now) }
+    ensures { IfOk result (IsKeptBeside bytes.now) }
 {
     let mut kept = Kept::new(alloc);
     add_all(&mut kept, bytes)?;

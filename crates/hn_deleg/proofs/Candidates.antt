@@ -15,8 +15,8 @@ use Rattle.hn_deleg.specs.declared.delegated.Delegated.{Delegated}
 use Rattle.hn_deleg.specs.Candidates.{IsPreferred, SameCandidatesSameUsed, PreferredIsAnnounced, PreferredWasSo}
 use Rattle.hn_deleg.specs.Live.{remaining, IsAnnounced, IsCandidate}
 use Rattle.hn_deleg.specs.Used.{prefixes_of, IsOutermost, HasLifetimes, AreUsable}
-use Rattle.hn_deleg.proofs.Laters.{remaining_before}
-use Rattle.hn_deleg.proofs.Unique.{outermost_of}
+use Rattle.hn_deleg.proofs.LaterUsable.{remaining_before}
+use Rattle.hn_deleg.proofs.OneUsableList.{outermost_of}
 
 -- ---- the same candidates
 
@@ -27,7 +27,8 @@ outermost_too : (view other : PlainView) → HaveSameCandidates view other → (
 outermost_too view other same p outer = record { candidate = (same p).0 outer.candidate; not_inside = λ q there within. outer.not_inside q ((same q).1 there) within }
 
 -- a prefix of one list is in the other
-prefix_too : (view other : PlainView) (a b : List Delegated) → HaveSameCandidates view other → AreUsable view a → AreUsable other b → (p : PlainPrefix) → Contains (prefixes_of a) p → Contains (prefixes_of b) p
+prefix_too : (view other : PlainView) (a b : List Delegated) → HaveSameCandidates view other → AreUsable view a → AreUsable other b
+    → (p : PlainPrefix) → Contains (prefixes_of a) p → Contains (prefixes_of b) p
 prefix_too view other a b same are_a are_b p h =
     ⊎_elim (λ (there : Contains (prefixes_of b) p). there)
     (λ (after : (length b ≡ 32) × All (λ q. prefix_cmp q p ≡ Less) (prefixes_of b)).

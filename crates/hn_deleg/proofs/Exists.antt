@@ -1,5 +1,6 @@
 -- A view has a list of usable prefixes.
-use Rattle.std.proofs.Common.{◌≡◌, ◌∙◌, ◌⊎◌, ◌↔◌, ℕ, ◌+◌, ◌≤◌, List, [], ◌∷◌, ◌++◌, Option, Some, None, length, take, get_or, slice_get, min, max, Contains, refl, sym, ap, subst, inl, inr, suc, zero, arith}
+use Rattle.std.proofs.Common.{◌≡◌, ◌∙◌, ◌⊎◌, ◌↔◌, ℕ, ◌+◌, ◌≤◌, List, [], ◌∷◌, ◌++◌, Option, Some, None, length, take, get_or, slice_get, min, max, Contains, refl, sym, ap, subst, inl, inr, suc}
+use Rattle.std.proofs.Common.{zero, arith}
 use Rattle.std.specs.Prelude.{All}
 use Rattle.std.specs.List.{filter_map}
 use Rattle.std.specs.List.Sorted.{IsStrictlySortedBy}
@@ -16,7 +17,7 @@ use Rattle.hn_base.proofs.Elements.{all_of, in_filter_map, from_filter_map}
 use Rattle.hn_base.proofs.Prefixes.{prefix_total, exact_prefix}
 use Rattle.hn_typed.specs.Item.{PlainItem, PlainCaps, External}
 use Rattle.hn_data.specs.Delegations.{IsDelegatedIn, HasDelegation, delegation_of}
-use Rattle.hn_data.specs.Items.{AreItems, Reads}
+use Rattle.hn_data.specs.Items.{AreItems, HasItems}
 use Rattle.hn_data.specs.Laws.{ItemsAreUnique, ItemsOrNone}
 use Rattle.hn_data.specs.Said.{HasVersion, version_of}
 use Rattle.hn_data.specs.View.{PlainView}
@@ -29,8 +30,8 @@ use Rattle.hn_deleg.proofs.Filtered.{IsFiltered, filtered_none, ready_at, filter
 use Rattle.hn_deleg.proofs.Fits.{candidate_is_prefix}
 use Rattle.hn_deleg.proofs.Live.{live_added, live_same}
 use Rattle.hn_deleg.proofs.Prefixes.{WithinIsRange}
-use Rattle.hn_deleg.proofs.Tops.{AreTops, tops_none, tops_more_at, tops_other_at, lifetimes_from_tops}
-use Rattle.hn_deleg.proofs.Whole.{candidate_from_live, valid_candidates, kept_in_live, usable}
+use Rattle.hn_deleg.proofs.GreatestLifetimes.{AreTops, tops_none, tops_more_at, tops_other_at, lifetimes_from_tops}
+use Rattle.hn_deleg.proofs.UsableFromLive.{candidate_from_live, valid_candidates, kept_in_live, usable}
 
 -- ---- the External-Connections among items
 
@@ -64,13 +65,14 @@ module _ (items_or_none : ItemsOrNone) (items_unique : ItemsAreUnique) where
       by_first items are None is = inr (λ h. none-some h.0 (sym is ∙ subst (λ (l : List PlainItem). version_of l ≡ Some h.0) (items_unique bytes h.1.0 items h.1.1 are) h.1.2))
 
   -- the delegated prefixes inside some External-Connections
-  inside : (all : List (List ℕ)) → (ds : List Delegation) × ((d : Delegation) → Contains ds d ↔ ((subs : List ℕ) × Contains all subs × Reads subs (λ inner. Contains (filter_map delegation_of inner) d)))
+  inside : (all : List (List ℕ))
+      → (ds : List Delegation) × ((d : Delegation) → Contains ds d ↔ ((subs : List ℕ) × Contains all subs × HasItems subs (λ inner. Contains (filter_map delegation_of inner) d)))
   inside [] = ([], λ d. (λ h. absurd (nothing_in d h), λ h. absurd (nothing_in h.0 h.1)))
   inside (first ∷ all) = go (inside all) (items_or_none first)
     where
-      go : (ds : List Delegation) × ((d : Delegation) → Contains ds d ↔ ((subs : List ℕ) × Contains all subs × Reads subs (λ inner. Contains (filter_map delegation_of inner) d)))
+      go : (ds : List Delegation) × ((d : Delegation) → Contains ds d ↔ ((subs : List ℕ) × Contains all subs × HasItems subs (λ inner. Contains (filter_map delegation_of inner) d)))
           → ((items : List PlainItem) × AreItems first items) ⊎ ((items : List PlainItem) → ¬ (AreItems first items))
-          → (ds : List Delegation) × ((d : Delegation) → Contains ds d ↔ ((subs : List ℕ) × Contains (first ∷ all) subs × Reads subs (λ inner. Contains (filter_map delegation_of inner) d)))
+          → (ds : List Delegation) × ((d : Delegation) → Contains ds d ↔ ((subs : List ℕ) × Contains (first ∷ all) subs × HasItems subs (λ inner. Contains (filter_map delegation_of inner) d)))
       go (rest, exact) (inr none) = (
         rest,
         λ d. (
@@ -158,7 +160,8 @@ module _ (items_or_none : ItemsOrNone) (items_unique : ItemsAreUnique) where
       | inr none ↦ inr (λ c. none c.outer c.among c.inside)
     ]
 
-    filtered_first : (ascending : List PlainPrefix) → IsStrictlySortedBy prefix_cmp ascending → All IsPrefix ascending → (n : ℕ) → n ≤ length ascending → (kept : List PlainPrefix) × IsFiltered (take n ascending) kept
+    filtered_first : (ascending : List PlainPrefix) → IsStrictlySortedBy prefix_cmp ascending → All IsPrefix ascending → (n : ℕ)
+        → n ≤ length ascending → (kept : List PlainPrefix) × IsFiltered (take n ascending) kept
     filtered_first ascending up valid zero within = ([], filtered_none)
     filtered_first ascending up valid (suc n) within =
         let p = get_or ascending n (record { bits = 0; len = 0 }) in
@@ -167,9 +170,13 @@ module _ (items_or_none : ItemsOrNone) (items_unique : ItemsAreUnique) where
         let before = filtered_first ascending up valid n (omega (arith, within)) in
         next p at more before.0 before.1 (covered_or_not before.0 p (ready_at ascending before.0 n p at up valid before.1))
       where
-        next : (p : PlainPrefix) → slice_get ascending n ≡ Some p → n + 1 ≡ suc n → (kept : List PlainPrefix) → IsFiltered (take n ascending) kept → Decided (IsCovered kept p) → (kept : List PlainPrefix) × IsFiltered (take (suc n) ascending) kept
+        next : (p : PlainPrefix) → slice_get ascending n ≡ Some p → n + 1 ≡ suc n → (kept : List PlainPrefix) → IsFiltered (take n ascending) kept
+            → Decided (IsCovered kept p) → (kept : List PlainPrefix) × IsFiltered (take (suc n) ascending) kept
         next p at more kept f (inl c) = (kept, subst (λ (k : ℕ). IsFiltered (take k ascending) kept) more (filtered_same_at within_range ascending kept n p at up valid f c))
-        next p at more kept f (inr none) = (kept ++ p ∷ [], subst (λ (k : ℕ). IsFiltered (take k ascending) (kept ++ p ∷ [])) more (filtered_more_at within_range ascending kept n p at up valid f none))
+        next p at more kept f (inr none) = (
+          kept ++ p ∷ [],
+          subst (λ (k : ℕ). IsFiltered (take k ascending) (kept ++ p ∷ [])) more (filtered_more_at within_range ascending kept n p at up valid f none),
+        )
 
     outermost_of : (ascending : List PlainPrefix) → IsStrictlySortedBy prefix_cmp ascending → All IsPrefix ascending → (kept : List PlainPrefix) × AreOutermost ascending kept
     outermost_of ascending up valid =
@@ -198,7 +205,8 @@ module _ (items_or_none : ItemsOrNone) (items_unique : ItemsAreUnique) where
           max u.preferred preferred,
           subst (λ (k : ℕ). AreTops (take k live) p (max u.valid valid) (max u.preferred preferred)) more (tops_more_at live n u p valid preferred at tops is),
         )
-        next u at more (valid, preferred, tops) (inr other) = (valid, preferred, subst (λ (k : ℕ). AreTops (take k live) p valid preferred) more (tops_other_at live n u p valid preferred at tops other))
+        next u at more (valid, preferred, tops) (inr other) =
+            (valid, preferred, subst (λ (k : ℕ). AreTops (take k live) p valid preferred) more (tops_other_at live n u p valid preferred at tops other))
 
     with_lifetimes : (live : List Delegated) (p : PlainPrefix) → Contains (prefixes_of live) p → (u : Delegated) × (u.prefix ≡ p) × HasLifetimesIn live u
     with_lifetimes live p there =
@@ -226,7 +234,8 @@ module _ (items_or_none : ItemsOrNone) (items_unique : ItemsAreUnique) where
         let live = live_in view.nodes in
         let ps = prefixes_of live.0 in
         let sorted = ascending_of prefix_cmp prefix_total exact_prefix ps in
-        let prefixes : HasPrefixes live.0 = all_of (λ u. IsPrefix u.prefix) live.0 (λ u h. candidate_is_prefix view u.prefix (candidate_from_live view live.0 u.prefix live.1 (Contains-map (λ (x : Delegated). x.prefix) live.0 u h))) in
+        let prefixes : HasPrefixes live.0 = all_of (λ u. IsPrefix u.prefix) live.0
+        (λ u h. candidate_is_prefix view u.prefix (candidate_from_live view live.0 u.prefix live.1 (Contains-map (λ (x : Delegated). x.prefix) live.0 u h))) in
         let valid = valid_candidates live.0 sorted.0 prefixes sorted.2 in
         let outer = outermost_of sorted.0 sorted.1 valid in
         let there = kept_in_live live.0 sorted.0 outer.0 32 sorted.2 outer.1 in

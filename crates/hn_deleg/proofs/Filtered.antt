@@ -12,7 +12,7 @@ use Rattle.std.proofs.lemmas.Option.{get_or_from_slice_get}
 use Rattle.hn_base.proofs.PartsAtPlaces.{contains_at}
 use Rattle.hn_base.proofs.AscendingLists.{nothing_in, sorted_push}
 use Rattle.hn_base.specs.Prefix.{PlainPrefix, IsPrefix, IsWithin, prefix_cmp}
-use Rattle.hn_deleg.proofs.Lists.{sorted_take}
+use Rattle.hn_deleg.proofs.FirstElements.{sorted_take}
 use Rattle.hn_deleg.proofs.Prefixes.{WithinIsRange, OverlapIsRange, OverlapIsNesting, less_bits, not_within_later}
 use Rattle.hn_deleg.specs.Steps.{AreOutermost, IsCovered, IsReadyFor}
 use Rattle.hn_base.proofs.FrontOfList.{front_at}
@@ -57,7 +57,8 @@ ready_next xs kept p up valid f = record {
 }
 
 -- the last one kept has inside what one of them has
-pub covered_by_last : WithinIsRange → OverlapIsRange → OverlapIsNesting → (kept : List PlainPrefix) (p l : PlainPrefix) → IsReadyFor kept p → slice_get kept (length kept - 1) ≡ Some l → IsCovered kept p → IsWithin p l
+pub covered_by_last : WithinIsRange → OverlapIsRange → OverlapIsNesting → (kept : List PlainPrefix) (p l : PlainPrefix) → IsReadyFor kept p
+    → slice_get kept (length kept - 1) ≡ Some l → IsCovered kept p → IsWithin p l
 covered_by_last within_range overlap_range nesting kept p l ready last c =
     ⊎_elim (λ (is : c.outer ≡ l). subst (IsWithin p) is c.inside)
     (λ (less : prefix_cmp c.outer l ≡ Less).
@@ -110,20 +111,25 @@ filtered_more within_range xs kept p ready f none = record {
 
 -- ---- the same, by the place of the next prefix
 
-pub ready_at : (ascending kept : List PlainPrefix) (n : ℕ) (p : PlainPrefix) → slice_get ascending n ≡ Some p → IsStrictlySortedBy prefix_cmp ascending → All IsPrefix ascending → IsFiltered (take n ascending) kept → IsReadyFor kept p
+pub ready_at : (ascending kept : List PlainPrefix) (n : ℕ) (p : PlainPrefix) → slice_get ascending n ≡ Some p → IsStrictlySortedBy prefix_cmp ascending
+    → All IsPrefix ascending → IsFiltered (take n ascending) kept → IsReadyFor kept p
 ready_at ascending kept n p at up valid f =
     let more = front_at ascending n p at in
-    ready_next (take n ascending) kept p (subst (IsStrictlySortedBy prefix_cmp) more (sorted_take prefix_cmp (n + 1) ascending up)) (subst (All IsPrefix) more (All-take IsPrefix (n + 1) ascending valid)) f
+    ready_next (take n ascending) kept p (subst (IsStrictlySortedBy prefix_cmp) more (sorted_take prefix_cmp (n + 1) ascending up))
+    (subst (All IsPrefix) more (All-take IsPrefix (n + 1) ascending valid)) f
 
-pub filtered_same_at : WithinIsRange → (ascending kept : List PlainPrefix) (n : ℕ) (p : PlainPrefix) → slice_get ascending n ≡ Some p → IsStrictlySortedBy prefix_cmp ascending → All IsPrefix ascending → IsFiltered (take n ascending) kept
+pub filtered_same_at : WithinIsRange → (ascending kept : List PlainPrefix) (n : ℕ) (p : PlainPrefix) → slice_get ascending n ≡ Some p
+    → IsStrictlySortedBy prefix_cmp ascending → All IsPrefix ascending → IsFiltered (take n ascending) kept
     → IsCovered kept p → IsFiltered (take (n + 1) ascending) kept
 filtered_same_at within_range ascending kept n p at up valid f c =
     subst (λ (l : List PlainPrefix). IsFiltered l kept) (sym (front_at ascending n p at)) (filtered_same within_range (take n ascending) kept p (ready_at ascending kept n p at up valid f) f c)
 
-pub filtered_more_at : WithinIsRange → (ascending kept : List PlainPrefix) (n : ℕ) (p : PlainPrefix) → slice_get ascending n ≡ Some p → IsStrictlySortedBy prefix_cmp ascending → All IsPrefix ascending → IsFiltered (take n ascending) kept
+pub filtered_more_at : WithinIsRange → (ascending kept : List PlainPrefix) (n : ℕ) (p : PlainPrefix) → slice_get ascending n ≡ Some p
+    → IsStrictlySortedBy prefix_cmp ascending → All IsPrefix ascending → IsFiltered (take n ascending) kept
     → ¬ (IsCovered kept p) → IsFiltered (take (n + 1) ascending) (kept ++ p ∷ [])
 filtered_more_at within_range ascending kept n p at up valid f none =
-    subst (λ (l : List PlainPrefix). IsFiltered l (kept ++ p ∷ [])) (sym (front_at ascending n p at)) (filtered_more within_range (take n ascending) kept p (ready_at ascending kept n p at up valid f) f none)
+    subst (λ (l : List PlainPrefix). IsFiltered l (kept ++ p ∷ [])) (sym (front_at ascending n p at))
+    (filtered_more within_range (take n ascending) kept p (ready_at ascending kept n p at up valid f) f none)
 
 pub outermost_from_filtered : (xs kept : List PlainPrefix) → IsFiltered xs kept → AreOutermost xs kept
 outermost_from_filtered xs kept f = record {

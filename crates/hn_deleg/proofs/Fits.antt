@@ -9,7 +9,6 @@ use Rattle.hn_base.specs.Prefix.{PlainPrefix, IsPrefix}
 use Rattle.hn_tlv.specs.Grammar.{PlainTlv}
 use Rattle.hn_typed.specs.Item.{PlainItem, RequestNetwork, RequestNode, NodeEndpoint, NetworkState, NodeState, Peer, KeepAlive, Version, External, Delegated as DelegatedItem, Assigned, Address, Other}
 use Rattle.hn_typed.specs.Table.{InRange, IsItem}
-use Rattle.hn_typed.specs.Fault.{IsItemFault}
 use Rattle.hn_data.specs.Items.{IsReading}
 use Rattle.hn_data.specs.Delegations.{HasDelegation, delegation_of}
 use Rattle.hn_data.specs.declared.said.Delegation.{Delegation}
@@ -32,7 +31,7 @@ read_in_range (tlv ∷ tlvs) items item read h =
     ⊎_elim (λ (first : is.0 ≡ item). subst InRange first is.2.in_range)
     (λ (later : Contains is.1 item). read_in_range tlvs is.1 item is.4 later)
     (Contains-cases is.0 is.1 item (subst (λ (l : List PlainItem). Contains l item) is.3 h)))
-    (λ (none : (why : ℕ) × IsItemFault tlv why × IsReading tlvs items). read_in_range tlvs items item none.2 h)
+    (λ (none : ((one : PlainItem) → ¬ (IsItem tlv one)) × IsReading tlvs items). read_in_range tlvs items item none.1 h)
     read
 
 of_item : (item : PlainItem) (d : Delegation) → delegation_of item ≡ Some d → InRange item → IsDelegation d

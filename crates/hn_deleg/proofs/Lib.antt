@@ -1,12 +1,12 @@
-mod Lists
+mod FirstElements
 mod Prefixes
 mod Filtered
-mod Tops
+mod GreatestLifetimes
 mod Live
-mod Whole
-mod Unique
+mod UsableFromLive
+mod OneUsableList
 mod Fits
 mod Ordered
-mod Laters
+mod LaterUsable
 mod Exists
 mod Candidates

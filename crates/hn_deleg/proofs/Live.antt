@@ -1,5 +1,6 @@
 -- What nodes announce that is live, one node after the other.
-use Rattle.std.proofs.Common.{◌≡◌, ◌⊎◌, ◌↔◌, ℕ, ◌<◌, ◌≤◌, List, take, slice_get, ◌+◌, [], ◌∷◌, ◌++◌, Contains, Option, Some, None, Bool, true, false, cond, refl, sym, ◌∙◌, ap, subst, inl, inr, ⊎_elim, arith, append_assoc}
+use Rattle.std.proofs.Common.{◌≡◌, ◌⊎◌, ◌↔◌, ℕ, ◌<◌, ◌≤◌, List, take, slice_get, ◌+◌, [], ◌∷◌, ◌++◌, Contains, Option, Some, None, Bool, true, false, cond, refl, sym, ◌∙◌, ap, subst, inl, inr}
+use Rattle.std.proofs.Common.{⊎_elim, arith, append_assoc}
 use Rattle.std.specs.Prelude.{◌&&◌, nat_le, nat_lt}
 use Rattle.std.specs.List.{filter_map, cons_option}
 use Rattle.std.proofs.lemmas.Option.{same_Some, none-some}
@@ -32,7 +33,8 @@ added_none old age = record { added = sym (append-nil old); valid = λ h. h }
 one_more : (age : ℕ) (said : List Delegation) (d : Delegation) → filter_map (live_of age) (said ++ d ∷ []) ≡ filter_map (live_of age) said ++ cons_option (live_of age d) []
 one_more age said d = filter_map-append (live_of age) said (d ∷ [])
 
-pub added_more : (old new : List Delegated) (age : ℕ) (said : List Delegation) (d : Delegation) (u : Delegated) → AreAdded old new age said → Some u ≡ live_of age d → IsPrefix u.prefix → AreAdded old (new ++ u ∷ []) age (said ++ d ∷ [])
+pub added_more : (old new : List Delegated) (age : ℕ) (said : List Delegation) (d : Delegation) (u : Delegated) → AreAdded old new age said
+    → Some u ≡ live_of age d → IsPrefix u.prefix → AreAdded old (new ++ u ∷ []) age (said ++ d ∷ [])
 added_more old new age said d u were is valid =
     let last : cons_option (live_of age d) [] ≡ u ∷ [] = ap (λ (o : Option Delegated). cons_option o []) (sym is) in
     record {
@@ -50,11 +52,13 @@ added_same old new age said d were is =
       valid = were.valid;
     }
 
-pub added_more_at : (old new : List Delegated) (age : ℕ) (said : List Delegation) (n : ℕ) (d : Delegation) (u : Delegated) → AreAdded old new age (take n said) → slice_get said n ≡ Some d → Some u ≡ live_of age d → IsPrefix u.prefix
+pub added_more_at : (old new : List Delegated) (age : ℕ) (said : List Delegation) (n : ℕ) (d : Delegation) (u : Delegated)
+    → AreAdded old new age (take n said) → slice_get said n ≡ Some d → Some u ≡ live_of age d → IsPrefix u.prefix
     → AreAdded old (new ++ u ∷ []) age (take (n + 1) said)
 added_more_at old new age said n d u were at is valid = subst (AreAdded old (new ++ u ∷ []) age) (sym (front_at said n d at)) (added_more old new age (take n said) d u were is valid)
 
-pub added_same_at : (old new : List Delegated) (age : ℕ) (said : List Delegation) (n : ℕ) (d : Delegation) → AreAdded old new age (take n said) → slice_get said n ≡ Some d → None ≡ live_of age d → AreAdded old new age (take (n + 1) said)
+pub added_same_at : (old new : List Delegated) (age : ℕ) (said : List Delegation) (n : ℕ) (d : Delegation) → AreAdded old new age (take n said)
+    → slice_get said n ≡ Some d → None ≡ live_of age d → AreAdded old new age (take (n + 1) said)
 added_same_at old new age said n d were at is = subst (AreAdded old new age) (sym (front_at said n d at)) (added_same old new age (take n said) d were is)
 
 -- ---- a node
@@ -81,7 +85,8 @@ live_same node list none u = (λ h. inl h, λ h. ⊎_elim (λ (before : Contains
 pub live_none : (u : Delegated) → Contains {X = Delegated} [] u ↔ IsLiveIn [] u
 live_none u = (λ h. absurd (nothing_in u h), λ h. absurd (nothing_in h.node h.among))
 
-pub live_more : (nodes : List Entry) (node : Entry) (old new : List Delegated) → ((u : Delegated) → Contains old u ↔ IsLiveIn nodes u) → ((u : Delegated) → Contains new u ↔ (Contains old u ⊎ IsLiveAt node u))
+pub live_more : (nodes : List Entry) (node : Entry) (old new : List Delegated) → ((u : Delegated) → Contains old u ↔ IsLiveIn nodes u)
+    → ((u : Delegated) → Contains new u ↔ (Contains old u ⊎ IsLiveAt node u))
     → (u : Delegated) → Contains new u ↔ IsLiveIn (nodes ++ node ∷ []) u
 live_more nodes node old new were are u = (
   λ h. ⊎_elim (λ (before : Contains old u). let l = (were u).0 before in record { node = l.node; among = Contains-append_left nodes (node ∷ []) l.node l.among; at = l.at })

@@ -10,7 +10,7 @@ use Rattle.hn_deleg.specs.declared.delegated.Delegated.{Delegated}
 use Rattle.hn_deleg.specs.Used.{prefixes_of, AreUsable}
 use Rattle.hn_deleg.proofs.Fits.{candidate_is_prefix}
 use Rattle.hn_deleg.proofs.Prefixes.{WithinIsRange, OverlapIsRange, OverlapIsNesting, less_bits, cmp_from_bits}
-use Rattle.hn_deleg.proofs.Unique.{outermost_of, apart}
+use Rattle.hn_deleg.proofs.OneUsableList.{outermost_of, apart}
 use Rattle.hn_base.proofs.Prefixes.{prefix_total}
 
 pub inside_ordered : WithinIsRange → OverlapIsRange → OverlapIsNesting → (view : PlainView) (list : List Delegated) (d f p q : PlainPrefix) → AreUsable view list → Contains (prefixes_of list) d

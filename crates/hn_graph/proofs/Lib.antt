@@ -1,9 +1,9 @@
 mod Ways
-mod Leads
+mod WhereLinksLead
 mod Marking
-mod Found
+mod MarkedIds
 mod Progress
 mod Staying
-mod Laters
+mod LaterReach
 mod Following
 mod Gaps

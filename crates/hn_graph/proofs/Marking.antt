@@ -57,13 +57,15 @@ pub mark_new : (places : List ℕ) (found : List Bool) (visits : List ℕ) (foun
 mark_new places found visits found' visits' p m lt un = record {
   same_length = length-set found' p true ∙ m.same_length;
   marks_stay = λ k h. set_stays found' p k lt (m.marks_stay k h);
-  marks_given = λ k h. ⊎_elim (λ (old : Contains places k). set_stays found' p k lt (m.marks_given k old)) (λ (e : p ≡ k). subst (IsFound (set found' p true)) e (get_or-set_same found' p true false lt)) (Contains-push_cases places p k h);
+  marks_given = λ k h. ⊎_elim (λ (old : Contains places k). set_stays found' p k lt (m.marks_given k old))
+      (λ (e : p ≡ k). subst (IsFound (set found' p true)) e (get_or-set_same found' p true false lt)) (Contains-push_cases places p k h);
   marks_only = λ k h. ⊎_elim (λ (was : IsFound found' k). ⊎_elim (λ (old : IsFound found k). inl old)
       (λ (new : Contains places k × Contains visits' k). inr (Contains-append_left places (p ∷ []) k new.0, Contains-append_left visits' (p ∷ []) k new.1)) (m.marks_only k was))
       (λ (e : p ≡ k). inr (subst (Contains (places ++ p ∷ [])) e (Contains-push places p), subst (Contains (visits' ++ p ∷ [])) e (Contains-push visits' p)))
       (set_only found' p k h);
   visits_stay = λ k h. Contains-append_left visits' (p ∷ []) k (m.visits_stay k h);
-  visits_only = λ k h. ⊎_elim (λ (was : Contains visits' k). ⊎_elim (λ (old : Contains visits k). inl old) (λ (new : Contains places k). inr (Contains-append_left places (p ∷ []) k new)) (m.visits_only k was))
+  visits_only = λ k h. ⊎_elim (λ (was : Contains visits' k). ⊎_elim (λ (old : Contains visits k). inl old)
+      (λ (new : Contains places k). inr (Contains-append_left places (p ∷ []) k new)) (m.visits_only k was))
       (λ (e : p ≡ k). inr (subst (Contains (places ++ p ∷ [])) e (Contains-push places p)))
       (Contains-push_cases visits' p k h);
   as_many = (let one = count_set found' p lt un in let longer = length_push visits' p in let were = m.as_many in omega arith);

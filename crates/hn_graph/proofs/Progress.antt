@@ -36,14 +36,17 @@ pub begin : (own : ℕ) (nodes : List Entry) (start : ℕ) (found : List Bool) (
     → start < length nodes → slice_get (ids_of nodes) start ≡ Some own → HasMarked (start ∷ []) (replicate (length nodes) false) [] found visits → IsUnderway own nodes found visits
 begin own nodes start found visits up lt is m = record {
   same_length = m.same_length ∙ length-replicate (length nodes) false;
-  visits_nodes = λ k h. ⊎_elim (λ (old : Contains [] k). absurd (nothing_in k old)) (λ (new : Contains (start ∷ []) k). subst (λ (j : ℕ). j < length nodes) (Contains-one start k new) lt) (m.visits_only k h);
+  visits_nodes = λ k h. ⊎_elim (λ (old : Contains [] k). absurd (nothing_in k old))
+      (λ (new : Contains (start ∷ []) k). subst (λ (j : ℕ). j < length nodes) (Contains-one start k new) lt) (m.visits_only k h);
   visits_found = λ k h. ⊎_elim (λ (old : Contains [] k). absurd (nothing_in k old)) (m.marks_given k) (m.visits_only k h);
   own_found = λ k x at own_is. let same : k ≡ start = one_place (ids_of nodes) up k start own (part_stands (λ n. n.id.0) nodes k x at ∙ ap Some own_is) is in
       m.marks_given k (subst (Contains (start ∷ [])) (sym same) (Contains-get_or (start ∷ []) 0 0 (omega arith)));
   sound = λ k x at h. ⊎_elim (λ (old : IsFound (replicate (length nodes) false) k). absurd (none_yet (length nodes) k old))
-      (λ (new : Contains (start ∷ []) k × Contains visits k). way_to_own own nodes x (contains_at nodes k x at) (part_is (λ n. n.id.0) nodes k own x at (subst (λ (j : ℕ). slice_get (ids_of nodes) j ≡ Some own) (Contains-one start k new.0) is)))
+      (λ (new : Contains (start ∷ []) k × Contains visits k). way_to_own own nodes x (contains_at nodes k x at)
+      (part_is (λ n. n.id.0) nodes k own x at (subst (λ (j : ℕ). slice_get (ids_of nodes) j ≡ Some own) (Contains-one start k new.0) is)))
       (m.marks_only k h);
-  closed = λ k x j at h next. ⊎_elim (λ (old : IsFound (replicate (length nodes) false) k). absurd (none_yet (length nodes) k old)) (λ (new : Contains (start ∷ []) k × Contains visits k). inl new.1) (m.marks_only k h);
+  closed = λ k x j at h next. ⊎_elim (λ (old : IsFound (replicate (length nodes) false) k). absurd (none_yet (length nodes) k old))
+      (λ (new : Contains (start ∷ []) k × Contains visits k). inl new.1) (m.marks_only k h);
 }
 
 -- a visit: the nodes that may follow are marked
@@ -54,7 +57,8 @@ visit own nodes x place places found rest found' visits' u at next m =
     let old_visit = λ (k : ℕ) (h : Contains rest k). Contains-append_left rest (place ∷ []) k h in
     record {
       same_length = m.same_length ∙ u.same_length;
-      visits_nodes = λ k h. ⊎_elim (λ (old : Contains rest k). u.visits_nodes k (old_visit k old)) (λ (new : Contains places k). let n = next.only k new in slice_get_within nodes k n.y n.at) (m.visits_only k h);
+      visits_nodes = λ k h. ⊎_elim (λ (old : Contains rest k). u.visits_nodes k (old_visit k old)) (λ (new : Contains places k). let n = next.only k new in
+          slice_get_within nodes k n.y n.at) (m.visits_only k h);
       visits_found = λ k h. ⊎_elim (λ (old : Contains rest k). m.marks_stay k (u.visits_found k (old_visit k old))) (m.marks_given k) (m.visits_only k h);
       own_found = λ k y is own_is. m.marks_stay k (u.own_found k y is own_is);
       sound = λ k y is h. ⊎_elim (u.sound k y is)
@@ -91,7 +95,8 @@ finish own nodes found id u = (
       (λ x z marked recent adjacent there.
       let at = slice_get_read nodes (length nodes) there.0 z refl there.1 (sym there.2) in
       let on : IsNext nodes x there.0 = record { y = z; at = at; recent = recent; adjacent = adjacent } in
-      ⊎_elim (λ (waits : Contains [] marked.0). absurd (nothing_in marked.0 waits)) (λ (found_too : IsFound found there.0). (there.0, at, found_too)) (u.closed marked.0 x there.0 marked.1 marked.2 on))
+      ⊎_elim (λ (waits : Contains [] marked.0). absurd (nothing_in marked.0 waits)) (λ (found_too : IsFound found there.0). (there.0, at, found_too))
+      (u.closed marked.0 x there.0 marked.1 marked.2 on))
       id.0 r in
       record { place = last.1.0; node = last.0; at = last.1.1; marked = last.1.2; is_it = ap (λ n. record { 0 = n }) last.2 },
 )

@@ -72,18 +72,21 @@ module _ (items_or_none : ItemsOrNone) (items_unique : ItemsAreUnique) where
   ]
     where
       linked : (y : Entry) → Decided (IsLinked own.body own.id.0 link.endpoint.0 y.body y.id.0 link.peer_endpoint.0)
-      linked y = elim (both_decided (has_peer_or_not own.body (peer_link y.id.0 link.peer_endpoint.0 link.endpoint.0)) (has_peer_or_not y.body (peer_link own.id.0 link.endpoint.0 link.peer_endpoint.0))) [
-        | inl (there, back) ↦ inl (record { there = there; back = back })
-        | inr none ↦ inr (λ h. none (h.there, h.back))
-      ]
+      linked y = elim (both_decided (has_peer_or_not own.body (peer_link y.id.0 link.peer_endpoint.0 link.endpoint.0))
+          (has_peer_or_not y.body (peer_link own.id.0 link.endpoint.0 link.peer_endpoint.0))) [
+            | inl (there, back) ↦ inl (record { there = there; back = back })
+            | inr none ↦ inr (λ h. none (h.there, h.back))
+          ]
 
       led : Decided ((place : ℕ) × IsPeerAt nodes own link place)
-      led = elim (one_or_none (λ (y : Entry). (y.id.0 ≡ link.peer.0) × IsLinked own.body own.id.0 link.endpoint.0 y.body y.id.0 link.peer_endpoint.0) nodes (λ y there. both_decided (cases_eq y.id.0 link.peer.0) (linked y))) [
-        | inl (y, there, is) ↦ inl (there.0, record { y = y; at = slice_get_read nodes (length nodes) there.0 y refl there.1 (sym there.2); is_peer = is.0; linked = is.1 })
-        | inr none ↦ inr (λ h. none h.1.y (contains_at nodes h.0 h.1.y h.1.at) (h.1.is_peer, h.1.linked))
-      ]
+      led = elim (one_or_none (λ (y : Entry). (y.id.0 ≡ link.peer.0) × IsLinked own.body own.id.0 link.endpoint.0 y.body y.id.0 link.peer_endpoint.0) nodes
+          (λ y there. both_decided (cases_eq y.id.0 link.peer.0) (linked y))) [
+            | inl (y, there, is) ↦ inl (there.0, record { y = y; at = slice_get_read nodes (length nodes) there.0 y refl there.1 (sym there.2); is_peer = is.0; linked = is.1 })
+            | inr none ↦ inr (λ h. none h.1.y (contains_at nodes h.0 h.1.y h.1.at) (h.1.is_peer, h.1.linked))
+          ]
 
-  joined_first : (nodes : List Entry) (own : Entry) (e : ℕ) (links : List PeerLink) (first : NodeId × EpId) (n : ℕ) → n ≤ length links → (endpoints : List (NodeId × EpId)) × AreJoined nodes own e links n first endpoints
+  joined_first : (nodes : List Entry) (own : Entry) (e : ℕ) (links : List PeerLink) (first : NodeId × EpId) (n : ℕ) → n ≤ length links
+      → (endpoints : List (NodeId × EpId)) × AreJoined nodes own e links n first endpoints
   joined_first nodes own e links first zero within = (first ∷ [], none_joined nodes own e links first)
   joined_first nodes own e links first (suc n) within =
       let link = get_or links n (peer_link 0 0 0) in
@@ -91,7 +94,8 @@ module _ (items_or_none : ItemsOrNone) (items_unique : ItemsAreUnique) where
       let more : n + 1 ≡ suc n = omega arith in
       next link stands more (joined_first nodes own e links first n (omega (arith, within))) (joined_or_not nodes own e link)
     where
-      next : (link : PeerLink) → slice_get links n ≡ Some link → n + 1 ≡ suc n → (endpoints : List (NodeId × EpId)) × AreJoined nodes own e links n first endpoints → Decided (IsJoined nodes own e link)
+      next : (link : PeerLink) → slice_get links n ≡ Some link → n + 1 ≡ suc n → (endpoints : List (NodeId × EpId)) × AreJoined nodes own e links n first endpoints
+          → Decided (IsJoined nodes own e link)
           → (endpoints : List (NodeId × EpId)) × AreJoined nodes own e links (suc n) first endpoints
       next link stands more (endpoints, were) (inl joined) = (
         endpoints ++ (link.peer, link.peer_endpoint) ∷ [],
@@ -122,4 +126,5 @@ module _ (items_or_none : ItemsOrNone) (items_unique : ItemsAreUnique) where
       )
     where
       told : (x y : NodeId × EpId) → x.0.0 ≡ y.0.0 → x.1.0 ≡ y.1.0 → x ≡ y
-      told x y p q = ap (λ (n : ℕ). let at : NodeId × EpId = (record { 0 = n }, record { 0 = x.1.0 }) in at) p ∙ ap (λ (n : ℕ). let at : NodeId × EpId = (record { 0 = y.0.0 }, record { 0 = n }) in at) q
+      told x y p q = ap (λ (n : ℕ). let at : NodeId × EpId = (record { 0 = n }, record { 0 = x.1.0 }) in at) p
+          ∙ ap (λ (n : ℕ). let at : NodeId × EpId = (record { 0 = y.0.0 }, record { 0 = n }) in at) q

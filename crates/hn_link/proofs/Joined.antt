@@ -1,5 +1,6 @@
 -- The endpoints that are linked with an own endpoint, peer by peer.
-use Rattle.std.proofs.Common.{◌≡◌, ◌⊎◌, ◌↔◌, ℕ, ◌+◌, ◌≤◌, List, [], ◌∷◌, ◌++◌, length, Some, refl, sym, ◌∙◌, ap, subst, inl, inr, ⊎_elim, slice_get, Contains, Option, None, IfSome, IfNone, IsTrue, is_some}
+use Rattle.std.proofs.Common.{◌≡◌, ◌⊎◌, ◌↔◌, ℕ, ◌+◌, ◌≤◌, List, [], ◌∷◌, ◌++◌, length, Some, refl, sym, ◌∙◌, ap, subst, inl, inr, ⊎_elim, slice_get, Contains, Option, None, IfSome, IfNone, IsTrue}
+use Rattle.std.proofs.Common.{is_some}
 use Rattle.std.specs.List.Sorted.{IsStrictlySortedBy}
 use Rattle.std.specs.Ordering.{nat_cmp}
 use Rattle.std.proofs.lemmas.List.Elements.{Contains-push, Contains-push_cases, Contains-append_left}
@@ -30,7 +31,8 @@ AreJoined nodes own e links n first endpoints = (at : NodeId × EpId) → Contai
 pub none_joined : (nodes : List Entry) (own : Entry) (e : ℕ) (links : List PeerLink) (first : NodeId × EpId) → AreJoined nodes own e links 0 first (first ∷ [])
 none_joined nodes own e links first at = (
   λ h. ⊎_elim (λ (is : first ≡ at). inl is) (λ (rest : Contains {X = NodeId × EpId} [] at). absurd (nothing_in at rest)) (Contains-cases first [] at h),
-  λ h. ⊎_elim (λ (is : first ≡ at). subst (Contains (first ∷ [])) is (Contains-head first [])) (λ (j : IsJoinedBefore nodes own e links 0 at). absurd (none_of_first (λ _ link. IsJoinedAs nodes own e at link) links j)) h,
+  λ h. ⊎_elim (λ (is : first ≡ at). subst (Contains (first ∷ [])) is (Contains-head first []))
+      (λ (j : IsJoinedBefore nodes own e links 0 at). absurd (none_of_first (λ _ link. IsJoinedAs nodes own e at link) links j)) h,
 )
 
 -- the next peer is joined
@@ -39,7 +41,8 @@ pub joined_more : (nodes : List Entry) (own : Entry) (e : ℕ) (links : List Pee
     → AreJoined nodes own e links (n + 1) first (endpoints ++ (link.peer, link.peer_endpoint) ∷ [])
 joined_more nodes own e links n link first endpoints were stands joined at =
     let new : NodeId × EpId = (link.peer, link.peer_endpoint) in (
-      λ h. ⊎_elim (λ (old : Contains endpoints at). ⊎_elim (λ (is : first ≡ at). inl is) (λ (j : IsJoinedBefore nodes own e links n at). inr (first_further (λ _ l. IsJoinedAs nodes own e at l) links n j)) ((were at).0 old))
+      λ h. ⊎_elim (λ (old : Contains endpoints at). ⊎_elim (λ (is : first ≡ at). inl is)
+          (λ (j : IsJoinedBefore nodes own e links n at). inr (first_further (λ _ l. IsJoinedAs nodes own e at l) links n j)) ((were at).0 old))
           (λ (is : new ≡ at). inr (first_last (λ _ l. IsJoinedAs nodes own e at l) links n link stands (joined, is)))
           (Contains-push_cases endpoints new at h),
       λ h. ⊎_elim (λ (is : first ≡ at). Contains-append_left endpoints (new ∷ []) at ((were at).1 (inl is)))
@@ -99,7 +102,8 @@ linked_then_joined view own place e links n at up there own_is all are l =
     first_of_all (λ _ l. IsJoinedAs view.nodes own e at l) links n listed.0 link all stands (record { here = refl; place = node_at.0; leads = leads }, refl)
 
 -- all peers that the own node says: the list is the Common Link
-pub common_from_joined : (view : PlainView) (own : Entry) (place : ℕ) (id : NodeId) (e : EpId) (links : List PeerLink) (n : ℕ) (endpoints : List (NodeId × EpId)) → IsStrictlySortedBy nat_cmp (ids_of view.nodes)
+pub common_from_joined : (view : PlainView) (own : Entry) (place : ℕ) (id : NodeId) (e : EpId) (links : List PeerLink) (n : ℕ) (endpoints : List (NodeId × EpId))
+    → IsStrictlySortedBy nat_cmp (ids_of view.nodes)
     → slice_get view.nodes place ≡ Some own → own.id.0 ≡ view.own → id.0 ≡ view.own → length links ≤ n → ((link : PeerLink) → Contains links link ↔ HasPeer own.body link)
     → AreJoined view.nodes own e.0 links n (id, e) endpoints → (at : NodeId × EpId) → Contains endpoints at ↔ IsOnCommonLink view e.0 at
 common_from_joined view own place id e links n endpoints up there own_is id_is all are joined at = (

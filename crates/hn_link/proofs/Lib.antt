@@ -2,5 +2,5 @@ mod Elections
 mod InView
 mod Candidates
 mod Joined
-mod Laters
+mod LaterCommonLink
 mod Exists

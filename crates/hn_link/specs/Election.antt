@@ -8,7 +8,7 @@ use Rattle.hn_base.specs.declared.ids.EpId.{EpId}
 use Rattle.hn_base.specs.declared.letter.Letter.{Letter}
 use Rattle.hn_base.specs.declared.letter.Letter.TheVariants.{M, P, H, L}
 use Rattle.hn_typed.specs.Item.{PlainCaps}
-use Rattle.hn_data.specs.Items.{Reads}
+use Rattle.hn_data.specs.Items.{HasItems}
 use Rattle.hn_data.specs.Said.{version_of}
 use Rattle.hn_data.specs.View.{PlainView}
 use Rattle.hn_data.specs.declared.view.Entry.{Entry}
@@ -34,7 +34,7 @@ pub record IsServing (view : PlainView) (letter : Letter) (id : NodeId) (caps : 
   pub node : Entry
   pub there : Contains view.nodes node
   pub is_it : node.id ≡ id
-  pub version : Reads node.body (λ items. version_of items ≡ Some caps)
+  pub version : HasItems node.body (λ items. version_of items ≡ Some caps)
   pub offers : 0 < priority_of letter caps
 
 -- the node serves, and has an endpoint on the link

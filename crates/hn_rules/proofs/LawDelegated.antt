@@ -135,7 +135,7 @@ module _ {A : Type 0} (tlv : A → PlainTlv) where
         | inl same ↦ (x, Contains-head x list, subst (IsItem (tlv x)) same is)
         | inr later ↦ let found = read_of list rest item more later in (found.0, Contains-tail x list found.0 found.1, found.2)
       ]
-  read_of (x ∷ list) items item (inr (why, fault, more)) there = let found = read_of list items item more there in (found.0, Contains-tail x list found.0 found.1, found.2)
+  read_of (x ∷ list) items item (inr (none, more)) there = let found = read_of list items item more there in (found.0, Contains-tail x list found.0 found.1, found.2)
 
   -- and each that can be read is
   record AreAllRead (list : List A) : Type 0 where
@@ -162,7 +162,7 @@ module _ {A : Type 0} (tlv : A → PlainTlv) where
           }
           | inr (why, fault) ↦ record {
             items = rest.items;
-            reading = inr (why, fault, rest.reading);
+            reading = inr (λ other of. no_fault (tlv x) other why of fault, rest.reading);
             all = λ y other there of.
                 elim (Contains-cases x list y there) [
                   | inl same ↦ absurd (no_fault (tlv x) other why (subst (λ (z : A). IsItem (tlv z) other) (sym same) of) fault)

@@ -14,7 +14,7 @@ use Rattle.hn_typed.specs.Laws.{ItemIsUnique, WrittenIsRead}
 use Rattle.hn_data.specs.Items.{AreItems}
 use Rattle.hn_data.specs.Laws.{ItemsAreUnique}
 use Rattle.hn_data.specs.Peers.{peer_of, HasPeer}
-use Rattle.hn_data.specs.Said.{assigned_of, HasAssigned}
+use Rattle.hn_data.specs.Said.{assigned_prefix_of, HasAssigned}
 use Rattle.hn_data.specs.declared.said.AssignedPrefix.{AssignedPrefix}
 use Rattle.hn_data.specs.declared.said.PeerLink.{PeerLink}
 use Rattle.hn_own.specs.declared.own.OwnItems.{OwnItems}
@@ -26,16 +26,16 @@ use Rattle.hn_rules.proofs.LawSpelled.{AreRead, encoding, own_fit, are_read, sam
 
 -- ---- the Assigned-Prefixes among own items
 
-assigned_among : (now : ℕ) (own : OwnItems) → filter_map assigned_of (items_of now own) ≡ own.assigned
+assigned_among : (now : ℕ) (own : OwnItems) → filter_map assigned_prefix_of (items_of now own) ≡ own.assigned
 assigned_among now own =
-    let links = none_given assigned_of peer_item (λ _. refl) own.links in
-    let external : filter_map assigned_of (external_items now own.delegated) ≡ [] =
-    none_or_some (λ (list : List OwnPrefix). filter_map assigned_of (external_items now list) ≡ []) refl (λ p ps. refl) own.delegated in
+    let links = none_given assigned_prefix_of peer_item (λ _. refl) own.links in
+    let external : filter_map assigned_prefix_of (external_items now own.delegated) ≡ [] =
+    none_or_some (λ (list : List OwnPrefix). filter_map assigned_prefix_of (external_items now list) ≡ []) refl (λ p ps. refl) own.delegated in
     let before = map peer_item own.links ++ external_items now own.delegated ++ map assigned_item own.assigned in
-    let parts = given_by_parts assigned_of (map peer_item own.links) (external_items now own.delegated) (map assigned_item own.assigned) in
-    let assigned : filter_map assigned_of before ≡ own.assigned = parts ∙ rw (links, external) (all_given assigned_of assigned_item (λ _. refl) own.assigned) in
-    let addresses = none_given assigned_of address_item (λ _. refl) own.addresses in
-    filter_map-append assigned_of before (map address_item own.addresses) ∙ rw (assigned, addresses) (append-nil own.assigned)
+    let parts = given_by_parts assigned_prefix_of (map peer_item own.links) (external_items now own.delegated) (map assigned_item own.assigned) in
+    let assigned : filter_map assigned_prefix_of before ≡ own.assigned = parts ∙ rw (links, external) (all_given assigned_prefix_of assigned_item (λ _. refl) own.assigned) in
+    let addresses = none_given assigned_prefix_of address_item (λ _. refl) own.addresses in
+    filter_map-append assigned_prefix_of before (map address_item own.addresses) ∙ rw (assigned, addresses) (append-nil own.assigned)
 
 -- ---- the Peers among them
 
@@ -85,9 +85,9 @@ module _ (laws : ReadLaws) (own : PlainData) (is : IsOwnData own) where
   assigned_from : (a : AssignedPrefix) → HasAssigned own.body a → Contains own.items.assigned a
   assigned_from a (others, are, there) =
       let same : others ≡ read_is.read = laws.one_items own.body others read_is.read are are_items in
-      let from = from_filter_map assigned_of others a there in
+      let from = from_filter_map assigned_prefix_of others a there in
       let among : Contains items from.0 = All-contains (Contains items) read_is.read from.0 read_is.of_items (subst (λ (list : List PlainItem). Contains list from.0) same from.1) in
-      subst (λ (list : List AssignedPrefix). Contains list a) (assigned_among own.born own.items) (in_filter_map assigned_of items from.0 a among from.2)
+      subst (λ (list : List AssignedPrefix). Contains list a) (assigned_among own.born own.items) (in_filter_map assigned_prefix_of items from.0 a among from.2)
 
   pub peer_from : (link : PeerLink) → HasPeer own.body link → Contains own.items.links link
   peer_from link (others, are, there) =
@@ -121,7 +121,7 @@ module _ (laws : ReadLaws) (own : PlainData) (is : IsOwnData own) where
   pub assigned_in : (a : AssignedPrefix) → HasAssigned own.body a ↔ Contains own.items.assigned a
   assigned_in a = (
     assigned_from a,
-    λ there. (read_is.read, are_items, in_filter_map assigned_of read_is.read (assigned_item a) a (item_read (assigned_item a) (assigned_there own.born own.items a there)) refl),
+    λ there. (read_is.read, are_items, in_filter_map assigned_prefix_of read_is.read (assigned_item a) a (item_read (assigned_item a) (assigned_there own.born own.items a there)) refl),
   )
 
 -- own node data consist of bytes

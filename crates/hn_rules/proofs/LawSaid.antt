@@ -8,7 +8,7 @@ use Rattle.hn_base.proofs.Elements.{in_filter_map, from_filter_map, all_given, n
 use Rattle.hn_base.specs.Caps.{PlainCaps, plain_caps}
 use Rattle.hn_typed.specs.Item.{PlainItem, Version}
 use Rattle.hn_data.specs.Items.{first_of}
-use Rattle.hn_data.specs.Said.{HasVersion, HasAddress, caps_of, address_of}
+use Rattle.hn_data.specs.Said.{HasVersion, HasAddress, caps_of, node_address_of}
 use Rattle.hn_own.specs.Addresses.{OwnAddress}
 use Rattle.hn_own.specs.Own.{PlainData, IsOwnData, peer_item, external_items, assigned_item, address_item, items_of}
 use Rattle.hn_own.specs.declared.own.OwnItems.{OwnItems}
@@ -49,16 +49,16 @@ own_version laws own is =
 
 -- ---- their Node-Addresses are the own addresses
 
-addresses_among : (now : ℕ) (own : OwnItems) → filter_map address_of (items_of now own) ≡ own.addresses
+addresses_among : (now : ℕ) (own : OwnItems) → filter_map node_address_of (items_of now own) ≡ own.addresses
 addresses_among now own =
-    let links = none_given address_of peer_item (λ _. refl) own.links in
-    let external : filter_map address_of (external_items now own.delegated) ≡ [] =
-    none_or_some (λ (list : List OwnPrefix). filter_map address_of (external_items now list) ≡ []) refl (λ p ps. refl) own.delegated in
-    let assigned = none_given address_of assigned_item (λ _. refl) own.assigned in
+    let links = none_given node_address_of peer_item (λ _. refl) own.links in
+    let external : filter_map node_address_of (external_items now own.delegated) ≡ [] =
+    none_or_some (λ (list : List OwnPrefix). filter_map node_address_of (external_items now list) ≡ []) refl (λ p ps. refl) own.delegated in
+    let assigned = none_given node_address_of assigned_item (λ _. refl) own.assigned in
     let before = map peer_item own.links ++ external_items now own.delegated ++ map assigned_item own.assigned in
-    let parts = given_by_parts address_of (map peer_item own.links) (external_items now own.delegated) (map assigned_item own.assigned) in
-    let none : filter_map address_of before ≡ [] = parts ∙ rw (links, external) assigned in
-    filter_map-append address_of before (map address_item own.addresses) ∙ rw none (all_given address_of address_item (λ _. refl) own.addresses)
+    let parts = given_by_parts node_address_of (map peer_item own.links) (external_items now own.delegated) (map assigned_item own.assigned) in
+    let none : filter_map node_address_of before ≡ [] = parts ∙ rw (links, external) assigned in
+    filter_map-append node_address_of before (map address_item own.addresses) ∙ rw none (all_given node_address_of address_item (λ _. refl) own.addresses)
 
 address_there : (now : ℕ) (own : OwnItems) (a : OwnAddress) → Contains own.addresses a → Contains (items_of now own) (address_item a)
 address_there now own a there =
@@ -71,16 +71,16 @@ module _ (laws : ReadLaws) (own : PlainData) (is : IsOwnData own) where
   address_from a (others, are, there) =
       let read = read_is laws own is in
       let same : others ≡ read.read = laws.one_items own.body others read.read are (are_items laws own is) in
-      let from = from_filter_map address_of others a there in
+      let from = from_filter_map node_address_of others a there in
       let items = items_of own.born own.items in
       let among : Contains items from.0 = All-contains (Contains items) read.read from.0 read.of_items (subst (λ (list : List PlainItem). Contains list from.0) same from.1) in
-      subst (λ (list : List OwnAddress). Contains list a) (addresses_among own.born own.items) (in_filter_map address_of items from.0 a among from.2)
+      subst (λ (list : List OwnAddress). Contains list a) (addresses_among own.born own.items) (in_filter_map node_address_of items from.0 a among from.2)
 
   address_in : (a : OwnAddress) → Contains own.items.addresses a → HasAddress own.body a
   address_in a there =
       let read = read_is laws own is in
       let item = item_read laws own is (address_item a) (address_there own.born own.items a there) in
-      (read.read, are_items laws own is, in_filter_map address_of read.read (address_item a) a item refl)
+      (read.read, are_items laws own is, in_filter_map node_address_of read.read (address_item a) a item refl)
 
 -- ---- the laws
 

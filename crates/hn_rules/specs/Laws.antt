@@ -6,7 +6,7 @@ use Rattle.hn_base.specs.Prefix.{PlainPrefix}
 use Rattle.hn_hash.specs.Network.{network_hash, AreNumbered}
 use Rattle.hn_tlv.specs.Grammar.{PlainTlv}
 use Rattle.hn_typed.specs.Item.{PlainItem}
-use Rattle.hn_data.specs.Items.{Reads}
+use Rattle.hn_data.specs.Items.{HasItems}
 use Rattle.hn_data.specs.Peers.{HasPeer}
 use Rattle.hn_data.specs.Said.{HasAssigned, HasAddress, HasVersion}
 use Rattle.hn_data.specs.View.{IsNetwork}
@@ -60,7 +60,7 @@ AssignedIsPublished =
 abbrev pub ItemsArePublished : Type 0
 ItemsArePublished =
     (s : State) → IsRouter s
-    → Reads s.own.body (λ items. (item : PlainItem) → Contains items item ↔ Contains (items_of s.own.born s.own.items) item)
+    → HasItems s.own.body (λ items. (item : PlainItem) → Contains items item ↔ Contains (items_of s.own.born s.own.items) item)
 
 -- A router's node data have an HNCP-Version.
 abbrev pub OwnVersionIsSaid : Type 0

@@ -7,7 +7,7 @@ use Rattle.hn_tlv.specs.Grammar.{spelling}
 use Rattle.hn_typed.specs.Item.{NetworkState}
 use Rattle.hn_typed.specs.Written.{tlv_of}
 use Rattle.hn_timers.specs.KeepAlive.{is_expired}
-use Rattle.hn_data.specs.Items.{Reads}
+use Rattle.hn_data.specs.Items.{HasItems}
 use Rattle.hn_data.specs.Said.{interval_of, keep_alive_of}
 use Rattle.hn_dncp.specs.declared.peers.Neighbour.{Neighbour}
 use Rattle.hn_dncp.specs.declared.port.Port.{Port}
@@ -26,7 +26,7 @@ use Rattle.hn_rules.specs.Rules.{Rule, AtPort, with_words, with_port}
 -- 7788, section 3)
 abbrev pub HasInterval : Option Stored → EpId → ℕ → Type 0
 HasInterval None endpoint interval = interval ≡ 20000
-HasInterval (Some stored) endpoint interval = Reads stored.body (λ items. interval ≡ keep_alive_of (filter_map interval_of items) endpoint.0)
+HasInterval (Some stored) endpoint interval = HasItems stored.body (λ items. interval ≡ keep_alive_of (filter_map interval_of items) endpoint.0)
 
 -- a peer whose keep-alives have stopped
 abbrev pub IsExpired : State → Neighbour → Type 0

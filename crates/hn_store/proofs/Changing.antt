@@ -12,8 +12,8 @@ use Rattle.hn_store.specs.Nodes.{IsTable, IsIntact, held, entry, put}
 use Rattle.hn_store.specs.Place.{IsPlaceOf, IsGapFor}
 use Rattle.hn_store.specs.Acceptance.{PlainState, held_part, kept, renumbered, changed, entries_after}
 use Rattle.hn_store.specs.AcceptanceParts.{IsOfNumber}
-use Rattle.hn_store.proofs.Places.{held-at, held-none, put-at, put-in}
-use Rattle.hn_store.proofs.Maps.{IsTable-set}
+use Rattle.hn_store.proofs.NodePlaces.{held-at, held-none, put-at, put-in}
+use Rattle.hn_store.proofs.TableStays.{IsTable-set}
 
 -- ---- an entry that was read from its place
 

@@ -62,7 +62,8 @@ found_stays : (now id : ℕ) (stored : Stored) → stored.lost ≡ None → (xs 
 found_stays now id stored unlost [] is = absurd cc
 found_stays now id stored unlost (x ∷ xs) is = by_test (is_of id x) refl (found_stays now id stored unlost xs) is
   where
-    kept_first : (b : Bool) → not (is_forgotten now x) ≡ b → is_of id x ≡ true → x.stored ≡ stored → held (cond b (x ∷ filter (λ node. not (is_forgotten now node)) xs) (filter (λ node. not (is_forgotten now node)) xs)) id ≡ Some stored
+    kept_first : (b : Bool) → not (is_forgotten now x) ≡ b → is_of id x ≡ true → x.stored ≡ stored
+        → held (cond b (x ∷ filter (λ node. not (is_forgotten now node)) xs) (filter (λ node. not (is_forgotten now node)) xs)) id ≡ Some stored
     kept_first true passes here same =
         ap (λ (b : Bool). stored_in (cond b (Some x) (find (is_of id) (filter (λ node. not (is_forgotten now node)) xs)))) here ∙ ap Some same
     kept_first false fails here same =

@@ -1,5 +1,5 @@
-pub mod Places
-pub mod Maps
+pub mod NodePlaces
+pub mod TableStays
 pub mod Losses
 pub mod Answering
 pub mod Changing
@@ -7,6 +7,6 @@ pub mod Uniqueness
 mod Listed
 mod AnswerMade
 mod Tables
-mod Broughts
+mod WhatWasBrought
 mod Forgettings
 mod YoungNodes

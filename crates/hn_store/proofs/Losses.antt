@@ -1,5 +1,6 @@
 -- Who is among the reachable nodes, and what a mark changes.
-use Rattle.std.proofs.Common.{◌≡◌, ◌<◌, ℕ, ◌+◌, inl, inr, Bool, true, false, cond, not, List, [], ◌∷◌, ◌++◌, length, map, filter, take, drop, get_or, subst, Result, Ok, Err, is_ok, Option, Some, None, refl, sym, ap, arith}
+use Rattle.std.proofs.Common.{◌≡◌, ◌<◌, ℕ, ◌+◌, inl, inr, Bool, true, false, cond, not, List, [], ◌∷◌, ◌++◌, length, map, filter, take, drop, get_or, subst, Result, Ok, Err, is_ok, Option, Some}
+use Rattle.std.proofs.Common.{None, refl, sym, ap, arith}
 use Rattle.std.specs.Prelude.{is_some, is_none, ◌==◌, count_by, IsTrue}
 use Rattle.std.specs.List.{list_any, AllAdjacentBelow, IsAllAdjacentAnswer}
 use Rattle.std.specs.List.Sorted.{IsNonDecreasingBy, IsStrictlySortedBy, IsSearchInRange, IsBinarySearchResult}
@@ -18,7 +19,7 @@ use Rattle.std.proofs.lemmas.List.Elements.{All-map, All-weaker}
 use Rattle.std.proofs.lemmas.List.Filters.{length-filter_both}
 use Rattle.std.proofs.lemmas.List.Sums.{length-filter}
 use Rattle.hn_store.specs.Nodes.{IsTable, IsIntact, ids_of}
-use Rattle.hn_store.proofs.Places.{order_rises}
+use Rattle.hn_store.proofs.NodePlaces.{order_rises}
 use Rattle.hn_store.specs.Loss.{is_among, lost_after, marked_node, is_to_mark, is_forgotten}
 
 rises_from_test : (ids : List NodeId) → AllAdjacentBelow (λ x y. is_le (nat_cmp x.0 y.0) ≡ true) ids (length ids) → IsNonDecreasingBy (λ id. id.0) ids
@@ -35,7 +36,8 @@ searchable_ids ids node up i j d le lt = order_rises (get_or ids i d).0 (get_or 
 pub among_from_search : (ids : List NodeId) (node : ℕ) (r : Result ℕ ℕ) → IsNonDecreasingBy (λ id. id.0) ids → IsSearchInRange r (length ids)
     → IsBinarySearchResult (λ y. nat_cmp y.0 node) ids r → is_ok r ≡ is_among ids node
 among_from_search ids node (Ok i) up within at =
-    sym (list_any_at (λ (id : NodeId). id.0 == node) ids i (record { 0 = node }) within (eq-eqb (get_or ids i (record { 0 = node })).0 node (ranked (get_or ids i (record { 0 = node })).0 node Equal (sym (at (record { 0 = node }))))))
+    sym (list_any_at (λ (id : NodeId). id.0 == node) ids i (record { 0 = node }) within
+    (eq-eqb (get_or ids i (record { 0 = node })).0 node (ranked (get_or ids i (record { 0 = node })).0 node Equal (sym (at (record { 0 = node }))))))
 among_from_search ids node (Err i) up within at =
     let parts = at (searchable_ids ids node up) in
     sym (list_any_none (λ (id : NodeId). id.0 == node) ids (λ k d lt. ne_eqb (get_or ids k d).0 node (λ same.

@@ -18,7 +18,7 @@ use Rattle.hn_store.specs.Acceptance.{PlainState, known_of, CarriesData, HasWron
 use Rattle.hn_store.specs.Laws.{HeldIsOfAnEntry, AcceptanceKeepsTable}
 use Rattle.hn_store.proofs.Answering.{known_of-other}
 use Rattle.hn_base.proofs.AscendingNumbers.{around-few, around-fewer}
-use Rattle.hn_store.proofs.Maps.{are_put, IntactNode}
+use Rattle.hn_store.proofs.TableStays.{are_put, IntactNode}
 use Rattle.hn_base.proofs.DecidingTests.{texts_cases}
 use Rattle.hn_store.proofs.Listed.{not_not}
 
@@ -31,7 +31,8 @@ has_held : (id : ℕ) (xs : List HeldNode) (stored : Stored) → held xs id ≡ 
 has_held id [] stored is = absurd cc
 has_held id (x ∷ xs) stored is = by_test (is_of id x) (has_held id xs stored) is
   where
-    by_test : (b : Bool) → (held xs id ≡ Some stored → list_any (is_of id) xs ≡ true) → option_map (λ (node : HeldNode). node.stored) (cond b (Some x) (find (is_of id) xs)) ≡ Some stored → (b || list_any (is_of id) xs) ≡ true
+    by_test : (b : Bool) → (held xs id ≡ Some stored → list_any (is_of id) xs ≡ true)
+        → option_map (λ (node : HeldNode). node.stored) (cond b (Some x) (find (is_of id) xs)) ≡ Some stored → (b || list_any (is_of id) xs) ≡ true
     by_test true more at = refl
     by_test false more at = more at
 

@@ -8,7 +8,7 @@ use Rattle.hn_store.specs.declared.stored.HeldNode.{HeldNode}
 use Rattle.hn_store.specs.Nodes.{entry, put}
 use Rattle.hn_store.specs.Place.{IsGapFor}
 use Rattle.hn_store.specs.Loss.{marked_node}
-use Rattle.hn_store.proofs.Places.{put-in}
+use Rattle.hn_store.proofs.NodePlaces.{put-in}
 use Rattle.hn_store.specs.Young.{IsYoungBefore, AreYoungBefore}
 
 abbrev IsYoung : ℕ → HeldNode → Type 0
@@ -34,7 +34,8 @@ young_set end sooner until xs place node before early are one =
     All-set (IsYoung sooner) xs place node (λ now lt. one now (omega (arith, lt, early))) (young_sooner end sooner xs before are)
 
 -- so where there is one more
-pub young_insert : (end sooner until id : ℕ) (xs : List HeldNode) (place : ℕ) (stored : Stored) → IsGapFor xs id place → sooner ≤ end → sooner ≤ until → AreYoungBefore end xs → IsYoungBefore until stored
+pub young_insert : (end sooner until id : ℕ) (xs : List HeldNode) (place : ℕ) (stored : Stored) → IsGapFor xs id place → sooner ≤ end
+    → sooner ≤ until → AreYoungBefore end xs → IsYoungBefore until stored
     → AreYoungBefore sooner (insert xs place (entry id stored))
 young_insert end sooner until id xs place stored gap before early are one =
     let young = young_sooner end sooner xs before are in

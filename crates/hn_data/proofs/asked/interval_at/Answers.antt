@@ -1,5 +1,5 @@
 use Rattle.std.proofs.Common.{rules}
-use Rattle.hn_data.proofs.AskedLemmas.{find_is_first}
+use Rattle.hn_data.proofs.FirstSaid.{find_is_first}
 use Rattle.hn_data.proofs.asked.interval_at.Goals as goal
 
 pub returns : goal.returns

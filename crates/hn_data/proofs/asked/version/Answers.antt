@@ -1,7 +1,7 @@
 use Rattle.std.proofs.Common.{ap, ◌∙◌}
 use Rattle.hn_typed.specs.View.{plain_caps}
 use Rattle.hn_data.specs.Said.{version_of}
-use Rattle.hn_data.proofs.AskedLemmas.{version_found}
+use Rattle.hn_data.proofs.FirstSaid.{version_found}
 use Rattle.hn_data.proofs.asked.version.Goals as goal
 
 pub returns-clause-each : goal.returns-clause-each

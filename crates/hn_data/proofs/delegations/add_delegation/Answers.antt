@@ -5,7 +5,7 @@ use Rattle.hn_base.proofs.PartsAtPlaces.{filter_map-push}
 use Rattle.hn_tlv.specs.View.{plain}
 use Rattle.hn_typed.specs.View.{plain_item}
 use Rattle.hn_data.specs.Delegations.{delegation_of}
-use Rattle.hn_data.proofs.Adding.{reads_one, reads_none}
+use Rattle.hn_data.proofs.OneMoreItem.{reads_one, reads_none}
 use Rattle.hn_data.proofs.delegations.add_delegation.Goals as goal
 
 pub returns-in-Ok : goal.returns-in-Ok
@@ -18,4 +18,4 @@ returns-in-Ok c =
     )) c.push_said.ensures
 
 pub returns-in-Err : goal.returns-in-Err
-returns-in-Err c = ([], reads_none (plain c.args.tlv.now) c.in-Err.field-0.why c.in-Err.ensures.fault, sym (append-nil c.args.list.now.items))
+returns-in-Err c = ([], reads_none (plain c.args.tlv.now) c.in-Err.ensures.at_item, sym (append-nil c.args.list.now.items))

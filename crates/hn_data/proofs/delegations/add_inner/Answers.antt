@@ -7,8 +7,8 @@ use Rattle.hn_typed.specs.Item.{PlainItem}
 use Rattle.hn_data.specs.Items.{IsReading}
 use Rattle.hn_data.specs.Delegations.{delegation_of}
 use Rattle.hn_data.specs.declared.said.Delegation.{Delegation}
-use Rattle.hn_data.proofs.Adding.{readings_join}
-use Rattle.hn_data.proofs.Walking.{done_more}
+use Rattle.hn_data.proofs.OneMoreItem.{readings_join}
+use Rattle.hn_data.proofs.DoneUpTo.{done_more}
 use Rattle.hn_data.proofs.delegations.add_inner.Goals as goal
 
 -- the items of TLVs, and the delegations of these at the end of a list
@@ -19,11 +19,15 @@ more : (first old new : List Delegation) (tlv : PlainTlv) → AddsTo old new (tl
 more first old new tlv (one, is, last) tlvs (items, read, so_far) = (
   items ++ one,
   readings_join tlvs (tlv ∷ []) items one read is,
-  last ∙ ap (λ (xs : List Delegation). xs ++ filter_map delegation_of one) so_far ∙ append_assoc first (filter_map delegation_of items) (filter_map delegation_of one) ∙ ap (λ (xs : List Delegation). first ++ xs) (sym (filter_map-append delegation_of items one)),
+  last ∙ ap (λ (xs : List Delegation). xs ++ filter_map delegation_of one) so_far
+      ∙ append_assoc first (filter_map delegation_of items) (filter_map delegation_of one)
+      ∙ ap (λ (xs : List Delegation). first ++ xs) (sym (filter_map-append delegation_of items one)),
 )
 
 pub loop-tlv-preserved : goal.loop-tlv-preserved
 loop-tlv-preserved c =
     let tlv = plain c.in-Some.tlv in
-    done_more c.list_grows.ensures (AddsTo c.args.list.now.items c.loop-tlv.list.items) (AddsTo c.args.list.now.items c.add_delegation.new.list.items) c.args.subs.now c.loop-tlv.place c.in-Some.after tlv c.in-Some.ensures.found
-    (more c.args.list.now.items c.loop-tlv.list.items c.add_delegation.new.list.items tlv c.in_ok-add_delegation.ensures) c.loop-tlv.invariant
+    let first = c.args.list.now.items in
+    done_more c.list_grows.ensures (AddsTo first c.loop-tlv.list.items) (AddsTo first c.add_delegation.new.list.items)
+    c.args.subs.now c.loop-tlv.place c.in-Some.after tlv c.in-Some.ensures.found
+    (more first c.loop-tlv.list.items c.add_delegation.new.list.items tlv c.in_ok-add_delegation.ensures) c.loop-tlv.invariant

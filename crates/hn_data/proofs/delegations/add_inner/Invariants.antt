@@ -3,7 +3,7 @@ use Rattle.std.specs.List.{filter_map}
 use Rattle.hn_typed.specs.Item.{PlainItem}
 use Rattle.hn_data.specs.Items.{IsReading}
 use Rattle.hn_data.specs.Delegations.{delegation_of}
-use Rattle.hn_data.proofs.Walking.{IsDoneTo}
+use Rattle.hn_data.proofs.DoneUpTo.{IsDoneTo}
 use Rattle.hn_data.proofs.delegations.add_inner.Given as goal
 
 abbrev pub invariant-loop-tlv : goal.invariant-loop-tlv

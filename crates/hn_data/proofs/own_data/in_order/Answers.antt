@@ -14,7 +14,8 @@ now p = p.now
 pub returns-clause-ascending : goal.returns-clause-ascending
 unfolding now
 returns-clause-ascending c =
-    (sorted_parts now (slice_cmp nat_cmp) c.dedup.new.self.items).0 (rw (dedup_is _ _ _ c.dedup.ensures.filtered) (IsStrictlySortedBy-dedup (on_texts now) (λ x y. texts_ties x.now y.now) c.sort_unstable.new.self.items c.sort_unstable.ensures.sorted))
+    (sorted_parts now (slice_cmp nat_cmp) c.dedup.new.self.items).0 (rw (dedup_is _ _ _ c.dedup.ensures.filtered)
+    (IsStrictlySortedBy-dedup (on_texts now) (λ x y. texts_ties x.now y.now) c.sort_unstable.new.self.items c.sort_unstable.ensures.sorted))
 
 pub returns-clause-same : goal.returns-clause-same
 unfolding now

@@ -1,5 +1,5 @@
 use Rattle.std.proofs.Common.{[], arith, ◌<◌, length}
-use Rattle.hn_data.proofs.Pieces.{concat_more}
+use Rattle.hn_data.proofs.JoinedPieces.{concat_more}
 use Rattle.hn_data.proofs.own_data.joined.Goals as goal
 
 pub loop-piece-preserved : goal.loop-piece-preserved

@@ -2,7 +2,7 @@ use Rattle.std.proofs.Common.{◌≡◌, Some, refl, slice_get, length, IsTrue, 
 use Rattle.std.proofs.lemmas.Option.{slice_get_read}
 use Rattle.hn_data.specs.View.{ids_of}
 use Rattle.hn_base.proofs.PartsAtPlaces.{contains_at, part_is}
-use Rattle.hn_data.proofs.Places.{peer_at, leads_to_peer}
+use Rattle.hn_data.proofs.PeerPlaces.{peer_at, leads_to_peer}
 use Rattle.hn_data.proofs.place.peer_place.Goals as goal
 
 pub returns-in_err-place-clause-absent : goal.returns-in_err-place-clause-absent

@@ -1,6 +1,6 @@
 use Rattle.std.proofs.Common.{◌-◌, length}
 use Rattle.hn_data.specs.Kept.{AreKeptOf}
-use Rattle.hn_data.proofs.Walking.{IsDoneTo}
+use Rattle.hn_data.proofs.DoneUpTo.{IsDoneTo}
 use Rattle.hn_data.proofs.reading.add_all.Given as goal
 
 abbrev pub invariant-loop-tlv : goal.invariant-loop-tlv

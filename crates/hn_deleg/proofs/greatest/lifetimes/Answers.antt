@@ -3,7 +3,7 @@ use Rattle.std.proofs.lemmas.Option.{slice_get_read}
 use Rattle.std.proofs.lemmas.List.{take_all}
 use Rattle.hn_deleg.specs.declared.delegated.Delegated.{Delegated}
 use Rattle.hn_deleg.proofs.Prefixes.{prefix_from_test, other_from_test}
-use Rattle.hn_deleg.proofs.Tops.{AreTops, tops_none, tops_more_at, tops_other_at, lifetimes_from_tops}
+use Rattle.hn_deleg.proofs.GreatestLifetimes.{AreTops, tops_none, tops_more_at, tops_other_at, lifetimes_from_tops}
 use Rattle.hn_deleg.proofs.greatest.lifetimes.Goals as goal
 use Rattle.hn_deleg.proofs.greatest.lifetimes.Goals.{then-eq, else-eq}
 

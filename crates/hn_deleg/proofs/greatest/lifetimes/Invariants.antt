@@ -1,5 +1,5 @@
 use Rattle.std.proofs.Common.{take}
-use Rattle.hn_deleg.proofs.Tops.{AreTops}
+use Rattle.hn_deleg.proofs.GreatestLifetimes.{AreTops}
 use Rattle.hn_deleg.proofs.greatest.lifetimes.Given as goal
 
 abbrev pub invariant-loop-one : goal.invariant-loop-one

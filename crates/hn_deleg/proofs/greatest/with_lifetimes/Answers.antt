@@ -4,7 +4,7 @@ use Rattle.std.proofs.lemmas.Option.{slice_get_read}
 use Rattle.hn_base.proofs.PartsAtPlaces.{contains_at}
 use Rattle.hn_deleg.specs.Steps.{HasLifetimesIn}
 use Rattle.hn_deleg.specs.Used.{prefixes_of}
-use Rattle.hn_deleg.proofs.Whole.{prefixes_more}
+use Rattle.hn_deleg.proofs.UsableFromLive.{prefixes_more}
 use Rattle.hn_deleg.proofs.greatest.with_lifetimes.Goals as goal
 
 pub lifetimes-requires : goal.lifetimes-requires

@@ -1,4 +1,4 @@
-use Rattle.hn_deleg.proofs.Unique.{one_list}
+use Rattle.hn_deleg.proofs.OneUsableList.{one_list}
 use Rattle.hn_deleg.proofs.laws.usable_is_unique.Goals as goal
 
 pub returns : goal.returns

@@ -1,4 +1,4 @@
-use Rattle.hn_deleg.proofs.Unique.{apart}
+use Rattle.hn_deleg.proofs.OneUsableList.{apart}
 use Rattle.hn_deleg.proofs.laws.usable_never_overlap.Goals as goal
 
 pub returns : goal.returns

@@ -5,7 +5,7 @@ use Rattle.hn_base.specs.Prefix.{PlainPrefix}
 use Rattle.hn_deleg.specs.declared.delegated.Delegated.{Delegated}
 use Rattle.hn_deleg.specs.Steps.{AreOutermost, HasLifetimesIn}
 use Rattle.hn_deleg.specs.Used.{prefixes_of}
-use Rattle.hn_deleg.proofs.Whole.{sorted_prefixes, valid_candidates, kept_in_live, usable}
+use Rattle.hn_deleg.proofs.UsableFromLive.{sorted_prefixes, valid_candidates, kept_in_live, usable}
 use Rattle.hn_deleg.proofs.usable.used.Goals as goal
 
 pub outermost-requires-clause-valid : goal.outermost-requires-clause-valid

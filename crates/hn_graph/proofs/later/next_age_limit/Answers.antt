@@ -12,4 +12,5 @@ loop-node-preserved c =
     sooner_cut c.args.now c.loop-node.first c.sooner-first.result (age_limit c.args.now node) c.saturating_add.result 18446744073709551615 within
     (let sum = c.saturating_add.ensures in let left = c.saturating_sub-left.ensures in omega (arith, sum, left)) c.sooner-first.ensures
     in
-    sooner_each (λ n m. m ≡ age_limit c.args.now n) c.args.now c.args.nodes.now c.loop-node.node-index node node c.args.best c.loop-node.first c.sooner-first.result c.loop-node-test.true c.node-item.is c.loop-node.invariant here
+    sooner_each (λ n m. m ≡ age_limit c.args.now n) c.args.now c.args.nodes.now c.loop-node.node-index node node c.args.best c.loop-node.first
+    c.sooner-first.result c.loop-node-test.true c.node-item.is c.loop-node.invariant here

@@ -1,4 +1,4 @@
-use Rattle.hn_graph.proofs.Laters.{reach_of_later}
+use Rattle.hn_graph.proofs.LaterReach.{reach_of_later}
 use Rattle.hn_graph.proofs.laws.reachability_of_later.Goals as goal
 
 pub returns : goal.returns

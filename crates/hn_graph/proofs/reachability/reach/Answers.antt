@@ -26,7 +26,8 @@ offset_bounds-nodes-place c =
 
 pub mark-requires-in-Some-pop : goal.mark-requires-in-Some-pop
 mark-requires-in-Some-pop c k d lt =
-    let there : Contains c.next_places.new.places.items (get_or c.deref-in-Some-pop.result.now k d) = rw (← c.deref-in-Some-pop.ensures.value) (Contains-get_or c.deref-in-Some-pop.result.now k d lt) in
+    let there : Contains c.next_places.new.places.items (get_or c.deref-in-Some-pop.result.now k d) =
+    rw (← c.deref-in-Some-pop.ensures.value) (Contains-get_or c.deref-in-Some-pop.result.now k d lt) in
     let next = c.in_ok-next_places.ensures.only (get_or c.deref-in-Some-pop.result.now k d) there in
     let within = slice_get_within c.args.nodes.now (get_or c.deref-in-Some-pop.result.now k d) next.y next.at in
     let same = c.loop-place.invariant.same_length in
@@ -41,7 +42,8 @@ loop-place-preserved c =
     let within = c.loop-place.invariant.visits_nodes place (rw popped (Contains-push c.pop.new.self.items place)) in
     let at : slice_get nodes place ≡ Some x = slice_get_read nodes (length nodes) place x refl within c.index-nodes-place.is in
     let u : IsUnderway c.args.own.0 nodes c.loop-place.found.items (c.pop.new.self.items ++ place ∷ []) = rw (← popped) c.loop-place.invariant in
-    let m : HasMarked c.next_places.new.places.items c.loop-place.found.items c.pop.new.self.items c.mark-in-Some-pop.new.found.items c.mark-in-Some-pop.new.visits.items = rw (← c.deref-in-Some-pop.ensures.value) c.in_ok-mark-2.ensures in
+    let m : HasMarked c.next_places.new.places.items c.loop-place.found.items c.pop.new.self.items c.mark-in-Some-pop.new.found.items c.mark-in-Some-pop.new.visits.items =
+    rw (← c.deref-in-Some-pop.ensures.value) c.in_ok-mark-2.ensures in
     let next : AreNext nodes x c.loop-place.found.items c.next_places.new.places.items = rw (← c.deref.ensures.value) c.in_ok-next_places.ensures in
     visit c.args.own.0 nodes x place c.next_places.new.places.items c.loop-place.found.items c.pop.new.self.items c.mark-in-Some-pop.new.found.items c.mark-in-Some-pop.new.visits.items u at next m
 

@@ -1,4 +1,4 @@
-use Rattle.hn_graph.proofs.Found.{AreFound}
+use Rattle.hn_graph.proofs.MarkedIds.{AreFound}
 use Rattle.hn_graph.proofs.search.found_ids.Given as goal
 
 abbrev pub invariant-loop-place : goal.invariant-loop-place

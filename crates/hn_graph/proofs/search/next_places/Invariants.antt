@@ -1,4 +1,4 @@
-use Rattle.hn_graph.proofs.Leads.{AreAcross}
+use Rattle.hn_graph.proofs.WhereLinksLead.{AreAcross}
 use Rattle.hn_graph.proofs.search.next_places.Given as goal
 
 abbrev pub invariant-loop-link : goal.invariant-loop-link

@@ -8,7 +8,7 @@ use Rattle.hn_data.specs.Peers.{HasPeer, peer_link}
 use Rattle.hn_data.specs.declared.said.PeerLink.{PeerLink}
 use Rattle.hn_data.specs.declared.view.Entry.{Entry}
 use Rattle.hn_base.proofs.PartsAtPlaces.{contains_at, part_is, one_place_of}
-use Rattle.hn_graph.proofs.Leads.{leads_there, leads_at}
+use Rattle.hn_graph.proofs.WhereLinksLead.{leads_there, leads_at}
 use Rattle.hn_graph.proofs.search.open_place.Goals as goal
 
 pub returns-then-found-place-clause-absent : goal.returns-then-found-place-clause-absent

@@ -1,4 +1,4 @@
-use Rattle.hn_store.proofs.Broughts.{was_brought, marked_was, remembered_was}
+use Rattle.hn_store.proofs.WhatWasBrought.{was_brought, marked_was, remembered_was}
 use Rattle.hn_store.proofs.laws.held_was_brought.Goals as goal
 
 pub returns-clause-state : goal.returns-clause-state

@@ -1,4 +1,4 @@
-use Rattle.hn_store.proofs.Broughts.{true_kept}
+use Rattle.hn_store.proofs.WhatWasBrought.{true_kept}
 use Rattle.hn_store.proofs.laws.true_data_are_kept.Goals as goal
 
 pub returns : goal.returns

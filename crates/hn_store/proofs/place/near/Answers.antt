@@ -1,6 +1,6 @@
 use Rattle.std.proofs.Common.{◌∙◌, get_or, sym}
 use Rattle.std.proofs.lemmas.Bool.{eqb-true}
-use Rattle.hn_store.proofs.Places.{stands-at}
+use Rattle.hn_store.proofs.NodePlaces.{stands-at}
 use Rattle.hn_store.proofs.place.near.Goals as goal
 
 pub returns-then-eq-clause-found : goal.returns-then-eq-clause-found

@@ -5,7 +5,7 @@ use Rattle.hn_tlv.specs.View.{plain}
 use Rattle.hn_typed.specs.Item.{PlainItem}
 use Rattle.hn_typed.specs.View.{plain_item}
 use Rattle.hn_data.specs.Items.{IsReading}
-use Rattle.hn_data.proofs.Adding.{reads_one, reads_none, readings_join}
+use Rattle.hn_data.proofs.OneMoreItem.{reads_one, reads_none, readings_join}
 use Rattle.hn_data.proofs.kept.Kept.add.Goals as goal
 
 pub returns-in-Ok : goal.returns-in-Ok
@@ -18,5 +18,5 @@ returns-in-Ok c =
 pub returns-in-Err : goal.returns-in-Err
 returns-in-Err c tlvs kept =
     let tlv = plain c.args.tlv.now in
-    let read = readings_join tlvs (tlv ∷ []) kept.0 [] kept.1 (reads_none tlv c.in-Err.field-0.why c.in-Err.ensures.fault) in
+    let read = readings_join tlvs (tlv ∷ []) kept.0 [] kept.1 (reads_none tlv c.in-Err.ensures.at_item) in
     (kept.0, subst (λ (xs : List PlainItem). IsReading (tlvs ++ tlv ∷ []) xs) (append-nil kept.0) read, kept.2)

@@ -1,7 +1,7 @@
 use Rattle.std.proofs.Common.{subst}
 use Rattle.std.proofs.lemmas.Result.{IfOk-weaker}
 use Rattle.hn_data.specs.OwnData.{AreBytes}
-use Rattle.hn_data.proofs.Written.{set_is_written, reads_written}
+use Rattle.hn_data.proofs.WrittenPieces.{set_is_written, reads_written}
 use Rattle.hn_data.proofs.node_data.NodeData.from_items.Goals as goal
 
 pub read_data-requires : goal.read_data-requires

@@ -1,5 +1,5 @@
 use Rattle.hn_data.specs.Delegations.{IsConnected}
-use Rattle.hn_data.proofs.Readings.{reads_at}
+use Rattle.hn_data.proofs.OneReading.{reads_at}
 use Rattle.hn_data.proofs.node_data.NodeData.has_external.Goals as goal
 
 pub returns : goal.returns

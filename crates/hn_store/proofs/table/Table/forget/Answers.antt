@@ -6,7 +6,7 @@ use Rattle.hn_store.specs.Loss.{is_forgotten, remembered}
 use Rattle.hn_store.specs.Nodes.{Nodes, IsTable}
 use Rattle.hn_store.specs.Young.{AreYoungBefore}
 use Rattle.hn_store.proofs.YoungNodes.{young_filter}
-use Rattle.hn_store.proofs.Maps.{IsTable-filter}
+use Rattle.hn_store.proofs.TableStays.{IsTable-filter}
 use Rattle.hn_store.proofs.Losses.{count_forgotten}
 use Rattle.hn_store.proofs.table.Table.forget.Goals as goal
 

@@ -1,6 +1,6 @@
 use Rattle.std.proofs.Common.{ap}
 use Rattle.hn_store.specs.Nodes.{Nodes}
-use Rattle.hn_store.proofs.Places.{held-at, held-none}
+use Rattle.hn_store.proofs.NodePlaces.{held-at, held-none}
 use Rattle.hn_store.proofs.table.Table.get.Goals as goal
 
 pub returns-in-Ok-clause-held : goal.returns-in-Ok-clause-held

@@ -2,7 +2,7 @@ use Rattle.std.proofs.Common.{◌∙◌, map, ap, sym, subst}
 use Rattle.std.specs.List.Sorted.{IsStrictlySortedBy}
 use Rattle.hn_base.specs.NodeIds.{node_cmp}
 use Rattle.hn_store.specs.declared.stored.HeldNode.{HeldNode}
-use Rattle.hn_store.proofs.Maps.{ascending-ids}
+use Rattle.hn_store.proofs.TableStays.{ascending-ids}
 use Rattle.hn_store.proofs.table.Table.ids.Goals as goal
 
 pub returns-clause-ascending : goal.returns-clause-ascending

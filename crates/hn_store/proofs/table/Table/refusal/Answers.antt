@@ -20,7 +20,8 @@ returns-then-is_stale-clause-refused c _ passed =
 pub returns-then-is_full-clause-accepts : goal.returns-then-is_full-clause-accepts
 returns-then-is_full-clause-accepts c now =
     let s = plain_state c.args.state.now in
-    let is : HasNoRoom c.args.self.now (known_of c.args.self.now.entries c.args.own.now s.node) = subst (λ (known : Option Part). HasNoRoom c.args.self.now known) c.known_of-known.ensures (c.is_full.ensures.0 c.if-is_full.true) in
+    let is : HasNoRoom c.args.self.now (known_of c.args.self.now.entries c.args.own.now s.node) =
+    subst (λ (known : Option Part). HasNoRoom c.args.self.now known) c.known_of-known.ensures (c.is_full.ensures.0 c.if-is_full.true) in
     unchanged c.args.self.now c.args.own.now s now Full refl (full c.args.self.now c.args.own.now s (search rules) is)
 
 pub returns-then-is_full-clause-refused : goal.returns-then-is_full-clause-refused

@@ -23,7 +23,8 @@ returns-then-not-same_hash-clause-took c =
     let s = plain_state c.args.state.now in
     let place = subst (λ (es : List HeldNode). IsPlaceOf es s.node c.in-Ok.place) c.deref.ensures.value c.in-Ok.ensures.found in
     let other : c.index_mut-node.result.now.stored.hash ≢ s.hash = λ same. absurd (let says = c.same_hash.ensures.same.1 same in let not = c.if-not-same_hash.true in search rules) in
-    subst (λ (es : List HeldNode). IsOfNumber (held_part es s.node) s Ask) entries (ask_other c.self.inside.nodes.items s.node c.in-Ok.place c.index_mut-node.result.now s place c.index_mut-node.ensures.value other)
+    subst (λ (es : List HeldNode). IsOfNumber (held_part es s.node) s Ask) entries
+    (ask_other c.self.inside.nodes.items s.node c.in-Ok.place c.index_mut-node.result.now s place c.index_mut-node.ensures.value other)
 
 pub invariant_of-self-2 : goal.invariant_of-self-2
 invariant_of-self-2 c =
@@ -37,8 +38,12 @@ invariant_of-self-2 c =
     let before : sooner ≤ c.self.inside.young = omega (arith, c.min-self-inside.ensures) in
     let early : sooner ≤ until = omega (arith, c.min-self-inside.ensures) in
     let Q = λ (stored : Stored). AreYoungBefore sooner (set c.self.inside.nodes.items c.in-Ok.place (record { id = x.id; stored = stored })) in
-    let young = subst Q (sym c.renumber.ensures) (young_set c.self.inside.young sooner until c.self.inside.nodes.items c.in-Ok.place (record { id = x.id; stored = renumbered s c.args.now x.stored }) before early c.self.invariant.1 c.young_until.ensures) in
-    let table = subst P (sym c.renumber.ensures) (IsTable-there c.self.inside.limit c.self.inside.nodes.items s.node c.in-Ok.place x (renumbered s c.args.now x.stored) c.self.invariant.0 place c.index_mut-node.ensures.value (intact_renumbered s c.args.now x.stored one)) in
+    let young = subst Q (sym c.renumber.ensures)
+    (young_set c.self.inside.young sooner until c.self.inside.nodes.items c.in-Ok.place
+    (record { id = x.id; stored = renumbered s c.args.now x.stored }) before early c.self.invariant.1 c.young_until.ensures) in
+    let table = subst P (sym c.renumber.ensures)
+    (IsTable-there c.self.inside.limit c.self.inside.nodes.items s.node c.in-Ok.place x (renumbered s c.args.now x.stored) c.self.invariant.0 place c.index_mut-node.ensures.value
+    (intact_renumbered s c.args.now x.stored one)) in
     (table, young)
 
 pub returns-clause-took : goal.returns-clause-took
@@ -47,7 +52,8 @@ returns-clause-took c =
     let s = plain_state c.args.state.now in
     let place = subst (λ (es : List HeldNode). IsPlaceOf es s.node c.in-Ok.place) c.deref.ensures.value c.in-Ok.ensures.found in
     let same : c.index_mut-node.result.now.stored.hash ≡ s.hash = search rules in
-    subst (λ (es : List HeldNode). IsOfNumber (held_part es s.node) s Renumbered) entries (renumber_same c.self.inside.nodes.items s.node c.in-Ok.place c.index_mut-node.result.now s place c.index_mut-node.ensures.value same)
+    subst (λ (es : List HeldNode). IsOfNumber (held_part es s.node) s Renumbered) entries
+    (renumber_same c.self.inside.nodes.items s.node c.in-Ok.place c.index_mut-node.result.now s place c.index_mut-node.ensures.value same)
 
 pub returns-clause-after : goal.returns-clause-after
 returns-clause-after c =

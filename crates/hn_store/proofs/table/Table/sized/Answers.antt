@@ -3,10 +3,11 @@ use Rattle.hn_store.specs.declared.stored.HeldNode.{HeldNode}
 use Rattle.hn_store.specs.Nodes.{IsTable}
 use Rattle.hn_store.specs.Young.{AreYoungBefore}
 use Rattle.hn_store.proofs.YoungNodes.{young_none}
-use Rattle.hn_store.proofs.Maps.{IsTable-none}
+use Rattle.hn_store.proofs.TableStays.{IsTable-none}
 use Rattle.hn_store.proofs.table.Table.sized.Goals as goal
 
 pub invariant_of-result : goal.invariant_of-result
 invariant_of-result c =
     let latest : ℕ = 18446744073709551615 in
-    subst (λ (entries : List HeldNode). IsTable (record { limit = c.args.limit; entries = entries }) × AreYoungBefore latest entries) (sym c.new.ensures.items) (IsTable-none c.args.limit c.requires, young_none latest)
+    subst (λ (entries : List HeldNode). IsTable (record { limit = c.args.limit; entries = entries }) × AreYoungBefore latest entries)
+    (sym c.new.ensures.items) (IsTable-none c.args.limit c.requires, young_none latest)

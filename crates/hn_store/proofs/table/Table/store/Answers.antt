@@ -5,9 +5,9 @@ use Rattle.hn_store.specs.Nodes.{Nodes, IsTable, held, entry, put}
 use Rattle.hn_store.specs.Place.{IsPlaceOf, IsGapFor}
 use Rattle.hn_store.specs.Acceptance.{plain_state, kept}
 use Rattle.hn_store.specs.Young.{AreYoungBefore}
-use Rattle.hn_store.proofs.Places.{held-none}
+use Rattle.hn_store.proofs.NodePlaces.{held-none}
 use Rattle.hn_store.proofs.YoungNodes.{young_set, young_insert}
-use Rattle.hn_store.proofs.Maps.{IsTable-insert}
+use Rattle.hn_store.proofs.TableStays.{IsTable-insert}
 use Rattle.hn_store.proofs.Changing.{IsTable-there, intact_kept, after_replaced, after_inserted}
 use Rattle.hn_store.proofs.table.Table.store.Goals as goal
 
@@ -18,8 +18,12 @@ invariant_of-self c =
     let x = c.index_mut-node.result.now in
     let place = subst (λ (es : List HeldNode). IsPlaceOf es s.node c.in-Ok.place) c.deref.ensures.value c.in-Ok.ensures.found in
     let one = intact_kept s c.args.now (Some x.stored) c.args.body c.requires.same c.requires.short c.requires.listed c.requires.hashed in
-    let P = λ (body : List ℕ). IsTable (record { limit = c.self.inside.limit; entries = set xs c.in-Ok.place (record { id = x.id; stored = record (kept s c.args.now (Some x.stored)) { body = body } }) }) in
-    let table = subst P (sym c.requires.same) (IsTable-there c.self.inside.limit xs s.node c.in-Ok.place x (kept s c.args.now (Some x.stored)) c.self.invariant.0 place c.index_mut-node.ensures.value one) in
+    let P = λ (body : List ℕ). IsTable (record {
+      limit = c.self.inside.limit;
+      entries = set xs c.in-Ok.place (record { id = x.id; stored = record (kept s c.args.now (Some x.stored)) { body = body } });
+    }) in
+    let table = subst P (sym c.requires.same)
+    (IsTable-there c.self.inside.limit xs s.node c.in-Ok.place x (kept s c.args.now (Some x.stored)) c.self.invariant.0 place c.index_mut-node.ensures.value one) in
     let sooner = c.min-self-inside.result in
     let until = c.young_until.result in
     let before : sooner ≤ c.self.inside.young = omega (arith, c.min-self-inside.ensures) in
@@ -44,12 +48,14 @@ invariant_of-self-in-Err c =
     let xs = c.self.inside.nodes.items in
     let gap = subst (λ (es : List HeldNode). IsGapFor es s.node c.in-Err.place) c.deref.ensures.value c.in-Err.ensures.absent in
     let one = intact_kept s c.args.now None c.args.body c.requires.same c.requires.short c.requires.listed c.requires.hashed in
-    let room : length xs ≢ c.self.inside.limit = subst (λ (n : Nodes). held n.entries s.node ≡ None → length n.entries ≢ n.limit) (sym c.self.view_is) c.requires.room (held-none xs s.node c.in-Err.place gap) in
+    let room : length xs ≢ c.self.inside.limit =
+    subst (λ (n : Nodes). held n.entries s.node ≡ None → length n.entries ≢ n.limit) (sym c.self.view_is) c.requires.room (held-none xs s.node c.in-Err.place gap) in
     let within = c.self.invariant.0.within in
     let less : length xs < c.self.inside.limit = omega arith in
     let with_body = ap (λ (body : List ℕ). insert xs c.in-Err.place (entry s.node (record (kept s c.args.now None) { body = body }))) c.requires.same in
     let P = λ (es : List HeldNode). IsTable (record { limit = c.self.inside.limit; entries = es }) in
-    let table = subst P (sym (c.in_ok-insert-in-Err.ensures.items ∙ with_body)) (IsTable-insert c.self.inside.limit s.node c.in-Err.place (kept s c.args.now None) xs c.self.invariant.0 gap less one) in
+    let table = subst P (sym (c.in_ok-insert-in-Err.ensures.items ∙ with_body))
+    (IsTable-insert c.self.inside.limit s.node c.in-Err.place (kept s c.args.now None) xs c.self.invariant.0 gap less one) in
     let sooner = c.min-self-inside.result in
     let until = c.young_until.result in
     let before : sooner ≤ c.self.inside.young = omega (arith, c.min-self-inside.ensures) in

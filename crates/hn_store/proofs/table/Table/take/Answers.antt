@@ -31,7 +31,8 @@ returns-clause-accepts c =
     let s = plain_state c.args.state.now in
     let other : s.node ≢ c.args.own.now.id.0 = search rules in
     let carries = c.carries_data.ensures.0 c.if-not-carries_data.false in
-    of_data_ok c.args.self.now c.args.own.now s c.args.now c.keep.new.self c.keep.result c.in_default.ensures.passed c.if-has_wrong_hash.ensures.right other carries c.keep.ensures.took c.keep.ensures.after
+    of_data_ok c.args.self.now c.args.own.now s c.args.now c.keep.new.self c.keep.result c.in_default.ensures.passed c.if-has_wrong_hash.ensures.right
+    other carries c.keep.ensures.took c.keep.ensures.after
 
 pub returns-in-Some-clause-accepts : goal.returns-in-Some-clause-accepts
 returns-in-Some-clause-accepts c = c.in-Some.ensures.accepts c.args.now

@@ -47,7 +47,8 @@ pub across_same : (nodes : List Entry) (x : Entry) (links : List PeerLink) (foun
     → AreAcross nodes x links found n places → slice_get links n ≡ Some link → ((place : ℕ) → IsPeerAt nodes x link place → IsFound found place) → AreAcross nodes x links found (n + 1) places
 across_same nodes x links found n places link were at marked place = (
   λ h. first_further (λ _ l. IsPeerAt nodes x l place) links n ((were place).0 h),
-  λ across. ⊎_elim (λ (old : IsAcross nodes x links n place). (were place).1 old) (λ (last : IsPeerAt nodes x link place). inl (marked place last)) (first_cases (λ _ l. IsPeerAt nodes x l place) links n link at across),
+  λ across. ⊎_elim (λ (old : IsAcross nodes x links n place). (were place).1 old) (λ (last : IsPeerAt nodes x link place). inl (marked place last))
+      (first_cases (λ _ l. IsPeerAt nodes x l place) links n link at across),
 )
 
 -- all links that the node says
@@ -73,7 +74,8 @@ pub leads_at : (nodes : List Entry) (x : Entry) (link : PeerLink) (place : ℕ) 
 leads_at nodes x link place leads = part_stands (λ (n : Entry). n.id.0) nodes place leads.y leads.at ∙ ap Some leads.is_peer
 
 -- so where that node is marked, it leads to a marked one
-pub leads_there : (nodes : List Entry) (x : Entry) (link : PeerLink) (found : List Bool) (there : ℕ) → IsStrictlySortedBy nat_cmp (ids_of nodes) → slice_get (ids_of nodes) there ≡ Some link.peer.0 → IsFound found there
+pub leads_there : (nodes : List Entry) (x : Entry) (link : PeerLink) (found : List Bool) (there : ℕ) → IsStrictlySortedBy nat_cmp (ids_of nodes)
+    → slice_get (ids_of nodes) there ≡ Some link.peer.0 → IsFound found there
     → (place : ℕ) → IsPeerAt nodes x link place → IsFound found place
 leads_there nodes x link found there up is marked place leads =
     subst (IsFound found) (one_place (ids_of nodes) up there place link.peer.0 is (leads_at nodes x link place leads)) marked

@@ -77,7 +77,8 @@ renumbered_comes nodes own s now other none old = by_held (held nodes.entries s.
         put_comes nodes s (renumbered s now before) refl
         (inr (record { before = before; was = is; no_data = no_body s none; hash_is = same_hash nodes own s before other is old; body_is = refl }))
 
-same_comes : (nodes : Nodes) (s : PlainState) (now : ℕ) (took line : Took) → took ≡ line → Comes nodes s (entries_after nodes.entries s now line) → Comes nodes s (entries_after nodes.entries s now took)
+same_comes : (nodes : Nodes) (s : PlainState) (now : ℕ) (took line : Took) → took ≡ line → Comes nodes s (entries_after nodes.entries s now line)
+    → Comes nodes s (entries_after nodes.entries s now took)
 same_comes nodes s now took line is comes = subst (λ (t : Took). Comes nodes s (entries_after nodes.entries s now t)) (sym is) comes
 
 comes_after : (nodes : Nodes) (own : OwnLeaf) (s : PlainState) (now : ℕ) (took : Took) → IsAnswer nodes own s took → Comes nodes s (entries_after nodes.entries s now took)
@@ -137,7 +138,8 @@ held_entry nodes are node id there is =
     let found = passing_found (is_of id) nodes.entries node there (eq-eqb node.id.0 id is) in
     let passes = found_passes (is_of id) nodes.entries found.0 found.1 in
     let same : found.0 ≡ node =
-    one_of_ascending (λ (n : HeldNode). n.id.0) nat_cmp nat_cmp_total nodes.entries ((sorted_parts (λ (n : HeldNode). n.id.0) nat_cmp nodes.entries).1 are.ascending) found.0 node passes.0 there (eqb-true found.0.id.0 id passes.1 ∙ sym is)
+    one_of_ascending (λ (n : HeldNode). n.id.0) nat_cmp nat_cmp_total nodes.entries ((sorted_parts (λ (n : HeldNode). n.id.0) nat_cmp nodes.entries).1 are.ascending) found.0 node passes.0 there
+    (eqb-true found.0.id.0 id passes.1 ∙ sym is)
     in
     ap stored_in found.1 ∙ ap (λ (n : HeldNode). Some n.stored) same
 

@@ -14,7 +14,7 @@ use Rattle.hn_store.specs.declared.stored.Stored.{Stored}
 use Rattle.hn_store.specs.declared.stored.HeldNode.{HeldNode}
 use Rattle.hn_store.specs.Nodes.{IsTable, IsIntact, ids_of, entry, put}
 use Rattle.hn_store.specs.Place.{IsPlaceOf, IsGapFor}
-use Rattle.hn_store.proofs.Places.{put-at, put-in}
+use Rattle.hn_store.proofs.NodePlaces.{put-at, put-in}
 use Rattle.hn_base.proofs.AscendingNumbers.{ascending-filter, ascending-around}
 
 -- ---- nodes in the order of their identifiers

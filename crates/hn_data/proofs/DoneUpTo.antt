@@ -26,6 +26,7 @@ done_more grows P Q bytes place after tlv here more done = record {
 }
 
 -- what reading a TLV answers
-pub decodes : (tlv : PlainTlv) (found : Result Item ItemFault) → IfOk found (λ item. IsItem tlv (plain_item item)) → IfErr found (λ fault. IsItemFault tlv fault.why) → IfErr found (λ fault. fault.kind ≡ tlv.kind) → Decodes tlv found
+pub decodes : (tlv : PlainTlv) (found : Result Item ItemFault) → IfOk found (λ item. IsItem tlv (plain_item item))
+    → IfErr found (λ fault. IsItemFault tlv fault.why) → IfErr found (λ fault. fault.kind ≡ tlv.kind) → Decodes tlv found
 decodes tlv (Ok item) is fault kind = is
 decodes tlv (Err why) is fault kind = (kind, fault)

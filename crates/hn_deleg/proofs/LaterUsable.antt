@@ -177,7 +177,8 @@ module _ (before after : PlainView) (later : IsLater before after) (none : (m : 
   known y there = Contains-from_map (aged_entry later.time) before.nodes y (subst (λ (nodes : List Entry). Contains nodes y) later.nodes there)
 
   -- a lifetime of an announced prefix that has not ended does not end
-  lasts : (x : Entry) (d : Delegation) (seconds : ℕ) → Contains before.nodes x → HasVersion x.body → HasDelegation x.body d → ((m : ℕ) → IsEnd before.now x.age seconds m → IsEndOf before.now x.age d m) → 0 < remaining x.age seconds
+  lasts : (x : Entry) (d : Delegation) (seconds : ℕ) → Contains before.nodes x → HasVersion x.body → HasDelegation x.body d
+      → ((m : ℕ) → IsEnd before.now x.age seconds m → IsEndOf before.now x.age d m) → 0 < remaining x.age seconds
       → 0 < remaining (x.age + later.time) seconds
   lasts x d seconds there version said of some = elim (remaining_cases (x.age + later.time) seconds) [
     | inl (endless, is) ↦ omega (arith, is)
@@ -186,7 +187,8 @@ module _ (before after : PlainView) (later : IsLater before after) (none : (m : 
           | inl (endless, was) ↦ absurd (other endless)
           | inr (same, was) ↦
               let m = before.now + remaining x.age seconds in
-              let comes : after.now < before.now + remaining x.age seconds = none m (x, there, record { version = version; delegation = d; said = said; ends = of m (record { ends = other; is = refl }) }) (omega (arith, some)) in
+              let comes : after.now < before.now + remaining x.age seconds =
+              none m (x, there, record { version = version; delegation = d; said = said; ends = of m (record { ends = other; is = refl }) }) (omega (arith, some)) in
               let now = later.now in
               omega (arith, is, was, comes, now)
         ]
@@ -304,7 +306,8 @@ usable_later before after later none list are =
       few = omega (arith, few, long);
       outermost = all_of (λ v. IsOutermost after v.prefix) after_list (λ v h.
           let found = Contains-from_map (aged_delegated later.time) list v h in
-          subst (λ (w : Delegated). IsOutermost after w.prefix) found.2 (still_outermost before after later none found.0.prefix (All-contains (λ u. IsOutermost before u.prefix) list found.0 are.outermost found.1)));
+          subst (λ (w : Delegated). IsOutermost after w.prefix) found.2
+          (still_outermost before after later none found.0.prefix (All-contains (λ u. IsOutermost before u.prefix) list found.0 are.outermost found.1)));
       lifetimes = all_of (HasLifetimes after) after_list (λ v h.
           let found = Contains-from_map (aged_delegated later.time) list v h in
           subst (HasLifetimes after) found.2 (still_has before after later none found.0 (All-contains (HasLifetimes before) list found.0 are.lifetimes found.1)));

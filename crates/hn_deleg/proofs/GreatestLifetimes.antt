@@ -49,7 +49,8 @@ top_other xs u p f ms top other = record {
       top.attained;
 }
 
-pub tops_more : (xs : List Delegated) (u : Delegated) (p : PlainPrefix) (valid preferred : ℕ) → AreTops xs p valid preferred → u.prefix ≡ p → AreTops (xs ++ u ∷ []) p (max u.valid valid) (max u.preferred preferred)
+pub tops_more : (xs : List Delegated) (u : Delegated) (p : PlainPrefix) (valid preferred : ℕ) → AreTops xs p valid preferred → u.prefix ≡ p
+    → AreTops (xs ++ u ∷ []) p (max u.valid valid) (max u.preferred preferred)
 tops_more xs u p valid preferred tops is = record {
   valid_top = top_more xs u p (λ v. v.valid) valid tops.valid_top is;
   preferred_top = top_more xs u p (λ v. v.preferred) preferred tops.preferred_top is;
@@ -61,10 +62,13 @@ tops_other xs u p valid preferred tops other = record {
   preferred_top = top_other xs u p (λ v. v.preferred) preferred tops.preferred_top other;
 }
 
-pub tops_more_at : (xs : List Delegated) (n : ℕ) (u : Delegated) (p : PlainPrefix) (valid preferred : ℕ) → slice_get xs n ≡ Some u → AreTops (take n xs) p valid preferred → u.prefix ≡ p → AreTops (take (n + 1) xs) p (max u.valid valid) (max u.preferred preferred)
-tops_more_at xs n u p valid preferred at tops is = subst (λ (l : List Delegated). AreTops l p (max u.valid valid) (max u.preferred preferred)) (sym (front_at xs n u at)) (tops_more (take n xs) u p valid preferred tops is)
+pub tops_more_at : (xs : List Delegated) (n : ℕ) (u : Delegated) (p : PlainPrefix) (valid preferred : ℕ) → slice_get xs n ≡ Some u
+    → AreTops (take n xs) p valid preferred → u.prefix ≡ p → AreTops (take (n + 1) xs) p (max u.valid valid) (max u.preferred preferred)
+tops_more_at xs n u p valid preferred at tops is =
+    subst (λ (l : List Delegated). AreTops l p (max u.valid valid) (max u.preferred preferred)) (sym (front_at xs n u at)) (tops_more (take n xs) u p valid preferred tops is)
 
-pub tops_other_at : (xs : List Delegated) (n : ℕ) (u : Delegated) (p : PlainPrefix) (valid preferred : ℕ) → slice_get xs n ≡ Some u → AreTops (take n xs) p valid preferred → u.prefix ≢ p → AreTops (take (n + 1) xs) p valid preferred
+pub tops_other_at : (xs : List Delegated) (n : ℕ) (u : Delegated) (p : PlainPrefix) (valid preferred : ℕ) → slice_get xs n ≡ Some u
+    → AreTops (take n xs) p valid preferred → u.prefix ≢ p → AreTops (take (n + 1) xs) p valid preferred
 tops_other_at xs n u p valid preferred at tops other = subst (λ (l : List Delegated). AreTops l p valid preferred) (sym (front_at xs n u at)) (tops_other (take n xs) u p valid preferred tops other)
 
 greatest_from_top : (xs : List Delegated) (p : PlainPrefix) (f : Delegated → ℕ) (ms : ℕ) → Contains (prefixes_of xs) p → IsTop xs p f ms → IsGreatestIn xs p f ms
@@ -76,7 +80,8 @@ greatest_from_top xs p f ms there top =
     (λ (old : (v : Delegated) × Contains xs v × (v.prefix ≡ p) × (ms ≡ f v)). record { one = old.0; among = old.1; is_it = old.2; this = old.3; none_greater = top.above })
     top.attained
 
-pub lifetimes_from_tops : (xs : List Delegated) (u : Delegated) (preferred : ℕ) → Contains (prefixes_of xs) u.prefix → AreTops xs u.prefix u.valid preferred → u.preferred ≡ min preferred u.valid → HasLifetimesIn xs u
+pub lifetimes_from_tops : (xs : List Delegated) (u : Delegated) (preferred : ℕ) → Contains (prefixes_of xs) u.prefix
+    → AreTops xs u.prefix u.valid preferred → u.preferred ≡ min preferred u.valid → HasLifetimesIn xs u
 lifetimes_from_tops xs u preferred there tops cut = record {
   preferred = preferred;
   greatest_valid = greatest_from_top xs u.prefix (λ v. v.valid) u.valid there tops.valid_top;

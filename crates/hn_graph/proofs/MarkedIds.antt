@@ -41,7 +41,8 @@ found_same nodes found n ids node were at un = record {
   ascending = were.ascending;
   exact = λ id. (
     λ h. first_further (λ place x. IsFound found place × (x.id ≡ id)) nodes n ((were.exact id).0 h),
-    λ h. ⊎_elim (λ (old : HasFoundBefore nodes found n id). (were.exact id).1 old) (λ (new : IsFound found n × (node.id ≡ id)). absurd (un new.0)) (first_cases (λ place x. IsFound found place × (x.id ≡ id)) nodes n node at h),
+    λ h. ⊎_elim (λ (old : HasFoundBefore nodes found n id). (were.exact id).1 old) (λ (new : IsFound found n × (node.id ≡ id)). absurd (un new.0))
+        (first_cases (λ place x. IsFound found place × (x.id ≡ id)) nodes n node at h),
   );
 }
 

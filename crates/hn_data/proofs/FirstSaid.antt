@@ -1,4 +1,4 @@
--- What others ask of node data.
+-- The first version and the first interval among items.
 use Rattle.std.proofs.Common.{◌≡◌, ◌↔◌, ℕ, Bool, true, false, List, [], ◌∷◌, Option, Some, None, IsSome, refl, sym, ap, ◌∙◌, cond, ◌==◌}
 use Rattle.std.specs.Option.{option_map}
 use Rattle.std.specs.List.{filter_map, find, cons_option}
@@ -6,7 +6,7 @@ use Rattle.hn_typed.specs.Item.{PlainItem, PlainCaps}
 use Rattle.hn_data.specs.Items.{AreItems, first_of}
 use Rattle.hn_data.specs.Said.{version_of, interval_at, HasVersion}
 use Rattle.hn_data.specs.declared.said.Interval.{Interval}
-use Rattle.hn_data.proofs.Readings.{HasOneReading}
+use Rattle.hn_data.proofs.OneReading.{HasOneReading}
 
 some_or_none : {C : Type 0} (plain : C → PlainCaps) (bytes : List ℕ) (items : List PlainItem) (kept : Option C) → AreItems bytes items → option_map plain kept ≡ version_of items
     → IsSome kept → HasVersion bytes
@@ -17,8 +17,8 @@ is_there : {C : Type 0} (plain : C → PlainCaps) (kept : Option C) (caps : Plai
 is_there plain None caps e = absurd (cc)
 is_there plain (Some c) caps e = refl
 
-pub version_found : {C : Type 0} (plain : C → PlainCaps) (bytes : List ℕ) (items : List PlainItem) (kept : Option C) → HasOneReading bytes → AreItems bytes items → option_map plain kept ≡ version_of items
-    → IsSome kept ↔ HasVersion bytes
+pub version_found : {C : Type 0} (plain : C → PlainCaps) (bytes : List ℕ) (items : List PlainItem) (kept : Option C)
+    → HasOneReading bytes → AreItems bytes items → option_map plain kept ≡ version_of items → IsSome kept ↔ HasVersion bytes
 version_found plain bytes items kept one are is = (
   some_or_none plain bytes items kept are is,
   λ (caps, (others, read, first)). is_there plain kept caps (is ∙ ap version_of (one items others are read) ∙ first),

@@ -3,15 +3,15 @@ use Rattle.std.proofs.Common.{◌≡◌, ℕ, List, [], ◌∷◌, ◌↔◌, in
 use Rattle.hn_tlv.specs.Grammar.{PlainTlv}
 use Rattle.hn_tlv.specs.Laws.{ListIsUnique}
 use Rattle.hn_typed.specs.Item.{PlainItem}
-use Rattle.hn_typed.specs.Laws.{ItemIsUnique, ItemHasNoFault}
-use Rattle.hn_data.specs.Items.{IsReading, AreItems, Reads}
+use Rattle.hn_typed.specs.Laws.{ItemIsUnique}
+use Rattle.hn_data.specs.Items.{IsReading, AreItems, HasItems}
 
 -- bytes have at most one list of items
 abbrev pub HasOneReading : List ℕ → Type 0
 HasOneReading bytes = (a b : List PlainItem) → AreItems bytes a → AreItems bytes b → a ≡ b
 
 -- the laws of lists and of items
-module _ (same_list : ListIsUnique) (same_item : ItemIsUnique) (no_fault : ItemHasNoFault) where
+module _ (same_list : ListIsUnique) (same_item : ItemIsUnique) where
   -- TLVs have at most one list of items
   reading_is_unique : (tlvs : List PlainTlv) (a b : List PlainItem) → IsReading tlvs a → IsReading tlvs b → a ≡ b
   reading_is_unique [] a b p q = p ∙ sym q
@@ -19,9 +19,9 @@ module _ (same_list : ListIsUnique) (same_item : ItemIsUnique) (no_fault : ItemH
       let here = same_item tlv p.0 q.0 p.2 q.2 in
       let rest = reading_is_unique tlvs p.1 q.1 p.4 q.4 in
       cc (p.3, q.3)
-  reading_is_unique (tlv ∷ tlvs) a b (inl p) (inr q) = absurd (no_fault tlv p.0 q.0 p.2 q.1)
-  reading_is_unique (tlv ∷ tlvs) a b (inr p) (inl q) = absurd (no_fault tlv q.0 p.0 q.2 p.1)
-  reading_is_unique (tlv ∷ tlvs) a b (inr p) (inr q) = reading_is_unique tlvs a b p.2 q.2
+  reading_is_unique (tlv ∷ tlvs) a b (inl p) (inr q) = absurd (q.0 p.0 p.2)
+  reading_is_unique (tlv ∷ tlvs) a b (inr p) (inl q) = absurd (p.0 q.0 q.2)
+  reading_is_unique (tlv ∷ tlvs) a b (inr p) (inr q) = reading_is_unique tlvs a b p.1 q.1
 
   pub items_unique : (bytes : List ℕ) → HasOneReading bytes
   items_unique bytes a b p q =
@@ -30,12 +30,12 @@ module _ (same_list : ListIsUnique) (same_item : ItemIsUnique) (no_fault : ItemH
       reading_is_unique q.tlvs a b read q.read
 
 -- what holds of the items of bytes is what holds of one list of them
-pub reads_at : (bytes : List ℕ) (items : List PlainItem) (P : List PlainItem → Type 0) → HasOneReading bytes → AreItems bytes items → P items ↔ Reads bytes P
+pub reads_at : (bytes : List ℕ) (items : List PlainItem) (P : List PlainItem → Type 0) → HasOneReading bytes → AreItems bytes items → P items ↔ HasItems bytes P
 reads_at bytes items P one are = (λ p. (items, are, p), λ r. subst P (one r.0 items r.1 are) r.2)
 
 -- a list that has what some items of the bytes have, has what the items of the bytes have
 pub contains_read : {A : Type 0} (bytes : List ℕ) (items : List PlainItem) (kept shown : List A) (a : A) (P : List PlainItem → Type 0)
-    → shown ≡ kept → HasOneReading bytes → AreItems bytes items → (Contains kept a ↔ P items) → Contains shown a ↔ Reads bytes P
+    → shown ≡ kept → HasOneReading bytes → AreItems bytes items → (Contains kept a ↔ P items) → Contains shown a ↔ HasItems bytes P
 contains_read {A} bytes items kept shown a P same one are kept_are =
     let reads = reads_at bytes items P one are in (
       λ p. reads.0 (kept_are.0 (subst (λ (xs : List A). Contains xs a) same p)),

@@ -1,23 +1,24 @@
 -- Numbers are node data with items, or they are none.
-use Rattle.std.proofs.Common.{◌≡◌, ◌⊎◌, ℕ, List, [], ◌∷◌, refl, inl, inr}
+use Rattle.std.proofs.Common.{◌⊎◌, ℕ, List, [], ◌∷◌, refl, inl, inr}
 use Rattle.hn_base.proofs.SoOrNot.{bytes_or_not}
 use Rattle.hn_tlv.specs.Grammar.{PlainTlv, IsTlvList}
 use Rattle.hn_tlv.specs.Laws.{ListIsOfBytes, ListHasNoFirstFault, ListOrFirstFault}
 use Rattle.hn_typed.specs.Item.{PlainItem}
 use Rattle.hn_typed.specs.Table.{IsItem}
 use Rattle.hn_typed.specs.Fault.{IsItemFault}
-use Rattle.hn_typed.specs.Laws.{ItemOrFault}
-use Rattle.hn_data.specs.Items.{IsReading, AreItems}
+use Rattle.hn_typed.specs.Laws.{ItemHasNoFault, ItemOrFault}
+use Rattle.hn_data.specs.Items.{IsReading}
 use Rattle.hn_data.specs.Laws.{ItemsOrNone}
 
-module _ (of_bytes : ListIsOfBytes) (no_list : ListHasNoFirstFault) (list_or_fault : ListOrFirstFault) (item_or_fault : ItemOrFault) where
+module _ (of_bytes : ListIsOfBytes) (no_list : ListHasNoFirstFault) (list_or_fault : ListOrFirstFault)
+    (no_item : ItemHasNoFault) (item_or_fault : ItemOrFault) where
   reading : (tlvs : List PlainTlv) (bytes : List ℕ) → IsTlvList tlvs bytes → (items : List PlainItem) × IsReading tlvs items
   reading [] bytes list = ([], refl)
   reading (tlv ∷ tlvs) bytes list = go (reading tlvs list.0 list.3) (item_or_fault tlv list.1)
     where
       go : (rest : List PlainItem) × IsReading tlvs rest → ((item : PlainItem) × IsItem tlv item) ⊎ ((why : ℕ) × IsItemFault tlv why) → (items : List PlainItem) × IsReading (tlv ∷ tlvs) items
       go (rest, read) (inl (item, is)) = (item ∷ rest, inl (item, rest, is, refl, read))
-      go (rest, read) (inr (why, fault)) = (rest, inr (why, fault, read))
+      go (rest, read) (inr (why, fault)) = (rest, inr (λ item is. no_item tlv item why is fault, read))
 
   pub has_items_or_none : ItemsOrNone
   has_items_or_none bytes = elim (bytes_or_not bytes) [

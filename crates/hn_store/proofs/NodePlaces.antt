@@ -99,11 +99,13 @@ held-none xs id i g =
 -- what stands before the entry of a node in the map, and after it
 fronts : (xs : List HeldNode) (id i : ℕ) → IsGapFor xs id i → take i xs ≡ filter (λ x. nat_lt x.id.0 id) xs
 fronts xs id i g =
-    sym (filter-front (λ (x : HeldNode). nat_lt x.id.0 id) xs i (λ k d lt in'. lt-ltb (get_or xs k d).id.0 id (g.before k d (omega arith) lt)) (λ k d le lt. let more = g.after k d le lt in le-ltb (get_or xs k d).id.0 id (omega arith)))
+    sym (filter-front (λ (x : HeldNode). nat_lt x.id.0 id) xs i (λ k d lt in'. lt-ltb (get_or xs k d).id.0 id (g.before k d (omega arith) lt)) (λ k d le lt. let more = g.after k d le lt in
+    le-ltb (get_or xs k d).id.0 id (omega arith)))
 
 backs : (xs : List HeldNode) (id i : ℕ) → IsGapFor xs id i → drop i xs ≡ filter (λ x. nat_lt id x.id.0) xs
 backs xs id i g =
-    sym (filter-back (λ (x : HeldNode). nat_lt id x.id.0) xs i (λ k d lt in'. let less = g.before k d (omega arith) lt in le-ltb id (get_or xs k d).id.0 (omega arith)) (λ k d le lt. lt-ltb id (get_or xs k d).id.0 (g.after k d le lt)))
+    sym (filter-back (λ (x : HeldNode). nat_lt id x.id.0) xs i (λ k d lt in'. let less = g.before k d (omega arith) lt in
+    le-ltb id (get_or xs k d).id.0 (omega arith)) (λ k d le lt. lt-ltb id (get_or xs k d).id.0 (g.after k d le lt)))
 
 pub put-in : (xs : List HeldNode) (id i : ℕ) (stored : Stored) → IsGapFor xs id i → insert xs i (entry id stored) ≡ put id stored xs
 put-in xs id i stored g =
@@ -114,8 +116,12 @@ put-in xs id i stored g =
 pub put-at : (xs : List HeldNode) (id i : ℕ) (stored : Stored) → IsPlaceOf xs id i → set xs i (entry id stored) ≡ put id stored xs
 put-at xs id i stored p =
     let split = set_split xs i (entry id stored) p.within in
-    let front : take i xs ≡ filter (λ x. nat_lt x.id.0 id) xs = sym (filter-front (λ (x : HeldNode). nat_lt x.id.0 id) xs i (λ k d lt in'. lt-ltb (get_or xs k d).id.0 id (p.before k d (omega arith) lt)) (λ k d le lt. le-ltb (get_or xs k d).id.0 id (from_here k d le lt))) in
-    let back : drop (suc i) xs ≡ filter (λ x. nat_lt id x.id.0) xs = sym (filter-back (λ (x : HeldNode). nat_lt id x.id.0) xs (suc i) (λ k d lt in'. le-ltb id (get_or xs k d).id.0 (up_to_here k d lt in')) (λ k d le lt. lt-ltb id (get_or xs k d).id.0 (p.after k d (omega arith) lt))) in
+    let front : take i xs ≡ filter (λ x. nat_lt x.id.0 id) xs =
+    sym (filter-front (λ (x : HeldNode). nat_lt x.id.0 id) xs i (λ k d lt in'. lt-ltb (get_or xs k d).id.0 id (p.before k d (omega arith) lt))
+    (λ k d le lt. le-ltb (get_or xs k d).id.0 id (from_here k d le lt))) in
+    let back : drop (suc i) xs ≡ filter (λ x. nat_lt id x.id.0) xs =
+    sym (filter-back (λ (x : HeldNode). nat_lt id x.id.0) xs (suc i) (λ k d lt in'. le-ltb id (get_or xs k d).id.0 (up_to_here k d lt in'))
+    (λ k d le lt. lt-ltb id (get_or xs k d).id.0 (p.after k d (omega arith) lt))) in
     cc
   where
     from_here : (k : ℕ) (d : HeldNode) → i ≤ k → k < length xs → id ≤ (get_or xs k d).id.0

@@ -11,7 +11,7 @@ use Rattle.hn_typed.specs.Item.{PlainItem, RequestNetwork, RequestNode, NodeEndp
 use Rattle.hn_typed.specs.Table.{IsItem, InRange}
 use Rattle.hn_typed.specs.Written.{kind_of, value_of, tlv_of, IsWritable}
 use Rattle.hn_typed.specs.Laws.{ItemIsUnique, WrittenIsRead}
-use Rattle.hn_data.specs.Items.{IsReading, Reads}
+use Rattle.hn_data.specs.Items.{IsReading, HasItems}
 use Rattle.hn_data.specs.OwnData.{AreBytes, IsEncoded, IsWrittenIn, IsAscendingSet}
 
 front : {A : Type 0} (P : A → Type 0) (xs ys : List A) → All P (xs ++ ys) → All P xs
@@ -70,7 +70,9 @@ module _ (same_begin : SpellingIsPrefixFree) (same_item : ItemIsUnique) (written
     λ h. ⊎_elim (λ (e : first ≡ item). (subst IsWritable e w, subst (λ (p : List ℕ). Contains (piece ∷ pieces) p) (spelled ∙ ap (λ i. spelling (tlv_of i)) e) (Contains-head piece pieces)))
         (λ (g : Contains rest item). let there = (exact item).0 g in (there.0, Contains-tail piece pieces (spelling (tlv_of item)) there.1))
         (Contains-cases first rest item h),
-    λ h. ⊎_elim (λ (e : piece ≡ spelling (tlv_of item)). subst (λ (i : PlainItem). Contains (first ∷ rest) i) (same_written first item w h.0 (subst AreBytes spelled bytes) (sym spelled ∙ e)) (Contains-head first rest))
+    λ h. ⊎_elim (λ (e : piece ≡ spelling (tlv_of item)).
+        let same : first ≡ item = same_written first item w h.0 (subst AreBytes spelled bytes) (sym spelled ∙ e) in
+        subst (λ (i : PlainItem). Contains (first ∷ rest) i) same (Contains-head first rest))
         (λ (g : Contains pieces (spelling (tlv_of item))). Contains-tail first rest item ((exact item).1 (h.0, g)))
         (Contains-cases piece pieces (spelling (tlv_of item)) h.1),
   )
@@ -92,7 +94,8 @@ module _ (same_begin : SpellingIsPrefixFree) (same_item : ItemIsUnique) (written
   -- the same of the ascending set of pieces
   pub set_is_written : (pieces : List (List ℕ)) (bytes : List ℕ) → All IsEncoded pieces → AreBytes bytes → IsAscendingSet pieces bytes → AreWritten pieces bytes
   set_is_written pieces bytes encoded are set =
-      let each : All IsEncoded set.ascending = All-weaker (Contains set.ascending) IsEncoded (λ piece h. All-contains IsEncoded pieces piece encoded ((set.same piece).0 h)) set.ascending (All-contains_itself set.ascending) in
+      let each : All IsEncoded set.ascending =
+      All-weaker (Contains set.ascending) IsEncoded (λ piece h. All-contains IsEncoded pieces piece encoded ((set.same piece).0 h)) set.ascending (All-contains_itself set.ascending) in
       let written = are_written set.ascending each (subst AreBytes set.joined are) in
       record {
         tlvs = written.tlvs;
@@ -105,5 +108,5 @@ module _ (same_begin : SpellingIsPrefixFree) (same_item : ItemIsUnique) (written
         );
       }
 
-pub reads_written : (pieces : List (List ℕ)) (bytes now : List ℕ) → now ≡ bytes → AreWritten pieces bytes → Reads now (λ read. (item : PlainItem) → Contains read item ↔ IsWrittenIn pieces item)
+pub reads_written : (pieces : List (List ℕ)) (bytes now : List ℕ) → now ≡ bytes → AreWritten pieces bytes → HasItems now (λ read. (item : PlainItem) → Contains read item ↔ IsWrittenIn pieces item)
 reads_written pieces bytes now same written = (written.items, record { tlvs = written.tlvs; list = subst (IsTlvList written.tlvs) (sym same) written.list; read = written.read }, written.exact)

@@ -16,7 +16,7 @@ use Rattle.hn_deleg.specs.Live.{remaining, IsAnnounced, IsCandidate, IsGreatest}
 use Rattle.hn_deleg.specs.Steps.{live_of, HasPrefixes, IsLiveIn, IsOutermostIn, AreOutermost, IsGreatestIn, HasLifetimesIn}
 use Rattle.hn_deleg.specs.Used.{prefixes_of, IsOutermost, HasLifetimes, AreUsable}
 use Rattle.hn_deleg.proofs.Live.{leaves, left, left_of}
-use Rattle.hn_deleg.proofs.Lists.{sorted_take, taken_or_after, Contains-from_take}
+use Rattle.hn_deleg.proofs.FirstElements.{sorted_take, taken_or_after, Contains-from_take}
 use Rattle.hn_base.proofs.FrontOfList.{front_at}
 
 -- ---- candidates and lifetimes
@@ -84,10 +84,12 @@ lifetimes_in_view view live u are h =
 -- ---- the whole
 
 -- one more with the next of the prefixes
-pub prefixes_more : (found : List Delegated) (u : Delegated) (prefixes : List PlainPrefix) (n : ℕ) (p : PlainPrefix) → prefixes_of found ≡ take n prefixes → u.prefix ≡ p → slice_get prefixes n ≡ Some p
+pub prefixes_more : (found : List Delegated) (u : Delegated) (prefixes : List PlainPrefix) (n : ℕ) (p : PlainPrefix)
+    → prefixes_of found ≡ take n prefixes → u.prefix ≡ p → slice_get prefixes n ≡ Some p
     → prefixes_of (found ++ u ∷ []) ≡ take (n + 1) prefixes
 prefixes_more found u prefixes n p were is at =
-    map-append (λ (x : Delegated). x.prefix) found (u ∷ []) ∙ ap (λ (ps : List PlainPrefix). ps ++ u.prefix ∷ []) were ∙ ap (λ (q : PlainPrefix). take n prefixes ++ q ∷ []) is ∙ sym (front_at prefixes n p at)
+    map-append (λ (x : Delegated). x.prefix) found (u ∷ []) ∙ ap (λ (ps : List PlainPrefix). ps ++ u.prefix ∷ []) were
+    ∙ ap (λ (q : PlainPrefix). take n prefixes ++ q ∷ []) is ∙ sym (front_at prefixes n p at)
 
 -- what is sorted are the prefixes of the list
 pub sorted_prefixes : (live list : List Delegated) (found sorted : List PlainPrefix) → list ≡ live → found ≡ prefixes_of list → ((p : PlainPrefix) → Contains sorted p ↔ Contains found p)
@@ -95,7 +97,8 @@ pub sorted_prefixes : (live list : List Delegated) (found sorted : List PlainPre
 sorted_prefixes live list found sorted same are sort p = subst (λ (ps : List PlainPrefix). Contains sorted p ↔ Contains ps p) (are ∙ ap prefixes_of same) (sort p)
 
 -- the prefixes of a list that are prefixes
-pub valid_candidates : (live : List Delegated) (candidates : List PlainPrefix) → HasPrefixes live → ((p : PlainPrefix) → Contains candidates p ↔ Contains (prefixes_of live) p) → All IsPrefix candidates
+pub valid_candidates : (live : List Delegated) (candidates : List PlainPrefix) → HasPrefixes live
+    → ((p : PlainPrefix) → Contains candidates p ↔ Contains (prefixes_of live) p) → All IsPrefix candidates
 valid_candidates live candidates valid same = all_of IsPrefix candidates (λ p h.
     let found = Contains-from_map (λ (u : Delegated). u.prefix) live p ((same p).0 h) in
     subst IsPrefix found.2 (All-contains (λ (u : Delegated). IsPrefix u.prefix) live found.0 valid found.1))
@@ -105,7 +108,8 @@ pub kept_in_live : (live : List Delegated) (candidates kept : List PlainPrefix) 
     → All (Contains (prefixes_of live)) (take n kept)
 kept_in_live live candidates kept n same outer = all_of (Contains (prefixes_of live)) (take n kept) (λ p h. (same p).0 ((outer.exact p).0 (Contains-from_take n kept p h)).among)
 
-outermost_in_view : (view : PlainView) (live : List Delegated) (candidates : List PlainPrefix) (p : PlainPrefix) → AreLive view live → ((q : PlainPrefix) → Contains candidates q ↔ Contains (prefixes_of live) q)
+outermost_in_view : (view : PlainView) (live : List Delegated) (candidates : List PlainPrefix) (p : PlainPrefix) → AreLive view live
+    → ((q : PlainPrefix) → Contains candidates q ↔ Contains (prefixes_of live) q)
     → IsOutermostIn candidates p ↔ IsOutermost view p
 outermost_in_view view live candidates p are same = (
   λ o. record {
@@ -123,7 +127,8 @@ pub usable : (view : PlainView) (live : List Delegated) (candidates kept : List 
     → AreUsable view list
 usable view live candidates kept list are same outer prefixes lasts = record {
   ascending = subst (IsStrictlySortedBy prefix_cmp) (sym prefixes) (sorted_take prefix_cmp 32 kept outer.ascending);
-  few = (let few = length-take 32 kept in let long = length-map list (λ (u : Delegated). u.prefix) in let same_length : length (prefixes_of list) ≡ length (take 32 kept) = ap length prefixes in omega arith);
+  few = (let few = length-take 32 kept in let long = length-map list (λ (u : Delegated). u.prefix) in
+      let same_length : length (prefixes_of list) ≡ length (take 32 kept) = ap length prefixes in omega arith);
   outermost = all_of (λ u. IsOutermost view u.prefix) list (λ u h.
       let there : Contains (take 32 kept) u.prefix = subst (λ (l : List PlainPrefix). Contains l u.prefix) prefixes (Contains-map (λ (x : Delegated). x.prefix) list u h) in
       (outermost_in_view view live candidates u.prefix are same).0 ((outer.exact u.prefix).0 (Contains-from_take 32 kept u.prefix there)));

@@ -8,12 +8,11 @@ use Rattle.hn_base.proofs.PartsAtPlaces.{filter_map-push}
 use Rattle.hn_tlv.specs.Grammar.{PlainTlv}
 use Rattle.hn_typed.specs.Item.{PlainItem, PlainCaps, External}
 use Rattle.hn_typed.specs.Table.{IsItem}
-use Rattle.hn_typed.specs.Fault.{IsItemFault}
-use Rattle.hn_data.specs.Items.{IsReading, AreItems, Reads, first_of}
+use Rattle.hn_data.specs.Items.{IsReading, AreItems, HasItems, first_of}
 use Rattle.hn_data.specs.Said.{caps_of, version_of}
 use Rattle.hn_data.specs.Delegations.{delegation_of, IsDelegatedIn, IsConnected}
 use Rattle.hn_data.specs.declared.said.Delegation.{Delegation}
-use Rattle.hn_data.proofs.Readings.{HasOneReading}
+use Rattle.hn_data.proofs.OneReading.{HasOneReading}
 use Rattle.hn_base.proofs.AscendingLists.{Contains-one}
 
 -- ---- readings
@@ -21,13 +20,13 @@ use Rattle.hn_base.proofs.AscendingLists.{Contains-one}
 pub reads_one : (tlv : PlainTlv) (item : PlainItem) → IsItem tlv item → IsReading (tlv ∷ []) (item ∷ [])
 reads_one tlv item h = inl (item, [], h, refl, refl)
 
-pub reads_none : (tlv : PlainTlv) (why : ℕ) → IsItemFault tlv why → IsReading (tlv ∷ []) []
-reads_none tlv why h = inr (why, h, refl)
+pub reads_none : (tlv : PlainTlv) → ((item : PlainItem) → ¬ (IsItem tlv item)) → IsReading (tlv ∷ []) []
+reads_none tlv h = inr (h, refl)
 
 pub readings_join : (a b : List PlainTlv) (x y : List PlainItem) → IsReading a x → IsReading b y → IsReading (a ++ b) (x ++ y)
 readings_join [] b x y p q = subst (λ (xs : List PlainItem). IsReading b (xs ++ y)) (sym p) q
 readings_join (tlv ∷ a) b x y (inl p) q = inl (p.0, p.1 ++ y, p.2, ap (λ (xs : List PlainItem). xs ++ y) p.3, readings_join a b p.1 y p.4 q)
-readings_join (tlv ∷ a) b x y (inr p) q = inr (p.0, p.1, readings_join a b x y p.2 q)
+readings_join (tlv ∷ a) b x y (inr p) q = inr (p.0, readings_join a b x y p.1 q)
 
 -- ---- lists
 
@@ -97,8 +96,12 @@ external_more items item old said was is =
 
 delegated_append : (xs ys : List PlainItem) (d : Delegation) → IsDelegatedIn (xs ++ ys) d ↔ (IsDelegatedIn xs d ⊎ IsDelegatedIn ys d)
 delegated_append xs ys d = (
-  λ h. ⊎_elim (λ g. inl (record { subs = h.subs; external = g; inside = h.inside })) (λ g. inr (record { subs = h.subs; external = g; inside = h.inside })) (Contains-append_cases xs ys (External h.subs) h.external),
-  λ h. ⊎_elim (λ g. record { subs = g.subs; external = Contains-append_left xs ys (External g.subs) g.external; inside = g.inside }) (λ g. record { subs = g.subs; external = Contains-append_right xs ys (External g.subs) g.external; inside = g.inside }) h,
+  λ h. ⊎_elim (λ g. inl (record { subs = h.subs; external = g; inside = h.inside }))
+      (λ g. inr (record { subs = h.subs; external = g; inside = h.inside }))
+      (Contains-append_cases xs ys (External h.subs) h.external),
+  λ h. ⊎_elim (λ g. record { subs = g.subs; external = Contains-append_left xs ys (External g.subs) g.external; inside = g.inside })
+      (λ g. record { subs = g.subs; external = Contains-append_right xs ys (External g.subs) g.external; inside = g.inside })
+      h,
 )
 
 pub delegations_more : (items : List PlainItem) (item : PlainItem) (old new : List Delegation)
@@ -126,7 +129,7 @@ delegates_inner subs inner d one are = (
 
 -- a list with the delegated prefixes inside an External-Connection
 pub inner_more : (subs : List ℕ) (old new : List Delegation)
-    → HasOneReading subs → Reads subs (λ inner. new ≡ old ++ filter_map delegation_of inner)
+    → HasOneReading subs → HasItems subs (λ inner. new ≡ old ++ filter_map delegation_of inner)
     → (d : Delegation) → Contains new d ↔ (Contains old d ⊎ IsDelegatedIn (External subs ∷ []) d)
 inner_more subs old new one r d =
     let said = filter_map delegation_of r.0 in

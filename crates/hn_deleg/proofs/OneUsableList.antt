@@ -20,7 +20,8 @@ outermost_of view list p are h =
     let found = Contains-from_map (λ (u : Delegated). u.prefix) list p h in
     subst (IsOutermost view) found.2 (All-contains (λ (u : Delegated). IsOutermost view u.prefix) list found.0 are.outermost found.1)
 
-pub apart : OverlapIsNesting → (view : PlainView) (list : List Delegated) (p q : PlainPrefix) → AreUsable view list → Contains (prefixes_of list) p → Contains (prefixes_of list) q → Overlaps p q → p ≡ q
+pub apart : OverlapIsNesting → (view : PlainView) (list : List Delegated) (p q : PlainPrefix) → AreUsable view list → Contains (prefixes_of list) p
+    → Contains (prefixes_of list) q → Overlaps p q → p ≡ q
 apart nesting view list p q are hp hq overlap =
     let op = outermost_of view list p are hp in
     let oq = outermost_of view list q are hq in
@@ -61,8 +62,10 @@ one_greatest view p f m n g h =
 
 one_delegated : (view : PlainView) (u v : Delegated) → HasLifetimes view u → HasLifetimes view v → u.prefix ≡ v.prefix → u ≡ v
 one_delegated view u v g h same =
-    let valid : u.valid ≡ v.valid = one_greatest view v.prefix (λ d. d.valid) u.valid v.valid (subst (λ (p : PlainPrefix). IsGreatest view p (λ d. d.valid) u.valid) same g.greatest_valid) h.greatest_valid in
-    let most : g.preferred ≡ h.preferred = one_greatest view v.prefix (λ d. d.preferred) g.preferred h.preferred (subst (λ (p : PlainPrefix). IsGreatest view p (λ d. d.preferred) g.preferred) same g.greatest_preferred) h.greatest_preferred in
+    let valid : u.valid ≡ v.valid = one_greatest view v.prefix (λ d. d.valid) u.valid v.valid
+    (subst (λ (p : PlainPrefix). IsGreatest view p (λ d. d.valid) u.valid) same g.greatest_valid) h.greatest_valid in
+    let most : g.preferred ≡ h.preferred = one_greatest view v.prefix (λ d. d.preferred) g.preferred h.preferred
+    (subst (λ (p : PlainPrefix). IsGreatest view p (λ d. d.preferred) g.preferred) same g.greatest_preferred) h.greatest_preferred in
     let preferred : u.preferred ≡ v.preferred = g.cut ∙ ap (λ n. min n u.valid) most ∙ ap (λ n. min h.preferred n) valid ∙ sym h.cut in
     ap (λ (p : PlainPrefix). record { prefix = p; valid = u.valid; preferred = u.preferred }) same
     ∙ ap (λ (n : ℕ). record { prefix = v.prefix; valid = n; preferred = u.preferred }) valid

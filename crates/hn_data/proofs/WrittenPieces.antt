@@ -7,7 +7,7 @@ use Rattle.hn_base.specs.Byte.{IsByte}
 use Rattle.hn_base.proofs.AscendingLists.{nothing_in, Contains-head, Contains-tail, Contains-cases}
 use Rattle.hn_tlv.specs.Grammar.{PlainTlv, IsTlv, IsTlvList, header, unpadded, padding, spelling}
 use Rattle.hn_tlv.specs.Laws.{SpellingIsPrefixFree}
-use Rattle.hn_typed.specs.Item.{PlainItem, RequestNetwork, RequestNode, NodeEndpoint, NetworkState, NodeState, Peer, KeepAlive, Version, External, Delegated, Assigned, Address, Other}
+use Rattle.hn_typed.specs.Item.{PlainItem, Other}
 use Rattle.hn_typed.specs.Table.{IsItem, InRange}
 use Rattle.hn_typed.specs.Written.{kind_of, value_of, tlv_of, IsWritable}
 use Rattle.hn_typed.specs.Laws.{ItemIsUnique, WrittenIsRead}
@@ -21,19 +21,8 @@ back : {A : Type 0} (P : A → Type 0) (xs ys : List A) → All P (xs ++ ys) →
 back P xs ys all = All-weaker (Contains ys) P (λ x h. All-contains P (xs ++ ys) x all (Contains-append_right xs ys x h)) ys (All-contains_itself ys)
 
 kind_fits : (item : PlainItem) → InRange item → kind_of item < 2 ^ 16
-kind_fits (RequestNetwork subs) h = lit< tt
-kind_fits (RequestNode node subs) h = lit< tt
-kind_fits (NodeEndpoint node endpoint subs) h = lit< tt
-kind_fits (NetworkState hash subs) h = lit< tt
-kind_fits (NodeState node number age hash body) h = lit< tt
-kind_fits (Peer peer peer_endpoint endpoint subs) h = lit< tt
-kind_fits (KeepAlive endpoint interval subs) h = lit< tt
-kind_fits (Version caps agent) h = lit< tt
-kind_fits (External subs) h = lit< tt
-kind_fits (Delegated valid preferred prefix subs) h = lit< tt
-kind_fits (Assigned endpoint priority prefix subs) h = lit< tt
-kind_fits (Address endpoint address subs) h = lit< tt
 kind_fits (Other kind value) h = h
+kind_fits _ h = lit< tt
 
 -- an item that can be written, with bytes in its spelling, has a TLV
 written_tlv : (item : PlainItem) → IsWritable item → AreBytes (spelling (tlv_of item)) → IsTlv (tlv_of item)

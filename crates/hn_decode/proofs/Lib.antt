@@ -1,7 +1,7 @@
 pub mod ItemLemmas
 pub mod Within
 pub mod LineLemmas
-pub mod Shown
-pub mod Unique
-pub mod Outcome
-pub mod Exists
+pub mod TextSoFar
+pub mod OneText
+pub mod WholeText
+pub mod TextExists

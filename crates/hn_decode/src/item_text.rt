@@ -57,7 +57,8 @@ fn push_peer(
     endpoint: EpId,
 ) -> Result<(), AllocError>
     ensures { OnOk result (string_bytes out.new ≡ string_bytes out.old
-        ++ (codes "peer node=" ++ id_text peer.0 ++ codes " endpoint=" ++ decimal peer_endpoint.0 ++ codes " own=" ++ decimal endpoint.0)) }
+        ++ (codes "peer node=" ++ id_text peer.0 ++ codes " endpoint=" ++ decimal peer_endpoint.0
+        ++ codes " own=" ++ decimal endpoint.0)) }
 {
     let (theirs, own) = (peer_endpoint.0, endpoint.0);
     write!(out, "peer node={peer} endpoint={theirs} own={own}")
@@ -86,7 +87,8 @@ fn push_delegated(
     prefix: &Prefix,
 ) -> Result<(), AllocError>
     ensures { OnOk result (string_bytes out.new ≡ string_bytes out.old
-        ++ (codes "delegated valid=" ++ decimal valid ++ codes " preferred=" ++ decimal preferred ++ codes " prefix=" ++ prefix_text_of prefix.now)) }
+        ++ (codes "delegated valid=" ++ decimal valid ++ codes " preferred=" ++ decimal preferred
+        ++ codes " prefix=" ++ prefix_text_of prefix.now)) }
 {
     let prefix = prefix.text();
     write!(
@@ -102,7 +104,8 @@ fn push_assigned(
     prefix: &Prefix,
 ) -> Result<(), AllocError>
     ensures { OnOk result (string_bytes out.new ≡ string_bytes out.old
-        ++ (codes "assigned endpoint=" ++ decimal endpoint.0 ++ codes " priority=" ++ decimal priority ++ codes " prefix=" ++ prefix_text_of prefix.now)) }
+        ++ (codes "assigned endpoint=" ++ decimal endpoint.0 ++ codes " priority=" ++ decimal priority
+        ++ codes " prefix=" ++ prefix_text_of prefix.now)) }
 {
     let endpoint = endpoint.0;
     let prefix = prefix.text();

@@ -7,7 +7,7 @@ use Rattle.hn_base.proofs.AscendingLists.{Contains-cases, nothing_in}
 use Rattle.hn_base.proofs.Elements.{from_filter_map}
 use Rattle.hn_base.specs.Prefix.{PlainPrefix, IsPrefix}
 use Rattle.hn_tlv.specs.Grammar.{PlainTlv}
-use Rattle.hn_typed.specs.Item.{PlainItem, RequestNetwork, RequestNode, NodeEndpoint, NetworkState, NodeState, Peer, KeepAlive, Version, External, Delegated as DelegatedItem, Assigned, Address, Other}
+use Rattle.hn_typed.specs.Item.{PlainItem, Delegated as DelegatedItem}
 use Rattle.hn_typed.specs.Table.{InRange, IsItem}
 use Rattle.hn_data.specs.Items.{IsReading}
 use Rattle.hn_data.specs.Delegations.{HasDelegation, delegation_of}
@@ -36,19 +36,8 @@ read_in_range (tlv ∷ tlvs) items item read h =
 
 of_item : (item : PlainItem) (d : Delegation) → delegation_of item ≡ Some d → InRange item → IsDelegation d
 of_item (DelegatedItem valid preferred prefix subs) d is range =
-    subst IsDelegation (same_Some (record { valid = valid; preferred = preferred; prefix = prefix }) d is) (record { valid = range.0; preferred = range.1; prefix = range.2 })
-of_item (RequestNetwork subs) d is range = absurd (none-some d is)
-of_item (RequestNode node subs) d is range = absurd (none-some d is)
-of_item (NodeEndpoint node endpoint subs) d is range = absurd (none-some d is)
-of_item (NetworkState hash subs) d is range = absurd (none-some d is)
-of_item (NodeState node number age hash body) d is range = absurd (none-some d is)
-of_item (Peer peer peer_endpoint endpoint subs) d is range = absurd (none-some d is)
-of_item (KeepAlive endpoint interval subs) d is range = absurd (none-some d is)
-of_item (Version caps agent) d is range = absurd (none-some d is)
-of_item (External subs) d is range = absurd (none-some d is)
-of_item (Assigned endpoint priority prefix subs) d is range = absurd (none-some d is)
-of_item (Address endpoint address subs) d is range = absurd (none-some d is)
-of_item (Other kind value) d is range = absurd (none-some d is)
+    subst IsDelegation (same_Some (record { valid = valid; preferred = preferred; prefix = prefix }) d is) (record { valid = range.0; preferred = range.1.0; prefix = range.1.1 })
+of_item _ d is range = absurd (none-some d is)
 
 pub said_in_range : (bytes : List ℕ) (d : Delegation) → HasDelegation bytes d → IsDelegation d
 said_in_range bytes d said =

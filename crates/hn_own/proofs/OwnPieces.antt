@@ -68,7 +68,7 @@ delegated_tlv : (now : ℕ) (own : OwnPrefix) → IsWritable (delegated_item now
 delegated_tlv now own is = record {
   kind_fits = omega arith;
   length_fits = let short = is.short in omega arith;
-  bytes = delegated_bytes now own is.in_range.2;
+  bytes = delegated_bytes now own is.in_range.1.1;
 }
 
 -- Delegated-Prefixes are a list of TLVs

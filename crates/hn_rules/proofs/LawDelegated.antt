@@ -13,7 +13,7 @@ use Rattle.hn_base.specs.Prefix.{PlainPrefix}
 use Rattle.hn_tlv.specs.Grammar.{PlainTlv, IsTlv, IsTlvList, header, padding, spelling, unpadded}
 use Rattle.hn_tlv.specs.Laws.{ListIsUnique}
 use Rattle.hn_typed.specs.Fields.{word, bytes_for, prefix_field}
-use Rattle.hn_typed.specs.Item.{PlainItem, RequestNetwork, RequestNode, NodeEndpoint, NetworkState, NodeState, Peer, KeepAlive, Version, External, Delegated, Assigned, Address, Other}
+use Rattle.hn_typed.specs.Item.{PlainItem, Delegated}
 use Rattle.hn_typed.specs.Table.{IsItem}
 use Rattle.hn_typed.specs.Laws.{ItemIsUnique, ItemHasNoFault, ItemOrFault}
 use Rattle.hn_typed.specs.Written.{tlv_of, IsWritable}
@@ -71,34 +71,24 @@ read_at now later own (Delegated valid preferred prefix subs) d is says =
     let v = seconds_left now own.valid_until in
     let p = seconds_left now own.preferred_until in
     let fits = is.in_range in
-    let (after, value, then) = is.spelled.1 in
+    let (after, value, then) = is.spelled.2 in
     let words = words_are v p valid preferred (prefix_field own.prefix ++ [] ++ []) (prefix_field prefix ++ after) value in
     let d_is : record { valid = valid; preferred = preferred; prefix = prefix } ≡ d = the_same (record { valid = valid; preferred = preferred; prefix = prefix }) d says in
     let first : valid ≡ v = word_is valid v fits.0 (seconds_fit now own.valid_until) (sym words.first) in
-    let second : preferred ≡ p = word_is preferred p fits.1 (seconds_fit now own.preferred_until) (sym words.second) in
+    let second : preferred ≡ p = word_is preferred p fits.1.0 (seconds_fit now own.preferred_until) (sym words.second) in
     let later_v = seconds_left later own.valid_until in
     let later_p = seconds_left later own.preferred_until in
     record {
       is = record { valid = sym (ap (λ (x : Delegation). x.valid) d_is) ∙ first; preferred = sym (ap (λ (x : Delegation). x.preferred) d_is) ∙ second };
       other = Delegated later_v later_p prefix subs;
       other_read = record {
-        in_range = (seconds_fit later own.valid_until, seconds_fit later own.preferred_until, fits.2);
-        spelled = (refl, (after, ap (λ (rest : List ℕ). word later_v ++ word later_p ++ rest) words.rest, then));
+        in_range = (seconds_fit later own.valid_until, (seconds_fit later own.preferred_until, fits.1.1));
+        other_kind = tt;
+        spelled = (refl, is.spelled.1, (after, ap (λ (rest : List ℕ). word later_v ++ word later_p ++ rest) words.rest, then));
       };
       other_says = ap (λ (x : PlainPrefix). Some (record { valid = later_v; preferred = later_p; prefix = x })) (ap (λ (x : Delegation). x.prefix) d_is);
     }
-read_at now later own (RequestNetwork subs) d is says = absurd cc
-read_at now later own (RequestNode node subs) d is says = absurd cc
-read_at now later own (NodeEndpoint node endpoint subs) d is says = absurd cc
-read_at now later own (NetworkState hash subs) d is says = absurd cc
-read_at now later own (NodeState node number age hash body) d is says = absurd cc
-read_at now later own (Peer peer peer_endpoint endpoint subs) d is says = absurd cc
-read_at now later own (KeepAlive endpoint interval subs) d is says = absurd cc
-read_at now later own (Version caps agent) d is says = absurd cc
-read_at now later own (External subs) d is says = absurd cc
-read_at now later own (Assigned endpoint priority prefix subs) d is says = absurd cc
-read_at now later own (Address endpoint address subs) d is says = absurd cc
-read_at now later own (Other kind value) d is says = absurd cc
+read_at now later own _ d is says = absurd cc
 
 -- ---- lists of TLVs
 

@@ -36,8 +36,8 @@ version_fit caps is = record {
   length_fits = let short = is.short in omega arith;
   bytes =
       let fits = is.in_range in
-      let upper : 16 * caps.m + caps.p < 2 ^ 8 = let m = fits.m in let p = fits.p in omega arith in
-      let lower : 16 * caps.h + caps.l < 2 ^ 8 = let h = fits.h in let l = fits.l in omega arith in
+      let upper : 16 * caps.m + caps.p < 2 ^ 8 = let first = fits.1.1.0 in omega arith in
+      let lower : 16 * caps.h + caps.l < 2 ^ 8 = let second = fits.1.1.1 in omega arith in
       let value : List ℕ = 0 ∷ 0 ∷ (16 * caps.m + caps.p) ∷ (16 * caps.h + caps.l) ∷ codes "hncp" in
       All-from_recursion IsByte value (omega arith, (omega arith, (upper, (lower, (omega arith, (omega arith, (omega arith, (omega arith, tt))))))));
 }
@@ -62,9 +62,9 @@ assigned_fit a is =
     let endpoint = word a.endpoint.0 in
     let bits = take (bytes_for a.prefix.len) (to_be_bytes w128 a.prefix.bits) in
     let field : All IsByte (prefix_field a.prefix) =
-    All-cons IsByte a.prefix.len bits (let len = is.in_range.2.len_in_range in omega arith) (All-take IsByte (bytes_for a.prefix.len) (to_be_bytes w128 a.prefix.bits) (number_bytes 16 a.prefix.bits))
+    All-cons IsByte a.prefix.len bits (let len = is.in_range.1.1.len_in_range in omega arith) (All-take IsByte (bytes_for a.prefix.len) (to_be_bytes w128 a.prefix.bits) (number_bytes 16 a.prefix.bits))
     in
-    let priority : 16 * 0 + a.priority < 2 ^ 8 = let fits = is.in_range.1 in omega arith in
+    let priority : 16 * 0 + a.priority < 2 ^ 8 = let fits = is.in_range.1.0 in omega arith in
     let after : List ℕ = (16 * 0 + a.priority) ∷ prefix_field a.prefix in
     let none = All-nil IsByte in
     record {

@@ -86,7 +86,7 @@ module _ (published : List Publication) where
         i = NodeState node number age hash body
 
         size : length (value_of i) ≤ 60020
-        size = let eight = fits.3.0 in simp length-append (omega arith)
+        size = let eight = fits.1.1.1.0 in simp length-append (omega arith)
 
         is_tlv : IsTlv (tlv_of i)
         is_tlv = record {
@@ -97,7 +97,7 @@ module _ (published : List Publication) where
               (All-append IsByte (((word node ++ word number) ++ word age) ++ hash) []
               (All-append IsByte ((word node ++ word number) ++ word age) hash
               (All-append IsByte (word node ++ word number) (word age) (All-append IsByte (word node) (word number) (number_bytes 4 node) (number_bytes 4 number)) (number_bytes 4 age))
-              fits.3.1) (All-nil IsByte)) bytes;
+              fits.1.1.1.1) (All-nil IsByte)) bytes;
         }
 
         writable : IsWritable i

@@ -67,7 +67,7 @@ module _ (laws : RuleLaws) (tlvs : List PlainTlv) where
   port_well (Begin word) r port may well = well-begun r.state.moment port.id word
 
   table_well : (how : TableChange) (s : State) → MayChangeTable tlvs how s → IsTableWell s.id.0 s.moment s.table → IsTableWell s.id.0 s.moment (table_after how s)
-  table_well (Accept carried how next) s may well = table-accepts laws.known s.id s.moment (own_leaf s) carried s.table next how refl (may.0.2.in_range.0, may.0.2.in_range.1) well may.1
+  table_well (Accept carried how next) s may well = table-accepts laws.known s.id s.moment (own_leaf s) carried s.table next how refl (may.0.2.in_range.0, may.0.2.in_range.1.0) well may.1
   table_well Mark s may well = table-marked laws.known s.id s.moment s.reach s.table well
   table_well Forget s may well = table-remembered laws.known s.id s.moment s.table well
   table_well Empty s may well = table-emptied laws.known.none s.id.0 s.moment s.table well

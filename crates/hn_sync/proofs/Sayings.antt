@@ -80,13 +80,13 @@ can_say_state node number age hash body fits short bytes = record {
         (All-append IsByte (((word node ++ word number) ++ word age) ++ hash) []
         (All-append IsByte ((word node ++ word number) ++ word age) hash
         (All-append IsByte (word node ++ word number) (word age) (All-append IsByte (word node) (word number) (number_bytes 4 node) (number_bytes 4 number)) (number_bytes 4 age))
-        fits.3.1) (All-nil IsByte)) bytes;
+        fits.1.1.1.1) (All-nil IsByte)) bytes;
   };
   writable = record { in_range = fits; text = tt; other_kind = tt; tlvs_after = tt; short = let short = size in omega arith };
 }
   where
     size : length (value_of (item.NodeState node number age hash body)) ≤ 60020
-    size = let eight = fits.3.0 in simp length-append (omega arith)
+    size = let eight = fits.1.1.1.0 in simp length-append (omega arith)
 
 -- ---- reading
 

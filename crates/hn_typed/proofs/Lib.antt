@@ -1,6 +1,8 @@
 pub mod Prefixes
-pub mod Causes
-pub mod Unique
-pub mod Whole
-pub mod Written
-pub mod Covered
+pub mod FieldsRead
+pub mod FirstCauses
+pub mod Samples
+pub mod OneItem
+pub mod OneFault
+pub mod WrittenIsRead
+pub mod ItemOrFault

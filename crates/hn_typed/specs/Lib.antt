@@ -1,5 +1,6 @@
 pub mod Item
 pub mod Fields
+pub mod Shape
 pub mod Table
 pub mod Fault
 pub mod Written

@@ -2,7 +2,8 @@
 //!
 //! Each is the contract of a function that does nothing: call it to know its law.
 
-ghost use Rattle.hn_typed.specs.Laws.{ItemIsUnique, ItemHasNoFault, ItemFaultIsUnique, ItemOrFault, WrittenIsRead, ReadIsWritable};
+ghost use Rattle.hn_typed.specs.Laws.{ItemIsUnique, ItemHasNoFault, ItemFaultIsUnique, ItemOrFault};
+ghost use Rattle.hn_typed.specs.Laws.{WrittenIsRead, ReadIsWritable};
 
 use hn_tlv::{first_fault_is_unique, list_or_first_fault};
 

@@ -9,7 +9,6 @@ mod fault;
 mod fields;
 mod fixed;
 mod item;
-mod kind;
 mod laws;
 mod prefix;
 mod readers;
@@ -19,10 +18,9 @@ mod writing;
 
 pub use encoding::encode;
 pub use fault::{FIELDS_CUT, ItemFault, NO_PREFIX, NO_SUBS, NO_TEXT};
-pub use item::Item;
-pub use kind::{
-    ADDRESS, ASSIGNED, DELEGATED, EXTERNAL, KEEP_ALIVE, NETWORK_STATE, NODE_ENDPOINT, NODE_STATE,
-    PEER, REQUEST_NETWORK, REQUEST_NODE, VERSION,
+pub use item::{
+    ADDRESS, ASSIGNED, DELEGATED, EXTERNAL, Item, KEEP_ALIVE, NETWORK_STATE, NODE_ENDPOINT,
+    NODE_STATE, PEER, REQUEST_NETWORK, REQUEST_NODE, VERSION,
 };
 pub use laws::{
     item_fault_is_unique, item_is_unique, item_or_fault, read_is_writable, written_is_read,

@@ -4,7 +4,8 @@ ghost use Rattle.std.specs.Prelude.{◌≡◌, ◌-◌, ◌≤◌, ◌++◌, len
 ghost use Rattle.std.specs.Int.{w128, from_be_bytes};
 ghost use Rattle.hn_base.specs.Prefix.{IsPrefix};
 ghost use Rattle.hn_typed.specs.Fields.{prefix_field, bytes_for};
-ghost use Rattle.hn_typed.specs.Fault.{IsPrefixFault};
+ghost use Rattle.hn_typed.specs.Shape.{Prefixed, any_prefix};
+ghost use Rattle.hn_typed.specs.Reading.{IsFirstIn, IsPastField};
 
 use crate::fault::{FIELDS_CUT, NO_PREFIX};
 use hn_prefix::{LONGEST_PREFIX, Prefix};
@@ -39,7 +40,8 @@ fn address_of(front: &[u8]) -> u128
 pub(crate) fn split_prefix(field: &[u8]) -> Result<(Prefix, &[u8]), u8>
     ensures valid { IfOk result (λ found. IsPrefix found.0) }
     ensures parts { IfOk result (λ found. field.now ≡ prefix_field found.0 ++ found.1.now) }
-    ensures fault { IfErr result (IsPrefixFault field.now) }
+    ensures past { IfOk result (λ found. IsPastField (Prefixed any_prefix) field.now found.1.now) }
+    ensures fault { IfErr result (IsFirstIn (Prefixed any_prefix) field.now) }
 {
     let Some((&len, after)) = field.split_first() else {
         return Err(FIELDS_CUT);

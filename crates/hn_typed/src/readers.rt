@@ -1,78 +1,84 @@
 //! Items read from TLVs, kind by kind (RFC 7787, section 7; RFC 7788, section 10).
 
 ghost use Rattle.std.specs.Prelude.{◌≡◌, ℕ};
-ghost use Rattle.hn_typed.specs.Reading.{Reads};
+ghost use Rattle.hn_typed.specs.Reading.{ReadsValue};
 
-use crate::fault::{FIELDS_CUT, NO_SUBS, NO_TEXT};
-use crate::fields::{
-    halves, split_address, split_hash, split_three_words, split_two_words, split_word,
+use crate::fault::NO_TEXT;
+use crate::fields::{halves, hash, ipv6, lower_half, reserved, word};
+use crate::item::{
+    ADDRESS, ASSIGNED, DELEGATED, EXTERNAL, Item, KEEP_ALIVE, NETWORK_STATE, NODE_ENDPOINT,
+    NODE_STATE, PEER, REQUEST_NETWORK, REQUEST_NODE, VERSION,
 };
-use crate::item::Item;
 use crate::prefix::split_prefix;
 use crate::subs::subs_after;
 use hn_base::{Caps, EpId, NodeId};
 
-pub(crate) fn request_network(value: &[u8]) -> Result<Item<'_>, u8>
-    ensures { Reads 1 value.now result }
+/// The item that a value of this kind decodes to: a table with a row for each kind.
+pub(crate) fn read_value(kind: u16, value: &[u8]) -> Result<Item<'_>, u8>
+    ensures { ReadsValue kind value.now result }
 {
-    let Some(subs) = subs_after(0, value) else {
-        return Err(NO_SUBS);
-    };
+    match kind {
+        REQUEST_NETWORK => request_network(value),
+        REQUEST_NODE => request_node(value),
+        NODE_ENDPOINT => node_endpoint(value),
+        NETWORK_STATE => network_state(value),
+        NODE_STATE => node_state(value),
+        PEER => peer(value),
+        KEEP_ALIVE => keep_alive(value),
+        VERSION => version(value),
+        EXTERNAL => external(value),
+        DELEGATED => delegated(value),
+        ASSIGNED => assigned(value),
+        ADDRESS => address(value),
+        _ => Ok(Item::Other { kind, value }),
+    }
+}
+
+fn request_network(value: &[u8]) -> Result<Item<'_>, u8>
+    ensures { ReadsValue 1 value.now result }
+{
+    let subs = subs_after(0, value)?;
     Ok(Item::RequestNetwork { subs })
 }
 
-pub(crate) fn request_node(value: &[u8]) -> Result<Item<'_>, u8>
-    ensures { Reads 2 value.now result }
+fn request_node(value: &[u8]) -> Result<Item<'_>, u8>
+    ensures { ReadsValue 2 value.now result }
 {
-    let Some((node, after)) = split_word(value) else {
-        return Err(FIELDS_CUT);
-    };
-    let Some(subs) = subs_after(4, after) else {
-        return Err(NO_SUBS);
-    };
+    let (node, after) = word(value)?;
+    let subs = subs_after(4, after)?;
     let node = NodeId(node);
     Ok(Item::RequestNode { node, subs })
 }
 
-pub(crate) fn node_endpoint(value: &[u8]) -> Result<Item<'_>, u8>
-    ensures { Reads 3 value.now result }
+fn node_endpoint(value: &[u8]) -> Result<Item<'_>, u8>
+    ensures { ReadsValue 3 value.now result }
 {
-    let Some((node, endpoint, after)) = split_two_words(value) else {
-        return Err(FIELDS_CUT);
-    };
-    let Some(subs) = subs_after(8, after) else {
-        return Err(NO_SUBS);
-    };
-    let (node, endpoint) = (NodeId(node), EpId(endpoint));
+    let (node, after) = word(value)?;
+    let (endpoint, after) = word(after)?;
+    let subs = subs_after(8, after)?;
     Ok(Item::NodeEndpoint {
-        node,
-        endpoint,
+        node: NodeId(node),
+        endpoint: EpId(endpoint),
         subs,
     })
 }
 
-pub(crate) fn network_state(value: &[u8]) -> Result<Item<'_>, u8>
-    ensures { Reads 4 value.now result }
+fn network_state(value: &[u8]) -> Result<Item<'_>, u8>
+    ensures { ReadsValue 4 value.now result }
 {
-    let Some((hash, after)) = split_hash(value) else {
-        return Err(FIELDS_CUT);
-    };
-    let Some(subs) = subs_after(8, after) else {
-        return Err(NO_SUBS);
-    };
+    let (hash, after) = hash(value)?;
+    let subs = subs_after(8, after)?;
     let hash = *hash;
     Ok(Item::NetworkState { hash, subs })
 }
 
-pub(crate) fn node_state(value: &[u8]) -> Result<Item<'_>, u8>
-    ensures { Reads 5 value.now result }
+fn node_state(value: &[u8]) -> Result<Item<'_>, u8>
+    ensures { ReadsValue 5 value.now result }
 {
-    let Some((node, number, age, after)) = split_three_words(value) else {
-        return Err(FIELDS_CUT);
-    };
-    let Some((hash, body)) = split_hash(after) else {
-        return Err(FIELDS_CUT);
-    };
+    let (node, after) = word(value)?;
+    let (number, after) = word(after)?;
+    let (age, after) = word(after)?;
+    let (hash, body) = hash(after)?;
     let node = NodeId(node);
     let hash = *hash;
     Ok(Item::NodeState {
@@ -84,15 +90,13 @@ pub(crate) fn node_state(value: &[u8]) -> Result<Item<'_>, u8>
     })
 }
 
-pub(crate) fn peer(value: &[u8]) -> Result<Item<'_>, u8>
-    ensures { Reads 8 value.now result }
+fn peer(value: &[u8]) -> Result<Item<'_>, u8>
+    ensures { ReadsValue 8 value.now result }
 {
-    let Some((peer, peer_endpoint, endpoint, after)) = split_three_words(value) else {
-        return Err(FIELDS_CUT);
-    };
-    let Some(subs) = subs_after(12, after) else {
-        return Err(NO_SUBS);
-    };
+    let (peer, after) = word(value)?;
+    let (peer_endpoint, after) = word(after)?;
+    let (endpoint, after) = word(after)?;
+    let subs = subs_after(12, after)?;
     Ok(Item::Peer {
         peer: NodeId(peer),
         peer_endpoint: EpId(peer_endpoint),
@@ -101,15 +105,12 @@ pub(crate) fn peer(value: &[u8]) -> Result<Item<'_>, u8>
     })
 }
 
-pub(crate) fn keep_alive(value: &[u8]) -> Result<Item<'_>, u8>
-    ensures { Reads 9 value.now result }
+fn keep_alive(value: &[u8]) -> Result<Item<'_>, u8>
+    ensures { ReadsValue 9 value.now result }
 {
-    let Some((endpoint, interval, after)) = split_two_words(value) else {
-        return Err(FIELDS_CUT);
-    };
-    let Some(subs) = subs_after(8, after) else {
-        return Err(NO_SUBS);
-    };
+    let (endpoint, after) = word(value)?;
+    let (interval, after) = word(after)?;
+    let subs = subs_after(8, after)?;
     let endpoint = EpId(endpoint);
     Ok(Item::KeepAlive {
         endpoint,
@@ -118,14 +119,13 @@ pub(crate) fn keep_alive(value: &[u8]) -> Result<Item<'_>, u8>
     })
 }
 
-pub(crate) fn version(value: &[u8]) -> Result<Item<'_>, u8>
-    ensures { Reads 32 value.now result }
+fn version(value: &[u8]) -> Result<Item<'_>, u8>
+    ensures { ReadsValue 32 value.now result }
 {
-    let Some((fields, agent)) = value.split_first_chunk::<4>() else {
-        return Err(FIELDS_CUT);
-    };
-    let (m, p) = halves(fields[2]);
-    let (h, l) = halves(fields[3]);
+    let after = reserved(value)?;
+    let after = reserved(after)?;
+    let (m, p, after) = halves(after)?;
+    let (h, l, agent) = halves(after)?;
     let caps = Caps { m, p, h, l };
     match str::from_utf8(agent) {
         Ok(agent) => Ok(Item::Version { caps, agent }),
@@ -133,28 +133,23 @@ pub(crate) fn version(value: &[u8]) -> Result<Item<'_>, u8>
     }
 }
 
-pub(crate) fn external(value: &[u8]) -> Result<Item<'_>, u8>
-    ensures { Reads 33 value.now result }
+fn external(value: &[u8]) -> Result<Item<'_>, u8>
+    ensures { ReadsValue 33 value.now result }
 {
-    let Some(subs) = subs_after(0, value) else {
-        return Err(NO_SUBS);
-    };
+    let subs = subs_after(0, value)?;
     Ok(Item::External { subs })
 }
 
-pub(crate) fn delegated(value: &[u8]) -> Result<Item<'_>, u8>
-    ensures { Reads 34 value.now result }
+fn delegated(value: &[u8]) -> Result<Item<'_>, u8>
+    ensures { ReadsValue 34 value.now result }
 {
-    let Some((valid, preferred, field)) = split_two_words(value) else {
-        return Err(FIELDS_CUT);
-    };
+    let (valid, after) = word(value)?;
+    let (preferred, field) = word(after)?;
     let (prefix, after) = match split_prefix(field) {
         Ok(found) => found,
         Err(why) => return Err(why),
     };
-    let Some(subs) = subs_after(value.len() - after.len(), after) else {
-        return Err(NO_SUBS);
-    };
+    let subs = subs_after(value.len() - after.len(), after)?;
     Ok(Item::Delegated {
         valid,
         preferred,
@@ -163,23 +158,16 @@ pub(crate) fn delegated(value: &[u8]) -> Result<Item<'_>, u8>
     })
 }
 
-pub(crate) fn assigned(value: &[u8]) -> Result<Item<'_>, u8>
-    ensures { Reads 35 value.now result }
+fn assigned(value: &[u8]) -> Result<Item<'_>, u8>
+    ensures { ReadsValue 35 value.now result }
 {
-    let Some((endpoint, after)) = split_word(value) else {
-        return Err(FIELDS_CUT);
-    };
-    let Some((flags, field)) = after.split_first() else {
-        return Err(FIELDS_CUT);
-    };
-    let (_reserved, priority) = halves(*flags);
+    let (endpoint, after) = word(value)?;
+    let (priority, field) = lower_half(after)?;
     let (prefix, after) = match split_prefix(field) {
         Ok(found) => found,
         Err(why) => return Err(why),
     };
-    let Some(subs) = subs_after(value.len() - after.len(), after) else {
-        return Err(NO_SUBS);
-    };
+    let subs = subs_after(value.len() - after.len(), after)?;
     Ok(Item::Assigned {
         endpoint: EpId(endpoint),
         priority,
@@ -188,18 +176,12 @@ pub(crate) fn assigned(value: &[u8]) -> Result<Item<'_>, u8>
     })
 }
 
-pub(crate) fn address(value: &[u8]) -> Result<Item<'_>, u8>
-    ensures { Reads 36 value.now result }
+fn address(value: &[u8]) -> Result<Item<'_>, u8>
+    ensures { ReadsValue 36 value.now result }
 {
-    let Some((endpoint, after)) = split_word(value) else {
-        return Err(FIELDS_CUT);
-    };
-    let Some((address, after)) = split_address(after) else {
-        return Err(FIELDS_CUT);
-    };
-    let Some(subs) = subs_after(20, after) else {
-        return Err(NO_SUBS);
-    };
+    let (endpoint, after) = word(value)?;
+    let (address, after) = ipv6(after)?;
+    let subs = subs_after(20, after)?;
     Ok(Item::Address {
         endpoint: EpId(endpoint),
         address,

@@ -4,37 +4,11 @@ ghost use Rattle.hn_typed.specs.Item.{PlainItem};
 ghost use Rattle.hn_typed.specs.Table.{IsItem};
 ghost use Rattle.hn_typed.specs.Fault.{IsItemFault};
 ghost use Rattle.hn_typed.specs.View.{plain_item};
-ghost use Rattle.hn_typed.specs.Reading.{Reads};
 
 use crate::fault::ItemFault;
 use crate::item::Item;
-use crate::kind::{
-    ADDRESS, ASSIGNED, DELEGATED, EXTERNAL, KEEP_ALIVE, NETWORK_STATE, NODE_ENDPOINT, NODE_STATE,
-    PEER, REQUEST_NETWORK, REQUEST_NODE, VERSION,
-};
-use crate::readers;
+use crate::readers::read_value;
 use hn_tlv::Tlv;
-
-// The item that a value of this kind decodes to.
-fn read_value(kind: u16, value: &[u8]) -> Result<Item<'_>, u8>
-    ensures { Reads kind value.now result }
-{
-    match kind {
-        REQUEST_NETWORK => readers::request_network(value),
-        REQUEST_NODE => readers::request_node(value),
-        NODE_ENDPOINT => readers::node_endpoint(value),
-        NETWORK_STATE => readers::network_state(value),
-        NODE_STATE => readers::node_state(value),
-        PEER => readers::peer(value),
-        KEEP_ALIVE => readers::keep_alive(value),
-        VERSION => readers::version(value),
-        EXTERNAL => readers::external(value),
-        DELEGATED => readers::delegated(value),
-        ASSIGNED => readers::assigned(value),
-        ADDRESS => readers::address(value),
-        _ => Ok(Item::Other { kind, value }),
-    }
-}
 
 /// The item that a TLV decodes to (RFC 7787, section 7; RFC 7788, section 10). Reserved bits are not looked at.
 ///

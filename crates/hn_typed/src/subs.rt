@@ -1,9 +1,11 @@
 //! Sub-TLVs after the fixed part of a value (RFC 7787, section 7).
 
-ghost use Rattle.std.specs.Prelude.{◌≡◌, ◌↔◌, All, IsTrue, IfSome, IfNone};
+ghost use Rattle.std.specs.Prelude.{◌≡◌, ◌↔◌, All, IsTrue, IfOk, IfErr, [], List, ℕ};
 ghost use Rattle.hn_typed.specs.Fields.{ThenSubs};
-ghost use Rattle.hn_typed.specs.Fault.{LacksSubs};
+ghost use Rattle.hn_typed.specs.Shape.{Subs};
+ghost use Rattle.hn_typed.specs.Fault.{IsFirstCause};
 
+use crate::fault::NO_SUBS;
 use hn_tlv::{check, padding};
 
 // Whether there are only zeros.
@@ -14,21 +16,25 @@ fn are_zeros(bytes: &[u8]) -> bool
 }
 
 /// The sub-TLVs after a fixed part of that length: none if nothing follows it, and else what follows the zeros.
-pub(crate) fn subs_after(len: usize, after: &[u8]) -> Option<&[u8]>
-    ensures found { IfSome result (λ subs. ThenSubs len after.now subs.now) }
-    ensures none { IfNone result (LacksSubs len after.now) }
+///
+/// # Errors
+///
+/// `NO_SUBS`: there are no such zeros, or what follows them is no list of TLVs.
+pub(crate) fn subs_after(len: usize, after: &[u8]) -> Result<&[u8], u8>
+    ensures found { IfOk result (λ subs. ThenSubs len after.now subs.now) }
+    ensures fault { IfErr result (λ why. (subs : List ℕ) → IsFirstCause [] (Subs subs) len after.now why) }
 {
     if after.is_empty() {
-        return Some(after);
+        return Ok(after);
     }
     let zeros = padding(len);
     if after.len() < zeros {
-        return None;
+        return Err(NO_SUBS);
     }
     let (pad, subs) = after.split_at(zeros);
     if are_zeros(pad) && check(subs).is_ok() {
-        Some(subs)
+        Ok(subs)
     } else {
-        None
+        Err(NO_SUBS)
     }
 }

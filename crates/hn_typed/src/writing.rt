@@ -1,44 +1,24 @@
 //! Items written as TLVs (RFC 7787, section 7; RFC 7788, section 10).
 
-ghost use Rattle.std.specs.Prelude.{◌≡◌, ◌+◌, ◌≤◌, ◌++◌, All, ◌∷◌, [], List, length, replicate, vec_len, vec_capacity, IsOk, OnOk, OnErr};
+ghost use Rattle.std.specs.Prelude.{◌≡◌, ◌+◌, ◌≤◌, ◌++◌, All, ◌∷◌, [], List, length, replicate};
+ghost use Rattle.std.specs.Prelude.{vec_len, vec_capacity, IsOk, OnOk, OnErr};
 ghost use Rattle.hn_base.specs.Byte.{IsByte};
 ghost use Rattle.hn_tlv.specs.Grammar.{IsTlv, tlv_size, spelling};
 ghost use Rattle.hn_typed.specs.Fields.{two_in_byte};
-ghost use Rattle.hn_typed.specs.Table.{Fits, IsItem, InRange};
-ghost use Rattle.hn_typed.specs.Written.{kind_of, fixed_of, tail_of, zeros_before, zeros_of, value_of, tlv_of, HasTlvsAfter, HasPriority, HasOtherKind, HasText};
+ghost use Rattle.hn_typed.specs.Table.{IsItem, InRange};
+ghost use Rattle.hn_typed.specs.Written.{kind_of, fixed_of, tail_of, zeros_before, zeros_of, value_of, tlv_of};
+ghost use Rattle.hn_typed.specs.Written.{HasTlvsAfter, HasPriority, HasOtherKind, HasText};
 ghost use Rattle.hn_typed.specs.View.{plain_item};
 ghost use Rattle.hn_typed.specs.Tail.{IsTailOf};
 
 use crate::fields::join_halves;
 use crate::fixed::FixedPart;
-use crate::item::Item;
-use crate::kind::{
-    ADDRESS, ASSIGNED, DELEGATED, EXTERNAL, KEEP_ALIVE, NETWORK_STATE, NODE_ENDPOINT, NODE_STATE,
-    PEER, REQUEST_NETWORK, REQUEST_NODE, VERSION,
+use crate::item::{
+    ADDRESS, ASSIGNED, DELEGATED, EXTERNAL, Item, KEEP_ALIVE, NETWORK_STATE, NODE_ENDPOINT,
+    NODE_STATE, PEER, REQUEST_NETWORK, REQUEST_NODE, VERSION,
 };
 use hn_base::{Caps, NoMemory};
 use hn_tlv::{padding, size};
-
-// The number of the item's kind.
-fn kind_of(item: &Item<'_>) -> u16
-    ensures { result ≡ kind_of (plain_item item.now) }
-{
-    match item {
-        Item::RequestNetwork { .. } => REQUEST_NETWORK,
-        Item::RequestNode { .. } => REQUEST_NODE,
-        Item::NodeEndpoint { .. } => NODE_ENDPOINT,
-        Item::NetworkState { .. } => NETWORK_STATE,
-        Item::NodeState { .. } => NODE_STATE,
-        Item::Peer { .. } => PEER,
-        Item::KeepAlive { .. } => KEEP_ALIVE,
-        Item::Version { .. } => VERSION,
-        Item::External { .. } => EXTERNAL,
-        Item::Delegated { .. } => DELEGATED,
-        Item::Assigned { .. } => ASSIGNED,
-        Item::Address { .. } => ADDRESS,
-        Item::Other { kind, .. } => *kind,
-    }
-}
 
 // The fixed part of a version: two reserved bytes, and the priorities two in a byte.
 fn caps_part(caps: &Caps) -> FixedPart
@@ -52,54 +32,80 @@ fn caps_part(caps: &Caps) -> FixedPart
     ])
 }
 
-// The fixed fields, with each reserved bit zero: a table with a line for each kind.
-fn fixed_part(item: &Item<'_>) -> FixedPart
-    ensures fixed { result ≡ fixed_of (plain_item item.now) }
-    ensures in_range { HasPriority (plain_item item.now) → Fits 16 (kind_of (plain_item item.now))
-        → InRange (plain_item item.now) }
+// The number of a kind, and what its value begins with.
+#[derive(Drop)]
+struct Beginning {
+    kind: u16,
+    fixed: FixedPart,
+}
+
+fn begun(kind: u16, fixed: FixedPart) -> Beginning
+    ensures { (result.kind ≡ kind) × (result.fixed ≡ fixed) }
+{
+    Beginning { kind, fixed }
+}
+
+// The number of the item's kind, and its fields with each reserved bit zero: a table with a row for each kind.
+fn beginning_of(item: &Item<'_>) -> Beginning
+    ensures kind { result.kind ≡ kind_of (plain_item item.now) }
+    ensures fixed { result.fixed ≡ fixed_of (plain_item item.now) }
+    ensures in_range { HasPriority (plain_item item.now) → InRange (plain_item item.now) }
 {
     let part = FixedPart::new();
     match item {
-        Item::RequestNetwork { .. } | Item::External { .. } | Item::Other { .. } => part,
-        Item::RequestNode { node, .. } => part.word(node.0),
-        Item::NodeEndpoint { node, endpoint, .. } => part.word(node.0).word(endpoint.0),
-        Item::NetworkState { hash, .. } => part.hash(hash),
+        Item::RequestNetwork { .. } => begun(REQUEST_NETWORK, part),
+        Item::RequestNode { node, .. } => begun(REQUEST_NODE, part.word(node.0)),
+        Item::NodeEndpoint { node, endpoint, .. } => {
+            begun(NODE_ENDPOINT, part.word(node.0).word(endpoint.0))
+        }
+        Item::NetworkState { hash, .. } => begun(NETWORK_STATE, part.hash(hash)),
         Item::NodeState {
             node,
             number,
             age,
             hash,
             ..
-        } => part.word(node.0).word(*number).word(*age).hash(hash),
+        } => begun(
+            NODE_STATE,
+            part.word(node.0).word(*number).word(*age).hash(hash),
+        ),
         Item::Peer {
             peer,
             peer_endpoint,
             endpoint,
             ..
-        } => part.word(peer.0).word(peer_endpoint.0).word(endpoint.0),
+        } => begun(
+            PEER,
+            part.word(peer.0).word(peer_endpoint.0).word(endpoint.0),
+        ),
         Item::KeepAlive {
             endpoint,
             interval,
             ..
-        } => part.word(endpoint.0).word(*interval),
-        Item::Version { caps, .. } => caps_part(caps),
+        } => begun(KEEP_ALIVE, part.word(endpoint.0).word(*interval)),
+        Item::Version { caps, .. } => begun(VERSION, caps_part(caps)),
+        Item::External { .. } => begun(EXTERNAL, part),
         Item::Delegated {
             valid,
             preferred,
             prefix,
             ..
-        } => part.word(*valid).word(*preferred).prefix(prefix),
+        } => begun(DELEGATED, part.word(*valid).word(*preferred).prefix(prefix)),
         Item::Assigned {
             endpoint,
             priority,
             prefix,
             ..
-        } => part.word(endpoint.0).then(&[*priority]).prefix(prefix),
+        } => begun(
+            ASSIGNED,
+            part.word(endpoint.0).then(&[*priority]).prefix(prefix),
+        ),
         Item::Address {
             endpoint,
             address,
             ..
-        } => part.word(endpoint.0).then(&address.to_be_bytes()),
+        } => begun(ADDRESS, part.word(endpoint.0).then(&address.to_be_bytes())),
+        Item::Other { kind, .. } => begun(*kind, part),
     }
 }
 
@@ -145,33 +151,35 @@ pub fn after_fields<'a>(item: &Item<'a>) -> &'a [u8]
     }
 }
 
-// A value in parts: the fixed part, how many zeros, and what follows them.
+// A TLV in parts: its kind, the fixed part of its value, how many zeros, and what follows them.
 #[derive(Drop)]
 struct Parts<'a> {
+    kind: u16,
     fixed: FixedPart,
     zeros: usize,
     after: &'a [u8],
 }
 
-// The value of the item, in parts.
+// The TLV of the item, in parts.
 fn parts_of<'a>(item: &Item<'a>) -> Parts<'a>
+    ensures kind { result.kind ≡ kind_of (plain_item item.now) }
     ensures fixed { result.fixed ≡ fixed_of (plain_item item.now) }
     ensures zeros { result.zeros ≡ zeros_of (plain_item item.now) }
     ensures after { result.after.now ≡ tail_of (plain_item item.now) }
     ensures short { (length result.fixed ≤ 25) × (result.zeros ≤ 3) }
-    ensures in_range { HasPriority (plain_item item.now) → Fits 16 (kind_of (plain_item item.now))
-        → InRange (plain_item item.now) }
+    ensures in_range { HasPriority (plain_item item.now) → InRange (plain_item item.now) }
     ensures text { HasText (plain_item item.now) }
 {
-    let fixed = fixed_part(item);
-    let len = fixed.len();
+    let beginning = beginning_of(item);
+    let len = beginning.fixed.len();
     let (zeros, after) = match tail_of(item) {
         Tail::Subs([]) => (0, [].as_slice()),
         Tail::Subs(subs) => (padding(len), subs),
         Tail::Bytes(bytes) => (0, bytes),
     };
     Parts {
-        fixed,
+        kind: beginning.kind,
+        fixed: beginning.fixed,
         zeros,
         after,
     }
@@ -236,12 +244,11 @@ pub fn write(item: &Item<'_>, out: &mut Vec<u8>) -> Result<(), NoMemory>
     ensures valid { OnOk result (IsTlv (tlv_of (plain_item item.now))) }
     ensures read_back { OnOk result (IsItem (tlv_of (plain_item item.now)) (plain_item item.now)) }
 {
-    let kind = kind_of(item);
     let parts = parts_of(item);
     let (fixed, zeros, after) = (parts.fixed.as_slice(), parts.zeros, parts.after);
     let len = fixed.len() + zeros + after.len();
     out.reserve(size(len))?;
-    let [first, second] = kind.to_be_bytes();
+    let [first, second] = parts.kind.to_be_bytes();
     let [third, fourth] = (len as u16).to_be_bytes();
     put(out, &[first, second, third, fourth]);
     put(out, fixed);

@@ -1,4 +1,4 @@
-use Rattle.hn_decode.proofs.Exists.{text_exists}
+use Rattle.hn_decode.proofs.TextExists.{text_exists}
 use Rattle.hn_decode.proofs.laws.decode_text_exists.Goals as goal
 
 pub returns : goal.returns

@@ -1,4 +1,4 @@
-use Rattle.hn_decode.proofs.Unique.{same_text, no_text}
+use Rattle.hn_decode.proofs.OneText.{same_text, no_text}
 use Rattle.hn_decode.proofs.laws.decode_text_is_unique.Goals as goal
 
 pub returns-clause-one : goal.returns-clause-one

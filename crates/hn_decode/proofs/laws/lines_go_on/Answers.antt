@@ -1,4 +1,4 @@
-use Rattle.hn_decode.proofs.Exists.{text_goes_on}
+use Rattle.hn_decode.proofs.TextExists.{text_goes_on}
 use Rattle.hn_decode.proofs.laws.lines_go_on.Goals as goal
 
 pub returns : goal.returns

@@ -1,7 +1,7 @@
 use Rattle.std.proofs.Common.{refl}
 use Rattle.hn_decode.specs.Nested.{Shows}
-use Rattle.hn_decode.proofs.Shown.{shown_none, shown_all}
-use Rattle.hn_decode.proofs.Outcome.{whole_text}
+use Rattle.hn_decode.proofs.TextSoFar.{shown_none, shown_all}
+use Rattle.hn_decode.proofs.WholeText.{whole_text}
 use Rattle.hn_decode.proofs.laws.lines_make_the_text.Goals as goal
 
 pub returns-clause-begins : goal.returns-clause-begins

@@ -1,4 +1,4 @@
-use Rattle.hn_decode.proofs.Shown.{read_in_list}
+use Rattle.hn_decode.proofs.TextSoFar.{read_in_list}
 use Rattle.hn_decode.proofs.nested.tlv_at.Goals as goal
 
 pub unwrap-requires : goal.unwrap-requires

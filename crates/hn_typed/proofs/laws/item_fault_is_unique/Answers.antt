@@ -1,4 +1,4 @@
-use Rattle.hn_typed.proofs.Whole.{no_fault, same_fault}
+use Rattle.hn_typed.proofs.OneFault.{no_fault, same_fault}
 use Rattle.hn_typed.proofs.laws.item_fault_is_unique.Goals as goal
 
 pub returns-clause-no_item : goal.returns-clause-no_item

@@ -1,4 +1,4 @@
-use Rattle.hn_typed.proofs.Covered.{covered}
+use Rattle.hn_typed.proofs.ItemOrFault.{covered}
 use Rattle.hn_typed.proofs.laws.item_or_fault.Goals as goal
 
 pub returns : goal.returns

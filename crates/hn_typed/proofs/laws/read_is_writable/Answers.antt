@@ -1,4 +1,4 @@
-use Rattle.hn_typed.proofs.Written.{read_can_be_written}
+use Rattle.hn_typed.proofs.WrittenIsRead.{read_can_be_written}
 use Rattle.hn_typed.proofs.laws.read_is_writable.Goals as goal
 
 pub returns : goal.returns

@@ -1,4 +1,4 @@
-use Rattle.hn_typed.proofs.Written.{written_is_item}
+use Rattle.hn_typed.proofs.WrittenIsRead.{written_is_item}
 use Rattle.hn_typed.proofs.laws.written_is_read.Goals as goal
 
 pub returns : goal.returns

@@ -1,8 +1,8 @@
 use Rattle.std.proofs.Common.{refl}
 use Rattle.hn_tlv.specs.View.{plain}
 use Rattle.hn_typed.specs.View.{plain_item}
-use Rattle.hn_typed.proofs.Unique.{same_item}
-use Rattle.hn_typed.proofs.Whole.{no_fault, same_fault}
+use Rattle.hn_typed.proofs.OneItem.{same_item}
+use Rattle.hn_typed.proofs.OneFault.{no_fault, same_fault}
 use Rattle.hn_typed.proofs.reading.read.Goals as goal
 
 pub returns-in-Ok-clause-at_item : goal.returns-in-Ok-clause-at_item

@@ -44,7 +44,8 @@ shown_all Shows place bytes at text h ends =
     subst (ShowsList Shows place bytes) (append-nil text) (h.goes_on [] nothing)
 
 -- where a list of TLVs goes on, no fault is read
-pub read_in_list : {X : Type 0} → ListHasNoFirstFault → (bytes : List ℕ) (at : ℕ) (result : Result X TlvFault) → HasTlvs (drop at bytes) → IfErr result (λ fault. (at ≤ fault.place) × IsFault (drop at bytes) (fault.place - at) fault.why) → IsOk result
+pub read_in_list : {X : Type 0} → ListHasNoFirstFault → (bytes : List ℕ) (at : ℕ) (result : Result X TlvFault) → HasTlvs (drop at bytes)
+    → IfErr result (λ fault. (at ≤ fault.place) × IsFault (drop at bytes) (fault.place - at) fault.why) → IsOk result
 read_in_list no_list bytes at (Ok x) list h = refl
 read_in_list no_list bytes at (Err fault) list h =
     let first : FirstFault (drop at bytes) (fault.place - at) fault.why =

@@ -7,7 +7,7 @@ use Rattle.hn_base.specs.Byte.{IsByte}
 use Rattle.hn_base.proofs.EachByRecursion.{AllByRecursion-drop}
 use Rattle.hn_tlv.specs.Grammar.{PlainTlv, IsTlv, tlv_size, IsTlvList, HasTlvs}
 use Rattle.hn_tlv.specs.Laws.{ListIsUnique, ListHasNoFirstFault, ListOrFirstFault}
-use Rattle.hn_typed.specs.Item.{PlainItem, RequestNetwork, RequestNode, NodeEndpoint, NetworkState, NodeState, Peer, KeepAlive, Version, External, Delegated, Assigned, Address, Other}
+use Rattle.hn_typed.specs.Item.{PlainItem, NodeState}
 use Rattle.hn_typed.specs.Fields.{word}
 use Rattle.hn_typed.specs.Table.{IsItem}
 use Rattle.hn_typed.specs.Laws.{ItemOrFault}
@@ -15,7 +15,7 @@ use Rattle.hn_decode.specs.ItemText.{item_text, bad_text}
 use Rattle.hn_decode.specs.Line.{within, within_name, named_bytes, line, HasLines, IsNodeState, IsLineAbove}
 use Rattle.hn_decode.specs.Nested.{InOrder, ShowsList, place_within, Shows, first_line, IsDecodeText, IsTextTo}
 use Rattle.hn_decode.proofs.Within.{list_within}
-use Rattle.hn_decode.proofs.Shown.{shows_line, shows_within}
+use Rattle.hn_decode.proofs.TextSoFar.{shows_line, shows_within}
 
 -- each TLV has a text
 abbrev HaveTexts : (ℕ → PlainTlv → List ℕ → Type 0) → Type 0
@@ -35,24 +35,13 @@ list_shown Shows each place bytes (tlvs, list) =
 
 is_node_state : (item : PlainItem) → IsNodeState item ⊎ (¬ IsNodeState item)
 is_node_state (NodeState node number age hash body) = inl tt
-is_node_state (RequestNetwork subs) = inr (λ no. no)
-is_node_state (RequestNode node subs) = inr (λ no. no)
-is_node_state (NodeEndpoint node endpoint subs) = inr (λ no. no)
-is_node_state (NetworkState hash subs) = inr (λ no. no)
-is_node_state (Peer peer peer_endpoint endpoint subs) = inr (λ no. no)
-is_node_state (KeepAlive endpoint interval subs) = inr (λ no. no)
-is_node_state (Version caps agent) = inr (λ no. no)
-is_node_state (External subs) = inr (λ no. no)
-is_node_state (Delegated valid preferred prefix subs) = inr (λ no. no)
-is_node_state (Assigned endpoint priority prefix subs) = inr (λ no. no)
-is_node_state (Address endpoint address subs) = inr (λ no. no)
-is_node_state (Other kind value) = inr (λ no. no)
+is_node_state _ = inr (λ no. no)
 
 -- the bytes of a node's data
 body_bytes : (tlv : PlainTlv) (item : PlainItem) → IsTlv tlv → IsItem tlv item → IsNodeState item → All IsByte (within item)
 body_bytes tlv (NodeState node number age hash body) valid h is =
     let fixed : List ℕ = word node ++ word number ++ word age ++ hash in
-    let rest : drop (length fixed) tlv.value ≡ body = ap (drop (length fixed)) h.spelled.1 ∙ drop_at fixed body (length fixed) refl in
+    let rest : drop (length fixed) tlv.value ≡ body = ap (drop (length fixed)) h.spelled.2 ∙ drop_at fixed body (length fixed) refl in
     let P : ℕ → Type 0 = IsByte in
     subst (All P) rest (All-from_recursion P (drop (length fixed) tlv.value) (AllByRecursion-drop P (length fixed) tlv.value (recursion_from_All P tlv.value valid.bytes)))
 body_bytes tlv _ valid h is = absurd is
@@ -78,7 +67,8 @@ module _ (item_or_fault : ItemOrFault) (list_or_fault : ListOrFirstFault) (no_li
       (text, shows_line below place tlv text (inl (record { item = item; is_item = h; no_lines = no_lines; text_is = refl })))
 
   -- the text of an item, and of what lies within
-  item_shown : (below place : ℕ) (tlv : PlainTlv) (item : PlainItem) → IsTlv tlv → IsItem tlv item → (0 < below → (at : ℕ) → HasTlvs (within item) → (lines : List ℕ) × ShowsList (Shows (below - 1)) at (within item) lines)
+  item_shown : (below place : ℕ) (tlv : PlainTlv) (item : PlainItem) → IsTlv tlv → IsItem tlv item
+      → (0 < below → (at : ℕ) → HasTlvs (within item) → (lines : List ℕ) × ShowsList (Shows (below - 1)) at (within item) lines)
       → (text : List ℕ) × Shows below place tlv text
   item_shown below place tlv item valid h inner =
       elim (cases_lt 0 below) [
@@ -94,7 +84,8 @@ module _ (item_or_fault : ItemOrFault) (list_or_fault : ListOrFirstFault) (no_li
             ]
       ]
 
-  one_shown : (below place : ℕ) (tlv : PlainTlv) → IsTlv tlv → ((item : PlainItem) → 0 < below → (at : ℕ) → HasTlvs (within item) → (lines : List ℕ) × ShowsList (Shows (below - 1)) at (within item) lines)
+  one_shown : (below place : ℕ) (tlv : PlainTlv) → IsTlv tlv
+      → ((item : PlainItem) → 0 < below → (at : ℕ) → HasTlvs (within item) → (lines : List ℕ) × ShowsList (Shows (below - 1)) at (within item) lines)
       → (text : List ℕ) × Shows below place tlv text
   one_shown below place tlv valid inner =
       elim (item_or_fault tlv valid) [

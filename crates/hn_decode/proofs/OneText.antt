@@ -13,7 +13,8 @@ use Rattle.hn_decode.specs.Nested.{InOrder, ShowsList, place_within, ShowsWithin
 abbrev IsFunction : (ℕ → PlainTlv → List ℕ → Type 0) → Type 0
 IsFunction Shows = (place : ℕ) (tlv : PlainTlv) (text other : List ℕ) → Shows place tlv text → Shows place tlv other → text ≡ other
 
-same_order : (Shows : ℕ → PlainTlv → List ℕ → Type 0) → IsFunction Shows → (tlvs : List PlainTlv) (place : ℕ) (text other : List ℕ) → InOrder Shows place tlvs text → InOrder Shows place tlvs other → text ≡ other
+same_order : (Shows : ℕ → PlainTlv → List ℕ → Type 0) → IsFunction Shows → (tlvs : List PlainTlv) (place : ℕ) (text other : List ℕ)
+    → InOrder Shows place tlvs text → InOrder Shows place tlvs other → text ≡ other
 same_order Shows one [] place text other h k = h ∙ sym k
 same_order Shows one (tlv ∷ tlvs) place text other h k =
     let fronts : h.0 ≡ k.0 = one place tlv h.0 k.0 h.2 k.2 in
@@ -22,7 +23,8 @@ same_order Shows one (tlv ∷ tlvs) place text other h k =
 
 -- the laws of lists and of items
 module _ (same_list : ListIsUnique) (same_item : ItemIsUnique) (no_fault : ItemHasNoFault) (same_fault : ItemFaultIsUnique) where
-  same_shown : (Shows : ℕ → PlainTlv → List ℕ → Type 0) → IsFunction Shows → (place : ℕ) (bytes text other : List ℕ) → ShowsList Shows place bytes text → ShowsList Shows place bytes other → text ≡ other
+  same_shown : (Shows : ℕ → PlainTlv → List ℕ → Type 0) → IsFunction Shows → (place : ℕ) (bytes text other : List ℕ)
+      → ShowsList Shows place bytes text → ShowsList Shows place bytes other → text ≡ other
   same_shown Shows one place bytes text other h k =
       let lists : k.tlvs ≡ h.tlvs = same_list k.tlvs h.tlvs bytes k.is_list h.is_list in
       same_order Shows one h.tlvs place text other h.in_order (subst (λ (ts : List PlainTlv). InOrder Shows place ts other) lists k.in_order)
@@ -43,8 +45,8 @@ module _ (same_list : ListIsUnique) (same_item : ItemIsUnique) (no_fault : ItemH
       h.no_lines (subst (HasLines below) (same_item tlv k.item h.item k.above.is_item h.is_item) k.above.has_lines)
   not_both Shows below place tlv text other (inr h) k = no_fault tlv k.item h.why k.above.is_item h.is_fault
 
-  same_within : (Shows : ℕ → PlainTlv → List ℕ → Type 0) → IsFunction Shows → (below place : ℕ) (tlv : PlainTlv) (text other : List ℕ) → ShowsWithin Shows below place tlv text → ShowsWithin Shows below place tlv other
-      → text ≡ other
+  same_within : (Shows : ℕ → PlainTlv → List ℕ → Type 0) → IsFunction Shows → (below place : ℕ) (tlv : PlainTlv) (text other : List ℕ)
+      → ShowsWithin Shows below place tlv text → ShowsWithin Shows below place tlv other → text ≡ other
   same_within Shows one below place tlv text other h k =
       let items : k.item ≡ h.item = same_item tlv k.item h.item k.above.is_item h.above.is_item in
       let heads : h.line ≡ k.line = h.above.text_is ∙ ap (λ (i : PlainItem). line below place tlv (item_text i)) (sym items) ∙ sym k.above.text_is in

@@ -3,7 +3,7 @@ use Rattle.std.proofs.lemmas.Grind.{common_steps}
 use Rattle.hn_assign.specs.Marks.{marked}
 use Rattle.hn_assign.specs.Pair.{assigned_pair, IsAscending}
 use Rattle.hn_assign.proofs.Marking.{ascending_marked}
-use Rattle.hn_assign.proofs.assignments.Assignments.mark.Goals as goal
+use Rattle.hn_assign.proofs.assignments.OfPairs+Assigned.mark.Goals as goal
 
 pub invariant_of-self : goal.invariant_of-self
 invariant_of-self c =

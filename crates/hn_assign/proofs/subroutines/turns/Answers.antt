@@ -5,8 +5,8 @@ use Rattle.hn_assign.specs.Gathered.{AreAdvertised}
 use Rattle.hn_assign.specs.Subroutine.{AreSteps}
 use Rattle.hn_base.proofs.Fronts.{front_more}
 use Rattle.hn_assign.proofs.Walks.{steps_more, took_more}
-use Rattle.hn_assign.proofs.subroutines.run.Goals as goal
-use Rattle.hn_assign.proofs.subroutines.run.Goals.{then-branch+in_ok-known-2, else-branch}
+use Rattle.hn_assign.proofs.subroutines.turns.Goals as goal
+use Rattle.hn_assign.proofs.subroutines.turns.Goals.{then-branch+in_ok-known-2, else-branch}
 
 pub loop-wish-preserved : goal.loop-wish-preserved
 loop-wish-preserved g c =
@@ -16,8 +16,8 @@ loop-wish-preserved g c =
     let took = c.in_ok-step.ensures.step in
     record {
       steps =
-          subst (λ (ws : List Wish). AreSteps view ws c.in_ok-ran.ran c.step.new.self) (sym (front_more wishes i c.wish-item.result c.loop-wish-test.true c.wish-item.is))
-          (steps_more view (take i wishes) c.wish-item.result took.words c.in_ok-ran.ran c.loop-wish.ran c.step.new.self c.loop-wish.invariant.steps took.step);
+          subst (λ (ws : List Wish). AreSteps view ws c.args.ran.now c.step.new.self) (sym (front_more wishes i c.wish-item.result c.loop-wish-test.true c.wish-item.is))
+          (steps_more view (take i wishes) c.wish-item.result took.words c.args.ran.now c.loop-wish.ran c.step.new.self c.loop-wish.invariant.steps took.step);
       known = elim c.if-branch.branch [
         | then-branch+in_ok-known-2 w ↦ subst (AreAdvertised view c.step.new.self.held.assigned) (sym w.known-is) w.in_ok-known-2.ensures
         | else-branch w ↦ subst (AreAdvertised view c.step.new.self.held.assigned) (sym w.known-is) (c.in_ok-step.ensures.unchanged w.if-branch.false view c.loop-wish.known c.loop-wish.invariant.known)

@@ -72,7 +72,7 @@ impl OfPairs<Assigned> {
         if old == new {
             return Ok(false);
         }
-        self.set(pair, *new)?;
+        self.set(pair, new)?;
         Ok(!publish_same(old, new))
     }
 

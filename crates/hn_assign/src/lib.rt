@@ -38,7 +38,7 @@ pub use laws::{
 pub use of_pairs::OfPairs;
 pub use pair::{Pair, Paired};
 pub use precedence::{PRIORITY, best, valid};
-pub use rest::{are_at_rest, is_at_rest};
+pub use rest::is_at_rest;
 pub use scene::Scene;
 pub use subroutines::subroutine;
 pub use wishes::Wishes;

@@ -68,11 +68,11 @@ impl<T: Paired + Copy> OfPairs<T> {
     }
 
     /// Gives a pair something else in place of what it has, or nothing.
-    pub(crate) fn set(&mut self, pair: &Pair, new: Option<T>) -> Result<(), NoMemory>
-        requires { IfSome new (λ x. T.pair_of x ≡ pair.now) }
-        ensures { OnOk result (Updates T.pair_of pair.now new self.old self.new) }
+    pub(crate) fn set(&mut self, pair: &Pair, new: &Option<T>) -> Result<(), NoMemory>
+        requires { IfSome new.now (λ x. T.pair_of x ≡ pair.now) }
+        ensures { OnOk result (Updates T.pair_of pair.now new.now self.old self.new) }
     {
-        put(&mut self.items, pair, new)
+        put(&mut self.items, pair, *new)
     }
 
     /// A copy of what is held of wished pairs.

@@ -16,7 +16,7 @@ use Rattle.hn_base.proofs.AscendingLists.{not_below_itself, Contains-head, Conta
 use Rattle.hn_base.proofs.Recursions.{AllByRecursion-append, AllByRecursion-weaker}
 use Rattle.hn_assign.specs.declared.pair.Pair.{Pair}
 use Rattle.hn_base.specs.Ascending.{HasAt}
-use Rattle.hn_assign.specs.Pair.{pair_cmp, IsAscending, IsPlace, Updates}
+use Rattle.hn_assign.specs.Pair.{pair_cmp, IsAscending, IsPlaceOfPair, Updates}
 use Rattle.hn_assign.proofs.Orders.{pair_total, pair_exact}
 
 pub greater_is_above : (p q : Pair) → pair_cmp p q ≡ Greater → pair_cmp q p ≡ Less
@@ -184,7 +184,7 @@ module _ {A : Type 0} (key : A → Pair) where
       subst (λ (ys : List A). HasAt key pair None ys) (take-append-drop i xs) (has_joined pair (take i xs) None (drop i xs) (sides_between pair xs i within less greater up) tt)
 
   -- what a binary search says
-  pub place_from_search : (pair : Pair) (xs : List A) (r : Result ℕ ℕ) → IsAscending key xs → IsSearchInRange r (length xs) → IsBinarySearchResult (λ x. pair_cmp (key x) pair) xs r → IsPlace key pair xs r
+  pub place_from_search : (pair : Pair) (xs : List A) (r : Result ℕ ℕ) → IsAscending key xs → IsSearchInRange r (length xs) → IsBinarySearchResult (λ x. pair_cmp (key x) pair) xs r → IsPlaceOfPair key pair xs r
   place_from_search pair xs (Ok i) up within at = (within, λ d. pair_exact (key (get_or xs i d)) pair (at d))
   place_from_search pair xs (Err i) up within at =
       (within, at (searchable_from_sorted pair_total key xs pair (λ k d low high. not_after (get_or xs k d) (get_or xs (k + 1) d) (Less-from_sorted (on key pair_cmp) xs k (k + 1) d up (omega arith) high))))
@@ -193,23 +193,23 @@ module _ {A : Type 0} (key : A → Pair) where
       not_after x y less = ap is_lt (pair_total.antisymm (key y) (key x) ∙ ap ordering_reverse less)
 
   -- what a pair gets at the place that was found for it
-  pub put_at : (pair : Pair) (xs ys zs : List A) (i : ℕ) (new : Option A) → ys ≡ xs → IsPlace key pair ys (Ok i) → IsAscending key xs → IfSome new (λ x. key x ≡ pair) → zs ≡ joined (take i xs) new (drop (suc i) xs) → Updates key pair new xs zs
-  put_at pair xs ys zs i new same place up is gives = by_place (subst (λ (ws : List A). IsPlace key pair ws (Ok i)) same place)
+  pub put_at : (pair : Pair) (xs ys zs : List A) (i : ℕ) (new : Option A) → ys ≡ xs → IsPlaceOfPair key pair ys (Ok i) → IsAscending key xs → IfSome new (λ x. key x ≡ pair) → zs ≡ joined (take i xs) new (drop (suc i) xs) → Updates key pair new xs zs
+  put_at pair xs ys zs i new same place up is gives = by_place (subst (λ (ws : List A). IsPlaceOfPair key pair ws (Ok i)) same place)
     where
-      by_place : IsPlace key pair xs (Ok i) → Updates key pair new xs zs
+      by_place : IsPlaceOfPair key pair xs (Ok i) → Updates key pair new xs zs
       by_place at = subst (Updates key pair new xs) (sym gives) (of_element xs i at.0 at.1 up)
         where
           of_element : (ws : List A) (j : ℕ) → j < length ws → ((d : A) → key (get_or ws j d) ≡ pair) → IsAscending key ws → Updates key pair new ws (joined (take j ws) new (drop (suc j) ws))
           of_element [] j within was _ = absurd (omega arith)
           of_element (w ∷ ws) j within was rises = updates_at pair (w ∷ ws) j w new within (was w) rises is
 
-  pub put_between : (pair : Pair) (xs ys zs : List A) (i : ℕ) (new : Option A) → ys ≡ xs → IsPlace key pair ys (Err i) → IsAscending key xs → IfSome new (λ x. key x ≡ pair) → zs ≡ joined (take i xs) new (drop i xs) → Updates key pair new xs zs
+  pub put_between : (pair : Pair) (xs ys zs : List A) (i : ℕ) (new : Option A) → ys ≡ xs → IsPlaceOfPair key pair ys (Err i) → IsAscending key xs → IfSome new (λ x. key x ≡ pair) → zs ≡ joined (take i xs) new (drop i xs) → Updates key pair new xs zs
   put_between pair xs ys zs i new same place up is gives =
-      let at = subst (λ (ws : List A). IsPlace key pair ws (Err i)) same place in
+      let at = subst (λ (ws : List A). IsPlaceOfPair key pair ws (Err i)) same place in
       subst (Updates key pair new xs) (sym gives) (updates_between pair xs i new at.0 at.1.0 at.1.1 up is)
 
   -- whether something is found tells whether the pair has something
-  pub found_where : (pair : Pair) (xs : List A) (r : Result ℕ ℕ) → IsPlace key pair xs r → IsAscending key xs → IsTrue (is_ok r) ↔ ((x : A) × Contains xs x × (key x ≡ pair))
+  pub found_where : (pair : Pair) (xs : List A) (r : Result ℕ ℕ) → IsPlaceOfPair key pair xs r → IsAscending key xs → IsTrue (is_ok r) ↔ ((x : A) × Contains xs x × (key x ≡ pair))
   found_where pair xs (Ok i) at up = (λ _. at_place xs i at.0 at.1, λ _. refl)
     where
       at_place : (ws : List A) (j : ℕ) → j < length ws → ((d : A) → key (get_or ws j d) ≡ pair) → (x : A) × Contains ws x × (key x ≡ pair)
@@ -223,7 +223,7 @@ module _ {A : Type 0} (key : A → Pair) where
 
 -- after a last element below the pair is its place
 pub place_at_end : {A : Type 0} (key : A → Pair) (pair : Pair) (xs : List A) (last : A) → IsAscending key xs → slice_get xs (length xs - 1) ≡ Some last
-    → pair_cmp (key last) pair ≡ Less → IsPlace key pair xs (Err (length xs))
+    → pair_cmp (key last) pair ≡ Less → IsPlaceOfPair key pair xs (Err (length xs))
 place_at_end {A} key pair xs last up is less = (omega arith, (λ k d from within. below k d within, λ k d from within. absurd (omega (arith, from, within))))
   where
     below : (k : ℕ) (d : A) → k < length xs → pair_cmp (key (get_or xs k d)) pair ≡ Less

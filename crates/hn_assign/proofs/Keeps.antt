@@ -14,12 +14,12 @@ use Rattle.hn_assign.specs.declared.held.Held.{Held}
 use Rattle.hn_assign.specs.declared.held.Ran.{Ran}
 use Rattle.hn_assign.specs.declared.slot.Slot.{Slot}
 use Rattle.hn_assign.specs.Facts.{IsInDelegated, IsAssignedPast, HasOwnPriority, IsOfLengthAt, IsAloneAt}
-use Rattle.hn_assign.specs.Lines.{IfValid, IsLine, IsTurn}
-use Rattle.hn_assign.specs.Marks.{marked}
+use Rattle.hn_assign.specs.Lines.{IfValid, IsLine, IsPairTurn}
+use Rattle.hn_assign.specs.Marks.{marked_applied}
 use Rattle.hn_base.specs.Ascending.{HasAt}
 use Rattle.hn_assign.specs.Pair.{assigned_pair, wish_pair}
 use Rattle.hn_assign.specs.Scene.{PlainScene, IsBestFor, IsFreeFor, new_assigned, scene_of}
-use Rattle.hn_assign.specs.Step.{IsStep}
+use Rattle.hn_assign.specs.Step.{IsPairStep}
 use Rattle.hn_assign.specs.Subroutine.{AreSteps, IsSubroutine}
 use Rattle.hn_assign.proofs.Ats.{pair_cases, is_had}
 
@@ -73,7 +73,7 @@ module _ (view : PlainView) (wishes : List Wish) (P : Assigned → Type 0) (stab
     line_keeps (Some b) (Some c) before after words best (inr (inl yielded), _) is holds = subst (λ (s : Slot). IfSome s.assigned P) (sym yielded.gives) (stable.unpublished c holds)
     line_keeps (Some b) (Some c) before after words best (inr (inr replaced), _) is holds = subst (λ (s : Slot). IfSome s.assigned P) (sym replaced.gives) (stable.made wish adv b.prefix None wished (inl (b, best, refl, refl)))
 
-    turn_keeps : (before after : Slot) (words : List ℕ) → IsTurn at before words after → IfSome before.assigned P → IfSome after.assigned P
+    turn_keeps : (before after : Slot) (words : List ℕ) → IsPairTurn at before words after → IfSome before.assigned P → IfSome after.assigned P
     turn_keeps before after words turn holds = line_keeps turn.best before.assigned before after words turn.is_best turn.line refl holds
 
   had_holds : (wish : Wish) (xs : List Assigned) (has : Option Assigned) → HasAt assigned_pair (wish_pair wish) has xs → Each P xs → IfSome has P
@@ -84,7 +84,7 @@ module _ (view : PlainView) (wishes : List Wish) (P : Assigned → Type 0) (stab
   some_holds None c is holds = absurd (cc)
   some_holds (Some d) c is holds = let same : d ≡ c = cc in subst P same holds
 
-  step_keeps : (wish : Wish) (words : List ℕ) (before after : Ran) → Contains wishes wish → IsStep view wish words before after → Each P before.held.assigned → Each P after.held.assigned
+  step_keeps : (wish : Wish) (words : List ℕ) (before after : Ran) → Contains wishes wish → IsPairStep view wish words before after → Each P before.held.assigned → Each P after.held.assigned
   step_keeps wish words before after wished step each c h =
       let new : IfSome step.new.assigned P = turn_keeps wish step.advertised wished step.old step.new words step.turn (had_holds wish before.held.assigned step.old.assigned step.had.assigned each) in
       ⊎_elim
@@ -98,9 +98,9 @@ module _ (view : PlainView) (wishes : List Wish) (P : Assigned → Type 0) (stab
       steps_keep some steps.0 after (λ w h. wished w (Contains-tail wish some w h)) steps.3
       (step_keeps wish steps.1 before steps.0 (wished wish (Contains-head wish some)) steps.2 each)
 
-  marks_keep : (moment : ℕ) (xs : List Assigned) → Each P xs → Each P (map (marked moment) xs)
+  marks_keep : (moment : ℕ) (xs : List Assigned) → Each P xs → Each P (map (marked_applied moment) xs)
   marks_keep moment xs each c h =
-      let was = Contains-from_map (marked moment) xs c h in
+      let was = Contains-from_map (marked_applied moment) xs c h in
       subst P was.2 (by_test (leb 10000 (moment - was.0.since)) was.0 (each was.0 was.1))
     where
       by_test : (b : Bool) (c : Assigned) → P c → P (cond b (record c { applied = true }) c)
@@ -111,7 +111,7 @@ module _ (view : PlainView) (wishes : List Wish) (P : Assigned → Type 0) (stab
   subroutine_keeps held ran run all =
       let begun : Each P run.begun.held.assigned = λ c h. all_each P held.assigned all c ((run.is_begun.assigned.those c).0 h).0 in
       let last = steps_keep wishes run.begun run.last (λ w h. h) run.steps begun in
-      subst (λ (r : Ran). All P r.held.assigned) (sym run.marks) (each_all P (map (marked view.now) run.last.held.assigned) (marks_keep view.now run.last.held.assigned last))
+      subst (λ (r : Ran). All P r.held.assigned) (sym run.marks) (each_all P (map (marked_applied view.now) run.last.held.assigned) (marks_keep view.now run.last.held.assigned last))
 
 -- ---- the facts
 

@@ -10,7 +10,7 @@ use Rattle.hn_data.specs.declared.view.Entry.{Entry}
 use Rattle.hn_assign.specs.declared.assigned.Advertised.{Advertised}
 use Rattle.hn_assign.specs.declared.assigned.Assigned.{Assigned}
 use Rattle.hn_assign.specs.declared.assigned.Wish.{Wish}
-use Rattle.hn_assign.specs.Advertised.{Link, key_of}
+use Rattle.hn_assign.specs.Advertised.{LinkEndpoints, key_of}
 use Rattle.hn_assign.specs.Best.{IsBestIfAny, IsValid, HasNoFree}
 use Rattle.hn_assign.specs.Fixed.{unmarked, AreAtRest}
 use Rattle.hn_assign.specs.Gathered.{IsOfOther, IsOwn, IsAdvertised, own_advertised}
@@ -98,10 +98,10 @@ rest_of_unchanged adv own wishes before after same = (all_alike adv own wishes b
 
 module _ (adv : List Advertised) (own : ℕ) (before after : Wish) (is : IsWantedNoMore before after) where
   same_best : (best : Option Advertised) → IsBestIfAny adv own before.common before.delegated best → IsBestIfAny adv own after.common after.delegated best
-  same_best best h = subst (λ (d : PlainPrefix). IsBestIfAny adv own after.common d best) (sym is.delegated) (subst (λ (common : Link). IsBestIfAny adv own common before.delegated best) (sym is.common) h)
+  same_best best h = subst (λ (d : PlainPrefix). IsBestIfAny adv own after.common d best) (sym is.delegated) (subst (λ (common : LinkEndpoints). IsBestIfAny adv own common before.delegated best) (sym is.common) h)
 
   same_valid : (c : Assigned) → IsValid adv own before.common c → IsValid adv own after.common c
-  same_valid c h = subst (λ (common : Link). IsValid adv own common c) (sym is.common) h
+  same_valid c h = subst (λ (common : LinkEndpoints). IsValid adv own common c) (sym is.common) h
 
   same_free : HasNoFree adv before.delegated before.length → HasNoFree adv after.delegated after.length
   same_free h = subst (λ (d : PlainPrefix). HasNoFree adv d after.length) (sym is.delegated) (subst (HasNoFree adv before.delegated) (sym is.length) h)

@@ -9,7 +9,7 @@ use Rattle.hn_assign.specs.declared.backoff.Backoff.{Backoff}
 use Rattle.hn_assign.specs.declared.held.Held.{Held}
 use Rattle.hn_assign.specs.declared.held.Ran.{Ran}
 use Rattle.hn_assign.specs.declared.pair.Pair.{Pair}
-use Rattle.hn_assign.specs.Marks.{marked}
+use Rattle.hn_assign.specs.Marks.{marked_applied}
 use Rattle.hn_assign.specs.Pair.{assigned_pair, backoff_pair, wish_pair, IsAscending, IsWished, Updates}
 use Rattle.hn_assign.specs.Subroutine.{AreSteps, IsSubroutine}
 use Rattle.hn_assign.proofs.Ats.{pair_cases}
@@ -55,7 +55,7 @@ pub assigned_wished : (view : PlainView) (wishes : List Wish) (held : Held) (ran
 assigned_wished view wishes held ran run =
     let last = (last_wished view wishes held ran run).assigned in
     each_all (λ (c : Assigned). IsWished wishes (assigned_pair c)) ran.held.assigned
-    (λ c h. let was = Contains-from_map (marked view.now) run.last.held.assigned c (subst (λ (r : Ran). Contains r.held.assigned c) run.marks h) in
+    (λ c h. let was = Contains-from_map (marked_applied view.now) run.last.held.assigned c (subst (λ (r : Ran). Contains r.held.assigned c) run.marks h) in
     subst (IsWished wishes) (sym (marked_pair view.now was.0) ∙ ap assigned_pair was.2) (last was.0 was.1))
 
 pub backoffs_wished : (view : PlainView) (wishes : List Wish) (held : Held) (ran : Ran) → IsSubroutine view wishes held ran → All (λ b. IsWished wishes (backoff_pair b)) ran.held.backoffs

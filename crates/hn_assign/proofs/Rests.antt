@@ -15,14 +15,14 @@ use Rattle.hn_assign.specs.declared.slot.Slot.{Slot}
 use Rattle.hn_base.specs.Key.{IsAbove}
 use Rattle.hn_assign.specs.Advertised.{key_of}
 use Rattle.hn_assign.specs.Best.{HasNoFree}
-use Rattle.hn_assign.specs.Fixed.{unmarked, IsUnchanged, AreAtRest}
+use Rattle.hn_assign.specs.Fixed.{unmarked, AreAssignmentsUnchanged, AreAtRest}
 use Rattle.hn_assign.specs.Gathered.{AreAdvertised}
 use Rattle.hn_assign.specs.Lines.{IfValid, IsAhead, IsLine}
-use Rattle.hn_assign.specs.Marks.{marked}
+use Rattle.hn_assign.specs.Marks.{marked_applied}
 use Rattle.hn_assign.specs.Pair.{assigned_pair, wish_pair, IsAscending, IsWished, Updates, KeepsWished}
 use Rattle.hn_assign.specs.Rest.{IsIdle, IsAheadOfBest, IsAtRest}
 use Rattle.hn_assign.specs.Scene.{PlainScene, IsBestFor, IsValidFor, IsFreeFor, scene_of}
-use Rattle.hn_assign.specs.Step.{IsStep}
+use Rattle.hn_assign.specs.Step.{IsPairStep}
 use Rattle.hn_assign.specs.Subroutine.{AreSteps, IsSubroutine}
 use Rattle.hn_assign.proofs.Ats.{is_had, same_list, updates_none}
 use Rattle.hn_assign.proofs.Marking.{marked_is}
@@ -88,7 +88,7 @@ module _ (view : PlainView) (wish : Wish) (adv : List Advertised) where
 -- ---- each pair at rest: nothing changes
 
 -- what is marked is unchanged, and two lists that differ in marks alone are
-pub marks_unchanged : (now : ℕ) (xs : List Assigned) → map unmarked (map (marked now) xs) ≡ map unmarked xs
+pub marks_unchanged : (now : ℕ) (xs : List Assigned) → map unmarked (map (marked_applied now) xs) ≡ map unmarked xs
 marks_unchanged now [] = refl
 marks_unchanged now (x ∷ xs) = rw (marked_is now x) (ap (λ ys. unmarked x ∷ ys) (marks_unchanged now xs))
 
@@ -97,7 +97,7 @@ pub begun_same : (wishes : List Wish) (xs ys : List Assigned) → IsAscending as
 begun_same wishes xs ys up all keeps = same_list assigned_pair ys xs keeps.ascending up (λ c. (λ h. ((keeps.those c).0 h).0, λ h. (keeps.those c).1 (h, all c h)))
 
 rest_step : (view : PlainView) (wish : Wish) (words : List ℕ) (before after : Ran) (xs : List Assigned) (adv : List Advertised) → IsAscending assigned_pair xs → AreAdvertised view xs adv
-    → ((c : Option Assigned) → HasAt assigned_pair (wish_pair wish) c xs → IsAtRest adv view.own wish c) → before.held.assigned ≡ xs → IsStep view wish words before after → after.held.assigned ≡ xs
+    → ((c : Option Assigned) → HasAt assigned_pair (wish_pair wish) c xs → IsAtRest adv view.own wish c) → before.held.assigned ≡ xs → IsPairStep view wish words before after → after.held.assigned ≡ xs
 rest_step view wish words before after xs adv up are rest is step =
     let here : AreAdvertised view xs step.advertised = subst (λ (ys : List Assigned). AreAdvertised view ys step.advertised) is step.are_advertised in
     let same = same_advertised view xs adv step.advertised are here in
@@ -114,7 +114,7 @@ rest_steps view (wish ∷ wishes) before after xs adv up are rest is steps =
     (rest_step view wish steps.1 before steps.0 xs adv up are (rest wish (Contains-head wish wishes)) is steps.2) steps.3
 
 pub rest_unchanged : (view : PlainView) (wishes : List Wish) (held : Held) (ran : Ran) (adv : List Advertised) → IsAscending assigned_pair held.assigned → ((c : Assigned) → Contains held.assigned c → IsWished wishes (assigned_pair c))
-    → AreAdvertised view held.assigned adv → IsSubroutine view wishes held ran → AreAtRest adv view.own wishes held.assigned → IsUnchanged held.assigned ran.held.assigned
+    → AreAdvertised view held.assigned adv → IsSubroutine view wishes held ran → AreAtRest adv view.own wishes held.assigned → AreAssignmentsUnchanged held.assigned ran.held.assigned
 rest_unchanged view wishes held ran adv up all are run rest =
     let begun = begun_same wishes held.assigned run.begun.held.assigned up all run.is_begun.assigned in
     let last = rest_steps view wishes run.begun run.last held.assigned adv up are rest begun run.steps in

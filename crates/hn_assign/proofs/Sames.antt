@@ -10,8 +10,8 @@ use Rattle.hn_prefix.specs.Free.{IsFree, IsTaken, IsFirstFree, sub_prefix_after}
 use Rattle.hn_base.proofs.AscendingLists.{Contains-map, Contains-from_map}
 use Rattle.hn_assign.specs.declared.assigned.Advertised.{Advertised}
 use Rattle.hn_assign.specs.declared.assigned.Assigned.{Assigned}
-use Rattle.hn_assign.specs.Advertised.{Link, advertised_cmp}
-use Rattle.hn_assign.specs.Best.{IsCandidate, IsBest, IsBestIfAny, IsValid, IsFreeIn, HasNoFree}
+use Rattle.hn_assign.specs.Advertised.{LinkEndpoints, advertised_cmp}
+use Rattle.hn_assign.specs.Best.{IsCandidatePrefix, IsBest, IsBestIfAny, IsValid, IsFreeIn, HasNoFree}
 use Rattle.hn_assign.specs.Gathered.{AreAdvertised}
 use Rattle.hn_assign.proofs.Frees.{prefixes}
 use Rattle.hn_assign.proofs.Orders.{advertised_total, advertised_exact}
@@ -24,15 +24,15 @@ same_back xs ys same x = let both = same x in (both.1, both.0)
 pub same_advertised : (view : PlainView) (assigned : List Assigned) (a b : List Advertised) → AreAdvertised view assigned a → AreAdvertised view assigned b → HaveSame a b
 same_advertised view assigned a b are_a are_b x = let of_a = are_a x in let of_b = are_b x in (λ h. of_b.1 (of_a.0 h), λ h. of_a.1 (of_b.0 h))
 
-candidate_in : (a b : List Advertised) (own : ℕ) (common : Link) (d : PlainPrefix) (x : Advertised) → HaveSame a b → IsCandidate a own common d x → IsCandidate b own common d x
+candidate_in : (a b : List Advertised) (own : ℕ) (common : LinkEndpoints) (d : PlainPrefix) (x : Advertised) → HaveSame a b → IsCandidatePrefix a own common d x → IsCandidatePrefix b own common d x
 candidate_in a b own common d x same h = let both = same x in record { advertised = both.0 h.advertised; of_another = h.of_another; on_link = h.on_link; inside = h.inside }
 
-pub best_in : (a b : List Advertised) (own : ℕ) (common : Link) (d : PlainPrefix) (best : Option Advertised) → HaveSame a b → IsBestIfAny a own common d best → IsBestIfAny b own common d best
+pub best_in : (a b : List Advertised) (own : ℕ) (common : LinkEndpoints) (d : PlainPrefix) (best : Option Advertised) → HaveSame a b → IsBestIfAny a own common d best → IsBestIfAny b own common d best
 best_in a b own common d None same none = λ x h. none x (candidate_in b a own common d x (same_back a b same) h)
 best_in a b own common d (Some best) same is = record { candidate = candidate_in a b own common d best same is.candidate; greatest = λ x h. is.greatest x (candidate_in b a own common d x (same_back a b same) h) }
 
 -- the best is one
-two_bests : (adv : List Advertised) (own : ℕ) (common : Link) (d : PlainPrefix) (x y : Advertised) → IsBest adv own common d x → IsBest adv own common d y → x ≡ y
+two_bests : (adv : List Advertised) (own : ℕ) (common : LinkEndpoints) (d : PlainPrefix) (x y : Advertised) → IsBest adv own common d x → IsBest adv own common d y → x ≡ y
 two_bests adv own common d x y p q = by_order (advertised_cmp x y) refl
   where
     by_order : (o : Ordering) → advertised_cmp x y ≡ o → x ≡ y
@@ -40,13 +40,13 @@ two_bests adv own common d x y p q = by_order (advertised_cmp x y) refl
     by_order Equal e = advertised_exact x y e
     by_order Greater e = absurd (q.greatest x p.candidate (advertised_total.antisymm y x ∙ ap ordering_reverse e))
 
-pub best_one : (adv : List Advertised) (own : ℕ) (common : Link) (d : PlainPrefix) (a b : Option Advertised) → IsBestIfAny adv own common d a → IsBestIfAny adv own common d b → a ≡ b
+pub best_one : (adv : List Advertised) (own : ℕ) (common : LinkEndpoints) (d : PlainPrefix) (a b : Option Advertised) → IsBestIfAny adv own common d a → IsBestIfAny adv own common d b → a ≡ b
 best_one adv own common d None None p q = refl
 best_one adv own common d None (Some y) p q = absurd (p y q.candidate)
 best_one adv own common d (Some x) None p q = absurd (q x p.candidate)
 best_one adv own common d (Some x) (Some y) p q = ap Some (two_bests adv own common d x y p q)
 
-pub valid_in : (a b : List Advertised) (own : ℕ) (common : Link) (c : Assigned) → HaveSame a b → IsValid a own common c → IsValid b own common c
+pub valid_in : (a b : List Advertised) (own : ℕ) (common : LinkEndpoints) (c : Assigned) → HaveSame a b → IsValid a own common c → IsValid b own common c
 valid_in a b own common c same valid x h = let both = same x in valid x (both.1 h)
 
 pub free_in : (a b : List Advertised) (d : PlainPrefix) (len : ℕ) (p : PlainPrefix) → HaveSame a b → IsFreeIn a d len p → IsFreeIn b d len p

@@ -10,10 +10,10 @@ use Rattle.hn_assign.specs.declared.backoff.Backoff.{Backoff}
 use Rattle.hn_assign.specs.declared.held.Held.{Held}
 use Rattle.hn_assign.specs.declared.held.Ran.{Ran}
 use Rattle.hn_assign.specs.declared.slot.Slot.{Slot}
-use Rattle.hn_assign.specs.Lines.{IfValid, IsLine, IsTurn}
+use Rattle.hn_assign.specs.Lines.{IfValid, IsLine, IsPairTurn}
 use Rattle.hn_assign.specs.Pair.{assigned_pair, backoff_pair, wish_pair, IsAscending, Updates}
 use Rattle.hn_assign.specs.Scene.{PlainScene, IsFreeFor, HasNoFreeFor, IsFirstFreeFor, new_assigned, scene_of}
-use Rattle.hn_assign.specs.Step.{IsStep}
+use Rattle.hn_assign.specs.Step.{IsPairStep}
 use Rattle.hn_assign.specs.Subroutine.{AreSteps, IsSubroutine, with_marks}
 use Rattle.hn_assign.specs.Unassigned.{IsUnassigned, backoff_after}
 use Rattle.hn_assign.proofs.Ats.{has_one, updates_one, keeps_one}
@@ -100,7 +100,7 @@ module _ (view : PlainView) (wish : Wish) (adv bdv : List Advertised) (same : Ha
   line_both (Some best) (Some c) before a b v w word (inr (inr p), pw) (inr (inr q), qw) = turned a b v w (p.gives ∙ sym q.gives) (pw ∙ sym qw)
 
   -- two turns of what a pair has
-  pub turn_both : (before a b : Slot) (v w : List ℕ) → ((x y : ℕ) → v ≡ x ∷ [] → w ≡ y ∷ [] → x ≡ y) → IsTurn A before v a → IsTurn B before w b → ◌≡◌ {A = Turned} (a, v) (b, w)
+  pub turn_both : (before a b : Slot) (v w : List ℕ) → ((x y : ℕ) → v ≡ x ∷ [] → w ≡ y ∷ [] → x ≡ y) → IsPairTurn A before v a → IsPairTurn B before w b → ◌≡◌ {A = Turned} (a, v) (b, w)
   turn_both before a b v w word p q =
       let best : p.best ≡ q.best = best_one bdv view.own wish.common wish.delegated p.best q.best (best_in adv bdv view.own wish.common wish.delegated p.best same p.is_best) q.is_best in
       line_both q.best before.assigned before a b v w word (subst (λ (x : Option Advertised). IsLine A x before.assigned before v a) best p.line) q.line
@@ -123,17 +123,17 @@ pub record IsInOrder (r : Ran) : Type 0 where
   pub assigned : IsAscending assigned_pair r.held.assigned
   pub backoffs : IsAscending backoff_pair r.held.backoffs
 
-pub step_in_order : (view : PlainView) (wish : Wish) (words : List ℕ) (before after : Ran) → IsStep view wish words before after → IsInOrder after
+pub step_in_order : (view : PlainView) (wish : Wish) (words : List ℕ) (before after : Ran) → IsPairStep view wish words before after → IsInOrder after
 step_in_order view wish words before after step = record { assigned = step.assigned.ascending; backoffs = step.backoffs.ascending }
 
-step_one : (view : PlainView) (wish : Wish) (stream : ℕ → ℕ) (v w : List ℕ) (before a b : Ran) → IsInOrder before → IsStep view wish v before a → IsStep view wish w before b → Begins a.words stream → Begins b.words stream → a ≡ b
+step_one : (view : PlainView) (wish : Wish) (stream : ℕ → ℕ) (v w : List ℕ) (before a b : Ran) → IsInOrder before → IsPairStep view wish v before a → IsPairStep view wish w before b → Begins a.words stream → Begins b.words stream → a ≡ b
 step_one view wish stream v w before a b up p q at_a at_b =
     let pair = wish_pair wish in
     let same = same_advertised view before.held.assigned p.advertised q.advertised p.are_advertised q.are_advertised in
     let old : p.old ≡ q.old = same_slot p.old q.old (has_one assigned_pair pair before.held.assigned p.old.assigned q.old.assigned up.assigned p.had.assigned q.had.assigned) (has_one backoff_pair pair before.held.backoffs p.old.backoff q.old.backoff up.backoffs p.had.backoff q.had.backoff) in
     let word : (x y : ℕ) → v ≡ x ∷ [] → w ≡ y ∷ [] → x ≡ y =
     λ x y is_v is_w. same_word before.words x y stream (subst (λ (ws : List ℕ). Begins ws stream) (p.took ∙ ap (λ (ws : List ℕ). before.words ++ ws) is_v) at_a) (subst (λ (ws : List ℕ). Begins ws stream) (q.took ∙ ap (λ (ws : List ℕ). before.words ++ ws) is_w) at_b) in
-    let both = turn_both view wish p.advertised q.advertised same q.old p.new q.new v w word (subst (λ (s : Slot). IsTurn (scene_of view wish p.advertised) s v p.new) old p.turn) q.turn in
+    let both = turn_both view wish p.advertised q.advertised same q.old p.new q.new v w word (subst (λ (s : Slot). IsPairTurn (scene_of view wish p.advertised) s v p.new) old p.turn) q.turn in
     let new : p.new ≡ q.new = ap (λ (t : Turned). t.0) both in
     let words : v ≡ w = ap (λ (t : Turned). t.1) both in
     same_ran a b
@@ -143,7 +143,7 @@ step_one view wish stream v w before a b up p q at_a at_b =
 
 -- ---- all steps
 
-step_grows : (view : PlainView) (wish : Wish) (stream : ℕ → ℕ) (words : List ℕ) (before after : Ran) → IsStep view wish words before after → Begins after.words stream → Begins before.words stream
+step_grows : (view : PlainView) (wish : Wish) (stream : ℕ → ℕ) (words : List ℕ) (before after : Ran) → IsPairStep view wish words before after → Begins after.words stream → Begins before.words stream
 step_grows view wish stream words before after step begins = begins_front before.words words stream (subst (λ (ws : List ℕ). Begins ws stream) step.took begins)
 
 steps_grow : (view : PlainView) (wishes : List Wish) (stream : ℕ → ℕ) (before after : Ran) → AreSteps view wishes before after → Begins after.words stream → Begins before.words stream

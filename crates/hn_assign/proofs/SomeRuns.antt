@@ -25,7 +25,7 @@ use Rattle.hn_assign.specs.Fixed.{AreDue, IsDueRun}
 use Rattle.hn_assign.specs.Laws.{AdvertisedExists, SubroutineHasAResult, SubroutineHasADueRun}
 use Rattle.hn_assign.specs.Pair.{assigned_pair, backoff_pair, wish_pair, pair_cmp, IsAscending}
 use Rattle.hn_assign.specs.Scene.{scene_of}
-use Rattle.hn_assign.specs.Step.{IsStep}
+use Rattle.hn_assign.specs.Step.{IsPairStep}
 use Rattle.hn_assign.specs.Subroutine.{AreSteps, IsSubroutine, with_marks}
 use Rattle.hn_assign.proofs.Ats.{has_some}
 use Rattle.hn_assign.proofs.Keeps.{all_each}
@@ -53,7 +53,7 @@ record IsProper (wish : Wish) : Type 0 where
 
 module _ (exists : AdvertisedExists) (free_or_full : FreeOrFull) (inside_are : InsideAreSubPrefixes) (not_shorter : WithinIsNotShorter) (view : PlainView) (stream : ℕ → ℕ) where
   some_step : (wish : Wish) (before : Ran) → IsProper wish → IsInOrder before → Begins before.words stream
-      → Some! (λ (after : Ran). (words : List ℕ) × IsStep view wish words before after × Begins after.words stream)
+      → Some! (λ (after : Ran). (words : List ℕ) × IsPairStep view wish words before after × Begins after.words stream)
   some_step wish before good up begins =
       let pair = wish_pair wish in
       let adv = exists view before.held.assigned in

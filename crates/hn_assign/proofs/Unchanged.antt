@@ -14,12 +14,12 @@ use Rattle.hn_assign.specs.declared.backoff.Backoff.{Backoff}
 use Rattle.hn_assign.specs.declared.held.Held.{Held}
 use Rattle.hn_assign.specs.declared.held.Ran.{Ran}
 use Rattle.hn_assign.specs.declared.pair.Pair.{Pair}
-use Rattle.hn_assign.specs.Fixed.{unmarked, IsUnchanged, AreDue, AreAtRest}
+use Rattle.hn_assign.specs.Fixed.{unmarked, AreAssignmentsUnchanged, AreDue, AreAtRest}
 use Rattle.hn_assign.specs.Gathered.{AreAdvertised}
 use Rattle.hn_base.specs.Ascending.{HasAt}
 use Rattle.hn_assign.specs.Pair.{assigned_pair, backoff_pair, wish_pair, pair_cmp, IsAscending, IsWished, Updates}
 use Rattle.hn_assign.specs.Rest.{IsAtRest}
-use Rattle.hn_assign.specs.Step.{IsStep}
+use Rattle.hn_assign.specs.Step.{IsPairStep}
 use Rattle.hn_assign.specs.Subroutine.{AreSteps, IsSubroutine}
 use Rattle.hn_assign.proofs.Orders.{pair_total}
 use Rattle.hn_assign.proofs.Ats.{has_one, has_still, updates_none}
@@ -60,7 +60,7 @@ record Rests (view : PlainView) (wish : Wish) (xs : List Assigned) (adv : List A
 
 step_rests : (view : PlainView) (wish : Wish) (words : List ℕ) (before between after : Ran) (xs : List Assigned) (adv : List Advertised) → IsAscending assigned_pair xs → AreAdvertised view xs adv
     → IsInOrder before → IsInOrder after → before.held.assigned ≡ xs → (HasAt assigned_pair (wish_pair wish) None xs → HasAt backoff_pair (wish_pair wish) (Some (due_backoff wish view.now)) before.held.backoffs)
-    → map unmarked after.held.assigned ≡ map unmarked xs → (step : IsStep view wish words before between) → HasAt assigned_pair (wish_pair wish) step.new.assigned after.held.assigned → Rests view wish xs adv between
+    → map unmarked after.held.assigned ≡ map unmarked xs → (step : IsPairStep view wish words before between) → HasAt assigned_pair (wish_pair wish) step.new.assigned after.held.assigned → Rests view wish xs adv between
 step_rests view wish words before between after xs adv up are order order_after is due unchanged step stays =
     let pair = wish_pair wish in
     let had : HasAt assigned_pair pair step.old.assigned xs = subst (HasAt assigned_pair pair step.old.assigned) is step.had.assigned in
@@ -92,7 +92,7 @@ steps_rest view (wish ∷ wishes) before after xs adv up are ups order is due un
 
 pub unchanged_rests : (view : PlainView) (wishes : List Wish) (held : Held) (ran : Ran) (adv : List Advertised) → IsAscending wish_pair wishes → IsAscending assigned_pair held.assigned
     → ((c : Assigned) → Contains held.assigned c → IsWished wishes (assigned_pair c)) → AreDue wishes view.now held → AreAdvertised view held.assigned adv → IsSubroutine view wishes held ran
-    → IsUnchanged held.assigned ran.held.assigned → AreAtRest adv view.own wishes held.assigned
+    → AreAssignmentsUnchanged held.assigned ran.held.assigned → AreAtRest adv view.own wishes held.assigned
 unchanged_rests view wishes held ran adv ups up all due are run unchanged =
     let begun = run.is_begun in
     let same = begun_same wishes held.assigned run.begun.held.assigned up all begun.assigned in

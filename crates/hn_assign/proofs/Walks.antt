@@ -5,12 +5,12 @@ use Rattle.hn_base.specs.Words.{Took}
 use Rattle.hn_io.specs.Laws.{WordsJoin}
 use Rattle.hn_assign.specs.declared.assigned.Wish.{Wish}
 use Rattle.hn_assign.specs.declared.held.Ran.{Ran}
-use Rattle.hn_assign.specs.Step.{IsStep, StepTook}
+use Rattle.hn_assign.specs.Step.{IsPairStep, StepTook}
 use Rattle.hn_assign.specs.Subroutine.{AreSteps}
 
 -- one step more
-pub steps_more : (view : PlainView) (wishes : List Wish) (wish : Wish) (words : List ℕ) (before between after : Ran) → AreSteps view wishes before between → IsStep view wish words between after → AreSteps view (wishes ++ wish ∷ []) before after
-steps_more view [] wish words before between after same step = (after, words, subst (λ (r : Ran). IsStep view wish words r after) same step, refl)
+pub steps_more : (view : PlainView) (wishes : List Wish) (wish : Wish) (words : List ℕ) (before between after : Ran) → AreSteps view wishes before between → IsPairStep view wish words between after → AreSteps view (wishes ++ wish ∷ []) before after
+steps_more view [] wish words before between after same step = (after, words, subst (λ (r : Ran). IsPairStep view wish words r after) same step, refl)
 steps_more view (w ∷ wishes) wish words before between after steps step = (steps.0, steps.1, steps.2, steps_more view wishes wish words steps.0 between after steps.3 step)
 
 -- and its words

@@ -1,8 +1,8 @@
 ghost use Rattle.std.specs.Prelude.{◌≡◌, map, false, IsTrue, IfOk, OnOk, IfSome};
 ghost use Rattle.hn_base.specs.Ascending.{HasAt};
-ghost use Rattle.hn_assign.specs.Gathered.{AdvertiseSame, published_of};
+ghost use Rattle.hn_assign.specs.Gathered.{AdvertiseSame, published_of_pair};
 ghost use Rattle.hn_assign.specs.Pair.{Updates, assigned_pair};
-ghost use Rattle.hn_assign.specs.Marks.{marked};
+ghost use Rattle.hn_assign.specs.Marks.{marked_applied};
 
 use crate::assigned::Assigned;
 use crate::of_pairs::OfPairs;
@@ -20,7 +20,7 @@ pub type Assignments = OfPairs<Assigned>;
 impl Assigned {
     /// Marks the assignment applied where it was kept long enough.
     fn mark(&mut self, now: Moment)
-        ensures { self.new ≡ marked now self.old }
+        ensures { self.new ≡ marked_applied now self.old }
     {
         if now.saturating_sub(self.since) >= APPLY_DELAY {
             self.applied = true;
@@ -30,7 +30,7 @@ impl Assigned {
 
 /// Marks those applied that were kept long enough.
 fn mark_all(items: &mut [Assigned], now: Moment)
-    ensures { items.new ≡ map (marked now) items.old }
+    ensures { items.new ≡ map (marked_applied now) items.old }
 {
     for c in items.iter_mut() {
         c.mark(now);
@@ -39,7 +39,7 @@ fn mark_all(items: &mut [Assigned], now: Moment)
 
 /// What is published of a pair's assignment, if anything is: its priority and its prefix.
 fn published(c: &Option<Assigned>) -> Option<(u8, Prefix)>
-    ensures { result ≡ published_of c.now }
+    ensures { result ≡ published_of_pair c.now }
 {
     match c {
         None => None,
@@ -49,7 +49,7 @@ fn published(c: &Option<Assigned>) -> Option<(u8, Prefix)>
 
 /// Whether the same is published of both.
 fn publish_same(old: &Option<Assigned>, new: &Option<Assigned>) -> bool
-    ensures { IsTrue result → published_of old.now ≡ published_of new.now }
+    ensures { IsTrue result → published_of_pair old.now ≡ published_of_pair new.now }
 {
     published(old) == published(new)
 }
@@ -78,7 +78,7 @@ impl OfPairs<Assigned> {
 
     /// Marks those applied that were kept long enough.
     pub(crate) fn mark(&mut self, now: Moment)
-        ensures { self.new ≡ map (marked now) self.old }
+        ensures { self.new ≡ map (marked_applied now) self.old }
     {
         mark_all(&mut self.items, now);
     }

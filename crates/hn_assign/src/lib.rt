@@ -31,7 +31,7 @@ pub use held::{Held, Ran};
 pub use index::Index;
 pub use laws::{
     advertised_exists, advertised_of_later, advertised_of_unchanged, answers_know_no_order,
-    lines_exclude_each_other, marks_change_nothing, pairs_are_ordered, rest_changes_nothing,
+    lines_exclude_each_other, marks_change_nothing, pairs_are_ordered, rest_changes_no_assignment,
     rest_has_a_run, rest_is_unchanged, rest_stays, still_run_stays, subroutine_has_a_result,
     subroutine_has_one_result, subroutine_keeps, subroutine_leaves,
 };

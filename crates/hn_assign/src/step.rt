@@ -2,7 +2,7 @@ ghost use Rattle.std.specs.Prelude.{◌≡◌, ◌^◌, ◌≤◌, ◌++◌, fal
 ghost use Rattle.std.specs.Option.{option_to_list};
 ghost use Rattle.hn_data.specs.View.{plain_view};
 ghost use Rattle.hn_assign.specs.Gathered.{AdvertiseSame, AreAdvertised};
-ghost use Rattle.hn_assign.specs.Step.{IsStep, StepTook};
+ghost use Rattle.hn_assign.specs.Step.{IsPairStep, StepTook};
 
 use crate::assigned::Wish;
 use crate::held::Ran;

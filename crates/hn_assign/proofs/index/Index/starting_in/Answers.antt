@@ -2,7 +2,7 @@ use Rattle.std.proofs.Common.{◌≡◌, ◌<◌, ◌≤◌, ◌∙◌, List, le
 use Rattle.std.specs.List.Sorted.{IsNonDecreasingBy}
 use Rattle.std.proofs.lemmas.List.Sorted.{IsPartitionPoint-from_clause, IsPartitionedBy-ltb}
 use Rattle.hn_assign.specs.declared.assigned.Advertised.{Advertised}
-use Rattle.hn_assign.specs.Indexed.{IsFront}
+use Rattle.hn_assign.specs.Indexed.{IsFrontUpTo}
 use Rattle.hn_assign.proofs.Ranges.{IsBelow, IsFromTo, in_front}
 use Rattle.hn_assign.proofs.index.Index.starting_in.Goals as goal
 
@@ -29,4 +29,4 @@ returns-clause-all c =
     in_front adv outer first last start front from_to rises
     (subst (λ (zs : List Advertised). IsBelow zs first start) here below)
     (subst (λ (zs : List Advertised). start ≤ length zs) here c.partition_point-start.ensures.bound)
-    (subst (λ (zs : List Advertised). IsFront zs last front) whole c.front_to.ensures)
+    (subst (λ (zs : List Advertised). IsFrontUpTo zs last front) whole c.front_to.ensures)

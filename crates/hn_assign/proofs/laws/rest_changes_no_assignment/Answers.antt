@@ -2,7 +2,7 @@ use Rattle.hn_assign.specs.declared.assigned.Assigned.{Assigned}
 use Rattle.hn_assign.specs.Pair.{assigned_pair, IsWished}
 use Rattle.hn_assign.proofs.Keeps.{all_each}
 use Rattle.hn_assign.proofs.Rests.{rest_unchanged}
-use Rattle.hn_assign.proofs.laws.rest_changes_nothing.Goals as goal
+use Rattle.hn_assign.proofs.laws.rest_changes_no_assignment.Goals as goal
 
 pub returns : goal.returns
 returns c view wishes held ran advertised up all are rest run =

@@ -8,7 +8,7 @@ use Rattle.hn_assign.specs.declared.assigned.Wish.{Wish}
 use Rattle.hn_assign.specs.declared.pair.Pair.{Pair}
 use Rattle.hn_assign.specs.Pair.{IsAscending, IsWished, KeepsWished}
 use Rattle.hn_base.proofs.Fronts.{front_more}
-use Rattle.hn_assign.proofs.Joins.{ascending_without}
+use Rattle.hn_assign.proofs.AroundPair.{ascending_without}
 
 module _ {A : Type 0} (key : A → Pair) (wishes : List Wish) where
   -- of the first elements those of wished pairs are kept

@@ -1,16 +1,16 @@
-mod Ats
+mod AtPair
 pub mod Bests
 pub mod Exists
-pub mod Frees
+pub mod FreePrefixes
 pub mod Fronts
-pub mod Gathers
-pub mod Grown
+pub mod AdvertisedBy
+pub mod GrownByEach
 pub mod Indexes
-pub mod Joins
+pub mod AroundPair
 pub mod Keeping
-pub mod Keeps
-pub mod Laters
-pub mod Leaves
+pub mod KeptFacts
+pub mod LaterMoments
+pub mod LeftInOrder
 pub mod Marking
 mod Orders
 pub mod Published
@@ -18,12 +18,12 @@ pub mod Ranges
 mod PairRests
 pub mod RestRuns
 pub mod Rests
-pub mod Sames
-pub mod Soles
+pub mod SameAdvertised
+pub mod OneResult
 pub mod SomeLists
 pub mod SomeRuns
 pub mod SomeTurns
 pub mod StillRuns
 pub mod Unchanged
-pub mod Walks
+pub mod MoreSteps
 pub mod WishLemmas

@@ -9,7 +9,7 @@ use Rattle.hn_assign.specs.declared.pair.Pair.{Pair}
 use Rattle.hn_assign.specs.Advertised.{key_of}
 use Rattle.hn_assign.specs.Gathered.{IsOwn, AdvertiseSame, AreAdvertised, own_advertised, published_of_pair}
 use Rattle.hn_assign.specs.Pair.{IsAscending, Updates, assigned_pair}
-use Rattle.hn_assign.proofs.Ats.{pair_cases, is_had, had_is}
+use Rattle.hn_assign.proofs.AtPair.{pair_cases, is_had, had_is}
 
 -- a priority and a prefix that are published are those of the assignment
 parts_of : (p : Option ℕ) (q : PlainPrefix) (priority : ℕ) (prefix : PlainPrefix) → option_map {U = ℕ × PlainPrefix} (λ n. (n, q)) p ≡ Some (priority, prefix) → (p ≡ Some priority) × (q ≡ prefix)

@@ -23,8 +23,8 @@ use Rattle.hn_assign.specs.Rest.{IsAtRest}
 use Rattle.hn_assign.specs.Scene.{scene_of}
 use Rattle.hn_assign.specs.Step.{IsPairStep}
 use Rattle.hn_assign.specs.Subroutine.{AreSteps, with_marks}
-use Rattle.hn_assign.proofs.Ats.{has_some}
-use Rattle.hn_assign.proofs.Keeps.{each_all}
+use Rattle.hn_assign.proofs.AtPair.{has_some}
+use Rattle.hn_assign.proofs.KeptFacts.{each_all}
 use Rattle.hn_assign.proofs.Rests.{marks_unchanged}
 use Rattle.hn_assign.proofs.Unchanged.{due_backoff, later_other}
 

@@ -24,10 +24,10 @@ use Rattle.hn_assign.specs.Rest.{IsIdle, IsAheadOfBest, IsAtRest}
 use Rattle.hn_assign.specs.Scene.{PlainScene, IsBestFor, IsValidFor, IsFreeFor, scene_of}
 use Rattle.hn_assign.specs.Step.{IsPairStep}
 use Rattle.hn_assign.specs.Subroutine.{AreSteps, IsSubroutine}
-use Rattle.hn_assign.proofs.Ats.{is_had, same_list, updates_none}
+use Rattle.hn_assign.proofs.AtPair.{is_had, same_list, updates_none}
 use Rattle.hn_assign.proofs.Marking.{marked_is}
 use Rattle.hn_base.specs.Ascending.{HaveSame, HasAt}
-use Rattle.hn_assign.proofs.Sames.{same_advertised, best_in, best_one, valid_in, none_in}
+use Rattle.hn_assign.proofs.SameAdvertised.{same_advertised, best_in, best_one, valid_in, none_in}
 use Rattle.std.proofs.lemmas.Option.{same_Some}
 
 -- ---- one turn

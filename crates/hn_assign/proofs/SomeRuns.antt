@@ -27,9 +27,9 @@ use Rattle.hn_assign.specs.Pair.{assigned_pair, backoff_pair, wish_pair, pair_cm
 use Rattle.hn_assign.specs.Scene.{scene_of}
 use Rattle.hn_assign.specs.Step.{IsPairStep}
 use Rattle.hn_assign.specs.Subroutine.{AreSteps, IsSubroutine, with_marks}
-use Rattle.hn_assign.proofs.Ats.{has_some}
-use Rattle.hn_assign.proofs.Keeps.{all_each}
-use Rattle.hn_assign.proofs.Soles.{IsInOrder, step_in_order}
+use Rattle.hn_assign.proofs.AtPair.{has_some}
+use Rattle.hn_assign.proofs.KeptFacts.{all_each}
+use Rattle.hn_assign.proofs.OneResult.{IsInOrder, step_in_order}
 use Rattle.hn_assign.proofs.SomeLists.{some_kept, some_updated}
 use Rattle.hn_assign.proofs.SomeTurns.{WithinIsNotShorter, IsUpTo, IsOfPair, some_turn}
 use Rattle.hn_assign.proofs.Unchanged.{due_backoff}

@@ -20,8 +20,8 @@ use Rattle.hn_assign.specs.Pair.{assigned_pair, backoff_pair, wish_pair}
 use Rattle.hn_assign.specs.Scene.{PlainScene, IsValidFor, IsFreeFor, HasNoFreeFor, IsFirstFreeFor, new_assigned}
 use Rattle.hn_assign.specs.Unassigned.{HasNothingToDo, backoff_after}
 use Rattle.hn_assign.proofs.Bests.{IsEligible, best_passed, best_candidate}
-use Rattle.hn_assign.proofs.Frees.{prefixes, found_free, none_free, none_in_longer}
-use Rattle.hn_assign.proofs.Soles.{Turned}
+use Rattle.hn_assign.proofs.FreePrefixes.{prefixes, found_free, none_free, none_in_longer}
+use Rattle.hn_assign.proofs.OneResult.{Turned}
 
 -- a prefix within another is at least as long
 abbrev pub WithinIsNotShorter : Type 0

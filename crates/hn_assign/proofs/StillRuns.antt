@@ -25,9 +25,9 @@ use Rattle.hn_assign.specs.Pair.{assigned_pair, backoff_pair, wish_pair, pair_cm
 use Rattle.hn_assign.specs.Scene.{PlainScene}
 use Rattle.hn_assign.specs.Step.{IsPairStep}
 use Rattle.hn_assign.specs.Subroutine.{AreSteps}
-use Rattle.hn_assign.proofs.Ats.{has_one, had_still}
-use Rattle.hn_assign.proofs.Laters.{advertised_later}
-use Rattle.hn_assign.proofs.Leaves.{assigned_ascend}
+use Rattle.hn_assign.proofs.AtPair.{has_one, had_still}
+use Rattle.hn_assign.proofs.LaterMoments.{advertised_later}
+use Rattle.hn_assign.proofs.LeftInOrder.{assigned_ascend}
 use Rattle.hn_assign.proofs.Marking.{marked_is, marked_pair}
 use Rattle.hn_assign.proofs.Unchanged.{later_other, steps_leave}
 

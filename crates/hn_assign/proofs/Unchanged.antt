@@ -22,10 +22,10 @@ use Rattle.hn_assign.specs.Rest.{IsAtRest}
 use Rattle.hn_assign.specs.Step.{IsPairStep}
 use Rattle.hn_assign.specs.Subroutine.{AreSteps, IsSubroutine}
 use Rattle.hn_assign.proofs.Orders.{pair_total}
-use Rattle.hn_assign.proofs.Ats.{has_one, has_still, updates_none}
+use Rattle.hn_assign.proofs.AtPair.{has_one, has_still, updates_none}
 use Rattle.hn_assign.proofs.Rests.{begun_same, marks_unchanged, alike, line_rests, rest_in}
-use Rattle.hn_assign.proofs.Sames.{same_advertised}
-use Rattle.hn_assign.proofs.Soles.{IsInOrder, step_in_order}
+use Rattle.hn_assign.proofs.SameAdvertised.{same_advertised}
+use Rattle.hn_assign.proofs.OneResult.{IsInOrder, step_in_order}
 
 -- the backoff of a wish that is due at a moment
 abbrev pub due_backoff : Wish → ℕ → Backoff

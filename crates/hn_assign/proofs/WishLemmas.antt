@@ -4,9 +4,9 @@ use Rattle.hn_assign.specs.declared.assigned.Wish.{Wish}
 use Rattle.hn_assign.specs.Facts.{IsFitting, AreWishes}
 use Rattle.hn_base.specs.Ascending.{HasAt}
 use Rattle.hn_assign.specs.Pair.{wish_pair, Updates}
-use Rattle.hn_assign.proofs.Ats.{pair_cases, is_had}
-use Rattle.hn_assign.proofs.Joins.{ascending_nil}
-use Rattle.hn_assign.proofs.Keeps.{each_all, all_each}
+use Rattle.hn_assign.proofs.AtPair.{pair_cases, is_had}
+use Rattle.hn_assign.proofs.AroundPair.{ascending_nil}
+use Rattle.hn_assign.proofs.KeptFacts.{each_all, all_each}
 
 pub no_wishes : AreWishes []
 no_wishes = record { ascending = ascending_nil wish_pair; fitting = λ k d within. absurd (omega (arith, within)) }

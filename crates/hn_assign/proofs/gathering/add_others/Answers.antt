@@ -2,7 +2,7 @@ use Rattle.std.proofs.Common.{◌↔◌, ◌⊎◌, List, Contains, subst}
 use Rattle.std.proofs.lemmas.List.{take_all}
 use Rattle.hn_data.specs.declared.view.Entry.{Entry}
 use Rattle.hn_assign.specs.Gathered.{IsOfOther}
-use Rattle.hn_assign.proofs.Grown.{Of, grown_more}
+use Rattle.hn_assign.proofs.GrownByEach.{Of, grown_more}
 use Rattle.hn_assign.proofs.gathering.add_others.Goals as goal
 
 pub loop-node-preserved : goal.loop-node-preserved

@@ -2,7 +2,7 @@ use Rattle.std.proofs.Common.{◌↔◌, ◌⊎◌, List, Contains, subst}
 use Rattle.std.proofs.lemmas.List.{take_all}
 use Rattle.hn_assign.specs.declared.assigned.Assigned.{Assigned}
 use Rattle.hn_assign.specs.Gathered.{IsOwn}
-use Rattle.hn_assign.proofs.Grown.{Of, grown_more}
+use Rattle.hn_assign.proofs.GrownByEach.{Of, grown_more}
 use Rattle.hn_assign.proofs.gathering.add_own.Goals as goal
 
 pub loop-c-preserved : goal.loop-c-preserved

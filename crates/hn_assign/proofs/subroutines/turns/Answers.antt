@@ -4,7 +4,7 @@ use Rattle.hn_assign.specs.declared.assigned.Wish.{Wish}
 use Rattle.hn_assign.specs.Gathered.{AreAdvertised}
 use Rattle.hn_assign.specs.Subroutine.{AreSteps}
 use Rattle.hn_base.proofs.Fronts.{front_more}
-use Rattle.hn_assign.proofs.Walks.{steps_more, took_more}
+use Rattle.hn_assign.proofs.MoreSteps.{steps_more, took_more}
 use Rattle.hn_assign.proofs.subroutines.turns.Goals as goal
 use Rattle.hn_assign.proofs.subroutines.turns.Goals.{then-branch+in_ok-known-2, else-branch}
 

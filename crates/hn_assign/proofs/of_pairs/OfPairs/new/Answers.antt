@@ -1,4 +1,4 @@
-use Rattle.hn_assign.proofs.Joins.{ascending_nil}
+use Rattle.hn_assign.proofs.AroundPair.{ascending_nil}
 use Rattle.hn_assign.proofs.of_pairs.OfPairs.new.Goals as goal
 
 pub invariant_of-result : goal.invariant_of-result

@@ -13,7 +13,7 @@ use Rattle.hn_assign.specs.declared.assigned.Assigned.{Assigned}
 use Rattle.hn_assign.specs.Advertised.{LinkEndpoints, advertised_cmp}
 use Rattle.hn_assign.specs.Best.{IsCandidatePrefix, IsBest, IsBestIfAny, IsValid, IsFreeIn, HasNoFree}
 use Rattle.hn_assign.specs.Gathered.{AreAdvertised}
-use Rattle.hn_assign.proofs.Frees.{prefixes}
+use Rattle.hn_assign.proofs.FreePrefixes.{prefixes}
 use Rattle.hn_assign.proofs.Orders.{advertised_total, advertised_exact}
 use Rattle.hn_base.specs.Ascending.{HaveSame}
 

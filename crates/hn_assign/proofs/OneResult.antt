@@ -16,10 +16,10 @@ use Rattle.hn_assign.specs.Scene.{PlainScene, IsFreeFor, HasNoFreeFor, IsFirstFr
 use Rattle.hn_assign.specs.Step.{IsPairStep}
 use Rattle.hn_assign.specs.Subroutine.{AreSteps, IsSubroutine, with_marks}
 use Rattle.hn_assign.specs.Unassigned.{IsUnassigned, backoff_after}
-use Rattle.hn_assign.proofs.Ats.{has_one, updates_one, keeps_one}
+use Rattle.hn_assign.proofs.AtPair.{has_one, updates_one, keeps_one}
 use Rattle.hn_base.proofs.FirstWords.{begins_front, same_word}
 use Rattle.hn_base.specs.Ascending.{HaveSame}
-use Rattle.hn_assign.proofs.Sames.{same_back, same_advertised, best_in, best_one, valid_in, free_in, first_one}
+use Rattle.hn_assign.proofs.SameAdvertised.{same_back, same_advertised, best_in, best_one, valid_in, free_in, first_one}
 
 -- what comes of a turn: what the pair has, and the words
 abbrev pub Turned : Type 0

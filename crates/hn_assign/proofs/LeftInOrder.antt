@@ -12,10 +12,10 @@ use Rattle.hn_assign.specs.declared.pair.Pair.{Pair}
 use Rattle.hn_assign.specs.Marks.{marked_applied}
 use Rattle.hn_assign.specs.Pair.{assigned_pair, backoff_pair, wish_pair, IsAscending, IsWished, Updates}
 use Rattle.hn_assign.specs.Subroutine.{AreSteps, IsSubroutine}
-use Rattle.hn_assign.proofs.Ats.{pair_cases}
-use Rattle.hn_assign.proofs.Keeps.{Each, each_all}
+use Rattle.hn_assign.proofs.AtPair.{pair_cases}
+use Rattle.hn_assign.proofs.KeptFacts.{Each, each_all}
 use Rattle.hn_assign.proofs.Marking.{ascending_marked, marked_pair}
-use Rattle.hn_assign.proofs.Soles.{IsInOrder}
+use Rattle.hn_assign.proofs.OneResult.{IsInOrder}
 use Rattle.hn_assign.proofs.Unchanged.{steps_in_order}
 
 last_in_order : (view : PlainView) (wishes : List Wish) (held : Held) (ran : Ran) → (run : IsSubroutine view wishes held ran) → IsInOrder run.last

@@ -21,7 +21,7 @@ use Rattle.hn_assign.specs.Pair.{assigned_pair, wish_pair}
 use Rattle.hn_assign.specs.Scene.{PlainScene, IsBestFor, IsFreeFor, new_assigned, scene_of}
 use Rattle.hn_assign.specs.Step.{IsPairStep}
 use Rattle.hn_assign.specs.Subroutine.{AreSteps, IsSubroutine}
-use Rattle.hn_assign.proofs.Ats.{pair_cases, is_had}
+use Rattle.hn_assign.proofs.AtPair.{pair_cases, is_had}
 
 -- of each element
 abbrev pub Each : {A : Type 0} → (A → Type 0) → List A → Type 0

@@ -9,7 +9,7 @@ use Rattle.hn_data.specs.declared.view.Entry.{Entry}
 use Rattle.hn_assign.specs.declared.assigned.Advertised.{Advertised}
 use Rattle.hn_assign.specs.declared.assigned.Assigned.{Assigned}
 use Rattle.hn_assign.specs.Gathered.{IsOfNode, IsOfOther, IsOwn, IsAdvertised, own_advertised}
-use Rattle.hn_assign.proofs.Grown.{Of}
+use Rattle.hn_assign.proofs.GrownByEach.{Of}
 
 -- what a node says by an Assigned-Prefix
 abbrev pub said_by : NodeId → AssignedPrefix → Advertised

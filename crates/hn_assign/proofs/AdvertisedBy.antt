@@ -33,10 +33,12 @@ pub own_none : (own : ℕ) (c : Assigned) (old : List Advertised) (a : Advertise
 own_none own c old a none = (λ h. inl h, ⊎_elim (λ h. h) (λ h. let clash = sym none ∙ h.published in absurd (cc)))
 
 -- one that is, is advertised once
-pub own_some : (own priority : ℕ) (c : Assigned) (old : List Advertised) (a : Advertised) → c.published ≡ Some priority → (Contains old a ⊎ (own_advertised own priority c ≡ a)) ↔ (Contains old a ⊎ IsOwn own c a)
+pub own_some : (own priority : ℕ) (c : Assigned) (old : List Advertised) (a : Advertised)
+    → c.published ≡ Some priority → (Contains old a ⊎ (own_advertised own priority c ≡ a)) ↔ (Contains old a ⊎ IsOwn own c a)
 own_some own priority c old a is = (
   ⊎_elim (λ h. inl h) (λ e. inr (record { priority = priority; published = is; is = sym e })),
-  ⊎_elim (λ h. inl h) (λ h. let same : ◌≡◌ {A = Option ℕ} (Some h.priority) (Some priority) = sym h.published ∙ is in let number : h.priority ≡ priority = cc in inr (ap (λ p. own_advertised own p c) (sym number) ∙ sym h.is)),
+  ⊎_elim (λ h. inl h) (λ h. let same : ◌≡◌ {A = Option ℕ} (Some h.priority) (Some priority) = sym h.published ∙ is in let number : h.priority ≡ priority = cc in
+      inr (ap (λ p. own_advertised own p c) (sym number) ∙ sym h.is)),
 )
 
 -- a node that is this one, or has no HNCP-Version, adds nothing
@@ -44,7 +46,8 @@ pub other_none : (own : ℕ) (entry : Entry) (old : List Advertised) (a : Advert
 other_none own entry old a none = (λ h. inl h, ⊎_elim (λ h. h) (λ h. absurd (none h)))
 
 -- any other one adds what its data say
-pub other_some : (own : ℕ) (entry : Entry) (old : List Advertised) (a : Advertised) → (IsOfNode entry a → IsOfOther own entry a) → (Contains old a ⊎ IsOfNode entry a) ↔ (Contains old a ⊎ IsOfOther own entry a)
+pub other_some : (own : ℕ) (entry : Entry) (old : List Advertised) (a : Advertised)
+    → (IsOfNode entry a → IsOfOther own entry a) → (Contains old a ⊎ IsOfNode entry a) ↔ (Contains old a ⊎ IsOfOther own entry a)
 other_some own entry old a some = (⊎_elim (λ h. inl h) (λ h. inr (some h)), ⊎_elim (λ h. inl h) (λ h. inr h.says))
 
 pub both : {P Q R : Type 0} → P ↔ Q → Q ↔ R → P ↔ R

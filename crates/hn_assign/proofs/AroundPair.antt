@@ -1,5 +1,6 @@
 -- A list that is strictly ascending by pairs: the part before a pair, what is there, and the part after it.
-use Rattle.std.proofs.Common.{◌≡◌, ◌↔◌, ◌⊎◌, ℕ, ◌+◌, ◌-◌, ◌<◌, ◌≤◌, suc, zero, List, [], ◌∷◌, ◌++◌, length, take, drop, get_or, Contains, Option, Some, None, IfSome, Result, Ok, Err, false, IsTrue, is_ok, refl, sym, ap, ◌∙◌, subst, inl, inr, ⊎_elim, arith}
+use Rattle.std.proofs.Common.{◌≡◌, ◌↔◌, ◌⊎◌, ℕ, ◌+◌, ◌-◌, ◌<◌, ◌≤◌, suc, zero, List, [], ◌∷◌, ◌++◌, length, take, drop, get_or, Contains}
+use Rattle.std.proofs.Common.{Option, Some, None, IfSome, Result, Ok, Err, false, IsTrue, is_ok, refl, sym, ap, ◌∙◌, subst, inl, inr, ⊎_elim, arith}
 use Rattle.std.specs.declared.cmp.Ordering.TheVariants.{Less, Greater}
 use Rattle.std.specs.List.{AllByRecursion, AllWithin, slice_get}
 use Rattle.std.specs.List.Sorted.{IsStrictlySortedBy, IsSearchInRange, IsBinarySearchResult}
@@ -58,7 +59,10 @@ module _ {A : Type 0} (key : A → Pair) where
   beside : (pair : Pair) (m : A) (xs ys : List A) → key m ≡ pair → Below pair xs → Above pair ys → AllBelow xs (m ∷ ys)
   beside pair m xs ys is below above =
       AllByRecursion-weaker (λ x. pair_cmp (key x) pair ≡ Less) (λ x. AllByRecursion (λ y. pair_cmp (key x) (key y) ≡ Less) (m ∷ ys))
-      (λ x less. (subst (λ (p : Pair). pair_cmp (key x) p ≡ Less) (sym is) less, AllByRecursion-weaker (λ y. pair_cmp pair (key y) ≡ Less) (λ y. pair_cmp (key x) (key y) ≡ Less) (λ y more. pair_total.trans (key x) pair (key y) less more) ys above)) xs below
+      (λ x less. (
+        subst (λ (p : Pair). pair_cmp (key x) p ≡ Less) (sym is) less,
+        AllByRecursion-weaker (λ y. pair_cmp pair (key y) ≡ Less) (λ y. pair_cmp (key x) (key y) ≡ Less) (λ y more. pair_total.trans (key x) pair (key y) less more) ys above,
+      )) xs below
 
   -- what stands on both sides of a pair
   pub record Sides (pair : Pair) (front back : List A) : Type 0 where
@@ -74,24 +78,29 @@ module _ {A : Type 0} (key : A → Pair) where
   pub ascending_joined : (pair : Pair) (front : List A) (m : Option A) (back : List A) → Sides pair front back → IfSome m (λ x. key x ≡ pair) → IsAscending key (joined front m back)
   ascending_joined pair front None back s is = ascending_append front back s.front_ascends s.back_ascends (apart pair front back s.below s.above)
   ascending_joined pair front (Some m) back s is =
-      ascending_append front (m ∷ back) s.front_ascends (ascending_cons m back (AllByRecursion-weaker (λ y. pair_cmp pair (key y) ≡ Less) (λ y. pair_cmp (key m) (key y) ≡ Less) (λ y more. subst (λ (p : Pair). pair_cmp p (key y) ≡ Less) (sym is) more) back s.above) s.back_ascends)
+      ascending_append front (m ∷ back) s.front_ascends (ascending_cons m back (AllByRecursion-weaker (λ y. pair_cmp pair (key y) ≡ Less)
+      (λ y. pair_cmp (key m) (key y) ≡ Less) (λ y more. subst (λ (p : Pair). pair_cmp p (key y) ≡ Less) (sym is) more) back s.above) s.back_ascends)
       (beside pair m front back is s.below s.above)
 
   in_front : (pair : Pair) (front : List A) (x : A) → Below pair front → Contains front x → ¬ (key x ≡ pair)
-  in_front pair front x below h same = not_below_itself pair_cmp pair_total (key x) pair same (All-contains (λ y. pair_cmp (key y) pair ≡ Less) front x (All-from_recursion (λ y. pair_cmp (key y) pair ≡ Less) front below) h)
+  in_front pair front x below h same = not_below_itself pair_cmp pair_total (key x) pair same
+      (All-contains (λ y. pair_cmp (key y) pair ≡ Less) front x (All-from_recursion (λ y. pair_cmp (key y) pair ≡ Less) front below) h)
 
   in_back : (pair : Pair) (back : List A) (x : A) → Above pair back → Contains back x → ¬ (key x ≡ pair)
-  in_back pair back x above h same = not_below_itself pair_cmp pair_total pair (key x) (sym same) (All-contains (λ y. pair_cmp pair (key y) ≡ Less) back x (All-from_recursion (λ y. pair_cmp pair (key y) ≡ Less) back above) h)
+  in_back pair back x above h same = not_below_itself pair_cmp pair_total pair (key x) (sym same)
+      (All-contains (λ y. pair_cmp pair (key y) ≡ Less) back x (All-from_recursion (λ y. pair_cmp pair (key y) ≡ Less) back above) h)
 
   pub has_joined : (pair : Pair) (front : List A) (m : Option A) (back : List A) → Sides pair front back → IfSome m (λ x. key x ≡ pair) → HasAt key pair m (joined front m back)
   has_joined pair front None back s is = λ x h. ⊎_elim (in_front pair front x s.below) (in_back pair back x s.above) (Contains-append_cases front back x h)
   has_joined pair front (Some m) back s is = (Contains-append_right front (m ∷ back) m (Contains-head m back), is)
 
   -- another pair's element stands on one of the sides
-  pub others : (pair : Pair) (front : List A) (m : Option A) (back : List A) (x : A) → IfSome m (λ y. key y ≡ pair) → ¬ (key x ≡ pair) → Contains (joined front m back) x ↔ (Contains front x ⊎ Contains back x)
+  pub others : (pair : Pair) (front : List A) (m : Option A) (back : List A) (x : A)
+      → IfSome m (λ y. key y ≡ pair) → ¬ (key x ≡ pair) → Contains (joined front m back) x ↔ (Contains front x ⊎ Contains back x)
   others pair front None back x is not = (Contains-append_cases front back x, ⊎_elim (Contains-append_left front back x) (Contains-append_right front back x))
   others pair front (Some m) back x is not = (
-    λ h. ⊎_elim (λ (f : Contains front x). inl f) (λ (b : Contains (m ∷ back) x). ⊎_elim (λ (same : m ≡ x). absurd (not (ap key (sym same) ∙ is))) (λ (r : Contains back x). inr r) (Contains-cases m back x b)) (Contains-append_cases front (m ∷ back) x h),
+    λ h. ⊎_elim (λ (f : Contains front x). inl f) (λ (b : Contains (m ∷ back) x). ⊎_elim (λ (same : m ≡ x). absurd (not (ap key (sym same) ∙ is)))
+        (λ (r : Contains back x). inr r) (Contains-cases m back x b)) (Contains-append_cases front (m ∷ back) x h),
     ⊎_elim (Contains-append_left front (m ∷ back) x) (λ (r : Contains back x). Contains-append_right front (m ∷ back) x (Contains-tail m back x r)),
   )
 
@@ -108,7 +117,8 @@ module _ {A : Type 0} (key : A → Pair) where
   below_front : (front : List A) (x : A) (back : List A) → IsAscending key (front ++ x ∷ back) → Below (key x) front
   below_front [] x back up = tt
   below_front (y ∷ front) x back up = (
-    All-contains (λ z. pair_cmp (key y) (key z) ≡ Less) (front ++ x ∷ back) x (All-from_recursion (λ z. pair_cmp (key y) (key z) ≡ Less) (front ++ x ∷ back) (sorted_head (on key pair_cmp) y (front ++ x ∷ back) up)) (Contains-append_right front (x ∷ back) x (Contains-head x back)),
+    All-contains (λ z. pair_cmp (key y) (key z) ≡ Less) (front ++ x ∷ back) x (All-from_recursion (λ z. pair_cmp (key y) (key z) ≡ Less) (front ++ x ∷ back)
+        (sorted_head (on key pair_cmp) y (front ++ x ∷ back) up)) (Contains-append_right front (x ∷ back) x (Contains-head x back)),
     below_front front x back (sorted_tail (on key pair_cmp) y (front ++ x ∷ back) up),
   )
 
@@ -150,7 +160,10 @@ module _ {A : Type 0} (key : A → Pair) where
   greater_after : (pair : Pair) (xs : List A) (i : ℕ) → i ≤ length xs → AllWithin (λ x. pair_cmp (key x) pair ≡ Greater) xs i (length xs) → Above pair (drop i xs)
   greater_after pair [] zero within greater = tt
   greater_after pair [] (suc i) within greater = tt
-  greater_after pair (x ∷ xs) zero within greater = (greater_is_above (key x) pair (greater 0 x (omega arith) (omega arith)), greater_after pair xs 0 (omega arith) (λ k d low high. greater (suc k) d (omega arith) (omega arith)))
+  greater_after pair (x ∷ xs) zero within greater = (
+    greater_is_above (key x) pair (greater 0 x (omega arith) (omega arith)),
+    greater_after pair xs 0 (omega arith) (λ k d low high. greater (suc k) d (omega arith) (omega arith)),
+  )
   greater_after pair (x ∷ xs) (suc i) within greater = greater_after pair xs i (omega arith) (λ k d low high. greater (suc k) d (omega arith) (omega arith))
 
   -- a list, around an element
@@ -160,10 +173,16 @@ module _ {A : Type 0} (key : A → Pair) where
   pub sides_at : (pair : Pair) (xs : List A) (i : ℕ) (d : A) → i < length xs → key (get_or xs i d) ≡ pair → IsAscending key xs → Sides pair (take i xs) (drop (suc i) xs)
   sides_at pair xs i d within is up = sides_of pair (take i xs) (get_or xs i d) (drop (suc i) xs) is (subst (IsAscending key) (split_at xs i d within) up)
 
-  pub sides_between : (pair : Pair) (xs : List A) (i : ℕ) → i ≤ length xs → AllWithin (λ x. pair_cmp (key x) pair ≡ Less) xs 0 i → AllWithin (λ x. pair_cmp (key x) pair ≡ Greater) xs i (length xs) → IsAscending key xs → Sides pair (take i xs) (drop i xs)
+  pub sides_between : (pair : Pair) (xs : List A) (i : ℕ) → i ≤ length xs
+      → AllWithin (λ x. pair_cmp (key x) pair ≡ Less) xs 0 i → AllWithin (λ x. pair_cmp (key x) pair ≡ Greater) xs i (length xs) → IsAscending key xs → Sides pair (take i xs) (drop i xs)
   sides_between pair xs i within less greater up =
       let whole : IsAscending key (take i xs ++ drop i xs) = subst (IsAscending key) (sym (take-append-drop i xs)) up in
-      record { front_ascends = front_of (take i xs) (drop i xs) whole; below = less_before pair xs i within less; back_ascends = back_of (take i xs) (drop i xs) whole; above = greater_after pair xs i within greater }
+      record {
+        front_ascends = front_of (take i xs) (drop i xs) whole;
+        below = less_before pair xs i within less;
+        back_ascends = back_of (take i xs) (drop i xs) whole;
+        above = greater_after pair xs i within greater;
+      }
 
   -- an element's pair gets something else, or nothing
   pub updates_at : (pair : Pair) (xs : List A) (i : ℕ) (d : A) (new : Option A) → i < length xs → key (get_or xs i d) ≡ pair → IsAscending key xs → IfSome new (λ x. key x ≡ pair)
@@ -173,27 +192,34 @@ module _ {A : Type 0} (key : A → Pair) where
       (updates_joined pair (take i xs) (Some (get_or xs i d)) new (drop (suc i) xs) (sides_at pair xs i d within was up) was is)
 
   -- a pair without an element gets one, or stays without
-  pub updates_between : (pair : Pair) (xs : List A) (i : ℕ) (new : Option A) → i ≤ length xs → AllWithin (λ x. pair_cmp (key x) pair ≡ Less) xs 0 i → AllWithin (λ x. pair_cmp (key x) pair ≡ Greater) xs i (length xs) → IsAscending key xs → IfSome new (λ x. key x ≡ pair)
+  pub updates_between : (pair : Pair) (xs : List A) (i : ℕ) (new : Option A)
+      → i ≤ length xs → AllWithin (λ x. pair_cmp (key x) pair ≡ Less) xs 0 i → AllWithin (λ x. pair_cmp (key x) pair ≡ Greater) xs i (length xs) → IsAscending key xs → IfSome new (λ x. key x ≡ pair)
       → Updates key pair new xs (joined (take i xs) new (drop i xs))
   updates_between pair xs i new within less greater up is =
       subst (λ (ys : List A). Updates key pair new ys (joined (take i xs) new (drop i xs))) (take-append-drop i xs)
       (updates_joined pair (take i xs) None new (drop i xs) (sides_between pair xs i within less greater up) tt is)
 
-  pub none_between : (pair : Pair) (xs : List A) (i : ℕ) → i ≤ length xs → AllWithin (λ x. pair_cmp (key x) pair ≡ Less) xs 0 i → AllWithin (λ x. pair_cmp (key x) pair ≡ Greater) xs i (length xs) → IsAscending key xs → HasAt key pair None xs
+  pub none_between : (pair : Pair) (xs : List A) (i : ℕ)
+      → i ≤ length xs → AllWithin (λ x. pair_cmp (key x) pair ≡ Less) xs 0 i → AllWithin (λ x. pair_cmp (key x) pair ≡ Greater) xs i (length xs) → IsAscending key xs → HasAt key pair None xs
   none_between pair xs i within less greater up =
       subst (λ (ys : List A). HasAt key pair None ys) (take-append-drop i xs) (has_joined pair (take i xs) None (drop i xs) (sides_between pair xs i within less greater up) tt)
 
   -- what a binary search says
-  pub place_from_search : (pair : Pair) (xs : List A) (r : Result ℕ ℕ) → IsAscending key xs → IsSearchInRange r (length xs) → IsBinarySearchResult (λ x. pair_cmp (key x) pair) xs r → IsPlaceOfPair key pair xs r
+  pub place_from_search : (pair : Pair) (xs : List A) (r : Result ℕ ℕ)
+      → IsAscending key xs → IsSearchInRange r (length xs) → IsBinarySearchResult (λ x. pair_cmp (key x) pair) xs r → IsPlaceOfPair key pair xs r
   place_from_search pair xs (Ok i) up within at = (within, λ d. pair_exact (key (get_or xs i d)) pair (at d))
-  place_from_search pair xs (Err i) up within at =
-      (within, at (searchable_from_sorted pair_total key xs pair (λ k d low high. not_after (get_or xs k d) (get_or xs (k + 1) d) (Less-from_sorted (on key pair_cmp) xs k (k + 1) d up (omega arith) high))))
+  place_from_search pair xs (Err i) up within at = (
+    within,
+    at (searchable_from_sorted pair_total key xs pair
+        (λ k d low high. not_after (get_or xs k d) (get_or xs (k + 1) d) (Less-from_sorted (on key pair_cmp) xs k (k + 1) d up (omega arith) high))),
+  )
     where
       not_after : (x y : A) → pair_cmp (key x) (key y) ≡ Less → is_lt (pair_cmp (key y) (key x)) ≡ false
       not_after x y less = ap is_lt (pair_total.antisymm (key y) (key x) ∙ ap ordering_reverse less)
 
   -- what a pair gets at the place that was found for it
-  pub put_at : (pair : Pair) (xs ys zs : List A) (i : ℕ) (new : Option A) → ys ≡ xs → IsPlaceOfPair key pair ys (Ok i) → IsAscending key xs → IfSome new (λ x. key x ≡ pair) → zs ≡ joined (take i xs) new (drop (suc i) xs) → Updates key pair new xs zs
+  pub put_at : (pair : Pair) (xs ys zs : List A) (i : ℕ) (new : Option A)
+      → ys ≡ xs → IsPlaceOfPair key pair ys (Ok i) → IsAscending key xs → IfSome new (λ x. key x ≡ pair) → zs ≡ joined (take i xs) new (drop (suc i) xs) → Updates key pair new xs zs
   put_at pair xs ys zs i new same place up is gives = by_place (subst (λ (ws : List A). IsPlaceOfPair key pair ws (Ok i)) same place)
     where
       by_place : IsPlaceOfPair key pair xs (Ok i) → Updates key pair new xs zs
@@ -203,7 +229,8 @@ module _ {A : Type 0} (key : A → Pair) where
           of_element [] j within was _ = absurd (omega arith)
           of_element (w ∷ ws) j within was rises = updates_at pair (w ∷ ws) j w new within (was w) rises is
 
-  pub put_between : (pair : Pair) (xs ys zs : List A) (i : ℕ) (new : Option A) → ys ≡ xs → IsPlaceOfPair key pair ys (Err i) → IsAscending key xs → IfSome new (λ x. key x ≡ pair) → zs ≡ joined (take i xs) new (drop i xs) → Updates key pair new xs zs
+  pub put_between : (pair : Pair) (xs ys zs : List A) (i : ℕ) (new : Option A)
+      → ys ≡ xs → IsPlaceOfPair key pair ys (Err i) → IsAscending key xs → IfSome new (λ x. key x ≡ pair) → zs ≡ joined (take i xs) new (drop i xs) → Updates key pair new xs zs
   put_between pair xs ys zs i new same place up is gives =
       let at = subst (λ (ws : List A). IsPlaceOfPair key pair ws (Err i)) same place in
       subst (Updates key pair new xs) (sym gives) (updates_between pair xs i new at.0 at.1.0 at.1.1 up is)

@@ -36,14 +36,17 @@ module _ (own : ℕ) (common : LinkEndpoints) (d : PlainPrefix) where
       ⊎_elim (λ (old : IsCandidatePrefix xs own common d a). none a old) (λ (new : x ≡ a). not (subst (IsEligible own common d) (sym new) (eligible (xs ++ x ∷ []) a h))) (cases xs x a h)
   best_passed xs x (Some best) is not = record {
     candidate = older xs x best is.candidate;
-    greatest = λ a h. ⊎_elim (λ (old : IsCandidatePrefix xs own common d a). is.greatest a old) (λ (new : x ≡ a). absurd (not (subst (IsEligible own common d) (sym new) (eligible (xs ++ x ∷ []) a h)))) (cases xs x a h);
+    greatest = λ a h. ⊎_elim (λ (old : IsCandidatePrefix xs own common d a). is.greatest a old)
+        (λ (new : x ≡ a). absurd (not (subst (IsEligible own common d) (sym new) (eligible (xs ++ x ∷ []) a h)))) (cases xs x a h);
   }
 
   -- the newest is the greatest where none of the older ones is greater
-  newest_best : (xs : List Advertised) (x : Advertised) → IsEligible own common d x → ((a : Advertised) → IsCandidatePrefix xs own common d a → ¬ (advertised_cmp x a ≡ Less)) → IsBest (xs ++ x ∷ []) own common d x
+  newest_best : (xs : List Advertised) (x : Advertised)
+      → IsEligible own common d x → ((a : Advertised) → IsCandidatePrefix xs own common d a → ¬ (advertised_cmp x a ≡ Less)) → IsBest (xs ++ x ∷ []) own common d x
   newest_best xs x may none = record {
     candidate = newest xs x may;
-    greatest = λ a h. ⊎_elim (none a) (λ (new : x ≡ a). λ less. let same : advertised_cmp x x ≡ Equal = tied_itself advertised_total x in let clash : advertised_cmp x x ≡ Less = subst (λ (y : Advertised). advertised_cmp x y ≡ Less) (sym new) less in cc) (cases xs x a h);
+    greatest = λ a h. ⊎_elim (none a) (λ (new : x ≡ a). λ less. let same : advertised_cmp x x ≡ Equal = tied_itself advertised_total x in
+        let clash : advertised_cmp x x ≡ Less = subst (λ (y : Advertised). advertised_cmp x y ≡ Less) (sym new) less in cc) (cases xs x a h);
   }
 
   not_greater : (x y : Advertised) → ¬ (advertised_cmp x y ≡ Less) → is_gt (advertised_cmp y x) ≡ false
@@ -70,5 +73,7 @@ module _ (own : ℕ) (common : LinkEndpoints) (d : PlainPrefix) where
             let turned : advertised_cmp b x ≡ Greater = advertised_total.antisymm b x ∙ ap ordering_reverse e in
             let clash : advertised_cmp b x ≡ Less = subst (λ (y : Advertised). advertised_cmp b y ≡ Less) (sym new) less in cc) (cases xs x a h);
       }
-      by_order Equal e = newest_best xs x may (λ a h. not_less x a (upto advertised_total a b x (not_greater b a (old.greatest a h)) (ap is_gt (advertised_total.antisymm b x) ∙ ap (λ o. is_gt (ordering_reverse o)) e)))
-      by_order Greater e = newest_best xs x may (λ a h. not_less x a (upto advertised_total a b x (not_greater b a (old.greatest a h)) (ap is_gt (advertised_total.antisymm b x) ∙ ap (λ o. is_gt (ordering_reverse o)) e)))
+      by_order Equal e = newest_best xs x may
+          (λ a h. not_less x a (upto advertised_total a b x (not_greater b a (old.greatest a h)) (ap is_gt (advertised_total.antisymm b x) ∙ ap (λ o. is_gt (ordering_reverse o)) e)))
+      by_order Greater e = newest_best xs x may
+          (λ a h. not_less x a (upto advertised_total a b x (not_greater b a (old.greatest a h)) (ap is_gt (advertised_total.antisymm b x) ∙ ap (λ o. is_gt (ordering_reverse o)) e)))

@@ -25,7 +25,8 @@ found_free adv taken d start len (Some p) same all first =
     let below : place < count = omega (arith, first.below_count) in
     record {
       inside = (all p).1 (place, below, first.at_place);
-      free = λ a h overlaps. All-contains (λ t. ¬ (Overlaps t p)) (prefixes adv) a.prefix (subst (λ (ts : List PlainPrefix). IsFree ts p) same first.free) (Contains-map (λ a. a.prefix) adv a h) overlaps;
+      free = λ a h overlaps. All-contains (λ t. ¬ (Overlaps t p)) (prefixes adv) a.prefix (subst (λ (ts : List PlainPrefix). IsFree ts p) same first.free)
+          (Contains-map (λ a. a.prefix) adv a h) overlaps;
     }
 
 -- where each is taken, nothing is free
@@ -44,7 +45,8 @@ none_free adv taken d len None same all none = λ p free.
         free.free a.0 a.1 (subst (λ (q : PlainPrefix). Overlaps q p) (sym a.2) overlaps)
 
 -- nothing shorter than a prefix is inside it, by the law that what is within it is not shorter
-pub none_in_longer : ((p q : PlainPrefix) → IsPrefix p → IsPrefix q → IsWithin p q → q.len ≤ p.len) → (adv : List Advertised) (d : PlainPrefix) (len : ℕ) → IsPrefix d → len < d.len → HasNoFree adv d len
+pub none_in_longer : ((p q : PlainPrefix) → IsPrefix p → IsPrefix q → IsWithin p q → q.len ≤ p.len)
+    → (adv : List Advertised) (d : PlainPrefix) (len : ℕ) → IsPrefix d → len < d.len → HasNoFree adv d len
 none_in_longer not_shorter adv d len valid longer p free =
     let inside = free.inside in
     let not = not_shorter p d inside.prefix valid inside.within in

@@ -16,7 +16,8 @@ module _ {A B : Type 0} (belongs : B → A → Type 0) where
   grown_none old a = (λ h. inl h, ⊎_elim (λ h. h) (λ h. absurd (omega (arith, h.1.1))))
 
   -- one element more
-  pub grown_more : (old now after : List A) (xs : List B) (i : ℕ) (x : B) → i < length xs → x ≡ get_or xs i x → Grown old (take i xs) now → ((a : A) → Contains after a ↔ (Contains now a ⊎ belongs x a)) → Grown old (take (i + 1) xs) after
+  pub grown_more : (old now after : List A) (xs : List B) (i : ℕ) (x : B)
+      → i < length xs → x ≡ get_or xs i x → Grown old (take i xs) now → ((a : A) → Contains after a ↔ (Contains now a ⊎ belongs x a)) → Grown old (take (i + 1) xs) after
   grown_more old now after xs i x within is so_far adds a =
       subst (λ (seen : List B). Contains after a ↔ (Contains old a ⊎ Of seen a)) (sym (front_more xs i x within is)) (there, back)
     where

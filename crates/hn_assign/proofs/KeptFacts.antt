@@ -45,7 +45,8 @@ given_inside at prefix published (inr (free, two)) = free.inside.within
 
 -- a fact that the rules keep: it holds of what they make, and stays when an assignment is published, or no longer, or marked
 pub record IsStable (view : PlainView) (wishes : List Wish) (P : Assigned → Type 0) : Type 0 where
-  pub made : (wish : Wish) (adv : List Advertised) (prefix : PlainPrefix) (published : Option ℕ) → Contains wishes wish → IsGiven (scene_of view wish adv) prefix published → P (new_assigned (scene_of view wish adv) prefix published)
+  pub made : (wish : Wish) (adv : List Advertised) (prefix : PlainPrefix) (published : Option ℕ)
+      → Contains wishes wish → IsGiven (scene_of view wish adv) prefix published → P (new_assigned (scene_of view wish adv) prefix published)
   pub unpublished : (c : Assigned) → P c → P (record c { published = None })
   pub published : (c : Assigned) → P c → P (record c { published = Some 2 })
   pub applied : (c : Assigned) → P c → P (record c { applied = true })
@@ -60,18 +61,22 @@ module _ (view : PlainView) (wishes : List Wish) (P : Assigned → Type 0) (stab
     abbrev at : PlainScene
     at = scene_of view wish adv
 
-    line_keeps : (best : Option Advertised) (c : Option Assigned) (before after : Slot) (words : List ℕ) → IsBestFor at best → IsLine at best c before words after → before.assigned ≡ c → IfSome c P → IfSome after.assigned P
+    line_keeps : (best : Option Advertised) (c : Option Assigned) (before after : Slot) (words : List ℕ)
+        → IsBestFor at best → IsLine at best c before words after → before.assigned ≡ c → IfSome c P → IfSome after.assigned P
     line_keeps None None before after words best (inl left) is holds = subst (λ (o : Option Assigned). IfSome o P) (sym (ap (λ (s : Slot). s.assigned) left.gives ∙ is)) tt
     line_keeps None None before after words best (inr (inl postponed)) is holds = subst (λ (o : Option Assigned). IfSome o P) (sym (ap (λ (s : Slot). s.assigned) postponed.gives ∙ is)) tt
     line_keeps None None before after words best (inr (inr (inl waiting))) is holds = subst (λ (o : Option Assigned). IfSome o P) (sym (ap (λ (s : Slot). s.assigned) waiting.gives ∙ is)) tt
     line_keeps None None before after words best (inr (inr (inr made))) is holds =
         subst (λ (s : Slot). IfSome s.assigned P) (sym made.gives) (stable.made wish adv made.prefix (Some 2) wished (inr (made.free, refl)))
-    line_keeps (Some b) None before after words best line is holds = subst (λ (s : Slot). IfSome s.assigned P) (sym line.0.gives) (stable.made wish adv b.prefix None wished (inl (b, best, refl, refl)))
+    line_keeps (Some b) None before after words best line is holds =
+        subst (λ (s : Slot). IfSome s.assigned P) (sym line.0.gives) (stable.made wish adv b.prefix None wished (inl (b, best, refl, refl)))
     line_keeps None (Some c) before after words best (inl kept, _) is holds = valid_keeps at c before before after kept.gives (subst (λ (o : Option Assigned). IfSome o P) (sym is) holds)
-    line_keeps None (Some c) before after words best (inr adopted, _) is holds = valid_keeps at c (record before { assigned = Some (record c { published = Some 2 }) }) before after adopted.gives (stable.published c holds)
+    line_keeps None (Some c) before after words best (inr adopted, _) is holds = valid_keeps at c
+        (record before { assigned = Some (record c { published = Some 2 }) }) before after adopted.gives (stable.published c holds)
     line_keeps (Some b) (Some c) before after words best (inl ahead, _) is holds = valid_keeps at c before before after ahead.gives (subst (λ (o : Option Assigned). IfSome o P) (sym is) holds)
     line_keeps (Some b) (Some c) before after words best (inr (inl yielded), _) is holds = subst (λ (s : Slot). IfSome s.assigned P) (sym yielded.gives) (stable.unpublished c holds)
-    line_keeps (Some b) (Some c) before after words best (inr (inr replaced), _) is holds = subst (λ (s : Slot). IfSome s.assigned P) (sym replaced.gives) (stable.made wish adv b.prefix None wished (inl (b, best, refl, refl)))
+    line_keeps (Some b) (Some c) before after words best (inr (inr replaced), _) is holds = subst (λ (s : Slot). IfSome s.assigned P) (sym replaced.gives)
+        (stable.made wish adv b.prefix None wished (inl (b, best, refl, refl)))
 
     turn_keeps : (before after : Slot) (words : List ℕ) → IsPairTurn at before words after → IfSome before.assigned P → IfSome after.assigned P
     turn_keeps before after words turn holds = line_keeps turn.best before.assigned before after words turn.is_best turn.line refl holds
@@ -88,11 +93,13 @@ module _ (view : PlainView) (wishes : List Wish) (P : Assigned → Type 0) (stab
   step_keeps wish words before after wished step each c h =
       let new : IfSome step.new.assigned P = turn_keeps wish step.advertised wished step.old step.new words step.turn (had_holds wish before.held.assigned step.old.assigned step.had.assigned each) in
       ⊎_elim
-      (λ (here : assigned_pair c ≡ wish_pair wish). some_holds step.new.assigned c (is_had assigned_pair (wish_pair wish) after.held.assigned step.new.assigned c step.assigned.ascending step.assigned.here h here) new)
+      (λ (here : assigned_pair c ≡ wish_pair wish). some_holds step.new.assigned c
+      (is_had assigned_pair (wish_pair wish) after.held.assigned step.new.assigned c step.assigned.ascending step.assigned.here h here) new)
       (λ (other : ¬ (assigned_pair c ≡ wish_pair wish)). each c ((step.assigned.others c other).0 h))
       (pair_cases (assigned_pair c) (wish_pair wish))
 
-  steps_keep : (some : List Wish) (before after : Ran) → ((wish : Wish) → Contains some wish → Contains wishes wish) → AreSteps view some before after → Each P before.held.assigned → Each P after.held.assigned
+  steps_keep : (some : List Wish) (before after : Ran)
+      → ((wish : Wish) → Contains some wish → Contains wishes wish) → AreSteps view some before after → Each P before.held.assigned → Each P after.held.assigned
   steps_keep [] before after wished is each = subst (λ (r : Ran). Each P r.held.assigned) (sym is) each
   steps_keep (wish ∷ some) before after wished steps each =
       steps_keep some steps.0 after (λ w h. wished w (Contains-tail wish some w h)) steps.3
@@ -141,7 +148,8 @@ priority_stable view wishes = record {
 }
 
 -- where the own node is alone on the Common Link there is no best prefix, and a free one is of the length of the wish
-pub length_stable : (view : PlainView) (wishes : List Wish) (e : EpId) (length : ℕ) → ((wish : Wish) → Contains wishes wish → IsAloneAt view.own e length wish) → IsStable view wishes (IsOfLengthAt e length)
+pub length_stable : (view : PlainView) (wishes : List Wish) (e : EpId) (length : ℕ)
+    → ((wish : Wish) → Contains wishes wish → IsAloneAt view.own e length wish) → IsStable view wishes (IsOfLengthAt e length)
 length_stable view wishes e length alone = record {
   made = λ wish adv prefix published wished given here.
       let of_wish = alone wish wished here in

@@ -79,8 +79,20 @@ module _ (adv : List Advertised) (own : ℕ) (wish : Wish) (c d : Assigned) (sam
 
   pub rest_alike : IsAtRest adv own wish (Some c) → IsAtRest adv own wish (Some d)
   rest_alike (inl alone) = inl (record { no_best = alone.no_best; published = (alone.published.0, ap (λ (e : Assigned). e.published) (sym same) ∙ alone.published.1); valid = valid_alike alone.valid })
-  rest_alike (inr (inl ahead)) = inr (inl (record { best = ahead.best; is_best = ahead.is_best; priority = ahead.priority; published = ap (λ (e : Assigned). e.published) (sym same) ∙ ahead.published; above = ahead.above; valid = valid_alike ahead.valid }))
-  rest_alike (inr (inr follows)) = inr (inr (record { best = follows.best; is_best = follows.is_best; unpublished = ap (λ (e : Assigned). e.published) (sym same) ∙ follows.unpublished; same = ap (λ (e : Assigned). e.prefix) (sym same) ∙ follows.same }))
+  rest_alike (inr (inl ahead)) = inr (inl (record {
+    best = ahead.best;
+    is_best = ahead.is_best;
+    priority = ahead.priority;
+    published = ap (λ (e : Assigned). e.published) (sym same) ∙ ahead.published;
+    above = ahead.above;
+    valid = valid_alike ahead.valid;
+  }))
+  rest_alike (inr (inr follows)) = inr (inr (record {
+    best = follows.best;
+    is_best = follows.is_best;
+    unpublished = ap (λ (e : Assigned). e.published) (sym same) ∙ follows.unpublished;
+    same = ap (λ (e : Assigned). e.prefix) (sym same) ∙ follows.same;
+  }))
 
 all_alike : (adv : List Advertised) (own : ℕ) (wishes : List Wish) (xs ys : List Assigned) → map unmarked ys ≡ map unmarked xs → AreAtRest adv own wishes xs → AreAtRest adv own wishes ys
 all_alike adv own wishes xs ys same rest wish there None none =
@@ -98,7 +110,8 @@ rest_of_unchanged adv own wishes before after same = (all_alike adv own wishes b
 
 module _ (adv : List Advertised) (own : ℕ) (before after : Wish) (is : IsWantedNoMore before after) where
   same_best : (best : Option Advertised) → IsBestIfAny adv own before.common before.delegated best → IsBestIfAny adv own after.common after.delegated best
-  same_best best h = subst (λ (d : PlainPrefix). IsBestIfAny adv own after.common d best) (sym is.delegated) (subst (λ (common : LinkEndpoints). IsBestIfAny adv own common before.delegated best) (sym is.common) h)
+  same_best best h = subst (λ (d : PlainPrefix). IsBestIfAny adv own after.common d best) (sym is.delegated)
+      (subst (λ (common : LinkEndpoints). IsBestIfAny adv own common before.delegated best) (sym is.common) h)
 
   same_valid : (c : Assigned) → IsValid adv own before.common c → IsValid adv own after.common c
   same_valid c h = subst (λ (common : LinkEndpoints). IsValid adv own common c) (sym is.common) h

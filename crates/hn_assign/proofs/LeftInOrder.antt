@@ -22,13 +22,15 @@ last_in_order : (view : PlainView) (wishes : List Wish) (held : Held) (ran : Ran
 last_in_order view wishes held ran run = steps_in_order view wishes run.begun run.last (record { assigned = run.is_begun.assigned.ascending; backoffs = run.is_begun.backoffs.ascending }) run.steps
 
 pub assigned_ascend : (view : PlainView) (wishes : List Wish) (held : Held) (ran : Ran) → IsSubroutine view wishes held ran → IsAscending assigned_pair ran.held.assigned
-assigned_ascend view wishes held ran run = subst (λ (r : Ran). IsAscending assigned_pair r.held.assigned) (sym run.marks) (ascending_marked view.now run.last.held.assigned (last_in_order view wishes held ran run).assigned)
+assigned_ascend view wishes held ran run = subst (λ (r : Ran). IsAscending assigned_pair r.held.assigned) (sym run.marks)
+    (ascending_marked view.now run.last.held.assigned (last_in_order view wishes held ran run).assigned)
 
 pub backoffs_ascend : (view : PlainView) (wishes : List Wish) (held : Held) (ran : Ran) → IsSubroutine view wishes held ran → IsAscending backoff_pair ran.held.backoffs
 backoffs_ascend view wishes held ran run = subst (λ (r : Ran). IsAscending backoff_pair r.held.backoffs) (sym run.marks) (last_in_order view wishes held ran run).backoffs
 
 -- an update for a wished pair
-update_wished : {A : Type 0} (key : A → Pair) (wishes : List Wish) (wish : Wish) (new : Option A) (before after : List A) → Contains wishes wish → Updates key (wish_pair wish) new before after → Each (λ x. IsWished wishes (key x)) before → Each (λ x. IsWished wishes (key x)) after
+update_wished : {A : Type 0} (key : A → Pair) (wishes : List Wish) (wish : Wish) (new : Option A) (before after : List A)
+    → Contains wishes wish → Updates key (wish_pair wish) new before after → Each (λ x. IsWished wishes (key x)) before → Each (λ x. IsWished wishes (key x)) after
 update_wished key wishes wish new before after in_wishes u each x h =
     ⊎_elim (λ (same : key x ≡ wish_pair wish). (wish, in_wishes, sym same)) (λ (not : ¬ (key x ≡ wish_pair wish)). each x ((u.others x not).0 h)) (pair_cases (key x) (wish_pair wish))
 
@@ -37,7 +39,8 @@ record AllWished (wishes : List Wish) (r : Ran) : Type 0 where
   assigned : Each (λ (c : Assigned). IsWished wishes (assigned_pair c)) r.held.assigned
   backoffs : Each (λ (b : Backoff). IsWished wishes (backoff_pair b)) r.held.backoffs
 
-steps_wished : (view : PlainView) (all wishes : List Wish) (before after : Ran) → ((w : Wish) → Contains wishes w → Contains all w) → AreSteps view wishes before after → AllWished all before → AllWished all after
+steps_wished : (view : PlainView) (all wishes : List Wish) (before after : Ran)
+    → ((w : Wish) → Contains wishes w → Contains all w) → AreSteps view wishes before after → AllWished all before → AllWished all after
 steps_wished view all [] before after those same wished = subst (AllWished all) (sym same) wished
 steps_wished view all (wish ∷ wishes) before after those steps wished =
     let step = steps.2 in
@@ -49,7 +52,8 @@ steps_wished view all (wish ∷ wishes) before after those steps wished =
 
 last_wished : (view : PlainView) (wishes : List Wish) (held : Held) (ran : Ran) → (run : IsSubroutine view wishes held ran) → AllWished wishes run.last
 last_wished view wishes held ran run =
-    steps_wished view wishes wishes run.begun run.last (λ w h. h) run.steps (record { assigned = λ c h. ((run.is_begun.assigned.those c).0 h).1; backoffs = λ b h. ((run.is_begun.backoffs.those b).0 h).1 })
+    steps_wished view wishes wishes run.begun run.last (λ w h. h) run.steps
+    (record { assigned = λ c h. ((run.is_begun.assigned.those c).0 h).1; backoffs = λ b h. ((run.is_begun.backoffs.those b).0 h).1 })
 
 pub assigned_wished : (view : PlainView) (wishes : List Wish) (held : Held) (ran : Ran) → IsSubroutine view wishes held ran → All (λ c. IsWished wishes (assigned_pair c)) ran.held.assigned
 assigned_wished view wishes held ran run =
@@ -60,4 +64,5 @@ assigned_wished view wishes held ran run =
 
 pub backoffs_wished : (view : PlainView) (wishes : List Wish) (held : Held) (ran : Ran) → IsSubroutine view wishes held ran → All (λ b. IsWished wishes (backoff_pair b)) ran.held.backoffs
 backoffs_wished view wishes held ran run =
-    each_all (λ (b : Backoff). IsWished wishes (backoff_pair b)) ran.held.backoffs (λ b h. (last_wished view wishes held ran run).backoffs b (subst (λ (r : Ran). Contains r.held.backoffs b) run.marks h))
+    each_all (λ (b : Backoff). IsWished wishes (backoff_pair b)) ran.held.backoffs
+    (λ b h. (last_wished view wishes held ran run).backoffs b (subst (λ (r : Ran). Contains r.held.backoffs b) run.marks h))

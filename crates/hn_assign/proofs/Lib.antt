@@ -1,29 +1,29 @@
+pub mod AdvertisedBy
+pub mod AroundPair
 mod AtPair
 pub mod Bests
 pub mod Exists
 pub mod FreePrefixes
 pub mod Fronts
-pub mod AdvertisedBy
 pub mod GrownByEach
 pub mod Indexes
-pub mod AroundPair
 pub mod Keeping
 pub mod KeptFacts
 pub mod LaterMoments
 pub mod LeftInOrder
 pub mod Marking
+pub mod MoreSteps
+pub mod OneResult
 mod Orders
+mod PairRests
 pub mod Published
 pub mod Ranges
-mod PairRests
 pub mod RestRuns
 pub mod Rests
 pub mod SameAdvertised
-pub mod OneResult
 pub mod SomeLists
 pub mod SomeRuns
 pub mod SomeTurns
 pub mod StillRuns
 pub mod Unchanged
-pub mod MoreSteps
 pub mod WishLemmas

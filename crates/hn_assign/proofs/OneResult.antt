@@ -82,13 +82,15 @@ module _ (view : PlainView) (wish : Wish) (adv bdv : List Advertised) (same : Ha
       turned a b v w (p.gives ∙ ap made prefix ∙ sym q.gives) (p.took ∙ ap (λ (x : ℕ). x ∷ []) one ∙ sym q.took)
 
   -- two results of one line
-  line_both : (best : Option Advertised) (c : Option Assigned) (before a b : Slot) (v w : List ℕ) → ((x y : ℕ) → v ≡ x ∷ [] → w ≡ y ∷ [] → x ≡ y) → IsLine A best c before v a → IsLine B best c before w b → ◌≡◌ {A = Turned} (a, v) (b, w)
+  line_both : (best : Option Advertised) (c : Option Assigned) (before a b : Slot) (v w : List ℕ)
+      → ((x y : ℕ) → v ≡ x ∷ [] → w ≡ y ∷ [] → x ≡ y) → IsLine A best c before v a → IsLine B best c before w b → ◌≡◌ {A = Turned} (a, v) (b, w)
   line_both None None before a b v w word p q = unassigned_both before a b v w word p q
   line_both (Some best) None before a b v w word p q = turned a b v w (p.0.gives ∙ sym q.0.gives) (p.1 ∙ sym q.1)
   line_both None (Some c) before a b v w word (inl p, pw) (inl q, qw) = turned a b v w (valid_both c before before a b p.gives q.gives) (pw ∙ sym qw)
   line_both None (Some c) before a b v w word (inl p, pw) (inr q, qw) = absurd (let clash = sym q.unpublished ∙ p.published.1 in cc)
   line_both None (Some c) before a b v w word (inr p, pw) (inl q, qw) = absurd (let clash = sym p.unpublished ∙ q.published.1 in cc)
-  line_both None (Some c) before a b v w word (inr p, pw) (inr q, qw) = turned a b v w (valid_both c (record before { assigned = Some (record c { published = Some 2 }) }) before a b p.gives q.gives) (pw ∙ sym qw)
+  line_both None (Some c) before a b v w word (inr p, pw) (inr q, qw) = turned a b v w
+      (valid_both c (record before { assigned = Some (record c { published = Some 2 }) }) before a b p.gives q.gives) (pw ∙ sym qw)
   line_both (Some best) (Some c) before a b v w word (inl p, pw) (inl q, qw) = turned a b v w (valid_both c before before a b p.gives q.gives) (pw ∙ sym qw)
   line_both (Some best) (Some c) before a b v w word (inl p, pw) (inr (inl q), qw) = absurd (q.not_ahead (record { priority = p.ahead.priority; published = p.ahead.published; above = p.ahead.above }))
   line_both (Some best) (Some c) before a b v w word (inl p, pw) (inr (inr q), qw) = absurd (q.not_ahead (record { priority = p.ahead.priority; published = p.ahead.published; above = p.ahead.above }))
@@ -126,19 +128,24 @@ pub record IsInOrder (r : Ran) : Type 0 where
 pub step_in_order : (view : PlainView) (wish : Wish) (words : List ℕ) (before after : Ran) → IsPairStep view wish words before after → IsInOrder after
 step_in_order view wish words before after step = record { assigned = step.assigned.ascending; backoffs = step.backoffs.ascending }
 
-step_one : (view : PlainView) (wish : Wish) (stream : ℕ → ℕ) (v w : List ℕ) (before a b : Ran) → IsInOrder before → IsPairStep view wish v before a → IsPairStep view wish w before b → Begins a.words stream → Begins b.words stream → a ≡ b
+step_one : (view : PlainView) (wish : Wish) (stream : ℕ → ℕ) (v w : List ℕ) (before a b : Ran)
+    → IsInOrder before → IsPairStep view wish v before a → IsPairStep view wish w before b → Begins a.words stream → Begins b.words stream → a ≡ b
 step_one view wish stream v w before a b up p q at_a at_b =
     let pair = wish_pair wish in
     let same = same_advertised view before.held.assigned p.advertised q.advertised p.are_advertised q.are_advertised in
-    let old : p.old ≡ q.old = same_slot p.old q.old (has_one assigned_pair pair before.held.assigned p.old.assigned q.old.assigned up.assigned p.had.assigned q.had.assigned) (has_one backoff_pair pair before.held.backoffs p.old.backoff q.old.backoff up.backoffs p.had.backoff q.had.backoff) in
+    let old : p.old ≡ q.old = same_slot p.old q.old (has_one assigned_pair pair before.held.assigned p.old.assigned q.old.assigned up.assigned p.had.assigned q.had.assigned)
+    (has_one backoff_pair pair before.held.backoffs p.old.backoff q.old.backoff up.backoffs p.had.backoff q.had.backoff) in
     let word : (x y : ℕ) → v ≡ x ∷ [] → w ≡ y ∷ [] → x ≡ y =
-    λ x y is_v is_w. same_word before.words x y stream (subst (λ (ws : List ℕ). Begins ws stream) (p.took ∙ ap (λ (ws : List ℕ). before.words ++ ws) is_v) at_a) (subst (λ (ws : List ℕ). Begins ws stream) (q.took ∙ ap (λ (ws : List ℕ). before.words ++ ws) is_w) at_b) in
+    λ x y is_v is_w. same_word before.words x y stream (subst (λ (ws : List ℕ). Begins ws stream) (p.took ∙ ap (λ (ws : List ℕ). before.words ++ ws) is_v) at_a)
+    (subst (λ (ws : List ℕ). Begins ws stream) (q.took ∙ ap (λ (ws : List ℕ). before.words ++ ws) is_w) at_b) in
     let both = turn_both view wish p.advertised q.advertised same q.old p.new q.new v w word (subst (λ (s : Slot). IsPairTurn (scene_of view wish p.advertised) s v p.new) old p.turn) q.turn in
     let new : p.new ≡ q.new = ap (λ (t : Turned). t.0) both in
     let words : v ≡ w = ap (λ (t : Turned). t.1) both in
     same_ran a b
-    (updates_one assigned_pair pair q.new.assigned before.held.assigned a.held.assigned b.held.assigned (subst (λ (s : Slot). Updates assigned_pair pair s.assigned before.held.assigned a.held.assigned) new p.assigned) q.assigned)
-    (updates_one backoff_pair pair q.new.backoff before.held.backoffs a.held.backoffs b.held.backoffs (subst (λ (s : Slot). Updates backoff_pair pair s.backoff before.held.backoffs a.held.backoffs) new p.backoffs) q.backoffs)
+    (updates_one assigned_pair pair q.new.assigned before.held.assigned a.held.assigned b.held.assigned
+    (subst (λ (s : Slot). Updates assigned_pair pair s.assigned before.held.assigned a.held.assigned) new p.assigned) q.assigned)
+    (updates_one backoff_pair pair q.new.backoff before.held.backoffs a.held.backoffs b.held.backoffs
+    (subst (λ (s : Slot). Updates backoff_pair pair s.backoff before.held.backoffs a.held.backoffs) new p.backoffs) q.backoffs)
     (p.took ∙ ap (λ (ws : List ℕ). before.words ++ ws) words ∙ sym q.took)
 
 -- ---- all steps
@@ -150,15 +157,19 @@ steps_grow : (view : PlainView) (wishes : List Wish) (stream : ℕ → ℕ) (bef
 steps_grow view [] stream before after same begins = subst (λ (r : Ran). Begins r.words stream) same begins
 steps_grow view (wish ∷ wishes) stream before after steps begins = step_grows view wish stream steps.1 before steps.0 steps.2 (steps_grow view wishes stream steps.0 after steps.3 begins)
 
-steps_one : (view : PlainView) (wishes : List Wish) (stream : ℕ → ℕ) (before a b : Ran) → IsInOrder before → AreSteps view wishes before a → AreSteps view wishes before b → Begins a.words stream → Begins b.words stream → a ≡ b
+steps_one : (view : PlainView) (wishes : List Wish) (stream : ℕ → ℕ) (before a b : Ran)
+    → IsInOrder before → AreSteps view wishes before a → AreSteps view wishes before b → Begins a.words stream → Begins b.words stream → a ≡ b
 steps_one view [] stream before a b up p q at_a at_b = p ∙ sym q
 steps_one view (wish ∷ wishes) stream before a b up p q at_a at_b =
     let between : p.0 ≡ q.0 = step_one view wish stream p.1 q.1 before p.0 q.0 up p.2 q.2 (steps_grow view wishes stream p.0 a p.3 at_a) (steps_grow view wishes stream q.0 b q.3 at_b) in
     steps_one view wishes stream q.0 a b (step_in_order view wish q.1 before q.0 q.2) (subst (λ (r : Ran). AreSteps view wishes r a) between p.3) q.3 at_a at_b
 
-pub subroutine_one : (view : PlainView) (wishes : List Wish) (held : Held) (stream : ℕ → ℕ) (a b : Ran) → IsSubroutine view wishes held a → IsSubroutine view wishes held b → Begins a.words stream → Begins b.words stream → a ≡ b
+pub subroutine_one : (view : PlainView) (wishes : List Wish) (held : Held) (stream : ℕ → ℕ) (a b : Ran)
+    → IsSubroutine view wishes held a → IsSubroutine view wishes held b → Begins a.words stream → Begins b.words stream → a ≡ b
 subroutine_one view wishes held stream a b p q at_a at_b =
-    let begun : p.begun ≡ q.begun = same_ran p.begun q.begun (keeps_one assigned_pair wishes held.assigned p.begun.held.assigned q.begun.held.assigned p.is_begun.assigned q.is_begun.assigned) (keeps_one backoff_pair wishes held.backoffs p.begun.held.backoffs q.begun.held.backoffs p.is_begun.backoffs q.is_begun.backoffs) (p.is_begun.took ∙ sym q.is_begun.took) in
+    let begun : p.begun ≡ q.begun = same_ran p.begun q.begun (keeps_one assigned_pair wishes held.assigned p.begun.held.assigned q.begun.held.assigned p.is_begun.assigned q.is_begun.assigned)
+    (keeps_one backoff_pair wishes held.backoffs p.begun.held.backoffs q.begun.held.backoffs p.is_begun.backoffs q.is_begun.backoffs) (p.is_begun.took ∙ sym q.is_begun.took) in
     let up : IsInOrder q.begun = record { assigned = q.is_begun.assigned.ascending; backoffs = q.is_begun.backoffs.ascending } in
-    let last : p.last ≡ q.last = steps_one view wishes stream q.begun p.last q.last up (subst (λ (r : Ran). AreSteps view wishes r p.last) begun p.steps) q.steps (subst (λ (r : Ran). Begins r.words stream) p.marks at_a) (subst (λ (r : Ran). Begins r.words stream) q.marks at_b) in
+    let last : p.last ≡ q.last = steps_one view wishes stream q.begun p.last q.last up (subst (λ (r : Ran). AreSteps view wishes r p.last) begun p.steps) q.steps
+    (subst (λ (r : Ran). Begins r.words stream) p.marks at_a) (subst (λ (r : Ran). Begins r.words stream) q.marks at_b) in
     p.marks ∙ ap (with_marks view.now) last ∙ sym q.marks

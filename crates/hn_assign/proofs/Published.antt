@@ -18,7 +18,8 @@ parts_of (Some n) q priority prefix is =
     let same : ◌≡◌ {A = ℕ × PlainPrefix} (n, q) (priority, prefix) = cc in
     (ap (λ (t : ℕ × PlainPrefix). Some t.0) same, ap (λ (t : ℕ × PlainPrefix). t.1) same)
 
-published_is : (c : Option Assigned) (priority : ℕ) (prefix : PlainPrefix) → published_of_pair c ≡ Some (priority, prefix) → (x : Assigned) × (c ≡ Some x) × (x.published ≡ Some priority) × (x.prefix ≡ prefix)
+published_is : (c : Option Assigned) (priority : ℕ) (prefix : PlainPrefix)
+    → published_of_pair c ≡ Some (priority, prefix) → (x : Assigned) × (c ≡ Some x) × (x.published ≡ Some priority) × (x.prefix ≡ prefix)
 published_is None priority prefix is = absurd (cc)
 published_is (Some x) priority prefix is = let parts = parts_of x.published x.prefix priority prefix is in (x, refl, parts.0, parts.1)
 
@@ -40,12 +41,14 @@ module _ (pair : Pair) (own : ℕ) (a : Advertised) where
       let held = had_is assigned_pair pair ys new x has found.1 in
       let pairs : assigned_pair c ≡ assigned_pair x = here ∙ sym held.1 in
       let as_advertised : Pair → PlainPrefix → Advertised = λ p q. record { key = key_of of_c.priority own p.endpoint.0; prefix = q } in
-      let advertised : own_advertised own of_c.priority c ≡ own_advertised own of_c.priority x = ap (λ (p : Pair). as_advertised p c.prefix) pairs ∙ ap (as_advertised (assigned_pair x)) (sym found.3) in
+      let advertised : own_advertised own of_c.priority c ≡ own_advertised own of_c.priority x =
+      ap (λ (p : Pair). as_advertised p c.prefix) pairs ∙ ap (as_advertised (assigned_pair x)) (sym found.3) in
       (x, held.0, record { priority = of_c.priority; published = found.2; is = of_c.is ∙ advertised }))
       (λ (other : ¬ (assigned_pair c ≡ pair)). (c, others c other there, of_c))
       (pair_cases (assigned_pair c) pair)
 
-pub advertise_same : (pair : Pair) (old new : Option Assigned) (before after : List Assigned) → IsAscending assigned_pair before → HasAt assigned_pair pair old before → Updates assigned_pair pair new before after
+pub advertise_same : (pair : Pair) (old new : Option Assigned) (before after : List Assigned)
+    → IsAscending assigned_pair before → HasAt assigned_pair pair old before → Updates assigned_pair pair new before after
     → published_of_pair old ≡ published_of_pair new → AdvertiseSame before after
 advertise_same pair old new before after up had u same view advertised are a =
     let here = are a in (

@@ -86,7 +86,8 @@ module _ (view : PlainView) (adv : List Advertised) where
     stays pair c has = record { ascending = up; here = has; others = λ x not. (λ h. h, λ h. h) }
 
     -- a pair with an assignment has no backoff
-    run_assigned : (wish : Wish) (wishes : List Wish) (backoffs : List Backoff) (c : Assigned) → IsAscending wish_pair (wish ∷ wishes) → IsAtRest adv view.own wish (Some c) → HasAt assigned_pair (wish_pair wish) (Some c) xs → CanRun wishes backoffs → CanRun (wish ∷ wishes) backoffs
+    run_assigned : (wish : Wish) (wishes : List Wish) (backoffs : List Backoff) (c : Assigned)
+        → IsAscending wish_pair (wish ∷ wishes) → IsAtRest adv view.own wish (Some c) → HasAt assigned_pair (wish_pair wish) (Some c) xs → CanRun wishes backoffs → CanRun (wish ∷ wishes) backoffs
     run_assigned wish wishes backoffs c ups rest has can =
         let none = none_for wish wishes backoffs ups can in
         let step : IsPairStep view wish [] (state backoffs) (state backoffs) = record {
@@ -113,16 +114,19 @@ module _ (view : PlainView) (adv : List Advertised) where
         }
 
     -- the backoff of a pair without an assignment comes first, and its step ends it
-    first_ascends : (wish : Wish) (wishes : List Wish) (backoffs : List Backoff) → IsAscending wish_pair (wish ∷ wishes) → CanRun wishes backoffs → IsAscending backoff_pair (due_backoff wish view.now ∷ backoffs)
+    first_ascends : (wish : Wish) (wishes : List Wish) (backoffs : List Backoff)
+        → IsAscending wish_pair (wish ∷ wishes) → CanRun wishes backoffs → IsAscending backoff_pair (due_backoff wish view.now ∷ backoffs)
     unfolding IsStrictlySortedBy
     first_ascends wish wishes backoffs ups can = (
       recursion_from_All (λ b. pair_cmp (wish_pair wish) (backoff_pair b) ≡ Less) backoffs
           (each_all (λ b. pair_cmp (wish_pair wish) (backoff_pair b) ≡ Less) backoffs
-          (λ b there. let due = (can.due b).0 there in subst (λ (p : Pair). pair_cmp (wish_pair wish) p ≡ Less) (sym (ap backoff_pair due.3)) (below_head (on wish_pair pair_cmp) wish wishes ups due.0 due.1))),
+          (λ b there. let due = (can.due b).0 there in
+          subst (λ (p : Pair). pair_cmp (wish_pair wish) p ≡ Less) (sym (ap backoff_pair due.3)) (below_head (on wish_pair pair_cmp) wish wishes ups due.0 due.1))),
       can.ascending,
     )
 
-    run_unassigned : (wish : Wish) (wishes : List Wish) (backoffs : List Backoff) → IsAscending wish_pair (wish ∷ wishes) → IsAtRest adv view.own wish None → HasAt assigned_pair (wish_pair wish) None xs → CanRun wishes backoffs → CanRun (wish ∷ wishes) (due_backoff wish view.now ∷ backoffs)
+    run_unassigned : (wish : Wish) (wishes : List Wish) (backoffs : List Backoff) → IsAscending wish_pair (wish ∷ wishes)
+        → IsAtRest adv view.own wish None → HasAt assigned_pair (wish_pair wish) None xs → CanRun wishes backoffs → CanRun (wish ∷ wishes) (due_backoff wish view.now ∷ backoffs)
     run_unassigned wish wishes backoffs ups rest has can =
         let first = due_backoff wish view.now in
         let step : IsPairStep view wish [] (state (first ∷ backoffs)) (state backoffs) = record {

@@ -29,7 +29,10 @@ candidate_in a b own common d x same h = let both = same x in record { advertise
 
 pub best_in : (a b : List Advertised) (own : ℕ) (common : LinkEndpoints) (d : PlainPrefix) (best : Option Advertised) → HaveSame a b → IsBestIfAny a own common d best → IsBestIfAny b own common d best
 best_in a b own common d None same none = λ x h. none x (candidate_in b a own common d x (same_back a b same) h)
-best_in a b own common d (Some best) same is = record { candidate = candidate_in a b own common d best same is.candidate; greatest = λ x h. is.greatest x (candidate_in b a own common d x (same_back a b same) h) }
+best_in a b own common d (Some best) same is = record {
+  candidate = candidate_in a b own common d best same is.candidate;
+  greatest = λ x h. is.greatest x (candidate_in b a own common d x (same_back a b same) h);
+}
 
 -- the best is one
 two_bests : (adv : List Advertised) (own : ℕ) (common : LinkEndpoints) (d : PlainPrefix) (x y : Advertised) → IsBest adv own common d x → IsBest adv own common d y → x ≡ y

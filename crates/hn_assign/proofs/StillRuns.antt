@@ -48,7 +48,8 @@ marked_applied now c is = elim (marked_cases now c) [
 ]
 
 -- where an assignment that is not marked does not come to its age, its mark at both moments is the same
-same_mark : (before after : ℕ) (c : Assigned) → before ≤ after → (c.applied ≡ false → marked_applied before c ≡ c → before < c.since + 10000 → after < c.since + 10000) → marked_applied after c ≡ marked_applied before c
+same_mark : (before after : ℕ) (c : Assigned) → before ≤ after
+    → (c.applied ≡ false → marked_applied before c ≡ c → before < c.since + 10000 → after < c.since + 10000) → marked_applied after c ≡ marked_applied before c
 same_mark before after c order young = elim (marked_cases before c) [
   | inl (old, was) ↦
       elim (marked_cases after c) [
@@ -67,12 +68,15 @@ same_mark before after c order young = elim (marked_cases before c) [
           | inr (younger, gives) ↦ gives ∙ sym was
         ]
 
-same_marks : (before after : ℕ) (xs : List Assigned) → ((c : Assigned) → Contains xs c → marked_applied after c ≡ marked_applied before c) → map (marked_applied after) xs ≡ map (marked_applied before) xs
+same_marks : (before after : ℕ) (xs : List Assigned)
+    → ((c : Assigned) → Contains xs c → marked_applied after c ≡ marked_applied before c) → map (marked_applied after) xs ≡ map (marked_applied before) xs
 same_marks before after [] each = refl
-same_marks before after (x ∷ xs) each = ap (λ (y : Assigned). y ∷ map (marked_applied after) xs) (each x (Contains-head x xs)) ∙ ap (λ (ys : List Assigned). marked_applied before x ∷ ys) (same_marks before after xs (λ c h. each c (Contains-tail x xs c h)))
+same_marks before after (x ∷ xs) each = ap (λ (y : Assigned). y ∷ map (marked_applied after) xs) (each x (Contains-head x xs))
+    ∙ ap (λ (ys : List Assigned). marked_applied before x ∷ ys) (same_marks before after xs (λ c h. each c (Contains-tail x xs c h)))
 
 -- what marked assignments have for a pair
-has_marked : (now : ℕ) (pair : Pair) (o : Option Assigned) (xs : List Assigned) → HasAt assigned_pair pair o xs → HasAt assigned_pair pair (option_map (marked_applied now) o) (map (marked_applied now) xs)
+has_marked : (now : ℕ) (pair : Pair) (o : Option Assigned) (xs : List Assigned)
+    → HasAt assigned_pair pair o xs → HasAt assigned_pair pair (option_map (marked_applied now) o) (map (marked_applied now) xs)
 has_marked now pair None xs none = λ x h is.
     let was = Contains-from_map (marked_applied now) xs x h in
     none was.0 was.1 (sym (marked_pair now was.0) ∙ ap assigned_pair was.2 ∙ is)
@@ -110,7 +114,14 @@ module _ (own : ℕ) (wish : Wish) (adv : List Advertised) (now later : ℕ) whe
   line_later None (Some c) before after words none stays due (inl kept, took) = (inl (record { published = kept.published; gives = kept.gives }), took)
   line_later None (Some c) before after words none stays due (inr adopted, took) = (inr (record { unpublished = adopted.unpublished; gives = adopted.gives }), took)
   line_later (Some b) (Some c) before after words none stays due (inl kept, took) = (inl (record { ahead = ahead_later b c kept.ahead; gives = kept.gives }), took)
-  line_later (Some b) (Some c) before after words none stays due (inr (inl yielded), took) = (inr (inl (record { not_ahead = λ h. yielded.not_ahead (ahead_before b c h); same = yielded.same; gives = yielded.gives })), took)
+  line_later (Some b) (Some c) before after words none stays due (inr (inl yielded), took) = (
+    inr (inl (record {
+      not_ahead = λ h. yielded.not_ahead (ahead_before b c h);
+      same = yielded.same;
+      gives = yielded.gives;
+    })),
+    took,
+  )
   line_later (Some b) (Some c) before after words none stays due (inr (inr replaced), took) = absurd (replaced.other prefix)
     where
       new : Assigned
@@ -144,30 +155,40 @@ pub record Stands (wishes : List Wish) (held : Held) (r : Ran) : Type 0 where
   pub backoffs : (w : Wish) → Contains wishes w → (o : Option Backoff) → HasAt backoff_pair (wish_pair w) o r.held.backoffs → HasAt backoff_pair (wish_pair w) o held.backoffs
 
 -- so it is at the begin
-begun_has : {A : Type 0} (key : A → Pair) (wishes : List Wish) (xs ys : List A) → KeepsWished key wishes xs ys → (w : Wish) → Contains wishes w → (o : Option A) → HasAt key (wish_pair w) o ys → HasAt key (wish_pair w) o xs
+begun_has : {A : Type 0} (key : A → Pair) (wishes : List Wish) (xs ys : List A)
+    → KeepsWished key wishes xs ys → (w : Wish) → Contains wishes w → (o : Option A) → HasAt key (wish_pair w) o ys → HasAt key (wish_pair w) o xs
 begun_has key wishes xs ys keeps w there None none = λ x h is. none x ((keeps.those x).1 (h, (w, there, sym is))) is
 begun_has key wishes xs ys keeps w there (Some y) has = (((keeps.those y).0 has.0).0, has.1)
 
-module _ (before after : PlainView) (later : IsLater before after) (held : Held) (up : IsAscending assigned_pair held.assigned) (none_due : (m : ℕ) → IsHeldDue held m → before.now < m → after.now < m) (last : Ran)
+module _ (before after : PlainView) (later : IsLater before after) (held : Held) (up : IsAscending assigned_pair held.assigned)
+    (none_due : (m : ℕ) → IsHeldDue held m → before.now < m → after.now < m) (last : Ran)
     (marks : held.assigned ≡ map (marked_applied before.now) last.held.assigned) (none : last.words ≡ []) where
-  stands_next : (wish : Wish) (wishes : List Wish) (words : List ℕ) (r between : Ran) → IsAscending wish_pair (wish ∷ wishes) → Stands (wish ∷ wishes) held r → IsPairStep before wish words r between → Stands wishes held between
+  stands_next : (wish : Wish) (wishes : List Wish) (words : List ℕ) (r between : Ran)
+      → IsAscending wish_pair (wish ∷ wishes) → Stands (wish ∷ wishes) held r → IsPairStep before wish words r between → Stands wishes held between
   stands_next wish wishes words r between ups stands step = record {
     assigned = λ w h o has.
-        stands.assigned w (Contains-tail wish wishes w h) o (had_still assigned_pair (wish_pair wish) (wish_pair w) step.new.assigned o r.held.assigned between.held.assigned step.assigned (λ same. later_other wish wishes w ups h (sym same)) has);
+        stands.assigned w (Contains-tail wish wishes w h) o
+        (had_still assigned_pair (wish_pair wish) (wish_pair w) step.new.assigned o r.held.assigned between.held.assigned step.assigned (λ same. later_other wish wishes w ups h (sym same)) has);
     backoffs = λ w h o has.
-        stands.backoffs w (Contains-tail wish wishes w h) o (had_still backoff_pair (wish_pair wish) (wish_pair w) step.new.backoff o r.held.backoffs between.held.backoffs step.backoffs (λ same. later_other wish wishes w ups h (sym same)) has);
+        stands.backoffs w (Contains-tail wish wishes w h) o
+        (had_still backoff_pair (wish_pair wish) (wish_pair w) step.new.backoff o r.held.backoffs between.held.backoffs step.backoffs (λ same. later_other wish wishes w ups h (sym same)) has);
   }
 
-  step_later : (wish : Wish) (wishes : List Wish) (words : List ℕ) (r between : Ran) → IsAscending wish_pair (wish ∷ wishes) → Stands (wish ∷ wishes) held r → (step : IsPairStep before wish words r between) → AreSteps before wishes between last → IsPairStep after wish words r between
+  step_later : (wish : Wish) (wishes : List Wish) (words : List ℕ) (r between : Ran) → IsAscending wish_pair (wish ∷ wishes)
+      → Stands (wish ∷ wishes) held r → (step : IsPairStep before wish words r between) → AreSteps before wishes between last → IsPairStep after wish words r between
   step_later wish wishes words r between ups stands step rest =
       let pair = wish_pair wish in
       let head = Contains-head wish wishes in
       let no_word : words ≡ [] = (none_of_both r.words words (sym step.took ∙ no_words before wishes between last rest none)).1 in
-      let in_last : HasAt assigned_pair pair step.new.assigned last.held.assigned = steps_leave before wishes between last pair step.new.assigned (λ w h. later_other wish wishes w ups h) rest step.assigned.here in
-      let in_held : HasAt assigned_pair pair (option_map (marked_applied before.now) step.new.assigned) held.assigned = subst (HasAt assigned_pair pair (option_map (marked_applied before.now) step.new.assigned)) (sym marks) (has_marked before.now pair step.new.assigned last.held.assigned in_last) in
-      let stays : step.old.assigned ≡ option_map (marked_applied before.now) step.new.assigned = has_one assigned_pair pair held.assigned step.old.assigned (option_map (marked_applied before.now) step.new.assigned) up (stands.assigned wish head step.old.assigned step.had.assigned) in_held in
+      let in_last : HasAt assigned_pair pair step.new.assigned last.held.assigned =
+      steps_leave before wishes between last pair step.new.assigned (λ w h. later_other wish wishes w ups h) rest step.assigned.here in
+      let in_held : HasAt assigned_pair pair (option_map (marked_applied before.now) step.new.assigned) held.assigned =
+      subst (HasAt assigned_pair pair (option_map (marked_applied before.now) step.new.assigned)) (sym marks) (has_marked before.now pair step.new.assigned last.held.assigned in_last) in
+      let stays : step.old.assigned ≡ option_map (marked_applied before.now) step.new.assigned = has_one assigned_pair pair held.assigned step.old.assigned
+      (option_map (marked_applied before.now) step.new.assigned) up (stands.assigned wish head step.old.assigned step.had.assigned) in_held in
       let had : HasAt backoff_pair pair step.old.backoff held.backoffs = stands.backoffs wish head step.old.backoff step.had.backoff in
-      let due : (b : Backoff) → step.old.backoff ≡ Some b → before.now < b.due → after.now < b.due = λ b is soon. none_due b.due (inl (b, (subst (λ (o : Option Backoff). HasAt backoff_pair pair o held.backoffs) is had).0, refl)) soon in
+      let due : (b : Backoff) → step.old.backoff ≡ Some b → before.now < b.due → after.now < b.due =
+      λ b is soon. none_due b.due (inl (b, (subst (λ (o : Option Backoff). HasAt backoff_pair pair o held.backoffs) is had).0, refl)) soon in
       let turn = turn_later before.own wish step.advertised before.now after.now step.old step.new words no_word stays due step.turn in
       record {
         advertised = step.advertised;
@@ -196,7 +217,8 @@ module _ (before after : PlainView) (later : IsLater before after) (held : Held)
       same_mark before.now after.now c (omega (arith, now)) (λ unmarked is soon. none_due (c.since + 10000) (inr (c, in_held is, unmarked, refl)) soon)
     where
       in_held : marked_applied before.now c ≡ c → Contains held.assigned c
-      in_held is = subst (λ (xs : List Assigned). Contains xs c) (sym marks) (subst (Contains (map (marked_applied before.now) last.held.assigned)) is (Contains-map (marked_applied before.now) last.held.assigned c there))
+      in_held is = subst (λ (xs : List Assigned). Contains xs c) (sym marks)
+          (subst (Contains (map (marked_applied before.now) last.held.assigned)) is (Contains-map (marked_applied before.now) last.held.assigned c there))
 
   pub marks_later : held.assigned ≡ map (marked_applied after.now) last.held.assigned
   marks_later = marks ∙ sym (same_marks before.now after.now last.held.assigned mark_later)

@@ -30,5 +30,6 @@ one_wish_more xs ys wish w none u = (there, back)
 pub wishes_more : (xs ys : List Wish) (wish : Wish) → HasAt wish_pair (wish_pair wish) None xs → Updates wish_pair (wish_pair wish) (Some wish) xs ys → AreWishes xs → IsFitting wish → AreWishes ys
 wishes_more xs ys wish none u are fits = record {
   ascending = u.ascending;
-  fitting = each_all IsFitting ys (λ w h. ⊎_elim (λ (old : Contains xs w). all_each IsFitting xs are.fitting w old) (λ (same : wish ≡ w). subst IsFitting same fits) ((one_wish_more xs ys wish w none u).0 h));
+  fitting = each_all IsFitting ys
+      (λ w h. ⊎_elim (λ (old : Contains xs w). all_each IsFitting xs are.fitting w old) (λ (same : wish ≡ w). subst IsFitting same fits) ((one_wish_more xs ys wish w none u).0 h));
 }

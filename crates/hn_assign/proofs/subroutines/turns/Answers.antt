@@ -20,7 +20,8 @@ loop-wish-preserved g c =
           (steps_more view (take i wishes) c.wish-item.result took.words c.args.ran.now c.loop-wish.ran c.step.new.self c.loop-wish.invariant.steps took.step);
       known = elim c.if-branch.branch [
         | then-branch+in_ok-known-2 w ↦ subst (AreAdvertised view c.step.new.self.held.assigned) (sym w.known-is) w.in_ok-known-2.ensures
-        | else-branch w ↦ subst (AreAdvertised view c.step.new.self.held.assigned) (sym w.known-is) (c.in_ok-step.ensures.unchanged w.if-branch.false view c.loop-wish.known c.loop-wish.invariant.known)
+        | else-branch w ↦
+            subst (AreAdvertised view c.step.new.self.held.assigned) (sym w.known-is) (c.in_ok-step.ensures.unchanged w.if-branch.false view c.loop-wish.known c.loop-wish.invariant.known)
       ];
       drew = took_more c.words_join.ensures view c.wish-item.result _ _ _ c.loop-wish.ran c.step.new.self c.loop-wish.invariant.drew took;
     }

@@ -7,4 +7,5 @@ returns-then-eq-clause-unchanged c unchanged = advertise_as_before _ _ (sym c.se
 
 pub returns-clause-unchanged : goal.returns-clause-unchanged
 returns-clause-unchanged c unchanged =
-    advertise_same c.args.pair.now c.args.old.now c.args.new.now c.args.self.now _ c.as_slice-ascending.ensures.ascending c.requires.had c.in_ok-set.ensures (c.publish_same.ensures (if_not c.publish_same.result unchanged))
+    advertise_same c.args.pair.now c.args.old.now c.args.new.now c.args.self.now _ c.as_slice-ascending.ensures.ascending c.requires.had c.in_ok-set.ensures
+    (c.publish_same.ensures (if_not c.publish_same.result unchanged))

@@ -11,7 +11,8 @@ invariant_of-self-in-Err c =
     let xs = c.self.inside.items.items in
     let pair = wish_pair c.args.wish in
     let place : IsPlaceOfPair wish_pair pair xs (Err c.in-Err.place) =
-    subst (λ (p : Pair). IsPlaceOfPair wish_pair p xs (Err c.in-Err.place)) c.pair.ensures (subst (λ (ws : List Wish). IsPlaceOfPair wish_pair c.pair.result ws (Err c.in-Err.place)) c.deref.ensures.value c.in-Err.ensures) in
+    subst (λ (p : Pair). IsPlaceOfPair wish_pair p xs (Err c.in-Err.place)) c.pair.ensures
+    (subst (λ (ws : List Wish). IsPlaceOfPair wish_pair c.pair.result ws (Err c.in-Err.place)) c.deref.ensures.value c.in-Err.ensures) in
     wishes_more xs c.insert.new.self.items c.args.wish
     (none_between wish_pair pair xs c.in-Err.place place.0 place.1.0 place.1.1 c.self.invariant.ascending)
     (put_between wish_pair pair xs xs c.insert.new.self.items c.in-Err.place (Some c.args.wish) refl place c.self.invariant.ascending refl c.in_ok-insert-in-Err.ensures.items)
@@ -29,7 +30,8 @@ returns-in_ok-insert-in-Err-clause-added c same w =
     let xs = c.self.inside.items.items in
     let pair = wish_pair c.args.wish in
     let place : IsPlaceOfPair wish_pair pair xs (Err c.in-Err.place) =
-    subst (λ (p : Pair). IsPlaceOfPair wish_pair p xs (Err c.in-Err.place)) c.pair.ensures (subst (λ (ws : List Wish). IsPlaceOfPair wish_pair c.pair.result ws (Err c.in-Err.place)) c.deref.ensures.value c.in-Err.ensures) in
+    subst (λ (p : Pair). IsPlaceOfPair wish_pair p xs (Err c.in-Err.place)) c.pair.ensures
+    (subst (λ (ws : List Wish). IsPlaceOfPair wish_pair c.pair.result ws (Err c.in-Err.place)) c.deref.ensures.value c.in-Err.ensures) in
     rw (← c.self.view_is)
     (one_wish_more xs c.insert.new.self.items c.args.wish w
     (none_between wish_pair pair xs c.in-Err.place place.0 place.1.0 place.1.1 c.self.invariant.ascending)

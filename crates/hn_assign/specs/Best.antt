@@ -9,7 +9,8 @@ use Rattle.hn_assign.specs.declared.assigned.Assigned.{Assigned}
 use Rattle.hn_assign.specs.Advertised.{LinkEndpoints, key_of, IsOnLink, advertised_cmp}
 
 -- another node advertises it on the link, inside the delegated prefix d
-pub record IsCandidatePrefix (adv : List Advertised) (own : ℕ) (common : LinkEndpoints) (d : PlainPrefix) (a : Advertised) : Type 0 where
+pub record IsCandidatePrefix (adv : List Advertised) (own : ℕ) (common : LinkEndpoints) (d : PlainPrefix) (a : Advertised)
+    : Type 0 where
   pub advertised : Contains adv a
   pub of_another : a.key.node.0 ≢ own
   pub on_link : IsOnLink common a

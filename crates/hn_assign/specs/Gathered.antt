@@ -47,4 +47,5 @@ published_of_pair (Some c) = option_map (λ priority. (priority, c.prefix)) c.pu
 
 -- what is advertised before is advertised afterwards, whatever the view
 abbrev pub AdvertiseSame : List Assigned → List Assigned → Type 0
-AdvertiseSame before after = (view : PlainView) (advertised : List Advertised) → AreAdvertised view before advertised → AreAdvertised view after advertised
+AdvertiseSame before after =
+    (view : PlainView) (advertised : List Advertised) → AreAdvertised view before advertised → AreAdvertised view after advertised

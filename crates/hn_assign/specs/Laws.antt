@@ -128,7 +128,8 @@ AdvertisedOfUnchanged =
 -- And the same pairs are at rest.
 abbrev pub RestStays : Type 0
 RestStays =
-    (advertised : List Advertised) (own : ℕ) (wishes : List Wish) (before after : List Assigned) → AreAssignmentsUnchanged before after
+    (advertised : List Advertised) (own : ℕ) (wishes : List Wish) (before after : List Assigned)
+    → AreAssignmentsUnchanged before after
     → AreAtRest advertised own wishes before ↔ AreAtRest advertised own wishes after
 
 -- A pair at rest stays so where its delegated prefix is wanted no more.
@@ -184,7 +185,8 @@ SameHaveSameFree =
 
 -- A view has a list of advertised prefixes, with whatever assignments.
 abbrev pub AdvertisedExists : Type 0
-AdvertisedExists = (view : PlainView) (assigned : List Assigned) → (advertised : List Advertised) × AreAdvertised view assigned advertised
+AdvertisedExists =
+    (view : PlainView) (assigned : List Assigned) → (advertised : List Advertised) × AreAdvertised view assigned advertised
 
 -- It cannot be that the subroutine has no result over a stream of words.
 abbrev pub SubroutineHasAResult : Type 0

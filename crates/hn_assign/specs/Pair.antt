@@ -49,4 +49,5 @@ pub record KeepsWished {A : Type 0} (pair_of : A → Pair) (wishes : List Wish) 
 abbrev pub IsPlaceOfPair : {A : Type 0} → (A → Pair) → Pair → List A → Result ℕ ℕ → Type 0
 IsPlaceOfPair pair_of pair xs (Ok place) = (place < length xs) × HoldsAt (λ x. pair_of x ≡ pair) xs place
 IsPlaceOfPair pair_of pair xs (Err place) =
-    (place ≤ length xs) × IsPartitionPoint (λ x. pair_cmp (pair_of x) pair ≡ Less) (λ x. pair_cmp (pair_of x) pair ≡ Greater) xs place
+    (place ≤ length xs)
+    × IsPartitionPoint (λ x. pair_cmp (pair_of x) pair ≡ Less) (λ x. pair_cmp (pair_of x) pair ≡ Greater) xs place

@@ -2,7 +2,8 @@
 
 ghost use Rattle.std.specs.Prelude.{◌≡◌, ◌↔◌, IsTrue, IsSome, IsNone, Some};
 ghost use Rattle.hn_assign.specs.Scene.{plain_scene};
-ghost use Rattle.hn_assign.specs.Lines.{following, IfValid, IsAhead, IsFollowed, IsKeptAlone, IsAdopted, IsKeptAhead, IsYielded, IsReplacedByBest};
+ghost use Rattle.hn_assign.specs.Lines.{following, IfValid, IsAhead, IsFollowed, IsKeptAlone, IsAdopted, IsKeptAhead};
+ghost use Rattle.hn_assign.specs.Lines.{IsYielded, IsReplacedByBest};
 
 use crate::assigned::{Advertised, Assigned};
 use crate::precedence::PRIORITY;

@@ -25,8 +25,10 @@ impl Ran {
         requires known { AreAdvertised (plain_view view.now) self.old.held.assigned known.now }
         requires length { wish.now.length ≤ 64 }
         requires moment { view.now.now ≤ 2 ^ 48 }
-        ensures step { IfOk result (λ _. StepTook (plain_view view.entry.now) wish.now (D.words draw.old) (D.words draw.new) self.old self.new) }
-        ensures unchanged { IfOk result (λ changed. changed ≡ false → AdvertiseSame self.old.held.assigned self.new.held.assigned) }
+        ensures step { IfOk result (λ _. StepTook (plain_view view.entry.now) wish.now (D.words draw.old) (D.words draw.new)
+            self.old self.new) }
+        ensures unchanged { IfOk result (λ changed. changed ≡ false
+            → AdvertiseSame self.old.held.assigned self.new.held.assigned) }
     {
         let pair = wish.pair();
         let before = self.held.slot(&pair);

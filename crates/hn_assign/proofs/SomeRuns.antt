@@ -1,10 +1,8 @@
 -- A run of the subroutine cannot be missing, over whatever stream of words.
-use Rattle.std.proofs.Common.{◌≡◌, ◌∙◌, ℕ, List, [], ◌∷◌, ◌++◌, length, get_or, map, Contains, Option, None, Some, IfSome, refl, sym, subst, inl, inr, arith, length-append}
+use Rattle.std.proofs.Common.{◌≡◌, ℕ, List, [], ◌∷◌, ◌++◌, length, map, Contains, Option, None, Some, IfSome, refl, sym, subst, inl, inr, arith}
 use Rattle.std.specs.Prelude.{All}
 use Rattle.std.specs.Ordering.{on}
-use Rattle.std.proofs.Math.Seq.{get_or-append_seam}
-use Rattle.std.proofs.lemmas.Bool.{cases_lt}
-use Rattle.std.proofs.lemmas.List.{append-nil, get_or_append_left}
+use Rattle.std.proofs.lemmas.List.{append-nil}
 use Rattle.hn_base.specs.Ascending.{HasAt}
 use Rattle.hn_base.specs.Prefix.{IsPrefix}
 use Rattle.hn_base.specs.Words.{Begins}
@@ -12,6 +10,7 @@ use Rattle.hn_base.proofs.AscendingLists.{Contains-head, Contains-tail, Contains
 use Rattle.hn_data.specs.View.{PlainView}
 use Rattle.hn_base.specs.Exists.{Some! }
 use Rattle.hn_prefix.specs.Laws.{FreeOrFull, InsideAreSubPrefixes}
+use Rattle.hn_base.proofs.FirstWords.{begins_next}
 use Rattle.hn_base.proofs.Somes.{IsPart, some_is, some_then, some_part}
 use Rattle.hn_assign.specs.declared.assigned.Assigned.{Assigned}
 use Rattle.hn_assign.specs.declared.assigned.Wish.{Wish}

@@ -41,8 +41,8 @@ marked_cases now c = elim (cases_lt (now - c.since) 10000) [
 ]
 
 -- what is applied stays so
-marked_applied : (now : ℕ) (c : Assigned) → c.applied ≡ true → marked_applied now c ≡ c
-marked_applied now c is = elim (marked_cases now c) [
+stays_applied : (now : ℕ) (c : Assigned) → c.applied ≡ true → marked_applied now c ≡ c
+stays_applied now c is = elim (marked_cases now c) [
   | inl (old, gives) ↦ gives ∙ ap (λ (b : Bool). record c { applied = b }) (sym is)
   | inr (young, gives) ↦ gives
 ]
@@ -60,7 +60,7 @@ same_mark before after c order young = elim (marked_cases before c) [
 ]
   where
     by_mark : (b : Bool) → c.applied ≡ b → before - c.since < 10000 → marked_applied before c ≡ c → marked_applied after c ≡ marked_applied before c
-    by_mark true is recent was = marked_applied after c is ∙ sym was
+    by_mark true is recent was = stays_applied after c is ∙ sym was
     by_mark false is recent was =
         let soon : after < c.since + 10000 = young is was (omega (arith, recent)) in
         elim (marked_cases after c) [

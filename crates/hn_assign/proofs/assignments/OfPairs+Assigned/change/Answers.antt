@@ -1,9 +1,9 @@
-use Rattle.std.proofs.Common.{sym}
+use Rattle.std.proofs.Common.{refl}
 use Rattle.hn_assign.proofs.Published.{advertise_same, advertise_as_before, if_not}
 use Rattle.hn_assign.proofs.assignments.OfPairs+Assigned.change.Goals as goal
 
 pub returns-then-eq-clause-unchanged : goal.returns-then-eq-clause-unchanged
-returns-then-eq-clause-unchanged c unchanged = advertise_as_before _ _ (sym c.self.view_is)
+returns-then-eq-clause-unchanged c unchanged = advertise_as_before _ _ refl
 
 pub returns-clause-unchanged : goal.returns-clause-unchanged
 returns-clause-unchanged c unchanged =

@@ -6,44 +6,47 @@ use Rattle.std.proofs.lemmas.Cmp.{upto, tied_itself}
 use Rattle.std.proofs.lemmas.List.Elements.{Contains-push, Contains-push_cases, Contains-append_left}
 use Rattle.hn_base.specs.Prefix.{PlainPrefix, IsWithin}
 use Rattle.hn_assign.specs.declared.assigned.Advertised.{Advertised}
-use Rattle.hn_assign.specs.Advertised.{Link, IsOnLink, advertised_cmp}
-use Rattle.hn_assign.specs.Best.{IsCandidate, IsBest, IsBestIfAny}
+use Rattle.hn_assign.specs.Advertised.{LinkEndpoints, IsOnLink, advertised_cmp}
+use Rattle.hn_assign.specs.Best.{IsCandidatePrefix, IsBest, IsBestIfAny}
 use Rattle.hn_assign.proofs.Orders.{advertised_total}
 
 -- what makes an advertised prefix a candidate
-abbrev pub IsEligible : ℕ → Link → PlainPrefix → Advertised → Type 0
+abbrev pub IsEligible : ℕ → LinkEndpoints → PlainPrefix → Advertised → Type 0
 IsEligible own common d a = (a.key.node.0 ≢ own) × IsOnLink common a × IsWithin a.prefix d
 
-module _ (own : ℕ) (common : Link) (d : PlainPrefix) where
-  older : (xs : List Advertised) (x a : Advertised) → IsCandidate xs own common d a → IsCandidate (xs ++ x ∷ []) own common d a
+module _ (own : ℕ) (common : LinkEndpoints) (d : PlainPrefix) where
+  older : (xs : List Advertised) (x a : Advertised) → IsCandidatePrefix xs own common d a → IsCandidatePrefix (xs ++ x ∷ []) own common d a
   older xs x a h = record { advertised = Contains-append_left xs (x ∷ []) a h.advertised; of_another = h.of_another; on_link = h.on_link; inside = h.inside }
 
-  newest : (xs : List Advertised) (x : Advertised) → IsEligible own common d x → IsCandidate (xs ++ x ∷ []) own common d x
+  newest : (xs : List Advertised) (x : Advertised) → IsEligible own common d x → IsCandidatePrefix (xs ++ x ∷ []) own common d x
   newest xs x h = record { advertised = Contains-push xs x; of_another = h.0; on_link = h.1; inside = h.2 }
 
-  cases : (xs : List Advertised) (x a : Advertised) → IsCandidate (xs ++ x ∷ []) own common d a → IsCandidate xs own common d a ⊎ (x ≡ a)
+  cases : (xs : List Advertised) (x a : Advertised) → IsCandidatePrefix (xs ++ x ∷ []) own common d a → IsCandidatePrefix xs own common d a ⊎ (x ≡ a)
   cases xs x a h =
       ⊎_elim (λ (old : Contains xs a). inl (record { advertised = old; of_another = h.of_another; on_link = h.on_link; inside = h.inside }))
       (λ (new : x ≡ a). inr new)
       (Contains-push_cases xs x a h.advertised)
 
-  eligible : (xs : List Advertised) (a : Advertised) → IsCandidate xs own common d a → IsEligible own common d a
+  eligible : (xs : List Advertised) (a : Advertised) → IsCandidatePrefix xs own common d a → IsEligible own common d a
   eligible xs a h = (h.of_another, h.on_link, h.inside)
 
   -- one more that is no candidate
   pub best_passed : (xs : List Advertised) (x : Advertised) (best : Option Advertised) → IsBestIfAny xs own common d best → ¬ (IsEligible own common d x) → IsBestIfAny (xs ++ x ∷ []) own common d best
   best_passed xs x None none not = λ a h.
-      ⊎_elim (λ (old : IsCandidate xs own common d a). none a old) (λ (new : x ≡ a). not (subst (IsEligible own common d) (sym new) (eligible (xs ++ x ∷ []) a h))) (cases xs x a h)
+      ⊎_elim (λ (old : IsCandidatePrefix xs own common d a). none a old) (λ (new : x ≡ a). not (subst (IsEligible own common d) (sym new) (eligible (xs ++ x ∷ []) a h))) (cases xs x a h)
   best_passed xs x (Some best) is not = record {
     candidate = older xs x best is.candidate;
-    greatest = λ a h. ⊎_elim (λ (old : IsCandidate xs own common d a). is.greatest a old) (λ (new : x ≡ a). absurd (not (subst (IsEligible own common d) (sym new) (eligible (xs ++ x ∷ []) a h)))) (cases xs x a h);
+    greatest = λ a h. ⊎_elim (λ (old : IsCandidatePrefix xs own common d a). is.greatest a old)
+        (λ (new : x ≡ a). absurd (not (subst (IsEligible own common d) (sym new) (eligible (xs ++ x ∷ []) a h)))) (cases xs x a h);
   }
 
   -- the newest is the greatest where none of the older ones is greater
-  newest_best : (xs : List Advertised) (x : Advertised) → IsEligible own common d x → ((a : Advertised) → IsCandidate xs own common d a → ¬ (advertised_cmp x a ≡ Less)) → IsBest (xs ++ x ∷ []) own common d x
+  newest_best : (xs : List Advertised) (x : Advertised)
+      → IsEligible own common d x → ((a : Advertised) → IsCandidatePrefix xs own common d a → ¬ (advertised_cmp x a ≡ Less)) → IsBest (xs ++ x ∷ []) own common d x
   newest_best xs x may none = record {
     candidate = newest xs x may;
-    greatest = λ a h. ⊎_elim (none a) (λ (new : x ≡ a). λ less. let same : advertised_cmp x x ≡ Equal = tied_itself advertised_total x in let clash : advertised_cmp x x ≡ Less = subst (λ (y : Advertised). advertised_cmp x y ≡ Less) (sym new) less in cc) (cases xs x a h);
+    greatest = λ a h. ⊎_elim (none a) (λ (new : x ≡ a). λ less. let same : advertised_cmp x x ≡ Equal = tied_itself advertised_total x in
+        let clash : advertised_cmp x x ≡ Less = subst (λ (y : Advertised). advertised_cmp x y ≡ Less) (sym new) less in cc) (cases xs x a h);
   }
 
   not_greater : (x y : Advertised) → ¬ (advertised_cmp x y ≡ Less) → is_gt (advertised_cmp y x) ≡ false
@@ -70,5 +73,7 @@ module _ (own : ℕ) (common : Link) (d : PlainPrefix) where
             let turned : advertised_cmp b x ≡ Greater = advertised_total.antisymm b x ∙ ap ordering_reverse e in
             let clash : advertised_cmp b x ≡ Less = subst (λ (y : Advertised). advertised_cmp b y ≡ Less) (sym new) less in cc) (cases xs x a h);
       }
-      by_order Equal e = newest_best xs x may (λ a h. not_less x a (upto advertised_total a b x (not_greater b a (old.greatest a h)) (ap is_gt (advertised_total.antisymm b x) ∙ ap (λ o. is_gt (ordering_reverse o)) e)))
-      by_order Greater e = newest_best xs x may (λ a h. not_less x a (upto advertised_total a b x (not_greater b a (old.greatest a h)) (ap is_gt (advertised_total.antisymm b x) ∙ ap (λ o. is_gt (ordering_reverse o)) e)))
+      by_order Equal e = newest_best xs x may
+          (λ a h. not_less x a (upto advertised_total a b x (not_greater b a (old.greatest a h)) (ap is_gt (advertised_total.antisymm b x) ∙ ap (λ o. is_gt (ordering_reverse o)) e)))
+      by_order Greater e = newest_best xs x may
+          (λ a h. not_less x a (upto advertised_total a b x (not_greater b a (old.greatest a h)) (ap is_gt (advertised_total.antisymm b x) ∙ ap (λ o. is_gt (ordering_reverse o)) e)))

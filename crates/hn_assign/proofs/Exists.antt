@@ -16,8 +16,8 @@ use Rattle.hn_assign.specs.declared.assigned.Advertised.{Advertised}
 use Rattle.hn_assign.specs.declared.assigned.Assigned.{Assigned}
 use Rattle.hn_assign.specs.Gathered.{IsOfNode, IsOfOther, IsOwn, IsAdvertised, own_advertised}
 use Rattle.hn_assign.specs.Laws.{AdvertisedExists}
-use Rattle.hn_assign.proofs.Gathers.{said_by, of_node, own_some}
-use Rattle.hn_assign.proofs.Grown.{Of}
+use Rattle.hn_assign.proofs.AdvertisedBy.{said_by, of_node, own_some}
+use Rattle.hn_assign.proofs.GrownByEach.{Of}
 
 -- ---- lists of what belongs
 

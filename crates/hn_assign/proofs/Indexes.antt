@@ -8,8 +8,8 @@ use Rattle.hn_base.proofs.LeadingBits.{alike_in_shorter}
 use Rattle.hn_data.specs.View.{PlainView}
 use Rattle.hn_assign.specs.declared.assigned.Advertised.{Advertised}
 use Rattle.hn_assign.specs.declared.assigned.Assigned.{Assigned}
-use Rattle.hn_assign.specs.Advertised.{Link}
-use Rattle.hn_assign.specs.Best.{IsCandidate, IsBestIfAny, IsValid}
+use Rattle.hn_assign.specs.Advertised.{LinkEndpoints}
+use Rattle.hn_assign.specs.Best.{IsCandidatePrefix, IsBestIfAny, IsValid}
 use Rattle.hn_assign.specs.Gathered.{AreAdvertised}
 use Rattle.hn_assign.specs.Indexed.{short_of}
 
@@ -22,11 +22,11 @@ pub record IsStarting (adv : List Advertised) (outer : PlainPrefix) (part : List
   pub of_all : (a : Advertised) → Contains part a → Contains adv a
   pub starting : (a : Advertised) → Contains adv a → IsInside a.prefix.bits outer → Contains part a
 
-module _ (adv part : List Advertised) (own : ℕ) (common : Link) (d : PlainPrefix) (is : IsStarting adv d part) where
-  candidate_here : (a : Advertised) → IsCandidate adv own common d a → IsCandidate part own common d a
+module _ (adv part : List Advertised) (own : ℕ) (common : LinkEndpoints) (d : PlainPrefix) (is : IsStarting adv d part) where
+  candidate_here : (a : Advertised) → IsCandidatePrefix adv own common d a → IsCandidatePrefix part own common d a
   candidate_here a h = record { advertised = is.starting a h.advertised (h.inside a.prefix.bits refl); of_another = h.of_another; on_link = h.on_link; inside = h.inside }
 
-  candidate_there : (a : Advertised) → IsCandidate part own common d a → IsCandidate adv own common d a
+  candidate_there : (a : Advertised) → IsCandidatePrefix part own common d a → IsCandidatePrefix adv own common d a
   candidate_there a h = record { advertised = is.of_all a h.advertised; of_another = h.of_another; on_link = h.on_link; inside = h.inside }
 
   -- the best of those that start inside the delegated prefix is the best of all
@@ -50,12 +50,12 @@ pub of_short : (adv : List Advertised) (a : Advertised) → Contains (short_of a
 of_short adv a h = let both = from_filter (λ x. nat_lt x.prefix.len 64) adv a h in both.0
 
 -- what is valid among all is so among the short ones
-module _ (adv short : List Advertised) (own : ℕ) (common : Link) (c : Assigned) (is_short : short ≡ short_of adv) where
+module _ (adv short : List Advertised) (own : ℕ) (common : LinkEndpoints) (c : Assigned) (is_short : short ≡ short_of adv) where
   pub valid_of_short : IsValid adv own common c → IsValid short own common c
   valid_of_short valid a h = valid a (of_short adv a (subst (λ (xs : List Advertised). Contains xs a) is_short h))
 
 -- an assignment of at most 64 bits is valid among all where it is among the short ones and those that start inside
-module _ (adv short part : List Advertised) (own : ℕ) (common : Link) (c : Assigned) (is_short : short ≡ short_of adv) (is : IsStarting adv c.prefix part) where
+module _ (adv short part : List Advertised) (own : ℕ) (common : LinkEndpoints) (c : Assigned) (is_short : short ≡ short_of adv) (is : IsStarting adv c.prefix part) where
   pub valid_of_parts : c.prefix.len ≤ 64 → IsValid short own common c → IsValid part own common c → IsValid adv own common c
   valid_of_parts len among_short among_part a h off overlaps =
       ⊎_elim

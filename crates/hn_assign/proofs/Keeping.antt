@@ -8,7 +8,7 @@ use Rattle.hn_assign.specs.declared.assigned.Wish.{Wish}
 use Rattle.hn_assign.specs.declared.pair.Pair.{Pair}
 use Rattle.hn_assign.specs.Pair.{IsAscending, IsWished, KeepsWished}
 use Rattle.hn_base.proofs.FrontOfList.{front_more}
-use Rattle.hn_assign.proofs.Joins.{ascending_without}
+use Rattle.hn_assign.proofs.AroundPair.{ascending_without}
 
 module _ {A : Type 0} (key : A → Pair) (wishes : List Wish) where
   -- of the first elements those of wished pairs are kept
@@ -27,7 +27,8 @@ module _ {A : Type 0} (key : A → Pair) (wishes : List Wish) where
     ascending = rw add-one (ascending_without key kept x (drop (suc i) xs) (whole xs i x kept within is k.ascending));
     those = λ y. let more = front_more xs i x within is in (
       λ h. let old = (k.those y).0 h in (subst (λ (ys : List A). Contains ys y) (sym more) (Contains-append_left (take i xs) (x ∷ []) y old.0), old.1),
-      λ h. ⊎_elim (λ (old : Contains (take i xs) y). (k.those y).1 (old, h.1)) (λ (new : x ≡ y). absurd (not (subst (λ (z : A). IsWished wishes (key z)) (sym new) h.1))) (Contains-push_cases (take i xs) x y (subst (λ (ys : List A). Contains ys y) more h.0)),
+      λ h. ⊎_elim (λ (old : Contains (take i xs) y). (k.those y).1 (old, h.1))
+          (λ (new : x ≡ y). absurd (not (subst (λ (z : A). IsWished wishes (key z)) (sym new) h.1))) (Contains-push_cases (take i xs) x y (subst (λ (ys : List A). Contains ys y) more h.0)),
     );
   }
 
@@ -36,9 +37,13 @@ module _ {A : Type 0} (key : A → Pair) (wishes : List Wish) where
     ascending = rw (add-one, append_assoc kept (x ∷ []) (drop (suc i) xs)) (whole xs i x kept within is k.ascending);
     those = λ y. let more = front_more xs i x within is in (
       λ h. ⊎_elim (λ (old : Contains kept y). let was = (k.those y).0 old in (subst (λ (ys : List A). Contains ys y) (sym more) (Contains-append_left (take i xs) (x ∷ []) y was.0), was.1))
-          (λ (new : x ≡ y). (subst (λ (ys : List A). Contains ys y) (sym more) (subst (Contains (take i xs ++ x ∷ [])) new (Contains-push (take i xs) x)), subst (λ (z : A). IsWished wishes (key z)) new wished))
+          (λ (new : x ≡ y). (
+            subst (λ (ys : List A). Contains ys y) (sym more) (subst (Contains (take i xs ++ x ∷ [])) new (Contains-push (take i xs) x)),
+            subst (λ (z : A). IsWished wishes (key z)) new wished,
+          ))
           (Contains-push_cases kept x y h),
-      λ h. ⊎_elim (λ (old : Contains (take i xs) y). Contains-append_left kept (x ∷ []) y ((k.those y).1 (old, h.1))) (λ (new : x ≡ y). subst (Contains (kept ++ x ∷ [])) new (Contains-push kept x)) (Contains-push_cases (take i xs) x y (subst (λ (ys : List A). Contains ys y) more h.0)),
+      λ h. ⊎_elim (λ (old : Contains (take i xs) y). Contains-append_left kept (x ∷ []) y ((k.those y).1 (old, h.1)))
+          (λ (new : x ≡ y). subst (Contains (kept ++ x ∷ [])) new (Contains-push kept x)) (Contains-push_cases (take i xs) x y (subst (λ (ys : List A). Contains ys y) more h.0)),
     );
   }
 

@@ -1,29 +1,29 @@
-mod Ats
+pub mod AdvertisedBy
+pub mod AroundPair
+mod AtPair
 pub mod Bests
 pub mod Exists
-pub mod Frees
+pub mod FreePrefixes
 pub mod Fronts
-pub mod Gathers
-pub mod Grown
+pub mod GrownByEach
 pub mod Indexes
-pub mod Joins
 pub mod Keeping
-pub mod Keeps
-pub mod Laters
-pub mod Leaves
+pub mod KeptFacts
+pub mod LaterMoments
+pub mod LeftInOrder
 pub mod Marking
+pub mod MoreSteps
+pub mod OneResult
 mod Orders
+mod PairRests
 pub mod Published
 pub mod Ranges
-mod PairRests
 pub mod RestRuns
 pub mod Rests
-pub mod Sames
-pub mod Soles
+pub mod SameAdvertised
 pub mod SomeLists
 pub mod SomeRuns
 pub mod SomeTurns
 pub mod StillRuns
 pub mod Unchanged
-pub mod Walks
 pub mod WishLemmas

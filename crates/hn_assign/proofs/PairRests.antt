@@ -8,7 +8,7 @@ use Rattle.hn_assign.specs.Lines.{IsAhead}
 use Rattle.hn_assign.specs.Rest.{StaysAlone, StaysAs, StaysBeside, RestsWith}
 use Rattle.hn_assign.specs.Scene.{PlainScene, IsBestFor}
 use Rattle.hn_assign.specs.Unassigned.{HasFree, HasNothingToDo}
-use Rattle.hn_assign.proofs.Sames.{best_one}
+use Rattle.hn_assign.proofs.SameAdvertised.{best_one}
 
 -- ---- without an assignment
 

@@ -5,7 +5,7 @@ use Rattle.std.proofs.lemmas.Bool.{cases_lt}
 use Rattle.std.proofs.lemmas.List.{get_or-take, get_or-drop, length-take}
 use Rattle.hn_base.specs.Prefix.{PlainPrefix, IsInside}
 use Rattle.hn_assign.specs.declared.assigned.Advertised.{Advertised}
-use Rattle.hn_assign.specs.Indexed.{IsFront}
+use Rattle.hn_assign.specs.Indexed.{IsFrontUpTo}
 
 -- the first addresses before the place are below an address, and those from it on are not
 abbrev pub IsBelow : List Advertised → ℕ → ℕ → Type 0
@@ -15,7 +15,8 @@ IsBelow adv first = IsPartitionPoint (λ a. nat_lt a.prefix.bits first ≡ true)
 abbrev pub IsFromTo : PlainPrefix → ℕ → ℕ → Type 0
 IsFromTo outer first last = (address : ℕ) → IsInside address outer ↔ (first ≤ address) × (address ≤ last)
 
-module _ (adv : List Advertised) (outer : PlainPrefix) (first last start : ℕ) (front : List Advertised) (from_to : IsFromTo outer first last) (rises : IsNonDecreasingBy (λ (a : Advertised). a.prefix.bits) adv) (below : IsBelow adv first start) (bounded : start ≤ length adv) (is : IsFront (drop start adv) last front) where
+module _ (adv : List Advertised) (outer : PlainPrefix) (first last start : ℕ) (front : List Advertised) (from_to : IsFromTo outer first last)
+    (rises : IsNonDecreasingBy (λ (a : Advertised). a.prefix.bits) adv) (below : IsBelow adv first start) (bounded : start ≤ length adv) (is : IsFrontUpTo (drop start adv) last front) where
   rest : length (drop start adv) ≡ length adv - start
   rest = length-drop start adv
 
@@ -49,5 +50,6 @@ module _ (adv : List Advertised) (outer : PlainPrefix) (first last start : ℕ) 
       let high = to_end k a lt low at here.1 in
       let place : start + (k - start) ≡ k = omega arith in
       let size = length-take is.count (drop start adv) in
-      let found : Contains (take is.count (drop start adv)) a = (k - start, omega (arith, rest), get_or-take is.count (drop start adv) (k - start) a high ∙ get_or-drop start adv (k - start) a ∙ ap (λ i. get_or adv i a) place ∙ at) in
+      let found : Contains (take is.count (drop start adv)) a =
+      (k - start, omega (arith, rest), get_or-take is.count (drop start adv) (k - start) a high ∙ get_or-drop start adv (k - start) a ∙ ap (λ i. get_or adv i a) place ∙ at) in
       subst (λ (xs : List Advertised). Contains xs a) (sym is.taken) found

@@ -14,17 +14,17 @@ use Rattle.hn_assign.specs.declared.backoff.Backoff.{Backoff}
 use Rattle.hn_assign.specs.declared.held.Ran.{Ran}
 use Rattle.hn_assign.specs.declared.pair.Pair.{Pair}
 use Rattle.hn_assign.specs.declared.slot.Slot.{Slot}
-use Rattle.hn_assign.specs.Fixed.{IsUnchanged, AreDue, AreAtRest, IsDueRun}
+use Rattle.hn_assign.specs.Fixed.{AreAssignmentsUnchanged, AreDue, AreAtRest, IsDueRun}
 use Rattle.hn_assign.specs.Gathered.{AreAdvertised}
-use Rattle.hn_assign.specs.Lines.{IsTurn}
+use Rattle.hn_assign.specs.Lines.{IsPairTurn}
 use Rattle.hn_base.specs.Ascending.{HasAt}
 use Rattle.hn_assign.specs.Pair.{assigned_pair, backoff_pair, wish_pair, pair_cmp, IsAscending, IsWished, Updates}
 use Rattle.hn_assign.specs.Rest.{IsAtRest}
 use Rattle.hn_assign.specs.Scene.{scene_of}
-use Rattle.hn_assign.specs.Step.{IsStep}
+use Rattle.hn_assign.specs.Step.{IsPairStep}
 use Rattle.hn_assign.specs.Subroutine.{AreSteps, with_marks}
-use Rattle.hn_assign.proofs.Ats.{has_some}
-use Rattle.hn_assign.proofs.Keeps.{each_all}
+use Rattle.hn_assign.proofs.AtPair.{has_some}
+use Rattle.hn_assign.proofs.KeptFacts.{each_all}
 use Rattle.hn_assign.proofs.Rests.{marks_unchanged}
 use Rattle.hn_assign.proofs.Unchanged.{due_backoff, later_other}
 
@@ -43,7 +43,7 @@ module _ (view : PlainView) (adv : List Advertised) where
   abbrev slot_after : Option Assigned → Slot
   slot_after c = record { assigned = c; backoff = None }
 
-  rest_turn : (wish : Wish) (c : Option Assigned) → IsAtRest adv view.own wish c → IsTurn (scene_of view wish adv) (slot_before c wish) [] (slot_after c)
+  rest_turn : (wish : Wish) (c : Option Assigned) → IsAtRest adv view.own wish c → IsPairTurn (scene_of view wish adv) (slot_before c wish) [] (slot_after c)
   rest_turn wish None idle = record { best = None; is_best = idle.no_best; line = inl (record { nothing_to_do = idle.nothing_to_do; gives = refl; took = refl }) }
   rest_turn wish (Some c) (inl alone) = record { best = None; is_best = alone.no_best; line = (inl (record { published = alone.published; gives = inl (alone.valid, refl) }), refl) }
   rest_turn wish (Some c) (inr (inl h)) = record {
@@ -86,10 +86,11 @@ module _ (view : PlainView) (adv : List Advertised) where
     stays pair c has = record { ascending = up; here = has; others = λ x not. (λ h. h, λ h. h) }
 
     -- a pair with an assignment has no backoff
-    run_assigned : (wish : Wish) (wishes : List Wish) (backoffs : List Backoff) (c : Assigned) → IsAscending wish_pair (wish ∷ wishes) → IsAtRest adv view.own wish (Some c) → HasAt assigned_pair (wish_pair wish) (Some c) xs → CanRun wishes backoffs → CanRun (wish ∷ wishes) backoffs
+    run_assigned : (wish : Wish) (wishes : List Wish) (backoffs : List Backoff) (c : Assigned)
+        → IsAscending wish_pair (wish ∷ wishes) → IsAtRest adv view.own wish (Some c) → HasAt assigned_pair (wish_pair wish) (Some c) xs → CanRun wishes backoffs → CanRun (wish ∷ wishes) backoffs
     run_assigned wish wishes backoffs c ups rest has can =
         let none = none_for wish wishes backoffs ups can in
-        let step : IsStep view wish [] (state backoffs) (state backoffs) = record {
+        let step : IsPairStep view wish [] (state backoffs) (state backoffs) = record {
           advertised = adv;
           are_advertised = are;
           old = slot_before (Some c) wish;
@@ -113,19 +114,22 @@ module _ (view : PlainView) (adv : List Advertised) where
         }
 
     -- the backoff of a pair without an assignment comes first, and its step ends it
-    first_ascends : (wish : Wish) (wishes : List Wish) (backoffs : List Backoff) → IsAscending wish_pair (wish ∷ wishes) → CanRun wishes backoffs → IsAscending backoff_pair (due_backoff wish view.now ∷ backoffs)
+    first_ascends : (wish : Wish) (wishes : List Wish) (backoffs : List Backoff)
+        → IsAscending wish_pair (wish ∷ wishes) → CanRun wishes backoffs → IsAscending backoff_pair (due_backoff wish view.now ∷ backoffs)
     unfolding IsStrictlySortedBy
     first_ascends wish wishes backoffs ups can = (
       recursion_from_All (λ b. pair_cmp (wish_pair wish) (backoff_pair b) ≡ Less) backoffs
           (each_all (λ b. pair_cmp (wish_pair wish) (backoff_pair b) ≡ Less) backoffs
-          (λ b there. let due = (can.due b).0 there in subst (λ (p : Pair). pair_cmp (wish_pair wish) p ≡ Less) (sym (ap backoff_pair due.3)) (below_head (on wish_pair pair_cmp) wish wishes ups due.0 due.1))),
+          (λ b there. let due = (can.due b).0 there in
+          subst (λ (p : Pair). pair_cmp (wish_pair wish) p ≡ Less) (sym (ap backoff_pair due.3)) (below_head (on wish_pair pair_cmp) wish wishes ups due.0 due.1))),
       can.ascending,
     )
 
-    run_unassigned : (wish : Wish) (wishes : List Wish) (backoffs : List Backoff) → IsAscending wish_pair (wish ∷ wishes) → IsAtRest adv view.own wish None → HasAt assigned_pair (wish_pair wish) None xs → CanRun wishes backoffs → CanRun (wish ∷ wishes) (due_backoff wish view.now ∷ backoffs)
+    run_unassigned : (wish : Wish) (wishes : List Wish) (backoffs : List Backoff) → IsAscending wish_pair (wish ∷ wishes)
+        → IsAtRest adv view.own wish None → HasAt assigned_pair (wish_pair wish) None xs → CanRun wishes backoffs → CanRun (wish ∷ wishes) (due_backoff wish view.now ∷ backoffs)
     run_unassigned wish wishes backoffs ups rest has can =
         let first = due_backoff wish view.now in
-        let step : IsStep view wish [] (state (first ∷ backoffs)) (state backoffs) = record {
+        let step : IsPairStep view wish [] (state (first ∷ backoffs)) (state backoffs) = record {
           advertised = adv;
           are_advertised = are;
           old = slot_before None wish;
@@ -169,7 +173,7 @@ module _ (view : PlainView) (adv : List Advertised) where
         by_has (None, has) (backoffs, can) = (due_backoff wish view.now ∷ backoffs, run_unassigned wish wishes backoffs ups (rest wish (Contains-head wish wishes) None has) has can)
 
     pub rest_runs : (wishes : List Wish) → IsAscending wish_pair wishes → ((c : Assigned) → Contains xs c → IsWished wishes (assigned_pair c)) → AreAtRest adv view.own wishes xs
-        → (ran : Ran) × IsDueRun view wishes xs ran × IsUnchanged xs ran.held.assigned × (ran.words ≡ [])
+        → (ran : Ran) × IsDueRun view wishes xs ran × AreAssignmentsUnchanged xs ran.held.assigned × (ran.words ≡ [])
     rest_runs wishes ups all rest =
         let run = can_run wishes ups rest in
         let backoffs = run.0 in

@@ -15,25 +15,26 @@ use Rattle.hn_assign.specs.declared.slot.Slot.{Slot}
 use Rattle.hn_base.specs.Key.{IsAbove}
 use Rattle.hn_assign.specs.Advertised.{key_of}
 use Rattle.hn_assign.specs.Best.{HasNoFree}
-use Rattle.hn_assign.specs.Fixed.{unmarked, IsUnchanged, AreAtRest}
+use Rattle.hn_assign.specs.Fixed.{unmarked, AreAssignmentsUnchanged, AreAtRest}
 use Rattle.hn_assign.specs.Gathered.{AreAdvertised}
 use Rattle.hn_assign.specs.Lines.{IfValid, IsAhead, IsLine}
-use Rattle.hn_assign.specs.Marks.{marked}
+use Rattle.hn_assign.specs.Marks.{marked_applied}
 use Rattle.hn_assign.specs.Pair.{assigned_pair, wish_pair, IsAscending, IsWished, Updates, KeepsWished}
 use Rattle.hn_assign.specs.Rest.{IsIdle, IsAheadOfBest, IsAtRest}
 use Rattle.hn_assign.specs.Scene.{PlainScene, IsBestFor, IsValidFor, IsFreeFor, scene_of}
-use Rattle.hn_assign.specs.Step.{IsStep}
+use Rattle.hn_assign.specs.Step.{IsPairStep}
 use Rattle.hn_assign.specs.Subroutine.{AreSteps, IsSubroutine}
-use Rattle.hn_assign.proofs.Ats.{is_had, same_list, updates_none}
+use Rattle.hn_assign.proofs.AtPair.{is_had, same_list, updates_none}
 use Rattle.hn_assign.proofs.Marking.{marked_is}
 use Rattle.hn_base.specs.Ascending.{HaveSame, HasAt}
-use Rattle.hn_assign.proofs.Sames.{same_advertised, best_in, best_one, valid_in, none_in}
+use Rattle.hn_assign.proofs.SameAdvertised.{same_advertised, best_in, best_one, valid_in, none_in}
 use Rattle.std.proofs.lemmas.Option.{same_Some}
 
 -- ---- one turn
 
 -- nothing to do, and yet a free prefix
-idle_and_free : (adv : List Advertised) (wish : Wish) → ¬ (IsTrue wish.wanted) ⊎ HasNoFree adv wish.delegated wish.length → IsTrue wish.wanted → (p : PlainPrefix) → ¬ (IsFreeFor (record { own = 0; now = 0; wish = wish; advertised = adv }) p)
+idle_and_free : (adv : List Advertised) (wish : Wish)
+    → ¬ (IsTrue wish.wanted) ⊎ HasNoFree adv wish.delegated wish.length → IsTrue wish.wanted → (p : PlainPrefix) → ¬ (IsFreeFor (record { own = 0; now = 0; wish = wish; advertised = adv }) p)
 idle_and_free adv wish (inl not) wanted p free = not wanted
 idle_and_free adv wish (inr none) wanted p free = none p free
 
@@ -46,9 +47,25 @@ idle_in a b own wish same h = record {
 
 pub rest_in : (a b : List Advertised) (own : ℕ) (wish : Wish) (c : Option Assigned) → HaveSame a b → IsAtRest a own wish c → IsAtRest b own wish c
 rest_in a b own wish None same h = idle_in a b own wish same h
-rest_in a b own wish (Some c) same (inl h) = inl (record { no_best = best_in a b own wish.common wish.delegated None same h.no_best; published = h.published; valid = valid_in a b own wish.common c same h.valid })
-rest_in a b own wish (Some c) same (inr (inl h)) = inr (inl (record { best = h.best; is_best = best_in a b own wish.common wish.delegated (Some h.best) same h.is_best; priority = h.priority; published = h.published; above = h.above; valid = valid_in a b own wish.common c same h.valid }))
-rest_in a b own wish (Some c) same (inr (inr h)) = inr (inr (record { best = h.best; is_best = best_in a b own wish.common wish.delegated (Some h.best) same h.is_best; unpublished = h.unpublished; same = h.same }))
+rest_in a b own wish (Some c) same (inl h) = inl (record {
+  no_best = best_in a b own wish.common wish.delegated None same h.no_best;
+  published = h.published;
+  valid = valid_in a b own wish.common c same h.valid;
+})
+rest_in a b own wish (Some c) same (inr (inl h)) = inr (inl (record {
+  best = h.best;
+  is_best = best_in a b own wish.common wish.delegated (Some h.best) same h.is_best;
+  priority = h.priority;
+  published = h.published;
+  above = h.above;
+  valid = valid_in a b own wish.common c same h.valid;
+}))
+rest_in a b own wish (Some c) same (inr (inr h)) = inr (inr (record {
+  best = h.best;
+  is_best = best_in a b own wish.common wish.delegated (Some h.best) same h.is_best;
+  unpublished = h.unpublished;
+  same = h.same;
+}))
 
 module _ (view : PlainView) (wish : Wish) (adv : List Advertised) where
   abbrev at : PlainScene
@@ -64,7 +81,8 @@ module _ (view : PlainView) (wish : Wish) (adv : List Advertised) where
       record { priority = h.priority; published = h.published; above = subst (λ (x : Advertised). IsAbove (key_of h.priority view.own wish.endpoint.0) x.key) same h.above }
 
   -- a pair at rest keeps its assignment
-  rest_line : (best : Option Advertised) (c : Option Assigned) (before after : Slot) (words : List ℕ) → IsBestFor at best → IsAtRest adv view.own wish c → IsLine at best c before words after → before.assigned ≡ c → after.assigned ≡ before.assigned
+  rest_line : (best : Option Advertised) (c : Option Assigned) (before after : Slot) (words : List ℕ)
+      → IsBestFor at best → IsAtRest adv view.own wish c → IsLine at best c before words after → before.assigned ≡ c → after.assigned ≡ before.assigned
   rest_line None None before after words is rest (inl left) had = ap (λ (s : Slot). s.assigned) left.gives
   rest_line None None before after words is rest (inr (inl postponed)) had = ap (λ (s : Slot). s.assigned) postponed.gives
   rest_line None None before after words is rest (inr (inr (inl waiting))) had = ap (λ (s : Slot). s.assigned) waiting.gives
@@ -88,23 +106,27 @@ module _ (view : PlainView) (wish : Wish) (adv : List Advertised) where
 -- ---- each pair at rest: nothing changes
 
 -- what is marked is unchanged, and two lists that differ in marks alone are
-pub marks_unchanged : (now : ℕ) (xs : List Assigned) → map unmarked (map (marked now) xs) ≡ map unmarked xs
+pub marks_unchanged : (now : ℕ) (xs : List Assigned) → map unmarked (map (marked_applied now) xs) ≡ map unmarked xs
 marks_unchanged now [] = refl
 marks_unchanged now (x ∷ xs) = rw (marked_is now x) (ap (λ ys. unmarked x ∷ ys) (marks_unchanged now xs))
 
 -- all that is held is of wished pairs: the begin leaves it
-pub begun_same : (wishes : List Wish) (xs ys : List Assigned) → IsAscending assigned_pair xs → ((c : Assigned) → Contains xs c → IsWished wishes (assigned_pair c)) → KeepsWished assigned_pair wishes xs ys → ys ≡ xs
+pub begun_same : (wishes : List Wish) (xs ys : List Assigned)
+    → IsAscending assigned_pair xs → ((c : Assigned) → Contains xs c → IsWished wishes (assigned_pair c)) → KeepsWished assigned_pair wishes xs ys → ys ≡ xs
 begun_same wishes xs ys up all keeps = same_list assigned_pair ys xs keeps.ascending up (λ c. (λ h. ((keeps.those c).0 h).0, λ h. (keeps.those c).1 (h, all c h)))
 
 rest_step : (view : PlainView) (wish : Wish) (words : List ℕ) (before after : Ran) (xs : List Assigned) (adv : List Advertised) → IsAscending assigned_pair xs → AreAdvertised view xs adv
-    → ((c : Option Assigned) → HasAt assigned_pair (wish_pair wish) c xs → IsAtRest adv view.own wish c) → before.held.assigned ≡ xs → IsStep view wish words before after → after.held.assigned ≡ xs
+    → ((c : Option Assigned) → HasAt assigned_pair (wish_pair wish) c xs → IsAtRest adv view.own wish c)
+    → before.held.assigned ≡ xs → IsPairStep view wish words before after → after.held.assigned ≡ xs
 rest_step view wish words before after xs adv up are rest is step =
     let here : AreAdvertised view xs step.advertised = subst (λ (ys : List Assigned). AreAdvertised view ys step.advertised) is step.are_advertised in
     let same = same_advertised view xs adv step.advertised are here in
     let had : HasAt assigned_pair (wish_pair wish) step.old.assigned xs = subst (HasAt assigned_pair (wish_pair wish) step.old.assigned) is step.had.assigned in
-    let stays : step.new.assigned ≡ step.old.assigned = rest_line view wish step.advertised step.turn.best step.old.assigned step.old step.new words step.turn.is_best (rest_in adv step.advertised view.own wish step.old.assigned same (rest step.old.assigned had)) step.turn.line refl in
+    let stays : step.new.assigned ≡ step.old.assigned = rest_line view wish step.advertised step.turn.best step.old.assigned step.old step.new words step.turn.is_best
+    (rest_in adv step.advertised view.own wish step.old.assigned same (rest step.old.assigned had)) step.turn.line refl in
     updates_none assigned_pair (wish_pair wish) step.old.assigned xs after.held.assigned up had
-    (subst (λ (ys : List Assigned). Updates assigned_pair (wish_pair wish) step.old.assigned ys after.held.assigned) is (subst (λ (o : Option Assigned). Updates assigned_pair (wish_pair wish) o before.held.assigned after.held.assigned) stays step.assigned))
+    (subst (λ (ys : List Assigned). Updates assigned_pair (wish_pair wish) step.old.assigned ys after.held.assigned) is
+    (subst (λ (o : Option Assigned). Updates assigned_pair (wish_pair wish) o before.held.assigned after.held.assigned) stays step.assigned))
 
 rest_steps : (view : PlainView) (wishes : List Wish) (before after : Ran) (xs : List Assigned) (adv : List Advertised) → IsAscending assigned_pair xs → AreAdvertised view xs adv
     → AreAtRest adv view.own wishes xs → before.held.assigned ≡ xs → AreSteps view wishes before after → after.held.assigned ≡ xs
@@ -113,8 +135,9 @@ rest_steps view (wish ∷ wishes) before after xs adv up are rest is steps =
     rest_steps view wishes steps.0 after xs adv up are (λ w h. rest w (Contains-tail wish wishes w h))
     (rest_step view wish steps.1 before steps.0 xs adv up are (rest wish (Contains-head wish wishes)) is steps.2) steps.3
 
-pub rest_unchanged : (view : PlainView) (wishes : List Wish) (held : Held) (ran : Ran) (adv : List Advertised) → IsAscending assigned_pair held.assigned → ((c : Assigned) → Contains held.assigned c → IsWished wishes (assigned_pair c))
-    → AreAdvertised view held.assigned adv → IsSubroutine view wishes held ran → AreAtRest adv view.own wishes held.assigned → IsUnchanged held.assigned ran.held.assigned
+pub rest_unchanged : (view : PlainView) (wishes : List Wish) (held : Held) (ran : Ran) (adv : List Advertised)
+    → IsAscending assigned_pair held.assigned → ((c : Assigned) → Contains held.assigned c → IsWished wishes (assigned_pair c))
+    → AreAdvertised view held.assigned adv → IsSubroutine view wishes held ran → AreAtRest adv view.own wishes held.assigned → AreAssignmentsUnchanged held.assigned ran.held.assigned
 rest_unchanged view wishes held ran adv up all are run rest =
     let begun = begun_same wishes held.assigned run.begun.held.assigned up all run.is_begun.assigned in
     let last = rest_steps view wishes run.begun run.last held.assigned adv up are rest begun run.steps in
@@ -123,7 +146,8 @@ rest_unchanged view wishes held ran adv up all are run rest =
 -- ---- nothing changes: each pair is at rest
 
 -- what a list has for a pair is, apart from marks, what a list has that is unchanged
-pub alike : (pair : Pair) (xs ys : List Assigned) (a b : Option Assigned) → IsAscending assigned_pair xs → IsAscending assigned_pair ys → map unmarked xs ≡ map unmarked ys → HasAt assigned_pair pair a xs → HasAt assigned_pair pair b ys → option_map unmarked a ≡ option_map unmarked b
+pub alike : (pair : Pair) (xs ys : List Assigned) (a b : Option Assigned) → IsAscending assigned_pair xs
+    → IsAscending assigned_pair ys → map unmarked xs ≡ map unmarked ys → HasAt assigned_pair pair a xs → HasAt assigned_pair pair b ys → option_map unmarked a ≡ option_map unmarked b
 alike pair xs ys None None up_x up_y same p q = refl
 alike pair xs ys None (Some y) up_x up_y same p q =
     let there = Contains-from_map unmarked xs (unmarked y) (subst (λ (zs : List Assigned). Contains zs (unmarked y)) (sym same) (Contains-map unmarked ys y q.0)) in
@@ -178,12 +202,17 @@ module _ (view : PlainView) (wish : Wish) (adv : List Advertised) where
   line_rests (Some b) (Some c) before after words is (inl kept, _) had due same = by_valid kept.gives
     where
       by_valid : IfValid now_at c before before after → Rested (Some c) before after
-      by_valid (inl h) = (inr (inl (record { best = b; is_best = is; priority = kept.ahead.priority; published = kept.ahead.published; above = kept.ahead.above; valid = h.0 })), ap (λ (s : Slot). s.assigned) h.1)
+      by_valid (inl h) = (
+        inr (inl (record { best = b; is_best = is; priority = kept.ahead.priority; published = kept.ahead.published; above = kept.ahead.above; valid = h.0 })),
+        ap (λ (s : Slot). s.assigned) h.1,
+      )
       by_valid (inr h) = absurd (destroyed c before after h.1 same)
   line_rests (Some b) (Some c) before after words is (inr (inl yielded), _) had due same =
       let parts = same_parts c (record c { published = None }) after (ap (λ (s : Slot). s.assigned) yielded.gives) same in
-      let unpublished : c.published ≡ None = sym (ap (λ (x : Assigned). x.published) parts) in
-      (inr (inr (record { best = b; is_best = is; unpublished = unpublished; same = yielded.same })), ap (λ (s : Slot). s.assigned) yielded.gives ∙ ap (λ (p : Option ℕ). Some (record c { published = p })) (sym unpublished) ∙ sym had)
+      let unpublished : c.published ≡ None = sym (ap (λ (x : Assigned). x.published) parts) in (
+        inr (inr (record { best = b; is_best = is; unpublished = unpublished; same = yielded.same })),
+        ap (λ (s : Slot). s.assigned) yielded.gives ∙ ap (λ (p : Option ℕ). Some (record c { published = p })) (sym unpublished) ∙ sym had,
+      )
   line_rests (Some b) (Some c) before after words is (inr (inr replaced), _) had due same =
       let parts = same_parts c _ after (ap (λ (s : Slot). s.assigned) replaced.gives) same in
       absurd (replaced.other (sym (ap (λ (x : Assigned). x.prefix) parts)))

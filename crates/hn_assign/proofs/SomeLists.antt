@@ -8,8 +8,8 @@ use Rattle.hn_base.proofs.SomeExists.{IsPart, some_then, some_part}
 use Rattle.hn_assign.specs.declared.assigned.Wish.{Wish}
 use Rattle.hn_assign.specs.declared.pair.Pair.{Pair}
 use Rattle.hn_assign.specs.Pair.{pair_cmp, IsAscending, IsWished, Updates, KeepsWished}
-use Rattle.hn_assign.proofs.Joins.{Sides, joined, ascending_joined, has_joined, others, greater_is_above}
-use Rattle.hn_assign.proofs.Keeps.{each_all}
+use Rattle.hn_assign.proofs.AroundPair.{Sides, joined, ascending_joined, has_joined, others, greater_is_above}
+use Rattle.hn_assign.proofs.KeptFacts.{each_all}
 use Rattle.hn_assign.proofs.Orders.{pair_exact}
 
 module _ {A : Type 0} (key : A → Pair) where

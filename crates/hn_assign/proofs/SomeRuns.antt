@@ -1,16 +1,16 @@
 -- A run of the subroutine cannot be missing, over whatever stream of words.
-use Rattle.std.proofs.Common.{◌≡◌, ◌∙◌, ℕ, List, [], ◌∷◌, ◌++◌, length, map, Contains, Option, None, Some, IfSome, refl, sym, subst, inl, inr, arith}
+use Rattle.std.proofs.Common.{◌≡◌, ℕ, List, [], ◌∷◌, ◌++◌, length, map, Contains, Option, None, Some, IfSome, refl, sym, subst, inl, inr, arith}
 use Rattle.std.specs.Prelude.{All}
 use Rattle.std.specs.Ordering.{on}
 use Rattle.std.proofs.lemmas.List.{append-nil}
 use Rattle.hn_base.specs.Ascending.{HasAt}
 use Rattle.hn_base.specs.Prefix.{IsPrefix}
 use Rattle.hn_base.specs.Words.{Begins}
-use Rattle.hn_base.proofs.FirstWords.{begins_next}
 use Rattle.hn_base.proofs.AscendingLists.{Contains-head, Contains-tail, Contains-map, Contains-from_map, sorted_parts}
 use Rattle.hn_data.specs.View.{PlainView}
 use Rattle.hn_base.specs.Exists.{Some! }
 use Rattle.hn_prefix.specs.Laws.{FreeOrFull, InsideAreSubPrefixes}
+use Rattle.hn_base.proofs.FirstWords.{begins_next}
 use Rattle.hn_base.proofs.SomeExists.{IsPart, some_is, some_then, some_part}
 use Rattle.hn_assign.specs.declared.assigned.Assigned.{Assigned}
 use Rattle.hn_assign.specs.declared.assigned.Wish.{Wish}
@@ -24,11 +24,11 @@ use Rattle.hn_assign.specs.Fixed.{AreDue, IsDueRun}
 use Rattle.hn_assign.specs.Laws.{AdvertisedExists, SubroutineHasAResult, SubroutineHasADueRun}
 use Rattle.hn_assign.specs.Pair.{assigned_pair, backoff_pair, wish_pair, pair_cmp, IsAscending}
 use Rattle.hn_assign.specs.Scene.{scene_of}
-use Rattle.hn_assign.specs.Step.{IsStep}
+use Rattle.hn_assign.specs.Step.{IsPairStep}
 use Rattle.hn_assign.specs.Subroutine.{AreSteps, IsSubroutine, with_marks}
-use Rattle.hn_assign.proofs.Ats.{has_some}
-use Rattle.hn_assign.proofs.Keeps.{all_each}
-use Rattle.hn_assign.proofs.Soles.{IsInOrder, step_in_order}
+use Rattle.hn_assign.proofs.AtPair.{has_some}
+use Rattle.hn_assign.proofs.KeptFacts.{all_each}
+use Rattle.hn_assign.proofs.OneResult.{IsInOrder, step_in_order}
 use Rattle.hn_assign.proofs.SomeLists.{some_kept, some_updated}
 use Rattle.hn_assign.proofs.SomeTurns.{WithinIsNotShorter, IsUpTo, IsOfPair, some_turn}
 use Rattle.hn_assign.proofs.Unchanged.{due_backoff}
@@ -52,7 +52,7 @@ record IsProper (wish : Wish) : Type 0 where
 
 module _ (exists : AdvertisedExists) (free_or_full : FreeOrFull) (inside_are : InsideAreSubPrefixes) (not_shorter : WithinIsNotShorter) (view : PlainView) (stream : ℕ → ℕ) where
   some_step : (wish : Wish) (before : Ran) → IsProper wish → IsInOrder before → Begins before.words stream
-      → Some! (λ (after : Ran). (words : List ℕ) × IsStep view wish words before after × Begins after.words stream)
+      → Some! (λ (after : Ran). (words : List ℕ) × IsPairStep view wish words before after × Begins after.words stream)
   some_step wish before good up begins =
       let pair = wish_pair wish in
       let adv = exists view before.held.assigned in

@@ -13,15 +13,15 @@ use Rattle.hn_assign.specs.declared.assigned.Assigned.{Assigned}
 use Rattle.hn_assign.specs.declared.backoff.Backoff.{Backoff}
 use Rattle.hn_assign.specs.declared.pair.Pair.{Pair}
 use Rattle.hn_assign.specs.declared.slot.Slot.{Slot}
-use Rattle.hn_assign.specs.Advertised.{Link, advertised_cmp}
+use Rattle.hn_assign.specs.Advertised.{LinkEndpoints, advertised_cmp}
 use Rattle.hn_assign.specs.Best.{IsBestIfAny}
-use Rattle.hn_assign.specs.Lines.{following, IfValid, IsAhead, IsLine, IsTurn}
+use Rattle.hn_assign.specs.Lines.{following, IfValid, IsAhead, IsLine, IsPairTurn}
 use Rattle.hn_assign.specs.Pair.{assigned_pair, backoff_pair, wish_pair}
 use Rattle.hn_assign.specs.Scene.{PlainScene, IsValidFor, IsFreeFor, HasNoFreeFor, IsFirstFreeFor, new_assigned}
 use Rattle.hn_assign.specs.Unassigned.{HasNothingToDo, backoff_after}
 use Rattle.hn_assign.proofs.Bests.{IsEligible, best_passed, best_candidate}
-use Rattle.hn_assign.proofs.Frees.{prefixes, found_free, none_free, none_in_longer}
-use Rattle.hn_assign.proofs.Soles.{Turned}
+use Rattle.hn_assign.proofs.FreePrefixes.{prefixes, found_free, none_free, none_in_longer}
+use Rattle.hn_assign.proofs.OneResult.{Turned}
 
 -- a prefix within another is at least as long
 abbrev pub WithinIsNotShorter : Type 0
@@ -29,7 +29,7 @@ WithinIsNotShorter = (p q : PlainPrefix) → IsPrefix p → IsPrefix q → IsWit
 
 -- ---- the best prefix
 
-module _ (own : ℕ) (common : Link) (d : PlainPrefix) where
+module _ (own : ℕ) (common : LinkEndpoints) (d : PlainPrefix) where
   one_more : (xs : List Advertised) (x : Advertised) (best : Option Advertised) → IsBestIfAny xs own common d best → Some! (IsBestIfAny (xs ++ x ∷ []) own common d)
   one_more xs x best is = some_by (IsEligible own common d x) (by_best best is) (λ not none. none best (best_passed own common d xs x best is not))
     where
@@ -164,7 +164,7 @@ module _ (at : PlainScene) (word : ℕ) where
 
     -- what a turn gives, with no word or the next one, is of the pair
     pub record IsOutcome (before : Slot) (t : Turned) : Type 0 where
-      pub turn : IsTurn at before t.1 t.0
+      pub turn : IsPairTurn at before t.1 t.0
       pub words : IsUpTo word t.1
       pub of_pair : IsOfPair own_pair t.0
 

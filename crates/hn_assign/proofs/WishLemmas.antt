@@ -4,9 +4,9 @@ use Rattle.hn_assign.specs.declared.assigned.Wish.{Wish}
 use Rattle.hn_assign.specs.Facts.{IsFitting, AreWishes}
 use Rattle.hn_base.specs.Ascending.{HasAt}
 use Rattle.hn_assign.specs.Pair.{wish_pair, Updates}
-use Rattle.hn_assign.proofs.Ats.{pair_cases, is_had}
-use Rattle.hn_assign.proofs.Joins.{ascending_nil}
-use Rattle.hn_assign.proofs.Keeps.{each_all, all_each}
+use Rattle.hn_assign.proofs.AtPair.{pair_cases, is_had}
+use Rattle.hn_assign.proofs.AroundPair.{ascending_nil}
+use Rattle.hn_assign.proofs.KeptFacts.{each_all, all_each}
 
 pub no_wishes : AreWishes []
 no_wishes = record { ascending = ascending_nil wish_pair; fitting = λ k d within. absurd (omega (arith, within)) }
@@ -30,5 +30,6 @@ one_wish_more xs ys wish w none u = (there, back)
 pub wishes_more : (xs ys : List Wish) (wish : Wish) → HasAt wish_pair (wish_pair wish) None xs → Updates wish_pair (wish_pair wish) (Some wish) xs ys → AreWishes xs → IsFitting wish → AreWishes ys
 wishes_more xs ys wish none u are fits = record {
   ascending = u.ascending;
-  fitting = each_all IsFitting ys (λ w h. ⊎_elim (λ (old : Contains xs w). all_each IsFitting xs are.fitting w old) (λ (same : wish ≡ w). subst IsFitting same fits) ((one_wish_more xs ys wish w none u).0 h));
+  fitting = each_all IsFitting ys
+      (λ w h. ⊎_elim (λ (old : Contains xs w). all_each IsFitting xs are.fitting w old) (λ (same : wish ≡ w). subst IsFitting same fits) ((one_wish_more xs ys wish w none u).0 h));
 }

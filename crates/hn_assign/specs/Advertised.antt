@@ -10,15 +10,15 @@ use Rattle.hn_base.specs.Prefix.{prefix_cmp}
 use Rattle.hn_assign.specs.declared.assigned.Advertised.{Advertised}
 
 -- the endpoints of one link, as a router knows them: each with its node
-abbrev pub Link : Type 0
-Link = List (NodeId × EpId)
+abbrev pub LinkEndpoints : Type 0
+LinkEndpoints = List (NodeId × EpId)
 
 -- the key of a node's assignment on one of its endpoints
 abbrev pub key_of : ℕ → ℕ → ℕ → Key
 key_of priority node endpoint = record { priority = priority; node = record { 0 = node }; endpoint = record { 0 = endpoint } }
 
 -- advertised on an endpoint of the link
-abbrev pub IsOnLink : Link → Advertised → Type 0
+abbrev pub IsOnLink : LinkEndpoints → Advertised → Type 0
 IsOnLink common a = Contains common (a.key.node, a.key.endpoint)
 
 -- advertised prefixes in order: by key, then by prefix

@@ -6,27 +6,28 @@ use Rattle.hn_base.specs.Prefix.{PlainPrefix, IsWithin, Overlaps}
 use Rattle.hn_prefix.specs.Free.{IsPrefixInside}
 use Rattle.hn_assign.specs.declared.assigned.Advertised.{Advertised}
 use Rattle.hn_assign.specs.declared.assigned.Assigned.{Assigned}
-use Rattle.hn_assign.specs.Advertised.{Link, key_of, IsOnLink, advertised_cmp}
+use Rattle.hn_assign.specs.Advertised.{LinkEndpoints, key_of, IsOnLink, advertised_cmp}
 
 -- another node advertises it on the link, inside the delegated prefix d
-pub record IsCandidate (adv : List Advertised) (own : ℕ) (common : Link) (d : PlainPrefix) (a : Advertised) : Type 0 where
+pub record IsCandidatePrefix (adv : List Advertised) (own : ℕ) (common : LinkEndpoints) (d : PlainPrefix) (a : Advertised)
+    : Type 0 where
   pub advertised : Contains adv a
   pub of_another : a.key.node.0 ≢ own
   pub on_link : IsOnLink common a
   pub inside : IsWithin a.prefix d
 
 -- the best: no candidate is greater, by key and then by prefix
-pub record IsBest (adv : List Advertised) (own : ℕ) (common : Link) (d : PlainPrefix) (best : Advertised) : Type 0 where
-  pub candidate : IsCandidate adv own common d best
-  pub greatest : (a : Advertised) → IsCandidate adv own common d a → ¬ (advertised_cmp best a ≡ Less)
+pub record IsBest (adv : List Advertised) (own : ℕ) (common : LinkEndpoints) (d : PlainPrefix) (best : Advertised) : Type 0 where
+  pub candidate : IsCandidatePrefix adv own common d best
+  pub greatest : (a : Advertised) → IsCandidatePrefix adv own common d a → ¬ (advertised_cmp best a ≡ Less)
 
 -- there is no best where there is no candidate
-abbrev pub HasNoBest : List Advertised → ℕ → Link → PlainPrefix → Type 0
-HasNoBest adv own common d = (a : Advertised) → ¬ (IsCandidate adv own common d a)
+abbrev pub HasNoBest : List Advertised → ℕ → LinkEndpoints → PlainPrefix → Type 0
+HasNoBest adv own common d = (a : Advertised) → ¬ (IsCandidatePrefix adv own common d a)
 
 -- An assignment is valid if and only if no prefix that overlaps it is advertised on another link with a key above that
 -- of the assignment. Its key is the one that it has where the router publishes it, with priority 2.
-abbrev pub IsValid : List Advertised → ℕ → Link → Assigned → Type 0
+abbrev pub IsValid : List Advertised → ℕ → LinkEndpoints → Assigned → Type 0
 IsValid adv own common c =
     (a : Advertised) → Contains adv a → ¬ (IsOnLink common a) → Overlaps a.prefix c.prefix
     → ¬ (IsAbove a.key (key_of 2 own c.endpoint.0))
@@ -41,6 +42,6 @@ abbrev pub HasNoFree : List Advertised → PlainPrefix → ℕ → Type 0
 HasNoFree adv d len = (p : PlainPrefix) → ¬ (IsFreeIn adv d len p)
 
 -- the best, if there is one
-abbrev pub IsBestIfAny : List Advertised → ℕ → Link → PlainPrefix → Option Advertised → Type 0
+abbrev pub IsBestIfAny : List Advertised → ℕ → LinkEndpoints → PlainPrefix → Option Advertised → Type 0
 IsBestIfAny adv own common d None = HasNoBest adv own common d
 IsBestIfAny adv own common d (Some best) = IsBest adv own common d best

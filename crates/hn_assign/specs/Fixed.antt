@@ -17,8 +17,8 @@ abbrev pub unmarked : Assigned → Assigned
 unmarked c = record c { applied = false }
 
 -- no assignment is made, changed or destroyed; marks of application are no change
-abbrev pub IsUnchanged : List Assigned → List Assigned → Type 0
-IsUnchanged before after = map unmarked after ≡ map unmarked before
+abbrev pub AreAssignmentsUnchanged : List Assigned → List Assigned → Type 0
+AreAssignmentsUnchanged before after = map unmarked after ≡ map unmarked before
 
 -- the backoffs are those of the wished pairs without an assignment, each due at this moment
 abbrev pub AreDue : List Wish → ℕ → Held → Type 0

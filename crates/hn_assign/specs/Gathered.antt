@@ -41,10 +41,11 @@ abbrev pub AreAdvertised : PlainView → List Assigned → List Advertised → T
 AreAdvertised view assigned advertised = (a : Advertised) → Contains advertised a ↔ IsAdvertised view assigned a
 
 -- what is published of a pair's assignment, if anything is: its priority and its prefix
-abbrev pub published_of : Option Assigned → Option (ℕ × PlainPrefix)
-published_of None = None
-published_of (Some c) = option_map (λ priority. (priority, c.prefix)) c.published
+abbrev pub published_of_pair : Option Assigned → Option (ℕ × PlainPrefix)
+published_of_pair None = None
+published_of_pair (Some c) = option_map (λ priority. (priority, c.prefix)) c.published
 
 -- what is advertised before is advertised afterwards, whatever the view
 abbrev pub AdvertiseSame : List Assigned → List Assigned → Type 0
-AdvertiseSame before after = (view : PlainView) (advertised : List Advertised) → AreAdvertised view before advertised → AreAdvertised view after advertised
+AdvertiseSame before after =
+    (view : PlainView) (advertised : List Advertised) → AreAdvertised view before advertised → AreAdvertised view after advertised

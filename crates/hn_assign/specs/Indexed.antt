@@ -15,7 +15,7 @@ pub record IsIndexed (adv short : List Advertised) (taken : List PlainPrefix) : 
   pub prefixes : taken ≡ map (λ a. a.prefix) adv
 
 -- the first ones; if more follow, the next one begins above the address
-pub record IsFront (adv : List Advertised) (last : ℕ) (front : List Advertised) : Type 0 where
+pub record IsFrontUpTo (adv : List Advertised) (last : ℕ) (front : List Advertised) : Type 0 where
   pub count : ℕ
   pub taken : front ≡ take count adv
   pub next : (d : Advertised) → count < length adv → last < (get_or adv count d).prefix.bits

@@ -14,12 +14,12 @@ use Rattle.hn_assign.specs.declared.held.Ran.{Ran}
 use Rattle.hn_assign.specs.Due.{IsHeldDue}
 use Rattle.hn_base.specs.Exists.{Some! }
 use Rattle.hn_prefix.specs.Free.{IsFirstFree}
-use Rattle.hn_assign.specs.Advertised.{Link}
+use Rattle.hn_assign.specs.Advertised.{LinkEndpoints}
 use Rattle.hn_assign.specs.Best.{IsBestIfAny, IsValid, HasNoFree}
 use Rattle.hn_assign.specs.Facts.{IsFitting, IsInDelegated, HasOwnPriority, IsAssignedPast, IsOfLengthAt, IsAloneAt}
-use Rattle.hn_assign.specs.Fixed.{IsUnchanged, AreDue, AreAtRest, IsDueRun}
+use Rattle.hn_assign.specs.Fixed.{AreAssignmentsUnchanged, AreDue, AreAtRest, IsDueRun}
 use Rattle.hn_assign.specs.Gathered.{AreAdvertised}
-use Rattle.hn_assign.specs.Marks.{marked}
+use Rattle.hn_assign.specs.Marks.{marked_applied}
 use Rattle.hn_assign.specs.Pair.{IsAscending, IsWished, assigned_pair, backoff_pair, wish_pair}
 use Rattle.hn_assign.specs.Rest.{IsAtRest, IsWantedNoMore}
 use Rattle.hn_assign.specs.Scene.{PlainScene, IsBestFor}
@@ -88,7 +88,7 @@ RestIsUnchanged =
     → AreDue wishes view.now held
     → AreAdvertised view held.assigned advertised
     → IsSubroutine view wishes held ran
-    → IsUnchanged held.assigned ran.held.assigned ↔ AreAtRest advertised view.own wishes held.assigned
+    → AreAssignmentsUnchanged held.assigned ran.held.assigned ↔ AreAtRest advertised view.own wishes held.assigned
 
 -- Where all assignments are of wished pairs and each pair is at rest, it comes to a result, with each backoff due. That
 -- takes no word and leaves all assignments as they are.
@@ -99,36 +99,37 @@ RestHasADueRun =
     → All (λ c. IsWished wishes (assigned_pair c)) assigned
     → AreAdvertised view assigned advertised
     → AreAtRest advertised view.own wishes assigned
-    → (ran : Ran) × IsDueRun view wishes assigned ran × IsUnchanged assigned ran.held.assigned × (ran.words ≡ [])
+    → (ran : Ran) × IsDueRun view wishes assigned ran × AreAssignmentsUnchanged assigned ran.held.assigned × (ran.words ≡ [])
 
 -- Where all assignments are of wished pairs and each pair is at rest, the subroutine leaves all assignments as they are,
 -- marks of application aside, whatever the backoffs and the words are.
-abbrev pub RestChangesNothing : Type 0
-RestChangesNothing =
+abbrev pub RestChangesNoAssignment : Type 0
+RestChangesNoAssignment =
     (view : PlainView) (wishes : List Wish) (held : Held) (ran : Ran) (advertised : List Advertised)
     → IsAscending assigned_pair held.assigned
     → All (λ c. IsWished wishes (assigned_pair c)) held.assigned
     → AreAdvertised view held.assigned advertised
     → AreAtRest advertised view.own wishes held.assigned
     → IsSubroutine view wishes held ran
-    → IsUnchanged held.assigned ran.held.assigned
+    → AreAssignmentsUnchanged held.assigned ran.held.assigned
 
 -- ---- marks of application
 
 -- Marks of application change no assignment.
 abbrev pub MarksChangeNothing : Type 0
-MarksChangeNothing = (now : ℕ) (assigned : List Assigned) → IsUnchanged assigned (map (marked now) assigned)
+MarksChangeNothing = (now : ℕ) (assigned : List Assigned) → AreAssignmentsUnchanged assigned (map (marked_applied now) assigned)
 
 -- Where all assignments are as they were, marks of application aside, the same prefixes are advertised.
 abbrev pub AdvertisedOfUnchanged : Type 0
 AdvertisedOfUnchanged =
-    (view : PlainView) (before after : List Assigned) (advertised : List Advertised) → IsUnchanged before after
+    (view : PlainView) (before after : List Assigned) (advertised : List Advertised) → AreAssignmentsUnchanged before after
     → AreAdvertised view before advertised ↔ AreAdvertised view after advertised
 
 -- And the same pairs are at rest.
 abbrev pub RestStays : Type 0
 RestStays =
-    (advertised : List Advertised) (own : ℕ) (wishes : List Wish) (before after : List Assigned) → IsUnchanged before after
+    (advertised : List Advertised) (own : ℕ) (wishes : List Wish) (before after : List Assigned)
+    → AreAssignmentsUnchanged before after
     → AreAtRest advertised own wishes before ↔ AreAtRest advertised own wishes after
 
 -- A pair at rest stays so where its delegated prefix is wanted no more.
@@ -160,13 +161,13 @@ StillRunStays =
 -- What is best is one.
 abbrev pub SameHaveOneBest : Type 0
 SameHaveOneBest =
-    (a b : List Advertised) → HaveSame a b → (own : ℕ) (common : Link) (d : PlainPrefix) (x y : Option Advertised)
+    (a b : List Advertised) → HaveSame a b → (own : ℕ) (common : LinkEndpoints) (d : PlainPrefix) (x y : Option Advertised)
     → IsBestIfAny a own common d x → IsBestIfAny b own common d y → x ≡ y
 
 -- The same assignments are valid.
 abbrev pub SameHaveSameValid : Type 0
 SameHaveSameValid =
-    (a b : List Advertised) → HaveSame a b → (own : ℕ) (common : Link) (c : Assigned)
+    (a b : List Advertised) → HaveSame a b → (own : ℕ) (common : LinkEndpoints) (c : Assigned)
     → IsValid a own common c ↔ IsValid b own common c
 
 -- The first free prefix is one.
@@ -184,7 +185,8 @@ SameHaveSameFree =
 
 -- A view has a list of advertised prefixes, with whatever assignments.
 abbrev pub AdvertisedExists : Type 0
-AdvertisedExists = (view : PlainView) (assigned : List Assigned) → (advertised : List Advertised) × AreAdvertised view assigned advertised
+AdvertisedExists =
+    (view : PlainView) (assigned : List Assigned) → (advertised : List Advertised) × AreAdvertised view assigned advertised
 
 -- It cannot be that the subroutine has no result over a stream of words.
 abbrev pub SubroutineHasAResult : Type 0

@@ -30,7 +30,7 @@ pub record IsFollowed (at : PlainScene) (best : Advertised) (after : Slot) : Typ
   pub gives : after ≡ following at best
 
 -- 3. No best prefix and a published assignment: it is kept where it is valid, and else destroyed.
-pub record IsKept (at : PlainScene) (c : Assigned) (before after : Slot) : Type 0 where
+pub record IsKeptAlone (at : PlainScene) (c : Assigned) (before after : Slot) : Type 0 where
   pub published : (priority : ℕ) × (c.published ≡ Some priority)
   pub gives : IfValid at c before before after
 
@@ -51,7 +51,7 @@ pub record IsYielded (at : PlainScene) (best : Advertised) (c : Assigned) (befor
   pub gives : after ≡ record before { assigned = Some (record c { published = None }) }
 
 -- 7. A best prefix and any other assignment: it is destroyed, and the best is followed.
-pub record IsReplaced (at : PlainScene) (best : Advertised) (c : Assigned) (after : Slot) : Type 0 where
+pub record IsReplacedByBest (at : PlainScene) (best : Advertised) (c : Assigned) (after : Slot) : Type 0 where
   pub not_ahead : ¬ (IsAhead at best c)
   pub other : ¬ (c.prefix ≡ best.prefix)
   pub gives : after ≡ following at best
@@ -60,12 +60,12 @@ pub record IsReplaced (at : PlainScene) (best : Advertised) (c : Assigned) (afte
 abbrev pub IsLine : PlainScene → Option Advertised → Option Assigned → Slot → List ℕ → Slot → Type 0
 IsLine at None None before words after = IsUnassigned at before words after
 IsLine at (Some best) None before words after = IsFollowed at best after × (words ≡ [])
-IsLine at None (Some c) before words after = (IsKept at c before after ⊎ IsAdopted at c before after) × (words ≡ [])
+IsLine at None (Some c) before words after = (IsKeptAlone at c before after ⊎ IsAdopted at c before after) × (words ≡ [])
 IsLine at (Some best) (Some c) before words after =
-    (IsKeptAhead at best c before after ⊎ (IsYielded at best c before after ⊎ IsReplaced at best c after)) × (words ≡ [])
+    (IsKeptAhead at best c before after ⊎ (IsYielded at best c before after ⊎ IsReplacedByBest at best c after)) × (words ≡ [])
 
 -- some line of the table leads from what a pair has to what it has afterwards
-pub record IsTurn (at : PlainScene) (before : Slot) (words : List ℕ) (after : Slot) : Type 0 where
+pub record IsPairTurn (at : PlainScene) (before : Slot) (words : List ℕ) (after : Slot) : Type 0 where
   pub best : Option Advertised
   pub is_best : IsBestFor at best
   pub line : IsLine at best before.assigned before words after

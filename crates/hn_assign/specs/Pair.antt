@@ -46,7 +46,8 @@ pub record KeepsWished {A : Type 0} (pair_of : A → Pair) (wishes : List Wish) 
   pub those : (x : A) → Contains after x ↔ Contains before x × IsWished wishes (pair_of x)
 
 -- where the element of a pair is, or else where it would be: after those below it and before those above it
-abbrev pub IsPlace : {A : Type 0} → (A → Pair) → Pair → List A → Result ℕ ℕ → Type 0
-IsPlace pair_of pair xs (Ok place) = (place < length xs) × HoldsAt (λ x. pair_of x ≡ pair) xs place
-IsPlace pair_of pair xs (Err place) =
-    (place ≤ length xs) × IsPartitionPoint (λ x. pair_cmp (pair_of x) pair ≡ Less) (λ x. pair_cmp (pair_of x) pair ≡ Greater) xs place
+abbrev pub IsPlaceOfPair : {A : Type 0} → (A → Pair) → Pair → List A → Result ℕ ℕ → Type 0
+IsPlaceOfPair pair_of pair xs (Ok place) = (place < length xs) × HoldsAt (λ x. pair_of x ≡ pair) xs place
+IsPlaceOfPair pair_of pair xs (Err place) =
+    (place ≤ length xs)
+    × IsPartitionPoint (λ x. pair_cmp (pair_of x) pair ≡ Less) (λ x. pair_cmp (pair_of x) pair ≡ Greater) xs place

@@ -43,4 +43,11 @@ IsFirstFreeFor at start p = IsFirstFree at.wish.delegated start (map (λ a. a.pr
 -- an assignment of the pair: with this prefix, from now on, and not applied yet
 abbrev pub new_assigned : PlainScene → PlainPrefix → Option ℕ → Assigned
 new_assigned at prefix published =
-    record { delegated = at.wish.delegated; endpoint = at.wish.endpoint; prefix = prefix; published = published; since = at.now; applied = false }
+    record {
+      delegated = at.wish.delegated;
+      endpoint = at.wish.endpoint;
+      prefix = prefix;
+      published = published;
+      since = at.now;
+      applied = false;
+    }

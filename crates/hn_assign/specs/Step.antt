@@ -9,18 +9,18 @@ use Rattle.hn_assign.specs.declared.slot.Slot.{Slot}
 use Rattle.hn_assign.specs.Gathered.{AreAdvertised}
 use Rattle.hn_assign.specs.Pair.{assigned_pair, backoff_pair, wish_pair, Updates}
 use Rattle.hn_assign.specs.Scene.{scene_of}
-use Rattle.hn_assign.specs.Lines.{IsTurn}
+use Rattle.hn_assign.specs.Lines.{IsPairTurn}
 use Rattle.hn_assign.specs.Slot.{IsSlot}
 
 -- A line of the table leads from what the pair has to what it has afterwards, by the prefixes that are advertised in the
 -- state so far, and takes these words. What other pairs have stays.
-pub record IsStep (view : PlainView) (wish : Wish) (words : List ℕ) (before after : Ran) : Type 0 where
+pub record IsPairStep (view : PlainView) (wish : Wish) (words : List ℕ) (before after : Ran) : Type 0 where
   pub advertised : List Advertised
   pub are_advertised : AreAdvertised view before.held.assigned advertised
   pub old : Slot
   pub had : IsSlot (wish_pair wish) before.held old
   pub new : Slot
-  pub turn : IsTurn (scene_of view wish advertised) old words new
+  pub turn : IsPairTurn (scene_of view wish advertised) old words new
   pub assigned : Updates assigned_pair (wish_pair wish) new.assigned before.held.assigned after.held.assigned
   pub backoffs : Updates backoff_pair (wish_pair wish) new.backoff before.held.backoffs after.held.backoffs
   pub took : after.words ≡ before.words ++ words
@@ -28,5 +28,5 @@ pub record IsStep (view : PlainView) (wish : Wish) (words : List ℕ) (before af
 -- and a draw moved by exactly these words
 pub record StepTook (view : PlainView) (wish : Wish) (told told_after : Option (ℕ → ℕ)) (before after : Ran) : Type 0 where
   pub words : List ℕ
-  pub step : IsStep view wish words before after
+  pub step : IsPairStep view wish words before after
   pub drew : Took told words told_after

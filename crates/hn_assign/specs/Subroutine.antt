@@ -4,9 +4,9 @@ use Rattle.hn_data.specs.View.{PlainView}
 use Rattle.hn_assign.specs.declared.assigned.Wish.{Wish}
 use Rattle.hn_assign.specs.declared.held.Held.{Held}
 use Rattle.hn_assign.specs.declared.held.Ran.{Ran}
-use Rattle.hn_assign.specs.Marks.{marked}
+use Rattle.hn_assign.specs.Marks.{marked_applied}
 use Rattle.hn_assign.specs.Pair.{assigned_pair, backoff_pair, KeepsWished}
-use Rattle.hn_assign.specs.Step.{IsStep}
+use Rattle.hn_assign.specs.Step.{IsPairStep}
 
 -- at its begin the assignments and backoffs of pairs without a wish are destroyed, and no word is taken
 pub record IsBegun (wishes : List Wish) (held : Held) (ran : Ran) : Type 0 where
@@ -18,11 +18,11 @@ pub record IsBegun (wishes : List Wish) (held : Held) (ran : Ran) : Type 0 where
 abbrev pub AreSteps : PlainView → List Wish → Ran → Ran → Type 0
 AreSteps view [] before after = after ≡ before
 AreSteps view (wish ∷ wishes) before after =
-    (between : Ran) × (words : List ℕ) × IsStep view wish words before between × AreSteps view wishes between after
+    (between : Ran) × (words : List ℕ) × IsPairStep view wish words before between × AreSteps view wishes between after
 
 -- with marks of application
 abbrev pub with_marks : ℕ → Ran → Ran
-with_marks now ran = record ran { held = record ran.held { assigned = map (marked now) ran.held.assigned } }
+with_marks now ran = record ran { held = record ran.held { assigned = map (marked_applied now) ran.held.assigned } }
 
 -- the subroutine
 pub record IsSubroutine (view : PlainView) (wishes : List Wish) (held : Held) (ran : Ran) : Type 0 where

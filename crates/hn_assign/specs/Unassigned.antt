@@ -59,4 +59,5 @@ pub record IsMade (at : PlainScene) (before : Slot) (words : List ℕ) (after : 
 -- the line
 abbrev pub IsUnassigned : PlainScene → Slot → List ℕ → Slot → Type 0
 IsUnassigned at before words after =
-    IsLeft at before words after ⊎ (IsPostponed at before words after ⊎ (IsWaiting at before words after ⊎ IsMade at before words after))
+    IsLeft at before words after
+    ⊎ (IsPostponed at before words after ⊎ (IsWaiting at before words after ⊎ IsMade at before words after))

@@ -2,7 +2,7 @@
 
 ghost use Rattle.std.specs.Prelude.{◌≡◌, ◌↔◌, IsTrue, IfSome, IfOk, OnOk, is_ok};
 ghost use Rattle.hn_base.specs.Ascending.{HasAt};
-ghost use Rattle.hn_assign.specs.Pair.{IsAscending, IsWished, IsPlace, Updates, KeepsWished, wish_pair};
+ghost use Rattle.hn_assign.specs.Pair.{IsAscending, IsWished, IsPlaceOfPair, Updates, KeepsWished, wish_pair};
 
 use crate::assigned::Wish;
 use crate::pair::{Pair, Paired};
@@ -12,7 +12,7 @@ use std::alloc::Global;
 /// Where the item of a pair is, or else where it would be.
 pub(crate) fn place_of<T: Paired>(items: &[T], pair: &Pair) -> Result<usize, usize>
     requires { IsAscending T.pair_of items.now }
-    ensures { IsPlace T.pair_of pair.now items.now result }
+    ensures { IsPlaceOfPair T.pair_of pair.now items.now result }
 {
     items.binary_search_by_key(pair, |x| x.pair())
 }
@@ -20,7 +20,7 @@ pub(crate) fn place_of<T: Paired>(items: &[T], pair: &Pair) -> Result<usize, usi
 /// The same, where the place is likely to be this one.
 fn place_near<T: Paired>(items: &[T], near: usize, pair: &Pair) -> Result<usize, usize>
     requires { IsAscending T.pair_of items.now }
-    ensures { IsPlace T.pair_of pair.now items.now result }
+    ensures { IsPlaceOfPair T.pair_of pair.now items.now result }
 {
     if near < items.len() && items[near].pair() == *pair {
         return Ok(near);
@@ -31,7 +31,7 @@ fn place_near<T: Paired>(items: &[T], near: usize, pair: &Pair) -> Result<usize,
 /// The same, where the pair is likely to come after all others.
 pub(crate) fn place_at_end<T: Paired>(items: &[T], pair: &Pair) -> Result<usize, usize>
     requires { IsAscending T.pair_of items.now }
-    ensures { IsPlace T.pair_of pair.now items.now result }
+    ensures { IsPlaceOfPair T.pair_of pair.now items.now result }
 {
     match items.last() {
         Some(last) if last.pair() < *pair => Err(items.len()),

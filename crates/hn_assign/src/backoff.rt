@@ -1,3 +1,4 @@
+use crate::of_pairs::OfPairs;
 use hn_base::{EpId, Moment};
 use hn_prefix::Prefix;
 
@@ -10,3 +11,6 @@ pub struct Backoff {
     /// The moment from which on the assignment may be made.
     pub due: Moment,
 }
+
+/// A router's backoffs, strictly ascending by delegated prefix and endpoint. Contracts see their list.
+pub type Backoffs = OfPairs<Backoff>;

@@ -2,7 +2,7 @@ ghost use Rattle.std.specs.Prelude.{◌≡◌, [], IfOk};
 ghost use Rattle.hn_assign.specs.Slot.{IsSlot};
 
 use crate::assignments::Assignments;
-use crate::backoffs::Backoffs;
+use crate::backoff::Backoffs;
 use crate::pair::Pair;
 use crate::slot::Slot;
 use hn_base::{NoMemory, Words};

@@ -7,7 +7,7 @@ ghost use Rattle.hn_prefix.specs.Free.{IsFirstFree};
 ghost use Rattle.hn_assign.specs.declared.assigned.Advertised.{Advertised};
 ghost use Rattle.hn_assign.specs.Best.{IsBestIfAny, IsValid, IsFreeIn, HasNoFree};
 ghost use Rattle.hn_assign.specs.Gathered.{AreAdvertised};
-ghost use Rattle.hn_assign.specs.Indexed.{IsFront, short_of};
+ghost use Rattle.hn_assign.specs.Indexed.{IsFrontUpTo, short_of};
 
 use crate::assigned::{Advertised, Assigned};
 use crate::gathering::gather;
@@ -68,7 +68,7 @@ fn order_if_many(advertised: &mut Vec<Advertised>)
 
 /// The first ones, before the first whose bits are above an address. They are few: each is looked at.
 fn front_to(rest: &[Advertised], last: u128) -> &[Advertised]
-    ensures { IsFront rest.now last result.now }
+    ensures { IsFrontUpTo rest.now last result.now }
 {
     let past = rest.iter().position(|a| a.prefix.bits() > last);
     match past {

@@ -12,8 +12,14 @@ ghost use Rattle.hn_assign.specs.declared.assigned.Wish.{Wish};
 ghost use Rattle.hn_assign.specs.declared.held.Held.{Held};
 ghost use Rattle.hn_assign.specs.declared.held.Ran.{Ran};
 ghost use Rattle.hn_assign.specs.declared.slot.Slot.{Slot};
-ghost use Rattle.hn_assign.specs.Laws.{BestIsUnique, SubroutineKeepsInside, SubroutineKeepsPast, SubroutineKeepsPriority, AssignedAscend, BackoffsAscend, AssignedAreWished, SubroutineHasOneResult, RestIsUnchanged, RestHasADueRun, RestChangesNothing, MarksChangeNothing, AdvertisedOfUnchanged, RestStays, RestStaysUnwanted, AdvertisedOfLater, StillRunStays, SameHaveOneBest, SameHaveOneFirstFree, SameHaveSameFree, SameHaveSameValid, AdvertisedExists, SubroutineKeepsLengths, SubroutineHasAResult, SubroutineHasADueRun};
-ghost use Rattle.hn_assign.specs.Lines.{IsKept, IsAdopted, IsKeptAhead, IsYielded, IsReplaced};
+ghost use Rattle.hn_assign.specs.Laws.{BestIsUnique, SubroutineKeepsInside, SubroutineKeepsPast};
+ghost use Rattle.hn_assign.specs.Laws.{SubroutineKeepsPriority, AssignedAscend, BackoffsAscend, AssignedAreWished};
+ghost use Rattle.hn_assign.specs.Laws.{SubroutineHasOneResult, RestIsUnchanged, RestHasADueRun};
+ghost use Rattle.hn_assign.specs.Laws.{RestChangesNoAssignment, MarksChangeNothing, AdvertisedOfUnchanged, RestStays};
+ghost use Rattle.hn_assign.specs.Laws.{RestStaysUnwanted, AdvertisedOfLater, StillRunStays, SameHaveOneBest};
+ghost use Rattle.hn_assign.specs.Laws.{SameHaveOneFirstFree, SameHaveSameFree, SameHaveSameValid, AdvertisedExists};
+ghost use Rattle.hn_assign.specs.Laws.{SubroutineKeepsLengths, SubroutineHasAResult, SubroutineHasADueRun};
+ghost use Rattle.hn_assign.specs.Lines.{IsKeptAlone, IsAdopted, IsKeptAhead, IsYielded, IsReplacedByBest};
 ghost use Rattle.hn_assign.specs.Pair.{IsWished, backoff_pair, pair_cmp};
 ghost use Rattle.hn_assign.specs.Scene.{PlainScene};
 ghost use Rattle.hn_assign.specs.Subroutine.{IsSubroutine};
@@ -31,13 +37,14 @@ pub fn pairs_are_ordered()
 /// prefix and assignment exclude each other.
 pub fn lines_exclude_each_other()
     ensures best { BestIsUnique }
-    ensures alone { (at : PlainScene) (c : Assigned) (before x y : Slot) → IsKept at c before x → ¬ (IsAdopted at c before y) }
+    ensures alone { (at : PlainScene) (c : Assigned) (before x y : Slot)
+        → IsKeptAlone at c before x → ¬ (IsAdopted at c before y) }
     ensures yielded { (at : PlainScene) (best : Advertised) (c : Assigned) (before x y : Slot)
         → IsKeptAhead at best c before x → ¬ (IsYielded at best c before y) }
     ensures replaced { (at : PlainScene) (best : Advertised) (c : Assigned) (before x y : Slot)
-        → IsKeptAhead at best c before x → ¬ (IsReplaced at best c y) }
+        → IsKeptAhead at best c before x → ¬ (IsReplacedByBest at best c y) }
     ensures other { (at : PlainScene) (best : Advertised) (c : Assigned) (before x y : Slot)
-        → IsYielded at best c before x → ¬ (IsReplaced at best c y) }
+        → IsYielded at best c before x → ¬ (IsReplacedByBest at best c y) }
 {}
 
 /// What the subroutine keeps of each assignment: its prefix is inside its delegated prefix; it was made at the moment
@@ -81,8 +88,8 @@ pub fn rest_has_a_run()
 
 /// Where all assignments are of wished pairs and each pair is at rest, the subroutine leaves all assignments as they are,
 /// marks of application aside, whatever the backoffs and the words are.
-pub fn rest_changes_nothing()
-    ensures { RestChangesNothing }
+pub fn rest_changes_no_assignment()
+    ensures { RestChangesNoAssignment }
 {}
 
 /// Marks of application change no assignment.

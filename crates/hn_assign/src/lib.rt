@@ -5,13 +5,13 @@ mod ascending;
 mod assigned;
 mod assignments;
 mod backoff;
-mod backoffs;
 mod due;
 mod gathering;
 mod held;
 mod index;
 mod laws;
 mod lines;
+mod of_pairs;
 mod pair;
 mod precedence;
 mod rest;
@@ -25,20 +25,20 @@ mod wishes;
 
 pub use assigned::{Advertised, Assigned, Wish};
 pub use assignments::Assignments;
-pub use backoff::Backoff;
-pub use backoffs::Backoffs;
+pub use backoff::{Backoff, Backoffs};
 pub use gathering::{AdvertisedPrefixes, gather};
 pub use held::{Held, Ran};
 pub use index::Index;
 pub use laws::{
     advertised_exists, advertised_of_later, advertised_of_unchanged, answers_know_no_order,
-    lines_exclude_each_other, marks_change_nothing, pairs_are_ordered, rest_changes_nothing,
+    lines_exclude_each_other, marks_change_nothing, pairs_are_ordered, rest_changes_no_assignment,
     rest_has_a_run, rest_is_unchanged, rest_stays, still_run_stays, subroutine_has_a_result,
     subroutine_has_one_result, subroutine_keeps, subroutine_leaves,
 };
-pub use pair::Pair;
+pub use of_pairs::OfPairs;
+pub use pair::{Pair, Paired};
 pub use precedence::{PRIORITY, best, valid};
-pub use rest::{are_at_rest, is_at_rest};
+pub use rest::is_at_rest;
 pub use scene::Scene;
 pub use subroutines::subroutine;
 pub use wishes::Wishes;

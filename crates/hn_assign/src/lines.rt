@@ -2,7 +2,8 @@
 
 ghost use Rattle.std.specs.Prelude.{◌≡◌, ◌↔◌, IsTrue, IsSome, IsNone, Some};
 ghost use Rattle.hn_assign.specs.Scene.{plain_scene};
-ghost use Rattle.hn_assign.specs.Lines.{following, IfValid, IsAhead, IsFollowed, IsKept, IsAdopted, IsKeptAhead, IsYielded, IsReplaced};
+ghost use Rattle.hn_assign.specs.Lines.{following, IfValid, IsAhead, IsFollowed, IsKeptAlone, IsAdopted, IsKeptAhead};
+ghost use Rattle.hn_assign.specs.Lines.{IsYielded, IsReplacedByBest};
 
 use crate::assigned::{Advertised, Assigned};
 use crate::precedence::PRIORITY;
@@ -21,7 +22,7 @@ impl Scene<'_> {
     /// 3. No best prefix and a published assignment: it is kept where it is valid, and else destroyed.
     pub(crate) fn kept(&self, c: &Assigned, before: &Slot) -> Slot
         requires { IsSome c.now.published }
-        ensures { IsKept (plain_scene self.entry.now) c.now before.now result }
+        ensures { IsKeptAlone (plain_scene self.entry.now) c.now before.now result }
     {
         self.if_valid(c, before, before)
     }
@@ -55,7 +56,7 @@ impl Scene<'_> {
     pub(crate) fn replaced(&self, best: &Advertised, c: &Assigned) -> Slot
         requires not_ahead { ¬ (IsAhead (plain_scene self.now) best.now c.now) }
         requires other { ¬ (c.now.prefix ≡ best.now.prefix) }
-        ensures { IsReplaced (plain_scene self.entry.now) best.now c.now result }
+        ensures { IsReplacedByBest (plain_scene self.entry.now) best.now c.now result }
     {
         self.following(best)
     }

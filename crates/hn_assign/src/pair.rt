@@ -14,7 +14,7 @@ pub struct Pair {
 }
 
 /// What is for a pair.
-pub(crate) trait Paired {
+pub trait Paired {
     ghost use Rattle.hn_assign.specs.declared.pair.Pair.{Pair};
 
     /// Its pair.

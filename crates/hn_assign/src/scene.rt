@@ -1,5 +1,6 @@
 ghost use Rattle.std.specs.Prelude.{◌≡◌, ◌≤◌, ◌↔◌, IsTrue, IfSome, IfNone};
-ghost use Rattle.hn_assign.specs.Scene.{plain_scene, IsBestFor, IsValidFor, IsFreeFor, HasNoFreeFor, IsFirstFreeFor, new_assigned};
+ghost use Rattle.hn_assign.specs.Scene.{plain_scene, IsBestFor, IsValidFor, IsFreeFor, HasNoFreeFor, IsFirstFreeFor};
+ghost use Rattle.hn_assign.specs.Scene.{new_assigned};
 
 use crate::assigned::{Advertised, Assigned, Wish};
 use crate::index::Index;

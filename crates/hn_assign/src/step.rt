@@ -2,7 +2,7 @@ ghost use Rattle.std.specs.Prelude.{◌≡◌, ◌^◌, ◌≤◌, ◌++◌, fal
 ghost use Rattle.std.specs.Option.{option_to_list};
 ghost use Rattle.hn_data.specs.View.{plain_view};
 ghost use Rattle.hn_assign.specs.Gathered.{AdvertiseSame, AreAdvertised};
-ghost use Rattle.hn_assign.specs.Step.{IsStep, StepTook};
+ghost use Rattle.hn_assign.specs.Step.{IsPairStep, StepTook};
 
 use crate::assigned::Wish;
 use crate::held::Ran;
@@ -25,8 +25,10 @@ impl Ran {
         requires known { AreAdvertised (plain_view view.now) self.old.held.assigned known.now }
         requires length { wish.now.length ≤ 64 }
         requires moment { view.now.now ≤ 2 ^ 48 }
-        ensures step { IfOk result (λ _. StepTook (plain_view view.entry.now) wish.now (D.words draw.old) (D.words draw.new) self.old self.new) }
-        ensures unchanged { IfOk result (λ changed. changed ≡ false → AdvertiseSame self.old.held.assigned self.new.held.assigned) }
+        ensures step { IfOk result (λ _. StepTook (plain_view view.entry.now) wish.now (D.words draw.old) (D.words draw.new)
+            self.old self.new) }
+        ensures unchanged { IfOk result (λ changed. changed ≡ false
+            → AdvertiseSame self.old.held.assigned self.new.held.assigned) }
     {
         let pair = wish.pair();
         let before = self.held.slot(&pair);
@@ -38,9 +40,7 @@ impl Ran {
         };
         let turn = scene.turn(&before, draw);
         add(&mut self.words, turn.word)?;
-        self.held
-            .backoffs
-            .change(&pair, &before.backoff, &turn.slot.backoff)?;
+        self.held.backoffs.set(&pair, &turn.slot.backoff)?;
         self.held
             .assigned
             .change(&pair, &before.assigned, &turn.slot.assigned)

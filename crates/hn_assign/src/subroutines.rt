@@ -1,9 +1,9 @@
-ghost use Rattle.std.specs.Prelude.{◌^◌, ◌≤◌, All, IfOk};
+ghost use Rattle.std.specs.Prelude.{◌≡◌, ◌^◌, ◌≤◌, [], All, IfOk, OnOk};
 ghost use Rattle.hn_base.specs.Words.{Took};
 ghost use Rattle.hn_data.specs.View.{plain_view, IsNetwork};
 ghost use Rattle.hn_assign.specs.Facts.{AreWishes, IsInDelegated, IsAssignedPast, HasOwnPriority};
 ghost use Rattle.hn_assign.specs.Pair.{IsAscending, assigned_pair, backoff_pair, wish_pair};
-ghost use Rattle.hn_assign.specs.Subroutine.{IsBegun, IsSubroutine};
+ghost use Rattle.hn_assign.specs.Subroutine.{IsBegun, AreSteps, IsSubroutine};
 
 use crate::assigned::Wish;
 use crate::held::{Held, Ran};
@@ -60,11 +60,30 @@ fn run<D: Draw>(
     ensures subroutine { IfOk result (IsSubroutine (plain_view view.entry.now) wishes.now held.now) }
     ensures drew { IfOk result (λ ran. Took (D.words draw.old) ran.words (D.words draw.new)) }
 {
-    words_join();
     let mut ran = begin(alloc, wishes, held)?;
+    turns(alloc, view, wishes, &mut ran, draw)?;
+    ran.held.assigned.mark(view.now);
+    Ok(ran)
+}
+
+/// The turns of all pairs, in the order of the wishes.
+fn turns<D: Draw>(
+    alloc: Global,
+    view: &View<'_>,
+    wishes: &[Wish],
+    ran: &mut Ran,
+    draw: &mut D,
+) -> Result<(), NoMemory>
+    requires network { IsNetwork view.now.own.0 view.now.nodes.now }
+    requires moment { view.now.now ≤ 2 ^ 48 }
+    requires wishes { AreWishes wishes.now }
+    requires untaken { ran.old.words ≡ [] }
+    ensures steps { OnOk result (AreSteps (plain_view view.entry.now) wishes.now ran.old ran.new) }
+    ensures drew { OnOk result (Took (D.words draw.old) ran.new.words (D.words draw.new)) }
+{
+    words_join();
     if wishes.is_empty() {
-        ran.held.assigned.mark(view.now);
-        return Ok(ran);
+        return Ok(());
     }
     let mut known = Index::gather(alloc, view, &ran.held)?;
     for wish in wishes {
@@ -72,8 +91,7 @@ fn run<D: Draw>(
             known = Index::gather(alloc, view, &ran.held)?;
         }
     }
-    ran.held.assigned.mark(view.now);
-    Ok(ran)
+    Ok(())
 }
 
 /// Where the subroutine begins.

@@ -4,7 +4,7 @@ ghost use Rattle.std.specs.Prelude.{◌≡◌, ◌^◌, ◌≤◌, ◌⊎◌, So
 ghost use Rattle.std.specs.Option.{option_to_list};
 ghost use Rattle.hn_base.specs.Words.{Took};
 ghost use Rattle.hn_assign.specs.Scene.{plain_scene};
-ghost use Rattle.hn_assign.specs.Lines.{IsKept, IsAdopted, IsKeptAhead, IsYielded, IsReplaced, IsTurn};
+ghost use Rattle.hn_assign.specs.Lines.{IsKeptAlone, IsAdopted, IsKeptAhead, IsYielded, IsReplacedByBest, IsPairTurn};
 
 use crate::assigned::{Advertised, Assigned};
 use crate::scene::Scene;
@@ -16,7 +16,7 @@ impl Scene<'_> {
     pub(crate) fn turn<D: Draw>(&self, before: &Slot, draw: &mut D) -> Turn
         requires length { self.now.wish.now.length ≤ 64 }
         requires moment { self.now.now ≤ 2 ^ 48 }
-        ensures turn { IsTurn (plain_scene self.entry.now) before.now (option_to_list result.word) result.slot }
+        ensures turn { IsPairTurn (plain_scene self.entry.now) before.now (option_to_list result.word) result.slot }
         ensures drew { Took (D.words draw.old) (option_to_list result.word) (D.words draw.new) }
     {
         match (self.best(), before.assigned) {
@@ -29,7 +29,7 @@ impl Scene<'_> {
 
     /// Lines 3 and 4: no best prefix and an assignment.
     fn alone(&self, c: &Assigned, before: &Slot) -> Slot
-        ensures { IsKept (plain_scene self.entry.now) c.now before.now result
+        ensures { IsKeptAlone (plain_scene self.entry.now) c.now before.now result
             ⊎ IsAdopted (plain_scene self.entry.now) c.now before.now result }
     {
         if c.published.is_some() {
@@ -43,7 +43,7 @@ impl Scene<'_> {
     fn beside(&self, best: &Advertised, c: &Assigned, before: &Slot) -> Slot
         ensures { IsKeptAhead (plain_scene self.entry.now) best.now c.now before.now result
             ⊎ (IsYielded (plain_scene self.entry.now) best.now c.now before.now result
-            ⊎ IsReplaced (plain_scene self.entry.now) best.now c.now result) }
+            ⊎ IsReplacedByBest (plain_scene self.entry.now) best.now c.now result) }
     {
         if self.is_ahead(best, c) {
             self.kept_ahead(best, c, before)

@@ -8,7 +8,7 @@ use Rattle.hn_assign.specs.declared.assigned.Advertised.{Advertised}
 use Rattle.hn_assign.specs.declared.assigned.Assigned.{Assigned}
 use Rattle.hn_assign.specs.declared.held.Held.{Held}
 use Rattle.hn_assign.specs.declared.held.Ran.{Ran}
-use Rattle.hn_assign.specs.Fixed.{AreAtRest, IsUnchanged, unmarked}
+use Rattle.hn_assign.specs.Fixed.{AreAtRest, AreAssignmentsUnchanged, unmarked}
 use Rattle.hn_assign.specs.Gathered.{AreAdvertised}
 use Rattle.hn_assign.specs.Pair.{IsWished, assigned_pair, pair_cmp}
 use Rattle.hn_assign.specs.Laws.{AssignedAreWished, RestHasADueRun, RestIsUnchanged, AdvertisedExists}
@@ -37,16 +37,16 @@ module _ (laws : FixedLaws) (s : State) (ran : Ran) (h : IsRunAnew s ran) where
 
   -- the law of rest, for this router
   law : (adv : List Advertised) → IsRouter s → All (λ c. IsWished h.wishes (assigned_pair c)) s.held.assigned → AreAdvertised (seen_by s) s.held.assigned adv
-      → IsUnchanged s.held.assigned ran.held.assigned ↔ AreAtRest adv s.id.0 h.wishes s.held.assigned
+      → AreAssignmentsUnchanged s.held.assigned ran.held.assigned ↔ AreAtRest adv s.id.0 h.wishes s.held.assigned
   law adv router all are = laws.rest (seen_by s) h.wishes held ran adv h.are_asked.ascending router.well.pairs.assigned all h.run.are_due are h.run.is_subroutine
 
-  pub changes_nothing : IsRouterAtRest s → IsRouter s → IsUnchanged s.held.assigned ran.held.assigned
+  pub changes_nothing : IsRouterAtRest s → IsRouter s → AreAssignmentsUnchanged s.held.assigned ran.held.assigned
   changes_nothing rest router =
       (law rest.advertised router (wished_there laws.one_list laws.pairs_total s h.usable h.are_usable h.wishes h.are_asked rest) rest.are_advertised).1
       (rests_there laws.one_list laws.pairs_total s h.usable h.are_usable h.wishes h.are_asked rest)
 
   -- where nothing changes, each assignment is of a wished pair, as after the run
-  still_wished : IsUnchanged s.held.assigned ran.held.assigned → All (λ c. IsWished h.wishes (assigned_pair c)) s.held.assigned
+  still_wished : AreAssignmentsUnchanged s.held.assigned ran.held.assigned → All (λ c. IsWished h.wishes (assigned_pair c)) s.held.assigned
   still_wished same = all_of (λ c. IsWished h.wishes (assigned_pair c)) s.held.assigned each
     where
       each : (c : Assigned) → Contains s.held.assigned c → IsWished h.wishes (assigned_pair c)
@@ -57,7 +57,7 @@ module _ (laws : FixedLaws) (s : State) (ran : Ran) (h : IsRunAnew s ran) where
           let one = All-contains (λ (x : Assigned). IsWished h.wishes (assigned_pair x)) ran.held.assigned d.0 wished d.1 in
           (one.0, one.1, one.2 ∙ ap assigned_pair d.2)
 
-  pub unchanged_rests : IsUnchanged s.held.assigned ran.held.assigned → IsRouter s → IsRouterAtRest s
+  pub unchanged_rests : AreAssignmentsUnchanged s.held.assigned ran.held.assigned → IsRouter s → IsRouterAtRest s
   unchanged_rests same router =
       let adv = laws.advertised_exists (seen_by s) s.held.assigned in
       let all = still_wished same in

@@ -20,9 +20,9 @@ use Rattle.hn_link.specs.Laws.{CommonLinkOfLater}
 use Rattle.hn_assign.specs.declared.assigned.Assigned.{Assigned}
 use Rattle.hn_assign.specs.declared.assigned.Wish.{Wish}
 use Rattle.hn_assign.specs.declared.held.Ran.{Ran}
-use Rattle.hn_assign.specs.Fixed.{AreAtRest, IsUnchanged, unmarked}
+use Rattle.hn_assign.specs.Fixed.{AreAtRest, AreAssignmentsUnchanged, unmarked}
 use Rattle.hn_assign.specs.Gathered.{AreAdvertised}
-use Rattle.hn_assign.specs.Laws.{AdvertisedOfLater, AdvertisedOfUnchanged, RestChangesNothing, RestStays, RestStaysUnwanted}
+use Rattle.hn_assign.specs.Laws.{AdvertisedOfLater, AdvertisedOfUnchanged, RestChangesNoAssignment, RestStays, RestStaysUnwanted}
 use Rattle.hn_assign.specs.Pair.{IsWished, assigned_pair}
 use Rattle.hn_own.specs.Posts.{posts_of, private_posts}
 use Rattle.hn_store.specs.Nodes.{held}
@@ -50,7 +50,7 @@ pub record RestLaws : Type 0 where
   pub advertised_same : AdvertisedOfUnchanged
   pub rest_same : RestStays
   pub rest_unwanted : RestStaysUnwanted
-  pub rest_changes : RestChangesNothing
+  pub rest_changes : RestChangesNoAssignment
   pub view : ViewOfLater
   pub used : UsedWhereAssigned
   pub restful : RestfulTick
@@ -148,7 +148,7 @@ module _ (laws : RestLaws) (now : ℕ) (s : State) (router : IsRouter s) (begun 
         (record { delegated = refl; endpoint = refl; common = refl; length = refl; wanted = λ yes. asked.wanted.1 (λ un. w.asked.wanted.0 yes (used_at.1 w.place un)) })
         (rest.at_rest old old_in c has)
 
-    changes_none : IsUnchanged s.held.assigned ran.held.assigned
+    changes_none : AreAssignmentsUnchanged s.held.assigned ran.held.assigned
     changes_none =
         laws.rest_changes at is.wishes s.held ran rest.advertised router.well.pairs.assigned wished_at
         ((laws.advertised_later before at s.held.assigned rest.advertised later).0 rest.are_advertised) at_rest is.is_subroutine

@@ -8,7 +8,7 @@ use Rattle.std.proofs.lemmas.Option.{slice_get-get_or}
 use Rattle.hn_base.proofs.PartsAtPlaces.{contains_at}
 use Rattle.hn_base.specs.declared.ids.EpId.{EpId}
 use Rattle.hn_base.specs.declared.ids.NodeId.{NodeId}
-use Rattle.hn_assign.specs.Fixed.{IsUnchanged}
+use Rattle.hn_assign.specs.Fixed.{AreAssignmentsUnchanged}
 use Rattle.hn_data.specs.Peers.{IsLinked}
 use Rattle.hn_deleg.specs.Laws.{UsableIsUnique}
 use Rattle.hn_own.specs.Own.{PlainData}
@@ -37,7 +37,7 @@ pub record IsStillAs (s next : State) : Type 0 where
   pub reach : next.reach ≡ s.reach
   pub known : (id : NodeId) → Contains s.reach id → held next.table.entries id.0 ≡ held s.table.entries id.0
   pub used : UseSame s next
-  pub assigned : IsUnchanged s.held.assigned next.held.assigned
+  pub assigned : AreAssignmentsUnchanged s.held.assigned next.held.assigned
   pub rests : IsRouterAtRest next
 
 -- each router of the world is the same one, and each of the set of r is so

@@ -3,7 +3,7 @@
 use Rattle.std.specs.Prelude.{◌≡◌, List, All}
 use Rattle.hn_assign.specs.declared.assigned.Wish.{Wish}
 use Rattle.hn_assign.specs.declared.held.Ran.{Ran}
-use Rattle.hn_assign.specs.Fixed.{IsDueRun, IsUnchanged}
+use Rattle.hn_assign.specs.Fixed.{IsDueRun, AreAssignmentsUnchanged}
 use Rattle.hn_deleg.specs.declared.delegated.Delegated.{Delegated}
 use Rattle.hn_deleg.specs.Used.{AreUsable}
 use Rattle.hn_rules.specs.Assigning.{AreAsked}
@@ -26,16 +26,16 @@ pub record IsRunAnew (s : State) (ran : Ran) : Type 0 where
 abbrev pub ChangesNothing : Parts → Member → Type 0
 ChangesNothing w r =
     (s : Member) (ran : Ran) → IsReached w r s → IsRunAnew s.router ran
-    → IsUnchanged s.router.held.assigned ran.held.assigned
+    → AreAssignmentsUnchanged s.router.held.assigned ran.held.assigned
 
 -- on each router of the set of r it comes to a result, with some random words, that makes, changes and destroys none
 abbrev pub MayChangeNothing : Parts → Member → Type 0
 MayChangeNothing w r =
     (s : Member) → IsReached w r s
-    → (ran : Ran) × IsRunAnew s.router ran × IsUnchanged s.router.held.assigned ran.held.assigned
+    → (ran : Ran) × IsRunAnew s.router ran × AreAssignmentsUnchanged s.router.held.assigned ran.held.assigned
 
 -- on each router of the set of r it comes to a result, with random words of zero, that makes, changes and destroys none
 abbrev pub IsFixed : Parts → Member → Type 0
 IsFixed w r =
     (s : Member) → IsReached w r s
-    → (ran : Ran) × IsRunAnew s.router ran × All (λ word. word ≡ 0) ran.words × IsUnchanged s.router.held.assigned ran.held.assigned
+    → (ran : Ran) × IsRunAnew s.router ran × All (λ word. word ≡ 0) ran.words × AreAssignmentsUnchanged s.router.held.assigned ran.held.assigned

@@ -2,7 +2,7 @@
 use Rattle.std.specs.Prelude.{◌≡◌, ◌↔◌, List, [], ◌++◌, Contains}
 use Rattle.hn_base.specs.declared.ids.NodeId.{NodeId}
 use Rattle.hn_assign.specs.declared.held.Ran.{Ran}
-use Rattle.hn_assign.specs.Fixed.{IsUnchanged}
+use Rattle.hn_assign.specs.Fixed.{AreAssignmentsUnchanged}
 use Rattle.hn_data.specs.declared.view.Entry.{Entry}
 use Rattle.hn_rules.specs.declared.state.State.{State}
 use Rattle.hn_rules.specs.Nodes.{view_of}
@@ -67,19 +67,19 @@ IsOfEachFront P =
 abbrev pub RestChangesNothing : Type 0
 RestChangesNothing =
     (s : State) (ran : Ran) → IsRouter s → IsRunAnew s ran → IsRouterAtRest s
-    → IsUnchanged s.held.assigned ran.held.assigned
+    → AreAssignmentsUnchanged s.held.assigned ran.held.assigned
 
 -- And where a run of it makes, changes and destroys none, the router is at rest.
 abbrev pub UnchangedIsAtRest : Type 0
 UnchangedIsAtRest =
     (s : State) (ran : Ran) → IsRouter s → IsRunAnew s ran
-    → IsUnchanged s.held.assigned ran.held.assigned → IsRouterAtRest s
+    → AreAssignmentsUnchanged s.held.assigned ran.held.assigned → IsRouterAtRest s
 
 -- On a router at rest it has such a run, which takes no random word.
 abbrev pub RestHasARun : Type 0
 RestHasARun =
     (s : State) → IsRouter s → IsRouterAtRest s
-    → (ran : Ran) × IsRunAnew s ran × IsUnchanged s.held.assigned ran.held.assigned × (ran.words ≡ [])
+    → (ran : Ran) × IsRunAnew s ran × AreAssignmentsUnchanged s.held.assigned ran.held.assigned × (ran.words ≡ [])
 
 -- What a witness says refutes that a router is settled.
 abbrev pub WitnessRefutesSettled : Type 0

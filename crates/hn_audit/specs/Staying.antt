@@ -3,7 +3,7 @@
 use Rattle.std.specs.Prelude.{◌≡◌, ◌↔◌, ℕ, List, Some}
 use Rattle.std.specs.List.{slice_get}
 use Rattle.hn_base.specs.Name.{name_text}
-use Rattle.hn_assign.specs.Fixed.{IsUnchanged}
+use Rattle.hn_assign.specs.Fixed.{AreAssignmentsUnchanged}
 use Rattle.hn_rules.specs.declared.done.Note.{Note}
 use Rattle.hn_rules.specs.declared.state.State.{State}
 use Rattle.hn_rules.specs.Still.{IsUneventful}
@@ -43,7 +43,7 @@ abbrev pub KeepAssignments : Parts → Parts → Member → Member → Type 0
 KeepAssignments before after r next =
     (place : ℕ) (s then : Member) → IsMemberAt place before after s then
     → (IsReached before r s ↔ IsReached after next then)
-    × (IsReached before r s → IsUnchanged s.router.held.assigned then.router.held.assigned)
+    × (IsReached before r s → AreAssignmentsUnchanged s.router.held.assigned then.router.held.assigned)
 
 -- a settled and quiet router stays so
 abbrev pub QuietStays : WEvent → Parts → Parts → Type 0

@@ -6,7 +6,7 @@ ghost use Rattle.hn_audit.specs.Staying.{QuietHomesStay, QuietHomesAlwaysStay};
 
 use hn_assign::{
     advertised_exists, advertised_of_later, advertised_of_unchanged, answers_know_no_order,
-    pairs_are_ordered, rest_changes_nothing, rest_has_a_run, rest_is_unchanged, rest_stays,
+    pairs_are_ordered, rest_changes_no_assignment, rest_has_a_run, rest_is_unchanged, rest_stays,
     subroutine_leaves,
 };
 use hn_data::items_are_unique;
@@ -125,7 +125,7 @@ pub fn quiet_homes_stay()
     advertised_of_later();
     advertised_of_unchanged();
     rest_stays();
-    rest_changes_nothing();
+    rest_changes_no_assignment();
 }
 
 /// So it was over each event of a replayed world's trace.

@@ -20,7 +20,7 @@ use Rattle.hn_rules.specs.Router.{IsRouter}
 use Rattle.hn_rules.specs.Assigning.{IsAssigned}
 use Rattle.hn_rules.specs.Rested.{IsRested}
 use Rattle.hn_rules.specs.Still.{at_moment, IsUneventful}
-use Rattle.hn_assign.specs.Fixed.{IsUnchanged}
+use Rattle.hn_assign.specs.Fixed.{AreAssignmentsUnchanged}
 use Rattle.hn_assign.specs.declared.held.Ran.{Ran}
 
 -- From one state, with one event, moment and stream of words, there is at most one result.
@@ -98,7 +98,7 @@ pub record RefusedInputStays : Type 0 where
 abbrev pub RestfulTickStays : Type 0
 RestfulTickStays =
     (now : ℕ) (s next : State) (done : Done) → IsRouter s → s.moment ≤ now → IsUneventful now s
-    → ((ran : Ran) → IsAssigned (at_moment now s) ran → IsUnchanged s.held.assigned ran.held.assigned)
+    → ((ran : Ran) → IsAssigned (at_moment now s) ran → AreAssignmentsUnchanged s.held.assigned ran.held.assigned)
     → Happened now Tick s next done → IsRested s next
 
 -- ---- what was published

@@ -6,7 +6,7 @@ use Rattle.std.specs.Option.{option_map}
 use Rattle.std.proofs.lemmas.List.Elements.{All-contains_itself, All-filter, All-weaker}
 use Rattle.hn_base.specs.Words.{Begins}
 use Rattle.hn_base.specs.declared.ids.NodeId.{NodeId}
-use Rattle.hn_assign.specs.Fixed.{IsUnchanged, unmarked}
+use Rattle.hn_assign.specs.Fixed.{AreAssignmentsUnchanged, unmarked}
 use Rattle.hn_assign.specs.Subroutine.{IsSubroutine}
 use Rattle.hn_assign.specs.declared.assigned.Assigned.{Assigned}
 use Rattle.hn_assign.specs.declared.held.Held.{Held}
@@ -66,10 +66,10 @@ published_unmarked [] = refl
 published_unmarked (c ∷ xs) = ap (cons_option (publication_of c)) (published_unmarked xs)
 
 -- they publish the same
-pub same_published : (before after : List Assigned) → IsUnchanged before after → published_in after ≡ published_in before
+pub same_published : (before after : List Assigned) → AreAssignmentsUnchanged before after → published_in after ≡ published_in before
 same_published before after same = sym (published_unmarked after) ∙ ap (filter_map publication_of) same ∙ published_unmarked before
 
-with_held : (s : State) (ran : Held) → IsUnchanged s.held.assigned ran.assigned → IsFresh s → IsFresh (record s { held = ran })
+with_held : (s : State) (ran : Held) → AreAssignmentsUnchanged s.held.assigned ran.assigned → IsFresh s → IsFresh (record s { held = ran })
 with_held s ran same is = record {
   refreshed = record {
     published = ap (λ (list : List AssignedPrefix). let items : OwnItems = record (own_items s) { assigned = list } in items) (same_published s.held.assigned ran.assigned same) ∙ is.refreshed.published;
@@ -146,11 +146,11 @@ module _ (laws : CalmLaws) (s : State) (now : ℕ) (router : IsRouter s) (begun 
     is_subroutine = subst (λ (view : PlainView). IsSubroutine view is.wishes s.held ran) same_view is.is_subroutine;
   }
 
-  module _ (changes_none : (ran : Ran) → IsAssigned then ran → IsUnchanged s.held.assigned ran.held.assigned) where
+  module _ (changes_none : (ran : Ran) → IsAssigned then ran → AreAssignmentsUnchanged s.held.assigned ran.held.assigned) where
     -- prefixes are assigned as they were, and nothing is published
     record IsSettled (settled : Running) : Type 0 where
       pub holds : Held
-      pub same : IsUnchanged s.held.assigned holds.assigned
+      pub same : AreAssignmentsUnchanged s.held.assigned holds.assigned
       pub is : settled.state ≡ record forgot { held = holds }
 
     settles : (settled : Running) → IsSettling (forgetting start) settled → IsSettled settled
@@ -183,7 +183,7 @@ module _ (laws : CalmLaws) (s : State) (now : ℕ) (router : IsRouter s) (begun 
           reach = ap (λ (x : State). x.reach) whole;
           endpoints = (ports_stand settled after ticks).1 ∙ ap endpoints_of ports_are;
           known = λ id there. ap (λ (entries : List HeldNode). held entries id.0) table_is ∙ known_forgot id there;
-          assigned = subst (IsUnchanged s.held.assigned) (sym assigned_is) rest.same;
+          assigned = subst (AreAssignmentsUnchanged s.held.assigned) (sym assigned_is) rest.same;
         }
 
 pub restful_tick : CalmLaws → RestfulTick

@@ -1,7 +1,7 @@
 -- What a tick leaves that nothing disturbs.
 use Rattle.std.specs.Prelude.{◌≡◌, ℕ, ◌≤◌, List, Contains}
 use Rattle.hn_base.specs.declared.ids.NodeId.{NodeId}
-use Rattle.hn_assign.specs.Fixed.{IsUnchanged}
+use Rattle.hn_assign.specs.Fixed.{AreAssignmentsUnchanged}
 use Rattle.hn_assign.specs.declared.held.Ran.{Ran}
 use Rattle.hn_data.specs.Later.{IsLater}
 use Rattle.hn_deleg.specs.Used.{AreUsable, IsUnwanted, prefixes_of}
@@ -27,14 +27,14 @@ pub record IsRested (before after : State) : Type 0 where
   pub endpoints : endpoints_of after.ports ≡ endpoints_of before.ports
   pub reach : after.reach ≡ before.reach
   pub known : (id : NodeId) → Contains before.reach id → held after.table.entries id.0 ≡ held before.table.entries id.0
-  pub assigned : IsUnchanged before.held.assigned after.held.assigned
+  pub assigned : AreAssignmentsUnchanged before.held.assigned after.held.assigned
 
 -- Where nothing that a router keeps has come to its moment, and the assignment subroutine would change nothing, a tick
 -- leaves the router so.
 abbrev pub RestfulTick : Type 0
 RestfulTick =
     (now : ℕ) (s : State) (after : Running) → IsRouter s → s.moment ≤ now → IsUneventful now s
-    → ((ran : Ran) → IsAssigned (at_moment now s) ran → IsUnchanged s.held.assigned ran.held.assigned)
+    → ((ran : Ran) → IsAssigned (at_moment now s) ran → AreAssignmentsUnchanged s.held.assigned ran.held.assigned)
     → IsTick (begun_at now s) after → IsRested s after.state
 
 -- Where nothing that a router keeps has come to its moment, and it uses and wants after a tick what it did before, it used

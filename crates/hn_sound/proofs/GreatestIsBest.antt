@@ -17,7 +17,7 @@ use Rattle.hn_base.specs.Prefix.{PlainPrefix, IsWithin, Overlaps, prefix_cmp}
 use Rattle.hn_assign.specs.declared.assigned.Advertised.{Advertised}
 use Rattle.hn_assign.specs.declared.assigned.Assigned.{Assigned}
 use Rattle.hn_assign.specs.Advertised.{key_of, IsOnLink, advertised_cmp}
-use Rattle.hn_assign.specs.Best.{IsCandidate, IsBest}
+use Rattle.hn_assign.specs.Best.{IsCandidatePrefix, IsBest}
 use Rattle.hn_sound.specs.Home.{Home, Endpoint, Held, EndpointHasAssignment, HasPublished, advertised, common_link, key_at}
 use Rattle.hn_sound.specs.Premises.{Meets, IsHome}
 use Rattle.hn_sound.specs.Premises.Premise.{OneLink, OnceOnLink, UsedApart, ForUsed, PublishedInside, OneEach}
@@ -109,7 +109,7 @@ module _ (home : Home) (is_home : IsHome home) where
       is_home UsedApart other d (is_home ForUsed x.endpoint other x.assigned x.fact.has) used overlap
 
   -- a candidate is published on the link, for the delegated prefix
-  pub from_candidate : (f : Endpoint) (d : PlainPrefix) (a : Advertised) → Contains home.used d → IsCandidate (advertised home) f.node.0 (common_link home f) d a → OnLink home f d a
+  pub from_candidate : (f : Endpoint) (d : PlainPrefix) (a : Advertised) → Contains home.used d → IsCandidatePrefix (advertised home) f.node.0 (common_link home f) d a → OnLink home f d a
   from_candidate f d a used candidate =
       let on = on_some_link home f a candidate.advertised candidate.on_link in
       let within : IsWithin on.1.by.assigned.prefix d = subst (λ (b : Advertised). IsWithin b.prefix d) on.1.is candidate.inside in
@@ -121,7 +121,7 @@ module _ (home : Home) (is_home : IsHome home) where
 
   -- what an endpoint publishes is a candidate for each other endpoint of its link
   pub to_candidate : (d : PlainPrefix) (x : Published home d) (f : Endpoint) → Contains home.endpoints f → f.link ≡ x.endpoint.link → f ≢ x.endpoint
-      → IsCandidate (advertised home) f.node.0 (common_link home f) d (advert x)
+      → IsCandidatePrefix (advertised home) f.node.0 (common_link home f) d (advert x)
   to_candidate d x f there link other = record {
     advertised = is_advertised home d x;
     of_another = λ same. other (sym (one_endpoint x.endpoint f x.fact.has.there there (same_node x.endpoint.node f.node same) (sym link)));

@@ -10,7 +10,7 @@ use Rattle.hn_base.proofs.Keys.{key_total}
 use Rattle.hn_base.specs.Prefix.{PlainPrefix}
 use Rattle.hn_assign.specs.declared.assigned.Advertised.{Advertised}
 use Rattle.hn_assign.specs.declared.assigned.Assigned.{Assigned}
-use Rattle.hn_assign.specs.Best.{IsCandidate, HasNoBest, HasNoFree}
+use Rattle.hn_assign.specs.Best.{IsCandidatePrefix, HasNoBest, HasNoFree}
 use Rattle.hn_assign.specs.Rest.{IsAtRest, IsAheadOfBest, IsFollowing}
 use Rattle.hn_sound.specs.AtRest.{IsHomeAtRest, IsAssignmentOf}
 use Rattle.hn_sound.specs.Home.{Home, Endpoint, EndpointHasAssignment, advertised, common_link, wish_of, key_at}
@@ -55,7 +55,7 @@ module _ (home : Home) (is_home : IsHome home) (at_rest : IsHomeAtRest home) whe
   not_beside_top : (d : PlainPrefix) (x y : Published home d) → IsTop x → y.endpoint.link ≡ x.endpoint.link → y.endpoint ≢ x.endpoint → ⊥
   not_beside_top d x y top link other = go (assignment_rests y.endpoint d y.assigned y.fact.has)
     where
-      candidate : IsCandidate (advertised home) y.endpoint.node.0 (common_link home y.endpoint) d (advert x)
+      candidate : IsCandidatePrefix (advertised home) y.endpoint.node.0 (common_link home y.endpoint) d (advert x)
       candidate = to_candidate home is_home d x y.endpoint y.fact.has.there link other
 
       ahead : IsAheadOfBest (advertised home) y.endpoint.node.0 (wish_of home y.endpoint d) y.assigned → ⊥
@@ -111,7 +111,7 @@ module _ (home : Home) (is_home : IsHome home) (at_rest : IsHomeAtRest home) whe
       pair : (o : Option Assigned) × IsAssignmentOf home f d o × PairRests f d o
       pair = at_rest f d there (used d x)
 
-      candidate : IsCandidate (advertised home) f.node.0 (common_link home f) d (advert x)
+      candidate : IsCandidatePrefix (advertised home) f.node.0 (common_link home f) d (advert x)
       candidate = to_candidate home is_home d x f there link other
 
       not_published : (k : Assigned) (q : ℕ) → EndpointHasAssignment home f d k → k.published ≡ Some q → ⊥
@@ -147,7 +147,7 @@ module _ (home : Home) (is_home : IsHome home) (at_rest : IsHomeAtRest home) whe
       not_published : (k : Assigned) (q : ℕ) → EndpointHasAssignment home f d k → k.published ≡ Some q → ⊥
       not_published k q has is = no_publisher f k q refl (record { has = has; published = is })
 
-      not_followed : (a : Advertised) → ¬ (IsCandidate (advertised home) f.node.0 (common_link home f) d a)
+      not_followed : (a : Advertised) → ¬ (IsCandidatePrefix (advertised home) f.node.0 (common_link home f) d a)
       not_followed a candidate =
           let on = from_candidate home is_home f d a d_used candidate in
           no_publisher on.by.endpoint on.by.assigned on.by.priority on.link on.by.fact

@@ -5,8 +5,8 @@ use Rattle.hn_base.specs.Prefix.{PlainPrefix}
 use Rattle.hn_assign.specs.declared.assigned.Advertised.{Advertised}
 use Rattle.hn_assign.specs.declared.assigned.Assigned.{Assigned}
 use Rattle.hn_assign.specs.declared.assigned.Wish.{Wish}
-use Rattle.hn_assign.specs.Advertised.{Link}
-use Rattle.hn_assign.specs.Best.{IsCandidate, IsBest, HasNoBest, IsValid, HasNoFree}
+use Rattle.hn_assign.specs.Advertised.{LinkEndpoints}
+use Rattle.hn_assign.specs.Best.{IsCandidatePrefix, IsBest, HasNoBest, IsValid, HasNoFree}
 use Rattle.hn_assign.specs.Rest.{IsAtRest, IsIdle}
 use Rattle.hn_sound.specs.AtRest.{IsHomeAtRest}
 use Rattle.hn_sound.specs.Home.{Home, Endpoint, advertised, common_link, wish_of}
@@ -14,11 +14,11 @@ use Rattle.hn_base.specs.Ascending.{HaveSame}
 use Rattle.hn_sound.specs.Members.{IsSeenAtRest}
 use Rattle.hn_sound.proofs.AdvertisedAndLinks.{to_advertised, from_advertised, to_common_link, from_common_link}
 
-module _ (adv others : List Advertised) (own : ℕ) (wish : Wish) (common : Link) (same : HaveSame adv others) (same_link : HaveSame wish.common common) where
-  to_candidate : (a : Advertised) → IsCandidate adv own wish.common wish.delegated a → IsCandidate others own common wish.delegated a
+module _ (adv others : List Advertised) (own : ℕ) (wish : Wish) (common : LinkEndpoints) (same : HaveSame adv others) (same_link : HaveSame wish.common common) where
+  to_candidate : (a : Advertised) → IsCandidatePrefix adv own wish.common wish.delegated a → IsCandidatePrefix others own common wish.delegated a
   to_candidate a c = record { advertised = (same a).0 c.advertised; of_another = c.of_another; on_link = (same_link (a.key.node, a.key.endpoint)).0 c.on_link; inside = c.inside }
 
-  from_candidate : (a : Advertised) → IsCandidate others own common wish.delegated a → IsCandidate adv own wish.common wish.delegated a
+  from_candidate : (a : Advertised) → IsCandidatePrefix others own common wish.delegated a → IsCandidatePrefix adv own wish.common wish.delegated a
   from_candidate a c = record { advertised = (same a).1 c.advertised; of_another = c.of_another; on_link = (same_link (a.key.node, a.key.endpoint)).1 c.on_link; inside = c.inside }
 
   no_best : HasNoBest adv own wish.common wish.delegated → HasNoBest others own common wish.delegated

@@ -14,8 +14,8 @@ use Rattle.hn_base.specs.Prefix.{PlainPrefix}
 use Rattle.hn_assign.specs.declared.assigned.Advertised.{Advertised}
 use Rattle.hn_assign.specs.declared.assigned.Assigned.{Assigned}
 use Rattle.hn_assign.specs.declared.assigned.Wish.{Wish}
-use Rattle.hn_assign.specs.Advertised.{Link, key_of, IsOnLink, advertised_cmp}
-use Rattle.hn_assign.specs.Best.{IsCandidate, IsBest, HasNoBest, IsValid, HasNoFree}
+use Rattle.hn_assign.specs.Advertised.{LinkEndpoints, key_of, IsOnLink, advertised_cmp}
+use Rattle.hn_assign.specs.Best.{IsCandidatePrefix, IsBest, HasNoBest, IsValid, HasNoFree}
 use Rattle.hn_assign.specs.Rest.{IsAtRest, IsIdle, IsAlone, IsAheadOfBest, IsFollowing}
 use Rattle.hn_sound.specs.Conditions.{Condition, MeetsRest, IsAtRestBut}
 use Rattle.hn_sound.specs.Conditions.Condition.{NothingToDo, Published, Valid, GreaterKey, Unpublished, BestPrefix}
@@ -34,10 +34,10 @@ from_is_lt Greater h = absurd (cc)
 
 -- ---- candidates
 
-abbrev pub is_on_link : Link → Advertised → Bool
+abbrev pub is_on_link : LinkEndpoints → Advertised → Bool
 is_on_link common a = list_any (λ (m : NodeId × EpId). (m.0.0 == a.key.node.0) && (m.1.0 == a.key.endpoint.0)) common
 
-from_is_on_link : (common : Link) (a : Advertised) → is_on_link common a ≡ true → IsOnLink common a
+from_is_on_link : (common : LinkEndpoints) (a : Advertised) → is_on_link common a ≡ true → IsOnLink common a
 from_is_on_link common a h =
     let found = any_of (λ (m : NodeId × EpId). (m.0.0 == a.key.node.0) && (m.1.0 == a.key.endpoint.0)) common h in
     let parts = and_parts (found.0.0.0 == a.key.node.0) (found.0.1.0 == a.key.endpoint.0) found.2 in
@@ -46,25 +46,25 @@ from_is_on_link common a h =
     let pair : found.0 ≡ (a.key.node, a.key.endpoint) = λ i. (node i, id i) in
     subst (Contains common) pair found.1
 
-to_is_on_link : (common : Link) (a : Advertised) → IsOnLink common a → is_on_link common a ≡ true
+to_is_on_link : (common : LinkEndpoints) (a : Advertised) → IsOnLink common a → is_on_link common a ≡ true
 to_is_on_link common a h =
     any_from (λ (m : NodeId × EpId). (m.0.0 == a.key.node.0) && (m.1.0 == a.key.endpoint.0)) common (a.key.node, a.key.endpoint) h
     (and_from (a.key.node.0 == a.key.node.0) (a.key.endpoint.0 == a.key.endpoint.0) (eq-eqb a.key.node.0 a.key.node.0 refl) (eq-eqb a.key.endpoint.0 a.key.endpoint.0 refl))
 
 -- what each candidate passes
-abbrev pub may_be_candidate : ℕ → Link → PlainPrefix → Advertised → Bool
+abbrev pub may_be_candidate : ℕ → LinkEndpoints → PlainPrefix → Advertised → Bool
 may_be_candidate own common d a = not (a.key.node.0 == own) && (is_on_link common a && begins_with a.prefix.bits d)
 
-to_may_be_candidate : (adv : List Advertised) (own : ℕ) (common : Link) (d : PlainPrefix) (a : Advertised) → IsCandidate adv own common d a → may_be_candidate own common d a ≡ true
+to_may_be_candidate : (adv : List Advertised) (own : ℕ) (common : LinkEndpoints) (d : PlainPrefix) (a : Advertised) → IsCandidatePrefix adv own common d a → may_be_candidate own common d a ≡ true
 to_may_be_candidate adv own common d a c =
     and_from (not (a.key.node.0 == own)) (is_on_link common a && begins_with a.prefix.bits d)
     (not_from_false (a.key.node.0 == own) (ne_eqb a.key.node.0 own c.of_another))
     (and_from (is_on_link common a) (begins_with a.prefix.bits d) (to_is_on_link common a c.on_link) (to_begins_with a.prefix.bits d (c.inside a.prefix.bits refl)))
 
-abbrev pub is_candidate : ℕ → Link → PlainPrefix → Advertised → Bool
+abbrev pub is_candidate : ℕ → LinkEndpoints → PlainPrefix → Advertised → Bool
 is_candidate own common d a = not (a.key.node.0 == own) && (is_on_link common a && is_within a.prefix d)
 
-from_is_candidate : (adv : List Advertised) (own : ℕ) (common : Link) (d : PlainPrefix) (a : Advertised) → Contains adv a → is_candidate own common d a ≡ true → IsCandidate adv own common d a
+from_is_candidate : (adv : List Advertised) (own : ℕ) (common : LinkEndpoints) (d : PlainPrefix) (a : Advertised) → Contains adv a → is_candidate own common d a ≡ true → IsCandidatePrefix adv own common d a
 from_is_candidate adv own common d a there h =
     let parts = and_parts (not (a.key.node.0 == own)) (is_on_link common a && is_within a.prefix d) h in
     let rest = and_parts (is_on_link common a) (is_within a.prefix d) parts.1 in
@@ -75,20 +75,20 @@ from_is_candidate adv own common d a there h =
       inside = within_from a.prefix d rest.1;
     }
 
-abbrev pub has_no_best : List Advertised → ℕ → Link → PlainPrefix → Bool
+abbrev pub has_no_best : List Advertised → ℕ → LinkEndpoints → PlainPrefix → Bool
 has_no_best adv own common d = list_all (λ a. not (may_be_candidate own common d a)) adv
 
-from_no_best : (adv : List Advertised) (own : ℕ) (common : Link) (d : PlainPrefix) → has_no_best adv own common d ≡ true → HasNoBest adv own common d
+from_no_best : (adv : List Advertised) (own : ℕ) (common : LinkEndpoints) (d : PlainPrefix) → has_no_best adv own common d ≡ true → HasNoBest adv own common d
 from_no_best adv own common d h a c =
     let fails = not-true (may_be_candidate own common d a) (each_passes (λ b. not (may_be_candidate own common d b)) adv a h c.advertised) in
     let passes = to_may_be_candidate adv own common d a c in
     absurd (cc)
 
-abbrev pub is_best : List Advertised → ℕ → Link → PlainPrefix → Advertised → Bool
+abbrev pub is_best : List Advertised → ℕ → LinkEndpoints → PlainPrefix → Advertised → Bool
 is_best adv own common d b =
     is_candidate own common d b && list_all (λ a. implies (may_be_candidate own common d a) (not (is_lt (advertised_cmp b a)))) adv
 
-from_is_best : (adv : List Advertised) (own : ℕ) (common : Link) (d : PlainPrefix) (b : Advertised) → Contains adv b → is_best adv own common d b ≡ true → IsBest adv own common d b
+from_is_best : (adv : List Advertised) (own : ℕ) (common : LinkEndpoints) (d : PlainPrefix) (b : Advertised) → Contains adv b → is_best adv own common d b ≡ true → IsBest adv own common d b
 from_is_best adv own common d b there h =
     let parts = and_parts (is_candidate own common d b) (list_all (λ a. implies (may_be_candidate own common d a) (not (is_lt (advertised_cmp b a)))) adv) h in
     record {
@@ -100,11 +100,11 @@ from_is_best adv own common d b there h =
 
 -- ---- valid, and nothing free
 
-abbrev pub is_valid : List Advertised → ℕ → Link → Assigned → Bool
+abbrev pub is_valid : List Advertised → ℕ → LinkEndpoints → Assigned → Bool
 is_valid adv own common c =
     list_all (λ a. is_on_link common a || implies (may_overlap a.prefix c.prefix) (not (is_lt (key_cmp (key_of 2 own c.endpoint.0) a.key)))) adv
 
-from_is_valid : (adv : List Advertised) (own : ℕ) (common : Link) (c : Assigned) → is_valid adv own common c ≡ true → IsValid adv own common c
+from_is_valid : (adv : List Advertised) (own : ℕ) (common : LinkEndpoints) (c : Assigned) → is_valid adv own common c ≡ true → IsValid adv own common c
 from_is_valid adv own common c h a there off overlap =
     let passes = each_passes (λ x. is_on_link common x || implies (may_overlap x.prefix c.prefix) (not (is_lt (key_cmp (key_of 2 own c.endpoint.0) x.key)))) adv a h there in
     elim (or_cases (is_on_link common a) (implies (may_overlap a.prefix c.prefix) (not (is_lt (key_cmp (key_of 2 own c.endpoint.0) a.key)))) passes) [

@@ -8,7 +8,7 @@ use Rattle.hn_base.specs.Prefix.{PlainPrefix}
 use Rattle.hn_assign.specs.declared.assigned.Advertised.{Advertised}
 use Rattle.hn_assign.specs.declared.assigned.Assigned.{Assigned}
 use Rattle.hn_assign.specs.declared.assigned.Wish.{Wish}
-use Rattle.hn_assign.specs.Advertised.{Link, key_of}
+use Rattle.hn_assign.specs.Advertised.{LinkEndpoints, key_of}
 
 -- an endpoint: of a router, by the identifier of that router, and on a link
 pub record Endpoint : Type 0 where
@@ -58,7 +58,7 @@ abbrev pub advertised : Home → List Advertised
 advertised home = filter_map advertised_as home.assignments
 
 -- the Common Link of an endpoint: the endpoints on its link (RFC 7788, section 6.1)
-abbrev pub common_link : Home → Endpoint → Link
+abbrev pub common_link : Home → Endpoint → LinkEndpoints
 common_link home e = map (λ f. (f.node, f.id)) (filter (λ f. f.link == e.link) home.endpoints)
 
 -- what an endpoint's router asks for a pair of the endpoint and a used prefix

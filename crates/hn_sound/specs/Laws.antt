@@ -7,7 +7,7 @@ use Rattle.hn_base.specs.Prefix.{PlainPrefix}
 use Rattle.hn_assign.specs.declared.assigned.Advertised.{Advertised}
 use Rattle.hn_assign.specs.declared.assigned.Assigned.{Assigned}
 use Rattle.hn_assign.specs.declared.assigned.Wish.{Wish}
-use Rattle.hn_assign.specs.Advertised.{Link}
+use Rattle.hn_assign.specs.Advertised.{LinkEndpoints}
 use Rattle.hn_assign.specs.Rest.{IsAtRest}
 use Rattle.hn_sound.specs.AtRest.{IsHomeAtRest}
 use Rattle.hn_sound.specs.Home.{Home, Endpoint, advertised, common_link}
@@ -28,7 +28,7 @@ CommonLinkIsExact =
 -- Rest is the same whatever the order in which a router keeps the advertised prefixes and a Common Link.
 abbrev pub RestKnowsNoOrder : Type 0
 RestKnowsNoOrder =
-    (adv others : List Advertised) (own : ℕ) (wish : Wish) (common : Link) (c : Option Assigned)
+    (adv others : List Advertised) (own : ℕ) (wish : Wish) (common : LinkEndpoints) (c : Option Assigned)
     → HaveSame adv others → HaveSame wish.common common
     → IsAtRest adv own wish c → IsAtRest others own (record wish { common = common }) c
 

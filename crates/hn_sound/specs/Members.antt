@@ -5,7 +5,7 @@ use Rattle.hn_base.specs.declared.ids.EpId.{EpId}
 use Rattle.hn_base.specs.Prefix.{PlainPrefix}
 use Rattle.hn_assign.specs.declared.assigned.Advertised.{Advertised}
 use Rattle.hn_assign.specs.declared.assigned.Assigned.{Assigned}
-use Rattle.hn_assign.specs.Advertised.{Link, key_of}
+use Rattle.hn_assign.specs.Advertised.{LinkEndpoints, key_of}
 use Rattle.hn_assign.specs.Rest.{IsAtRest}
 use Rattle.hn_sound.specs.AtRest.{IsAssignmentOf}
 use Rattle.hn_sound.specs.Home.{Home, Endpoint, Held, wish_of}
@@ -31,7 +31,7 @@ pub record IsOnLinkOf (home : Home) (e : Endpoint) (node : NodeId) (id : EpId) :
 pub record IsSeenAtRest (home : Home) (e : Endpoint) (d : PlainPrefix) : Type 0 where
   pub adv : List Advertised
   pub advertised : (a : Advertised) → Contains adv a ↔ IsAdvertisedInHome home a
-  pub common : Link
+  pub common : LinkEndpoints
   pub on_link : (node : NodeId) (id : EpId) → Contains common (node, id) ↔ IsOnLinkOf home e node id
   pub assignment : Option Assigned
   pub its_own : IsAssignmentOf home e d assignment

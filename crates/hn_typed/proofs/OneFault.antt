@@ -3,7 +3,7 @@ use Rattle.std.proofs.Common.{◌≡◌, ℕ, ◌+◌, List, [], ◌∷◌, ◌+
 use Rattle.std.proofs.lemmas.List.{length-append, drop_at}
 use Rattle.hn_tlv.specs.Grammar.{PlainTlv}
 use Rattle.hn_base.specs.Causes.{OnCause, NoCause}
-use Rattle.hn_base.proofs.Causes.{one_cause}
+use Rattle.hn_base.proofs.FirstCause.{one_cause}
 use Rattle.hn_typed.specs.Item.{PlainItem}
 use Rattle.hn_typed.specs.Shape.{ValueField, Prefixed, After, Subs, Text, Anything, shape, shape_of_kind, AreInFields, field_bytes, fields_bytes}
 use Rattle.hn_typed.specs.Table.{IsItem}

@@ -1,6 +1,6 @@
 use Rattle.std.proofs.Common.{IsTrue, subst, sym}
 use Rattle.hn_assign.specs.Pair.{wish_pair}
-use Rattle.hn_assign.proofs.Joins.{found_where}
+use Rattle.hn_assign.proofs.AroundPair.{found_where}
 use Rattle.hn_assign.proofs.ascending.is_wished.Goals as goal
 
 pub returns : goal.returns

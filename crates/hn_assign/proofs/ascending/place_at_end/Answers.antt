@@ -2,7 +2,7 @@ use Rattle.std.proofs.Common.{◌≡◌, subst, rules}
 use Rattle.std.specs.declared.cmp.Ordering.TheVariants.{Less}
 use Rattle.hn_assign.specs.declared.pair.Pair.{Pair}
 use Rattle.hn_assign.specs.Pair.{pair_cmp}
-use Rattle.hn_assign.proofs.Joins.{place_at_end}
+use Rattle.hn_assign.proofs.AroundPair.{place_at_end}
 use Rattle.hn_assign.proofs.ascending.place_at_end.Goals as goal
 
 pub returns-in-Some : goal.returns-in-Some

@@ -18,7 +18,8 @@ loop-x-preserved g c =
           let is : IsWished c.args.wishes.now (key x) = subst (IsWished c.args.wishes.now) c.pair.ensures (c.is_wished.ensures.0 w.if-is_wished.true) in
           rw (w.kept-is, w.in_ok-push.ensures.items) (keeping_kept key c.args.wishes.now xs c.loop-x.x-index x c.loop-x.kept.items c.loop-x-test.true c.x-item.is is c.loop-x.invariant)
       | else-is_wished w ↦
-          let not : ¬ (IsWished c.args.wishes.now (key x)) = λ h. let yes = c.is_wished.ensures.1 (subst (IsWished c.args.wishes.now) (sym c.pair.ensures) h) in false≢true (sym w.if-is_wished.false ∙ yes) in
+          let not : ¬ (IsWished c.args.wishes.now (key x)) = λ h. let yes = c.is_wished.ensures.1 (subst (IsWished c.args.wishes.now) (sym c.pair.ensures) h) in
+          false≢true (sym w.if-is_wished.false ∙ yes) in
           rw w.kept-is (keeping_passed key c.args.wishes.now xs c.loop-x.x-index x c.loop-x.kept.items c.loop-x-test.true c.x-item.is not c.loop-x.invariant)
     ]
 

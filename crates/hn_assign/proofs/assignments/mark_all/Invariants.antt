@@ -1,6 +1,6 @@
 use Rattle.std.proofs.Common.{◌≡◌, ◌++◌, take, drop, map}
-use Rattle.hn_assign.specs.Marks.{marked}
+use Rattle.hn_assign.specs.Marks.{marked_applied}
 use Rattle.hn_assign.proofs.assignments.mark_all.Given as goal
 
 abbrev pub invariant-loop-c : goal.invariant-loop-c
-invariant-loop-c l = l.items ≡ map (marked l.now) (take l.c-index l.initial.items) ++ drop l.c-index l.initial.items
+invariant-loop-c l = l.items ≡ map (marked_applied l.now) (take l.c-index l.initial.items) ++ drop l.c-index l.initial.items

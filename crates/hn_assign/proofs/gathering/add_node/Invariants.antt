@@ -1,6 +1,6 @@
 use Rattle.std.proofs.Common.{◌≡◌, take}
-use Rattle.hn_assign.proofs.Gathers.{said_by}
-use Rattle.hn_assign.proofs.Grown.{Grown}
+use Rattle.hn_assign.proofs.AdvertisedBy.{said_by}
+use Rattle.hn_assign.proofs.GrownByEach.{Grown}
 use Rattle.hn_assign.proofs.gathering.add_node.Given as goal
 
 abbrev pub invariant-loop-said : goal.invariant-loop-said

@@ -3,7 +3,7 @@ use Rattle.std.proofs.lemmas.Result.{on_ok_weaker}
 use Rattle.std.proofs.lemmas.Grind.{common_steps}
 use Rattle.hn_data.specs.Said.{HasVersion}
 use Rattle.hn_assign.specs.declared.assigned.Advertised.{Advertised}
-use Rattle.hn_assign.proofs.Gathers.{other_some, both}
+use Rattle.hn_assign.proofs.AdvertisedBy.{other_some, both}
 use Rattle.hn_assign.proofs.gathering.add_other.Goals as goal
 
 pub returns : goal.returns

@@ -1,6 +1,6 @@
 use Rattle.std.proofs.Common.{take}
 use Rattle.hn_assign.specs.Gathered.{IsOfOther}
-use Rattle.hn_assign.proofs.Grown.{Grown}
+use Rattle.hn_assign.proofs.GrownByEach.{Grown}
 use Rattle.hn_assign.proofs.gathering.add_others.Given as goal
 
 abbrev pub invariant-loop-node : goal.invariant-loop-node

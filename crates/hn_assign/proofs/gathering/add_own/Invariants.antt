@@ -1,6 +1,6 @@
 use Rattle.std.proofs.Common.{take}
 use Rattle.hn_assign.specs.Gathered.{IsOwn}
-use Rattle.hn_assign.proofs.Grown.{Grown}
+use Rattle.hn_assign.proofs.GrownByEach.{Grown}
 use Rattle.hn_assign.proofs.gathering.add_own.Given as goal
 
 abbrev pub invariant-loop-c : goal.invariant-loop-c

@@ -1,4 +1,4 @@
-use Rattle.hn_assign.proofs.Laters.{advertised_unchanged}
+use Rattle.hn_assign.proofs.LaterMoments.{advertised_unchanged}
 use Rattle.hn_assign.proofs.laws.advertised_of_unchanged.Goals as goal
 
 pub returns : goal.returns

@@ -1,4 +1,4 @@
-use Rattle.hn_assign.proofs.Sames.{best_in, best_one, first_one, none_in, same_back, valid_in}
+use Rattle.hn_assign.proofs.SameAdvertised.{best_in, best_one, first_one, none_in, same_back, valid_in}
 use Rattle.hn_assign.proofs.laws.answers_know_no_order.Goals as goal
 
 pub returns-clause-best : goal.returns-clause-best

@@ -1,4 +1,4 @@
-use Rattle.hn_assign.proofs.Sames.{best_one}
+use Rattle.hn_assign.proofs.SameAdvertised.{best_one}
 use Rattle.hn_assign.proofs.laws.lines_exclude_each_other.Goals as goal
 
 pub returns-clause-best : goal.returns-clause-best

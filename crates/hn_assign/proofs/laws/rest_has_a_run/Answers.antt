@@ -1,6 +1,6 @@
 use Rattle.hn_assign.specs.declared.assigned.Assigned.{Assigned}
 use Rattle.hn_assign.specs.Pair.{assigned_pair, IsWished}
-use Rattle.hn_assign.proofs.Keeps.{all_each}
+use Rattle.hn_assign.proofs.KeptFacts.{all_each}
 use Rattle.hn_assign.proofs.RestRuns.{rest_runs}
 use Rattle.hn_assign.proofs.laws.rest_has_a_run.Goals as goal
 

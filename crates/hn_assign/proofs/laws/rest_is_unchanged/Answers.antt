@@ -1,6 +1,6 @@
 use Rattle.hn_assign.specs.declared.assigned.Assigned.{Assigned}
 use Rattle.hn_assign.specs.Pair.{assigned_pair, IsWished}
-use Rattle.hn_assign.proofs.Keeps.{all_each}
+use Rattle.hn_assign.proofs.KeptFacts.{all_each}
 use Rattle.hn_assign.proofs.Rests.{rest_unchanged}
 use Rattle.hn_assign.proofs.Unchanged.{unchanged_rests}
 use Rattle.hn_assign.proofs.laws.rest_is_unchanged.Goals as goal

@@ -1,4 +1,4 @@
-use Rattle.hn_assign.proofs.Laters.{rest_of_unchanged, rest_of_unwanted}
+use Rattle.hn_assign.proofs.LaterMoments.{rest_of_unchanged, rest_of_unwanted}
 use Rattle.hn_assign.proofs.laws.rest_stays.Goals as goal
 
 pub returns-clause-unchanged : goal.returns-clause-unchanged

@@ -1,4 +1,4 @@
-use Rattle.hn_assign.proofs.Soles.{subroutine_one}
+use Rattle.hn_assign.proofs.OneResult.{subroutine_one}
 use Rattle.hn_assign.proofs.laws.subroutine_has_one_result.Goals as goal
 
 pub returns : goal.returns

@@ -1,5 +1,5 @@
-use Rattle.hn_assign.proofs.Keeps.{inside_stable, past_stable, priority_stable, length_stable}
-use Rattle.hn_assign.proofs.Keeps.{subroutine_keeps as keeps}
+use Rattle.hn_assign.proofs.KeptFacts.{inside_stable, past_stable, priority_stable, length_stable}
+use Rattle.hn_assign.proofs.KeptFacts.{subroutine_keeps as keeps}
 use Rattle.hn_assign.proofs.laws.subroutine_keeps.Goals as goal
 
 pub returns-clause-inside : goal.returns-clause-inside

@@ -1,4 +1,4 @@
-use Rattle.hn_assign.proofs.Leaves.{assigned_ascend, backoffs_ascend, assigned_wished, backoffs_wished}
+use Rattle.hn_assign.proofs.LeftInOrder.{assigned_ascend, backoffs_ascend, assigned_wished, backoffs_wished}
 use Rattle.hn_assign.proofs.laws.subroutine_leaves.Goals as goal
 
 pub returns-clause-assigned : goal.returns-clause-assigned

@@ -18,10 +18,13 @@ loop-a-preserved c =
     let more : take (c.loop-a.a-index + 1) xs ≡ seen ++ a ∷ [] = front_more xs c.loop-a.a-index a c.loop-a-test.true c.a-item.is in
     subst (λ (ys : List Advertised). IsBestIfAny ys own common d c.if-is_eligible.best) (sym more)
     (elim c.if-is_eligible.branch [
-      | then-is_eligible w ↦ subst (IsBestIfAny (seen ++ a ∷ []) own common d) (sym w.best-is) (best_candidate own common d seen a c.loop-a.best w.greater_of.result c.loop-a.invariant (c.is_eligible.ensures.0 w.if-is_eligible.true) w.greater_of.ensures)
-      | else-is_eligible w ↦ subst (IsBestIfAny (seen ++ a ∷ []) own common d) (sym w.best-is) (best_passed own common d seen a c.loop-a.best c.loop-a.invariant (λ h. let yes = c.is_eligible.ensures.1 h in cc (w.if-is_eligible.false, yes)))
+      | then-is_eligible w ↦ subst (IsBestIfAny (seen ++ a ∷ []) own common d) (sym w.best-is)
+          (best_candidate own common d seen a c.loop-a.best w.greater_of.result c.loop-a.invariant (c.is_eligible.ensures.0 w.if-is_eligible.true) w.greater_of.ensures)
+      | else-is_eligible w ↦ subst (IsBestIfAny (seen ++ a ∷ []) own common d) (sym w.best-is)
+          (best_passed own common d seen a c.loop-a.best c.loop-a.invariant (λ h. let yes = c.is_eligible.ensures.1 h in cc (w.if-is_eligible.false, yes)))
     ])
 
 pub returns : goal.returns
 returns c =
-    subst (λ (xs : List Advertised). IsBestIfAny xs c.args.own.0 c.args.common.now c.args.delegated.now c.loop-a.best) (take_all c.loop-a.a-index c.args.advertised.now c.loop-a-test.false) c.loop-a.invariant
+    subst (λ (xs : List Advertised). IsBestIfAny xs c.args.own.0 c.args.common.now c.args.delegated.now c.loop-a.best)
+    (take_all c.loop-a.a-index c.args.advertised.now c.loop-a-test.false) c.loop-a.invariant

@@ -1,5 +1,5 @@
 use Rattle.hn_data.specs.View.{plain_view}
-use Rattle.hn_assign.proofs.Keeps.{inside_stable, past_stable, priority_stable, subroutine_keeps}
+use Rattle.hn_assign.proofs.KeptFacts.{inside_stable, past_stable, priority_stable, subroutine_keeps}
 use Rattle.hn_assign.proofs.subroutines.subroutine.Goals as goal
 
 pub returns-clause-inside : goal.returns-clause-inside

@@ -1,5 +1,5 @@
 use Rattle.std.proofs.Common.{◌≡◌, ◌∙◌, ap, arith}
-use Rattle.hn_assign.proofs.Frees.{prefixes, found_free, none_free, none_in_longer}
+use Rattle.hn_assign.proofs.FreePrefixes.{prefixes, found_free, none_free, none_in_longer}
 use Rattle.hn_assign.proofs.index.Index.first_free.Goals as goal
 
 pub returns-then-len-clause-none : goal.returns-then-len-clause-none

@@ -2,7 +2,7 @@ use Rattle.std.proofs.Common.{◌≡◌, ◌<◌, ◌≤◌, ◌∙◌, List, le
 use Rattle.std.specs.List.Sorted.{IsNonDecreasingBy}
 use Rattle.std.proofs.lemmas.List.Sorted.{IsPartitionPoint-from_clause, IsPartitionedBy-ltb}
 use Rattle.hn_assign.specs.declared.assigned.Advertised.{Advertised}
-use Rattle.hn_assign.specs.Indexed.{IsFront}
+use Rattle.hn_assign.specs.Indexed.{IsFrontUpTo}
 use Rattle.hn_assign.proofs.Ranges.{IsBelow, IsFromTo, in_front}
 use Rattle.hn_assign.proofs.index.Index.starting_in.Goals as goal
 
@@ -23,10 +23,11 @@ returns-clause-all c =
     let whole : take (length ys - start) (drop start ys) ≡ drop start adv = take_all (length ys - start) (drop start ys) (let size = length-drop start ys in omega arith) ∙ ap (drop start) there in
     let rises : IsNonDecreasingBy (λ (a : Advertised). a.prefix.bits) adv = subst (IsNonDecreasingBy (λ (a : Advertised). a.prefix.bits)) c.self.view_is (c.self.invariant.ascending many) in
     let below : IsBelow xs first start =
-    IsPartitionPoint-from_clause (λ (a : Advertised). nat_lt a.prefix.bits first) xs start c.partition_point-start.ensures.partitioned (IsPartitionedBy-ltb (λ (a : Advertised). a.prefix.bits) xs first (subst (IsNonDecreasingBy (λ (a : Advertised). a.prefix.bits)) (sym here) rises)) (λ a r f k. search (rules, tests)) in
+    IsPartitionPoint-from_clause (λ (a : Advertised). nat_lt a.prefix.bits first) xs start c.partition_point-start.ensures.partitioned
+    (IsPartitionedBy-ltb (λ (a : Advertised). a.prefix.bits) xs first (subst (IsNonDecreasingBy (λ (a : Advertised). a.prefix.bits)) (sym here) rises)) (λ a r f k. search (rules, tests)) in
     let from_to : IsFromTo outer first last =
     subst (λ n. IsFromTo outer n last) (sym c.bits-first.ensures.value) (subst (IsFromTo outer outer.bits) (sym c.last_address-last.ensures.value) c.inside_is_range.ensures) in
     in_front adv outer first last start front from_to rises
     (subst (λ (zs : List Advertised). IsBelow zs first start) here below)
     (subst (λ (zs : List Advertised). start ≤ length zs) here c.partition_point-start.ensures.bound)
-    (subst (λ (zs : List Advertised). IsFront zs last front) whole c.front_to.ensures)
+    (subst (λ (zs : List Advertised). IsFrontUpTo zs last front) whole c.front_to.ensures)

@@ -1,9 +1,9 @@
 use Rattle.std.proofs.Common.{◌↔◌, IsTrue, subst}
-use Rattle.hn_assign.specs.Advertised.{Link}
+use Rattle.hn_assign.specs.Advertised.{LinkEndpoints}
 use Rattle.hn_assign.specs.Best.{IsValid}
 use Rattle.hn_assign.proofs.scene.Scene.is_valid.Goals as goal
 
 pub returns : goal.returns
 returns c =
     let at = c.args.self.now in
-    subst (λ (link : Link). IsTrue c.valid.result ↔ IsValid at.known.now at.own.0 link c.args.c.now) c.as_slice.ensures c.valid.ensures
+    subst (λ (link : LinkEndpoints). IsTrue c.valid.result ↔ IsValid at.known.now at.own.0 link c.args.c.now) c.as_slice.ensures c.valid.ensures

@@ -1,0 +1,12 @@
+use Rattle.std.proofs.Common.{◌≡◌, ◌++◌, take, drop, length, map, sym, subst, arith}
+use Rattle.std.proofs.lemmas.Grind.{common_steps}
+use Rattle.hn_assign.specs.Marks.{marked_applied}
+use Rattle.hn_assign.specs.Pair.{assigned_pair, IsAscending}
+use Rattle.hn_assign.proofs.Marking.{ascending_marked}
+use Rattle.hn_assign.proofs.assignments.OfPairs+Assigned.mark.Goals as goal
+
+pub invariant_of-self : goal.invariant_of-self
+invariant_of-self c =
+    let xs = c.self.inside.items.items in
+    let gives : take c.self.inside.items.len (c.mark_all.new.items ++ drop (length c.mark_all.new.items) xs) ≡ map (marked_applied c.args.now) xs = grind (arith, common_steps) in
+    subst (IsAscending assigned_pair) (sym gives) (ascending_marked c.args.now xs c.self.invariant)

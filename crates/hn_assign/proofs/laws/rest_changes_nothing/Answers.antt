@@ -1,9 +1,0 @@
-use Rattle.hn_assign.specs.declared.assigned.Assigned.{Assigned}
-use Rattle.hn_assign.specs.Pair.{assigned_pair, IsWished}
-use Rattle.hn_assign.proofs.Keeps.{all_each}
-use Rattle.hn_assign.proofs.Rests.{rest_unchanged}
-use Rattle.hn_assign.proofs.laws.rest_changes_nothing.Goals as goal
-
-pub returns : goal.returns
-returns c view wishes held ran advertised up all are rest run =
-    rest_unchanged view wishes held ran advertised up (all_each (λ (x : Assigned). IsWished wishes (assigned_pair x)) held.assigned all) are run rest

@@ -1,0 +1,18 @@
+use Rattle.std.proofs.Common.{not, rules, tests}
+use Rattle.std.specs.Prelude.{◌==◌}
+use Rattle.std.specs.Ordering.{on}
+use Rattle.std.proofs.lemmas.Fn.{filter_same}
+use Rattle.std.proofs.lemmas.List.Kept.{IsStrictlySortedBy-filter}
+use Rattle.hn_assign.specs.Pair.{pair_cmp}
+use Rattle.hn_assign.proofs.of_pairs.OfPairs.remove.Goals as goal
+
+pub invariant_of-self : goal.invariant_of-self
+invariant_of-self g c =
+    let key = g.T.Paired.pair_of in
+    let kept = filter_same _ (λ x. not ((key x).endpoint.0 == c.args.at.0)) _ (λ x b f k. search (rules, tests)) _ _ c.retain.ensures.filtered in
+    rw kept (IsStrictlySortedBy-filter (on key pair_cmp) (λ x. not ((key x).endpoint.0 == c.args.at.0)) c.self.inside.items.items c.self.invariant)
+
+pub returns : goal.returns
+returns g c =
+    let key = g.T.Paired.pair_of in
+    rw (← c.self.view_is) (filter_same _ (λ x. not ((key x).endpoint.0 == c.args.at.0)) _ (λ x b f k. search (rules, tests)) _ _ c.retain.ensures.filtered)

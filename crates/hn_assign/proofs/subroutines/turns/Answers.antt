@@ -1,0 +1,27 @@
+use Rattle.std.proofs.Common.{List, sym, subst, take}
+use Rattle.hn_data.specs.View.{plain_view}
+use Rattle.hn_assign.specs.declared.assigned.Wish.{Wish}
+use Rattle.hn_assign.specs.Gathered.{AreAdvertised}
+use Rattle.hn_assign.specs.Subroutine.{AreSteps}
+use Rattle.hn_base.proofs.FrontOfList.{front_more}
+use Rattle.hn_assign.proofs.MoreSteps.{steps_more, took_more}
+use Rattle.hn_assign.proofs.subroutines.turns.Goals as goal
+use Rattle.hn_assign.proofs.subroutines.turns.Goals.{then-branch+in_ok-known-2, else-branch}
+
+pub loop-wish-preserved : goal.loop-wish-preserved
+loop-wish-preserved g c =
+    let view = plain_view c.args.view.now in
+    let wishes = c.args.wishes.now in
+    let i = c.loop-wish.wish-index in
+    let took = c.in_ok-step.ensures.step in
+    record {
+      steps =
+          subst (λ (ws : List Wish). AreSteps view ws c.args.ran.now c.step.new.self) (sym (front_more wishes i c.wish-item.result c.loop-wish-test.true c.wish-item.is))
+          (steps_more view (take i wishes) c.wish-item.result took.words c.args.ran.now c.loop-wish.ran c.step.new.self c.loop-wish.invariant.steps took.step);
+      known = elim c.if-branch.branch [
+        | then-branch+in_ok-known-2 w ↦ subst (AreAdvertised view c.step.new.self.held.assigned) (sym w.known-is) w.in_ok-known-2.ensures
+        | else-branch w ↦
+            subst (AreAdvertised view c.step.new.self.held.assigned) (sym w.known-is) (c.in_ok-step.ensures.unchanged w.if-branch.false view c.loop-wish.known c.loop-wish.invariant.known)
+      ];
+      drew = took_more c.words_join.ensures view c.wish-item.result _ _ _ c.loop-wish.ran c.step.new.self c.loop-wish.invariant.drew took;
+    }

@@ -2,7 +2,7 @@
 
 ghost use Rattle.std.specs.Prelude.{◌≡◌, ◌≤◌, Err, Option, option_map, IfOk, IfSome};
 ghost use Rattle.hn_io.specs.Faults.{Counts, IsReliable};
-ghost use Rattle.hn_wire.specs.Wires.{Arrived, Takes};
+ghost use Rattle.hn_wire.specs.Wires.{Arrived, TakesAt};
 ghost use Rattle.hn_node.specs.Turns.{arrival, address_of, TakesTurn, FailsToTake, IsShort};
 ghost use Rattle.hn_node.specs.Steps.{plain_site};
 
@@ -42,7 +42,7 @@ fn take_at<W: Wire>(
     at: u16,
     multicast: bool,
 ) -> Result<Option<NodeEvent>, IoFault>
-    ensures taken { IfOk result (λ taken. (got : Option Arrived) × Takes at got (W.waiting wire.old) (W.waiting wire.new) × (taken ≡ option_map (arrival multicast) got)) }
+    ensures taken { IfOk result (λ taken. (got : Option Arrived) × TakesAt at got (W.waiting wire.old) (W.waiting wire.new) × (taken ≡ option_map (arrival multicast) got)) }
     ensures short { IfOk result (λ taken. IfSome taken IsShort) }
     ensures failed { result ≡ Err IoFault.Failed → W.waiting wire.new ≡ W.waiting wire.old }
     ensures counts { Counts (result ≡ Err IoFault.Failed) (W.faults wire.old) (W.faults wire.new) }

@@ -1,6 +1,6 @@
 ghost use Rattle.std.specs.Prelude.{◌≡◌, ◌≢◌, ◌+◌, ◌^◌, ◌≤◌, ◌⊎◌, ℕ, List, [], ◌∷◌, None, map, length, Contains, IfSome, string_bytes};
 ghost use Rattle.std.specs.Io.KnownBytes.{Consumes};
-ghost use Rattle.hn_io.specs.Faults.{Counts, IsReliable};
+ghost use Rattle.hn_io.specs.Faults.{Counts, IsCaused, IsReliable};
 ghost use Rattle.hn_world.specs.Replay.{IsReplayed, Always, Throughout};
 ghost use Rattle.hn_world.specs.Authentic.{AuthenticUnlessInjected};
 ghost use Rattle.hn_world.specs.Leaves.{EqualHashesAgree};
@@ -10,7 +10,7 @@ ghost use Rattle.hn_audit.specs.Staying.{QuietStays};
 ghost use Rattle.hn_lab.specs.Lab.{IsLabRun};
 ghost use Rattle.hn_lab.specs.Stage.{Mail, Ports};
 ghost use Rattle.hn_run.specs.Form.{IsFormOf, HasSource, IsPlayed, IsWired, IsTimed};
-ghost use Rattle.hn_run.specs.Outcome.{IsCaused, IsDecodeRun, IsWatchRun, IsSoakRun};
+ghost use Rattle.hn_run.specs.Outcome.{IsDecodeRun, IsWatchRun, IsSoakRun};
 ghost use Rattle.hn_run.specs.Node.{IsNodeRun, plain_call};
 ghost use Rattle.hn_run.specs.declared.words.Form.{Form};
 ghost use Rattle.hn_run.specs.declared.words.NodeCall.{NodeCall};

@@ -1,4 +1,4 @@
-ghost use Rattle.std.specs.Prelude.{◌≡◌, ◌≤◌, None};
+ghost use Rattle.std.specs.Prelude.{◌≡◌, None};
 ghost use Rattle.hn_io.specs.Faults.{Rose};
 
 use crate::fault::IoFault;
@@ -8,8 +8,7 @@ use std::io::{ErrorKind, Read, Write};
 
 /// The count after one more fault.
 fn after_fault(faults: u64) -> u64
-    ensures rises { Rose faults result }
-    ensures counted { faults ≤ result }
+    ensures { Rose faults result }
 {
     faults.saturating_add(1)
 }

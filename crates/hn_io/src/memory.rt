@@ -23,7 +23,7 @@ impl Model for Calls {
 
 impl Calls {
     ghost use Rattle.hn_io.specs.Memory.{IsListed, called, faults_so_far};
-    ghost use Rattle.hn_io.specs.Faults.{Counts};
+    ghost use Rattle.hn_io.specs.Faults.{IsCaused};
 
     /// The calls of which none was made. Never allocates.
     pub fn new(fails: Vec<u64>) -> Calls
@@ -37,7 +37,8 @@ impl Calls {
     pub fn fails_now(&mut self) -> bool
         ensures called { self.new ≡ called self.old }
         ensures listed { IsTrue result ↔ IsListed self.old }
-        ensures counts { Counts (IsTrue result) (faults_so_far self.old) (faults_so_far self.new) }
+        ensures caused { IsCaused (IsTrue result) (faults_so_far self.old) (faults_so_far self.new)
+            (self.old.fails ≡ []) (self.new.fails ≡ []) }
     {
         match self.made.checked_add(1) {
             None => false,
@@ -85,7 +86,7 @@ impl MemSource {
 
 impl Source for MemSource {
     ghost use Rattle.std.specs.Prelude.{◌<◌, ◌≤◌, ◌++◌, Ok, Err, length, take, drop, min, IfOk, OnErr};
-    ghost use Rattle.hn_io.specs.Faults.{Counts, IsReliable};
+    ghost use Rattle.hn_io.specs.Faults.{IsCaused};
     ghost use Rattle.hn_io.specs.Memory.{IsListed, called, faults_so_far};
 
     ghost faults = { λ s. faults_so_far s.calls };
@@ -105,8 +106,8 @@ impl Source for MemSource {
         ensures err { OnErr result (self.new.left ≡ self.old.left) }
         ensures untouched { OnErr result (buf.new ≡ buf.old) }
         ensures no_memory { ¬ (result ≡ Err IoFault.NoMemory) }
-        ensures counts { Counts (result ≡ Err IoFault.Failed) (faults_so_far self.old.calls) (faults_so_far self.new.calls) }
-        ensures reliable { IsReliable (result ≡ Err IoFault.Failed) (self.old.calls.fails ≡ []) (self.new.calls.fails ≡ []) }
+        ensures caused { IsCaused (result ≡ Err IoFault.Failed) (faults_so_far self.old.calls) (faults_so_far self.new.calls)
+            (self.old.calls.fails ≡ []) (self.new.calls.fails ≡ []) }
         ensures called { self.new.calls ≡ called self.old.calls }
         ensures listed { (result ≡ Err IoFault.Failed) ↔ IsListed self.old.calls }
     {
@@ -159,7 +160,7 @@ impl MemSink {
 
 impl Sink for MemSink {
     ghost use Rattle.std.specs.Prelude.{◌<◌, ◌++◌, Ok, Err, length, IfOk, OnErr};
-    ghost use Rattle.hn_io.specs.Faults.{Counts, IsReliable};
+    ghost use Rattle.hn_io.specs.Faults.{IsCaused};
     ghost use Rattle.hn_io.specs.Memory.{IsListed, called, faults_so_far};
 
     ghost faults = { λ s. faults_so_far s.calls };
@@ -174,8 +175,8 @@ impl Sink for MemSink {
         ensures count { IfOk result (λ n. n ≡ length piece.now) }
         ensures bytes { IfOk result (λ _. self.new.held ≡ self.old.held ++ piece.now) }
         ensures err { OnErr result (self.new.held ≡ self.old.held) }
-        ensures counts { Counts (result ≡ Err IoFault.Failed) (faults_so_far self.old.calls) (faults_so_far self.new.calls) }
-        ensures reliable { IsReliable (result ≡ Err IoFault.Failed) (self.old.calls.fails ≡ []) (self.new.calls.fails ≡ []) }
+        ensures caused { IsCaused (result ≡ Err IoFault.Failed) (faults_so_far self.old.calls) (faults_so_far self.new.calls)
+            (self.old.calls.fails ≡ []) (self.new.calls.fails ≡ []) }
         ensures called { self.new.calls ≡ called self.old.calls }
         ensures listed { (result ≡ Err IoFault.Failed) ↔ IsListed self.old.calls }
     {

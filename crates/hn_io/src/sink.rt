@@ -1,6 +1,6 @@
 ghost use Rattle.std.specs.Prelude.{◌≡◌, ℕ, ◌<◌, ◌≤◌, List, Option, Err, length, take, IfOk, OnErr};
 ghost use Rattle.std.specs.Io.KnownBytes.{Appends};
-ghost use Rattle.hn_io.specs.Faults.{Counts, IsReliable};
+ghost use Rattle.hn_io.specs.Faults.{IsCaused};
 
 use crate::fault::IoFault;
 
@@ -22,6 +22,6 @@ pub trait Sink {
         ensures count { IfOk result (λ n. n ≤ length piece.now) }
         ensures bytes { IfOk result (λ n. Appends (held self.old) (held self.new) (take n piece.now)) }
         ensures err { OnErr result (held self.new ≡ held self.old) }
-        ensures counts { Counts (result ≡ Err IoFault.Failed) (faults self.old) (faults self.new) }
-        ensures reliable { IsReliable (result ≡ Err IoFault.Failed) (never_fails self.old) (never_fails self.new) };
+        ensures caused { IsCaused (result ≡ Err IoFault.Failed) (faults self.old) (faults self.new)
+            (never_fails self.old) (never_fails self.new) };
 }

@@ -1,6 +1,6 @@
 ghost use Rattle.std.specs.Prelude.{◌≡◌, ℕ, ◌<◌, ◌≤◌, List, Option, Ok, Err, length, take, IfOk, OnErr};
 ghost use Rattle.std.specs.Io.KnownBytes.{Consumes, IsAtEnd};
-ghost use Rattle.hn_io.specs.Faults.{Counts, IsReliable};
+ghost use Rattle.hn_io.specs.Faults.{IsCaused};
 
 use crate::fault::IoFault;
 
@@ -22,6 +22,7 @@ pub trait Source {
         ensures bytes { IfOk result (λ n. Consumes (left self.old) (left self.new) (take n buf.new)) }
         ensures end { result ≡ Ok 0 → IsAtEnd (left self.old) }
         ensures err { OnErr result (left self.new ≡ left self.old) }
-        ensures counts { Counts (result ≡ Err IoFault.Failed) (faults self.old) (faults self.new) }
-        ensures reliable { IsReliable (result ≡ Err IoFault.Failed) (never_fails self.old) (never_fails self.new) };
+        ensures unlent { result ≡ Err IoFault.NoMemory → buf.new ≡ buf.old }
+        ensures caused { IsCaused (result ≡ Err IoFault.Failed) (faults self.old) (faults self.new)
+            (never_fails self.old) (never_fails self.new) };
 }

@@ -3,7 +3,7 @@ use Rattle.std.proofs.Common.{◌≡◌, ◌∙◌, ◌+◌, ℕ, List, [], ◌�
 use Rattle.std.specs.Prelude.{remove}
 use Rattle.std.proofs.lemmas.Option.{same_Some, none-some}
 use Rattle.hn_wire.specs.declared.datagram.Datagram.{Datagram}
-use Rattle.hn_wire.specs.Wires.{Arrived, Sends, Takes, TakesOf, TakesFirst}
+use Rattle.hn_wire.specs.Wires.{Arrived, Sends, TakesAt, TakesOf, TakesFirst}
 use Rattle.hn_lab.specs.declared.carrying.Carried.{Carried}
 use Rattle.hn_lab.specs.declared.carrying.Carried.TheVariants.{Same, Lost, Other}
 use Rattle.hn_lab.specs.Carrying.{IsCarried, CarriesOver, Carries}
@@ -52,7 +52,7 @@ tells_sent : (d : Datagram) (ds : List Datagram) (after : Option (List Datagram)
 tells_sent d ds None h = absurd h
 tells_sent d ds (Some after) h = ap Some h
 
-tells_taken : (at : ℕ) (got : Option Arrived) (ds : List Datagram) (after : Option (List Datagram)) → Takes at got (Some ds) after → (rest : List Datagram) × (after ≡ Some rest) × TakesOf at got ds rest
+tells_taken : (at : ℕ) (got : Option Arrived) (ds : List Datagram) (after : Option (List Datagram)) → TakesAt at got (Some ds) after → (rest : List Datagram) × (after ≡ Some rest) × TakesOf at got ds rest
 tells_taken at got ds None h = absurd h
 tells_taken at got ds (Some after) h = (after, refl, h)
 
@@ -67,7 +67,7 @@ record IsOver (base : ℕ) (bytes : List ℕ) (ds : List Datagram) (x : Carried)
 over : (base : ℕ) (bytes : List ℕ) (ds : List Datagram) (x : Carried) (a : Option (List Datagram)) → CarriesOver base bytes x (Some ds) a → IsOver base bytes ds x a
 over base bytes ds x a h =
     let sent = tells_sent _ ds h.between h.sends in
-    let taken = tells_taken (base + 1) h.got _ a (subst (λ (between : Option (List Datagram)). Takes (base + 1) h.got between a) sent h.takes) in
+    let taken = tells_taken (base + 1) h.got _ a (subst (λ (between : Option (List Datagram)). TakesAt (base + 1) h.got between a) sent h.takes) in
     record { got = h.got; rest = taken.0; after_is = taken.1; takes = taken.2; is_carried = h.is_carried }
 
 one_over : (base : ℕ) (bytes : List ℕ) (ds : List Datagram) (x y : Carried) (a b : Option (List Datagram)) → IsOver base bytes ds x a → IsOver base bytes ds y b → (x ≡ y) × (a ≡ b)

@@ -1,7 +1,7 @@
 -- How the bytes of a copy are carried.
 use Rattle.std.specs.Prelude.{◌≡◌, ◌≢◌, ℕ, ◌+◌, ◌≤◌, ⊤, List, length, Option, None, Some, IfSome}
 use Rattle.hn_wire.specs.declared.datagram.Datagram.{Datagram}
-use Rattle.hn_wire.specs.Wires.{Arrived, Sends, Takes}
+use Rattle.hn_wire.specs.Wires.{Arrived, Sends, TakesAt}
 use Rattle.hn_lab.specs.declared.carrying.Carried.{Carried}
 use Rattle.hn_lab.specs.declared.carrying.Carried.TheVariants.{Same, Lost, Other}
 use Rattle.hn_lab.specs.Stage.{Route, Mail, Ports}
@@ -20,7 +20,7 @@ pub record CarriesOver (base : ℕ) (bytes : List ℕ) (carried : Carried) (befo
   pub sends : Sends (record { from = base; to = base + 1; bytes = bytes }) before between
   pub got : Option Arrived
   pub short : IfSome got (λ g. length g.bytes ≤ 65507)
-  pub takes : Takes (base + 1) got between after
+  pub takes : TakesAt (base + 1) got between after
   pub is_carried : IsCarried bytes got carried
 
 -- bytes are carried: by mail they stay the same

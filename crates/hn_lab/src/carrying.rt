@@ -1,7 +1,7 @@
 //! A copy is carried: by mail, or over a wire.
 
 ghost use Rattle.std.specs.Prelude.{◌≡◌, ◌≤◌, None, Err, length, IfOk};
-ghost use Rattle.hn_io.specs.Faults.{Counts, IsReliable};
+ghost use Rattle.hn_io.specs.Faults.{IsCaused};
 ghost use Rattle.hn_io.specs.declared.fault.IoFault.{IoFault};
 ghost use Rattle.hn_lab.specs.Carrying.{CarriesOver};
 
@@ -71,8 +71,8 @@ pub(crate) fn carry<W: Wire>(
 ) -> Result<Carried, IoFault>
     requires { length bytes.now ≤ 65507 }
     ensures carries { IfOk result (λ carried. CarriesOver base bytes.now carried (W.waiting wire.old) (W.waiting wire.new)) }
-    ensures counts { Counts (result ≡ Err IoFault.Failed) (W.faults wire.old) (W.faults wire.new) }
-    ensures reliable { IsReliable (result ≡ Err IoFault.Failed) (W.never_fails wire.old) (W.never_fails wire.new) }
+    ensures caused { IsCaused (result ≡ Err IoFault.Failed) (W.faults wire.old) (W.faults wire.new)
+        (W.never_fails wire.old) (W.never_fails wire.new) }
 {
     let base = base.get();
     wire.send(base, base + 1, bytes)?;

@@ -1,7 +1,7 @@
 //! Deliveries: by mail, or over a wire.
 
 ghost use Rattle.std.specs.Prelude.{◌≡◌, ◌≢◌, ◌<◌, List, Option, None, Some, Err, OnOk, length};
-ghost use Rattle.hn_io.specs.Faults.{Counts, IsReliable};
+ghost use Rattle.hn_io.specs.Faults.{IsCaused};
 ghost use Rattle.hn_wire.specs.declared.datagram.Datagram.{Datagram};
 ghost use Rattle.hn_world.specs.declared.copies.MailCopy.{MailCopy};
 ghost use Rattle.hn_world.specs.declared.event.WEvent.TheVariants as event;
@@ -61,8 +61,8 @@ impl Playing {
             result (stage_of self.old (W.waiting wire.old) text) (stage_of self.new (W.waiting wire.new) text) }
         ensures base { self.new.base ≡ self.old.base }
         ensures entered { OnOk result ((length self.old.world.trace < 1000000) × (length self.old.world.trace < length self.new.world.trace)) }
-        ensures counts { Counts (result ≡ Err Stop.WireFailed) (W.faults wire.old) (W.faults wire.new) }
-        ensures reliable { IsReliable (result ≡ Err Stop.WireFailed) (W.never_fails wire.old) (W.never_fails wire.new) }
+        ensures caused { IsCaused (result ≡ Err Stop.WireFailed) (W.faults wire.old) (W.faults wire.new)
+            (W.never_fails wire.old) (W.never_fails wire.new) }
     {
         always_within_limits();
         self.world.is_replayed();
@@ -95,8 +95,8 @@ impl Playing {
         ensures base { self.new.base ≡ self.old.base }
         ensures entered { OnOk result ((length self.old.world.trace < 1000000) × (length self.old.world.trace < length self.new.world.trace)) }
         ensures unwired { self.old.base ≡ None → (wire.new ≡ wire.old) × (result ≢ Err Stop.WireFailed) }
-        ensures counts { Counts (result ≡ Err Stop.WireFailed) (W.faults wire.old) (W.faults wire.new) }
-        ensures reliable { IsReliable (result ≡ Err Stop.WireFailed) (W.never_fails wire.old) (W.never_fails wire.new) }
+        ensures caused { IsCaused (result ≡ Err Stop.WireFailed) (W.faults wire.old) (W.faults wire.new)
+            (W.never_fails wire.old) (W.never_fails wire.new) }
     {
         let Some(base) = self.base else {
             return self.noted(alloc, WEvent::Deliver { copy });

@@ -2,7 +2,7 @@
 
 ghost use Rattle.std.specs.Prelude.{◌≡◌, ◌≢◌, ◌<◌, ◌≤◌, ◌%◌, ◌||◌, ◌==◌, ℕ, suc, List, Option, Err, OnOk, None, nat_lt, length, Some, if◌then◌else◌};
 ghost use Rattle.std.specs.List.{slice_get};
-ghost use Rattle.hn_io.specs.Faults.{Counts, IsReliable};
+ghost use Rattle.hn_io.specs.Faults.{IsCaused};
 ghost use Rattle.hn_world.specs.declared.copies.MailCopy.{MailCopy};
 ghost use Rattle.hn_world.specs.Waiting.{first_waiting};
 ghost use Rattle.hn_wire.specs.declared.datagram.Datagram.{Datagram};
@@ -54,8 +54,8 @@ impl Playing {
         ensures base { self.new.base ≡ self.old.base }
         ensures entered { OnOk result ((length self.old.world.trace < 1000000) × (length self.old.world.trace < length self.new.world.trace)) }
         ensures unwired { self.old.base ≡ None → (wire.new ≡ wire.old) × (result ≢ Err Stop.WireFailed) }
-        ensures counts { Counts (result ≡ Err Stop.WireFailed) (W.faults wire.old) (W.faults wire.new) }
-        ensures reliable { IsReliable (result ≡ Err Stop.WireFailed) (W.never_fails wire.old) (W.never_fails wire.new) }
+        ensures caused { IsCaused (result ≡ Err Stop.WireFailed) (W.faults wire.old) (W.faults wire.new)
+            (W.never_fails wire.old) (W.never_fails wire.new) }
     {
         if lost {
             return self.event(alloc, WEvent::Drop { copy });
@@ -71,8 +71,8 @@ impl Playing {
         ensures base { self.new.base ≡ self.old.base }
         ensures entered { OnOk result ((length self.old.world.trace < 1000000) × (length self.old.world.trace < length self.new.world.trace)) }
         ensures unwired { self.old.base ≡ None → (wire.new ≡ wire.old) × (result ≢ Err Stop.WireFailed) }
-        ensures counts { Counts (result ≡ Err Stop.WireFailed) (W.faults wire.old) (W.faults wire.new) }
-        ensures reliable { IsReliable (result ≡ Err Stop.WireFailed) (W.never_fails wire.old) (W.never_fails wire.new) }
+        ensures caused { IsCaused (result ≡ Err Stop.WireFailed) (W.faults wire.old) (W.faults wire.new)
+            (W.never_fails wire.old) (W.never_fails wire.new) }
     {
         let lost = self.is_lost(copy);
         self.treat(alloc, wire, copy, lost)
@@ -89,8 +89,8 @@ impl Playing {
         ensures base { self.new.base ≡ self.old.base }
         ensures entered { OnOk result (length self.old.world.trace ≤ length self.new.world.trace) }
         ensures unwired { self.old.base ≡ None → (wire.new ≡ wire.old) × (result ≢ Err Stop.WireFailed) }
-        ensures counts { Counts (result ≡ Err Stop.WireFailed) (W.faults wire.old) (W.faults wire.new) }
-        ensures reliable { IsReliable (result ≡ Err Stop.WireFailed) (W.never_fails wire.old) (W.never_fails wire.new) }
+        ensures caused { IsCaused (result ≡ Err Stop.WireFailed) (W.faults wire.old) (W.faults wire.new)
+            (W.never_fails wire.old) (W.never_fails wire.new) }
     {
         while let Some(copy) = self.world.next_waiting() {
             self.copy(alloc, wire, copy)?;

@@ -1,7 +1,7 @@
 ghost use Rattle.std.specs.Prelude.{◌≡◌, ◌+◌, ◌≤◌, ℕ, List, length, IfOk, Err};
 ghost use Rattle.std.specs.Io.KnownBytes.{Consumes};
 ghost use Rattle.hn_base.specs.Input.{IsWhole};
-ghost use Rattle.hn_io.specs.Faults.{Counts, IsReliable};
+ghost use Rattle.hn_io.specs.Faults.{IsCaused};
 
 use hn_io::{IoFault, Source};
 use hn_script::SOURCE_LIMIT;
@@ -15,8 +15,8 @@ pub fn read_all<S: Source>(alloc: Global, src: &mut S) -> Result<Vec<u8>, IoFaul
     ensures all { IfOk result (λ bytes. Consumes (S.left src.old) (S.left src.new) bytes.items) }
     ensures whole { IfOk result (λ bytes. length bytes.items ≤ SOURCE_LIMIT → IsWhole (S.left src.old) bytes.items) }
     ensures bounded { (read : List ℕ) × (length read ≤ SOURCE_LIMIT + 1) × Consumes (S.left src.old) (S.left src.new) read }
-    ensures counts { Counts (result ≡ Err IoFault.Failed) (S.faults src.old) (S.faults src.new) }
-    ensures reliable { IsReliable (result ≡ Err IoFault.Failed) (S.never_fails src.old) (S.never_fails src.new) }
+    ensures caused { IsCaused (result ≡ Err IoFault.Failed) (S.faults src.old) (S.faults src.new)
+        (S.never_fails src.old) (S.never_fails src.new) }
 {
     let mut bytes = Vec::new(alloc);
     let mut buf = [0; CHUNK];

@@ -1,6 +1,6 @@
 ghost use Rattle.std.specs.Prelude.{◌≡◌, ◌≢◌, ℕ, List, Option, None, Err};
 ghost use Rattle.hn_base.specs.declared.version.Version.{Version};
-ghost use Rattle.hn_io.specs.Faults.{Counts, IsReliable};
+ghost use Rattle.hn_io.specs.Faults.{IsCaused};
 ghost use Rattle.hn_script.specs.Laws.{IsLimited};
 ghost use Rattle.hn_script.specs.Line.{IsOfVersion};
 ghost use Rattle.hn_script.specs.declared.line.Line.TheVariants as a_line;
@@ -45,8 +45,8 @@ impl Playing {
         ensures ends { (text : List Told) → EndsLeaving (OtherEnds a_line.Flow) result (stage_of self.old (W.waiting wire.old) text) (stage_of self.new (W.waiting wire.new) text) }
         ensures base { self.new.base ≡ self.old.base }
         ensures unwired { self.old.base ≡ None → (wire.new ≡ wire.old) × (result ≢ Err Stop.WireFailed) }
-        ensures counts { Counts (result ≡ Err Stop.WireFailed) (W.faults wire.old) (W.faults wire.new) }
-        ensures reliable { IsReliable (result ≡ Err Stop.WireFailed) (W.never_fails wire.old) (W.never_fails wire.new) }
+        ensures caused { IsCaused (result ≡ Err Stop.WireFailed) (W.faults wire.old) (W.faults wire.new)
+            (W.never_fails wire.old) (W.never_fails wire.new) }
     {
         self.flow(alloc, wire)?;
         Ok(Lines::new(alloc))
@@ -57,8 +57,8 @@ impl Playing {
         ensures ends { (text : List Told) → EndsLeaving (OtherEnds (a_line.Deliver copy)) result (stage_of self.old (W.waiting wire.old) text) (stage_of self.new (W.waiting wire.new) text) }
         ensures base { self.new.base ≡ self.old.base }
         ensures unwired { self.old.base ≡ None → (wire.new ≡ wire.old) × (result ≢ Err Stop.WireFailed) }
-        ensures counts { Counts (result ≡ Err Stop.WireFailed) (W.faults wire.old) (W.faults wire.new) }
-        ensures reliable { IsReliable (result ≡ Err Stop.WireFailed) (W.never_fails wire.old) (W.never_fails wire.new) }
+        ensures caused { IsCaused (result ≡ Err Stop.WireFailed) (W.faults wire.old) (W.faults wire.new)
+            (W.never_fails wire.old) (W.never_fails wire.new) }
     {
         let name = self.world.copy_info(copy).map(|info| info.to);
         let notes = self.deliver(alloc, wire, copy)?;
@@ -92,8 +92,8 @@ impl Playing {
         ensures ends { (text : List Told) → EndsLeaving (OtherEnds line) result (stage_of self.old (W.waiting wire.old) text) (stage_of self.new (W.waiting wire.new) text) }
         ensures base { self.new.base ≡ self.old.base }
         ensures unwired { self.old.base ≡ None → (wire.new ≡ wire.old) × (result ≢ Err Stop.WireFailed) }
-        ensures counts { Counts (result ≡ Err Stop.WireFailed) (W.faults wire.old) (W.faults wire.new) }
-        ensures reliable { IsReliable (result ≡ Err Stop.WireFailed) (W.never_fails wire.old) (W.never_fails wire.new) }
+        ensures caused { IsCaused (result ≡ Err Stop.WireFailed) (W.faults wire.old) (W.faults wire.new)
+            (W.never_fails wire.old) (W.never_fails wire.new) }
     {
         match line {
             Line::Seed(seed) => Ok(self.seed(alloc, seed)),
@@ -139,10 +139,10 @@ impl Playing {
         ensures ends { (text : List Told) → EndsWriting (OtherEnds line) result (stage_of self.old (W.waiting wire.old) text) (stage_of self.new (W.waiting wire.new) text) (K.held out.old) (K.held out.new) }
         ensures base { self.new.base ≡ self.old.base }
         ensures unwired { self.old.base ≡ None → (wire.new ≡ wire.old) × (result ≢ Err Stop.WireFailed) }
-        ensures counts { Counts (result ≡ Err Stop.WireFailed) (W.faults wire.old) (W.faults wire.new) }
-        ensures reliable { IsReliable (result ≡ Err Stop.WireFailed) (W.never_fails wire.old) (W.never_fails wire.new) }
-        ensures sink_counts { Counts (result ≡ Err (Stop.Cut IoFault.Failed)) (K.faults out.old) (K.faults out.new) }
-        ensures sink_reliable { IsReliable (result ≡ Err (Stop.Cut IoFault.Failed)) (K.never_fails out.old) (K.never_fails out.new) }
+        ensures caused { IsCaused (result ≡ Err Stop.WireFailed) (W.faults wire.old) (W.faults wire.new)
+            (W.never_fails wire.old) (W.never_fails wire.new) }
+        ensures sink_caused { IsCaused (result ≡ Err (Stop.Cut IoFault.Failed)) (K.faults out.old) (K.faults out.new)
+            (K.never_fails out.old) (K.never_fails out.new) }
     {
         let lines = self.other(alloc, wire, line)?;
         Ok(write_lines(out, &lines)?)
@@ -165,10 +165,10 @@ impl Playing {
         ensures ends { (text : List Told) → EndsWriting (LineEnds line) result (stage_of self.old (W.waiting wire.old) text) (stage_of self.new (W.waiting wire.new) text) (K.held out.old) (K.held out.new) }
         ensures base { self.new.base ≡ self.old.base }
         ensures unwired { self.old.base ≡ None → (wire.new ≡ wire.old) × (result ≢ Err Stop.WireFailed) }
-        ensures counts { Counts (result ≡ Err Stop.WireFailed) (W.faults wire.old) (W.faults wire.new) }
-        ensures reliable { IsReliable (result ≡ Err Stop.WireFailed) (W.never_fails wire.old) (W.never_fails wire.new) }
-        ensures sink_counts { Counts (result ≡ Err (Stop.Cut IoFault.Failed)) (K.faults out.old) (K.faults out.new) }
-        ensures sink_reliable { IsReliable (result ≡ Err (Stop.Cut IoFault.Failed)) (K.never_fails out.old) (K.never_fails out.new) }
+        ensures caused { IsCaused (result ≡ Err Stop.WireFailed) (W.faults wire.old) (W.faults wire.new)
+            (W.never_fails wire.old) (W.never_fails wire.new) }
+        ensures sink_caused { IsCaused (result ≡ Err (Stop.Cut IoFault.Failed)) (K.faults out.old) (K.faults out.new)
+            (K.never_fails out.old) (K.never_fails out.new) }
     {
         match event_of(line) {
             Ok(event) => self.happen(alloc, out, event),

@@ -1,7 +1,7 @@
 ghost use Rattle.std.specs.Prelude.{◌≡◌, ◌≢◌, ℕ, List, [], IfOk, None, Ok, Err};
 ghost use Rattle.std.specs.Io.KnownBytes.{Appends};
 ghost use Rattle.std.specs.List.{AllByRecursion};
-ghost use Rattle.hn_io.specs.Faults.{Counts, IsReliable};
+ghost use Rattle.hn_io.specs.Faults.{IsCaused};
 ghost use Rattle.hn_base.specs.declared.version.Version.{Version};
 ghost use Rattle.hn_script.specs.Laws.{IsLimited};
 ghost use Rattle.hn_script.specs.Line.{IsOfVersion};
@@ -43,10 +43,10 @@ impl Playing {
             × AppendsFront (K.held out.old) (K.held out.new) (bytes_of after.text) }
         ensures base { self.new.base ≡ self.old.base }
         ensures unwired { self.old.base ≡ None → (wire.new ≡ wire.old) × (result ≢ Ok end.WireFailed) }
-        ensures counts { Counts (result ≡ Err IoFault.Failed) (K.faults out.old) (K.faults out.new) }
-        ensures reliable { IsReliable (result ≡ Err IoFault.Failed) (K.never_fails out.old) (K.never_fails out.new) }
-        ensures wire_counts { Counts (result ≡ Ok end.WireFailed) (W.faults wire.old) (W.faults wire.new) }
-        ensures wire_reliable { IsReliable (result ≡ Ok end.WireFailed) (W.never_fails wire.old) (W.never_fails wire.new) }
+        ensures caused { IsCaused (result ≡ Err IoFault.Failed) (K.faults out.old) (K.faults out.new)
+            (K.never_fails out.old) (K.never_fails out.new) }
+        ensures wire_caused { IsCaused (result ≡ Ok end.WireFailed) (W.faults wire.old) (W.faults wire.new)
+            (W.never_fails wire.old) (W.never_fails wire.new) }
     {
         let _total = lines.len();
         for (number, line) in lines {

@@ -1,6 +1,6 @@
 ghost use Rattle.std.specs.Prelude.{◌≡◌, ◌++◌, ℕ, List, OnOk, OnErr, Err};
 ghost use Rattle.std.specs.Io.KnownBytes.{Appends};
-ghost use Rattle.hn_io.specs.Faults.{Counts, IsReliable};
+ghost use Rattle.hn_io.specs.Faults.{IsCaused};
 ghost use Rattle.hn_lab.specs.Output.{AppendsPart, AreCut, joined};
 ghost use Rattle.hn_lab.specs.Reports.{refused_line};
 
@@ -13,8 +13,8 @@ use std::alloc::Global;
 pub fn write_piece<K: Sink>(out: &mut K, piece: &[u8]) -> Result<(), IoFault>
     ensures ok { OnOk result (Appends (K.held out.old) (K.held out.new) piece.now) }
     ensures cut { OnErr result (AppendsPart (K.held out.old) (K.held out.new) piece.now) }
-    ensures counts { Counts (result ≡ Err IoFault.Failed) (K.faults out.old) (K.faults out.new) }
-    ensures reliable { IsReliable (result ≡ Err IoFault.Failed) (K.never_fails out.old) (K.never_fails out.new) }
+    ensures caused { IsCaused (result ≡ Err IoFault.Failed) (K.faults out.old) (K.faults out.new)
+        (K.never_fails out.old) (K.never_fails out.new) }
 {
     let mut rest = piece;
     while !rest.is_empty() {
@@ -33,8 +33,8 @@ pub fn write_refusal<K: Sink>(
 ) -> Result<(), IoFault>
     ensures ok { OnOk result (Appends (K.held out.old) (K.held out.new) (refused_line line code)) }
     ensures cut { OnErr result (AppendsPart (K.held out.old) (K.held out.new) (refused_line line code)) }
-    ensures counts { Counts (result ≡ Err IoFault.Failed) (K.faults out.old) (K.faults out.new) }
-    ensures reliable { IsReliable (result ≡ Err IoFault.Failed) (K.never_fails out.old) (K.never_fails out.new) }
+    ensures caused { IsCaused (result ≡ Err IoFault.Failed) (K.faults out.old) (K.faults out.new)
+        (K.never_fails out.old) (K.never_fails out.new) }
 {
     match refused_line(alloc, line, code) {
         Ok(text) => write_piece(out, text.as_bytes()),
@@ -47,8 +47,8 @@ pub(crate) fn write_lines<K: Sink>(out: &mut K, lines: &Lines) -> Result<(), IoF
     ensures ok { OnOk result (Appends (K.held out.old) (K.held out.new) (joined lines.now)) }
     ensures cut { OnErr result ((before : List (List ℕ)) × (cut part : List ℕ) × AreCut lines.now before cut part
         × Appends (K.held out.old) (K.held out.new) (joined before ++ part)) }
-    ensures counts { Counts (result ≡ Err IoFault.Failed) (K.faults out.old) (K.faults out.new) }
-    ensures reliable { IsReliable (result ≡ Err IoFault.Failed) (K.never_fails out.old) (K.never_fails out.new) }
+    ensures caused { IsCaused (result ≡ Err IoFault.Failed) (K.faults out.old) (K.faults out.new)
+        (K.never_fails out.old) (K.never_fails out.new) }
 {
     for line in lines.as_slice() {
         write_piece(out, line.as_bytes())?;

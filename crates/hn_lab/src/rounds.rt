@@ -1,7 +1,7 @@
 //! `run`: time passes, routers tick, and the mail flows.
 
 ghost use Rattle.std.specs.Prelude.{◌≡◌, ◌≢◌, ◌≤◌, ◌<◌, ◌^◌, ◌+◌, List, Option, Err, OnOk, None, length};
-ghost use Rattle.hn_io.specs.Faults.{Counts, IsReliable};
+ghost use Rattle.hn_io.specs.Faults.{IsCaused};
 ghost use Rattle.hn_wire.specs.declared.datagram.Datagram.{Datagram};
 ghost use Rattle.hn_lab.specs.declared.end.Stop.{Stop};
 ghost use Rattle.hn_lab.specs.Ended.{Ended};
@@ -27,8 +27,8 @@ impl Playing {
         ensures unbroken { result ≢ Err Stop.WireFailed }
         ensures base { self.new.base ≡ self.old.base }
         ensures entered { OnOk result (length self.old.world.trace ≤ length self.new.world.trace) }
-        ensures sink_counts { Counts (result ≡ Err (Stop.Cut IoFault.Failed)) (K.faults out.old) (K.faults out.new) }
-        ensures sink_reliable { IsReliable (result ≡ Err (Stop.Cut IoFault.Failed)) (K.never_fails out.old) (K.never_fails out.new) }
+        ensures sink_caused { IsCaused (result ≡ Err (Stop.Cut IoFault.Failed)) (K.faults out.old) (K.faults out.new)
+            (K.never_fails out.old) (K.never_fails out.new) }
     {
         for name in names {
             self.tick(alloc, out, *name)?;
@@ -42,8 +42,8 @@ impl Playing {
         ensures unbroken { result ≢ Err Stop.WireFailed }
         ensures base { self.new.base ≡ self.old.base }
         ensures entered { OnOk result (length self.old.world.trace ≤ length self.new.world.trace) }
-        ensures sink_counts { Counts (result ≡ Err (Stop.Cut IoFault.Failed)) (K.faults out.old) (K.faults out.new) }
-        ensures sink_reliable { IsReliable (result ≡ Err (Stop.Cut IoFault.Failed)) (K.never_fails out.old) (K.never_fails out.new) }
+        ensures sink_caused { IsCaused (result ≡ Err (Stop.Cut IoFault.Failed)) (K.faults out.old) (K.faults out.new)
+            (K.never_fails out.old) (K.never_fails out.new) }
     {
         let names = self.world.running_names(alloc)?;
         self.ticks_of(alloc, out, names.as_slice())
@@ -78,10 +78,10 @@ impl Playing {
         ensures base { self.new.base ≡ self.old.base }
         ensures entered { OnOk result ((length self.old.world.trace < 1000000) × (length self.old.world.trace < length self.new.world.trace)) }
         ensures unwired { self.old.base ≡ None → (wire.new ≡ wire.old) × (result ≢ Err Stop.WireFailed) }
-        ensures counts { Counts (result ≡ Err Stop.WireFailed) (W.faults wire.old) (W.faults wire.new) }
-        ensures reliable { IsReliable (result ≡ Err Stop.WireFailed) (W.never_fails wire.old) (W.never_fails wire.new) }
-        ensures sink_counts { Counts (result ≡ Err (Stop.Cut IoFault.Failed)) (K.faults out.old) (K.faults out.new) }
-        ensures sink_reliable { IsReliable (result ≡ Err (Stop.Cut IoFault.Failed)) (K.never_fails out.old) (K.never_fails out.new) }
+        ensures caused { IsCaused (result ≡ Err Stop.WireFailed) (W.faults wire.old) (W.faults wire.new)
+            (W.never_fails wire.old) (W.never_fails wire.new) }
+        ensures sink_caused { IsCaused (result ≡ Err (Stop.Cut IoFault.Failed)) (K.faults out.old) (K.faults out.new)
+            (K.never_fails out.old) (K.never_fails out.new) }
     {
         self.pass(alloc, end, step)?;
         self.ticks(alloc, out)?;
@@ -106,10 +106,10 @@ impl Playing {
         ensures ends { (text : List Told) → EndsWriting (Runs end step) result (stage_of self.old (W.waiting wire.old) text) (stage_of self.new (W.waiting wire.new) text) (K.held out.old) (K.held out.new) }
         ensures base { self.new.base ≡ self.old.base }
         ensures unwired { self.old.base ≡ None → (wire.new ≡ wire.old) × (result ≢ Err Stop.WireFailed) }
-        ensures counts { Counts (result ≡ Err Stop.WireFailed) (W.faults wire.old) (W.faults wire.new) }
-        ensures reliable { IsReliable (result ≡ Err Stop.WireFailed) (W.never_fails wire.old) (W.never_fails wire.new) }
-        ensures sink_counts { Counts (result ≡ Err (Stop.Cut IoFault.Failed)) (K.faults out.old) (K.faults out.new) }
-        ensures sink_reliable { IsReliable (result ≡ Err (Stop.Cut IoFault.Failed)) (K.never_fails out.old) (K.never_fails out.new) }
+        ensures caused { IsCaused (result ≡ Err Stop.WireFailed) (W.faults wire.old) (W.faults wire.new)
+            (W.never_fails wire.old) (W.never_fails wire.new) }
+        ensures sink_caused { IsCaused (result ≡ Err (Stop.Cut IoFault.Failed)) (K.faults out.old) (K.faults out.new)
+            (K.never_fails out.old) (K.never_fails out.new) }
     {
         if end < self.world.moment() {
             return Err(Stop::Refused(PAST));

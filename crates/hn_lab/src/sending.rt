@@ -2,7 +2,7 @@
 
 ghost use Rattle.std.specs.Prelude.{◌≡◌, ◌≢◌, ◌≤◌, ◌<◌, List, Option, Some, Err, IfOk, OnOk, length, string_bytes};
 ghost use Rattle.std.specs.List.{slice_get};
-ghost use Rattle.hn_io.specs.Faults.{Counts, IsReliable};
+ghost use Rattle.hn_io.specs.Faults.{IsCaused};
 ghost use Rattle.hn_script.specs.declared.line.Line.TheVariants as line;
 ghost use Rattle.hn_wire.specs.declared.datagram.Datagram.{Datagram};
 ghost use Rattle.hn_world.specs.Step.{IsInRange};
@@ -88,8 +88,8 @@ impl Playing {
         ensures unbroken { result ≢ Err Stop.WireFailed }
         ensures base { self.new.base ≡ self.old.base }
         ensures world { self.new.world ≡ self.old.world }
-        ensures sink_counts { Counts (result ≡ Err (Stop.Cut IoFault.Failed)) (K.faults out.old) (K.faults out.new) }
-        ensures sink_reliable { IsReliable (result ≡ Err (Stop.Cut IoFault.Failed)) (K.never_fails out.old) (K.never_fails out.new) }
+        ensures sink_caused { IsCaused (result ≡ Err (Stop.Cut IoFault.Failed)) (K.faults out.old) (K.faults out.new)
+            (K.never_fails out.old) (K.never_fails out.new) }
     {
         let Some(router) = self.world.router(name) else {
             return Ok(());
@@ -120,8 +120,8 @@ impl Playing {
         ensures unbroken { result ≢ Err Stop.WireFailed }
         ensures base { self.new.base ≡ self.old.base }
         ensures world { self.new.world ≡ self.old.world }
-        ensures sink_counts { Counts (result ≡ Err (Stop.Cut IoFault.Failed)) (K.faults out.old) (K.faults out.new) }
-        ensures sink_reliable { IsReliable (result ≡ Err (Stop.Cut IoFault.Failed)) (K.never_fails out.old) (K.never_fails out.new) }
+        ensures sink_caused { IsCaused (result ≡ Err (Stop.Cut IoFault.Failed)) (K.faults out.old) (K.faults out.new)
+            (K.never_fails out.old) (K.never_fails out.new) }
     {
         for endpoint in endpoints {
             self.turn(alloc, out, name, *endpoint)?;
@@ -140,8 +140,8 @@ impl Playing {
         ensures unbroken { result ≢ Err Stop.WireFailed }
         ensures base { self.new.base ≡ self.old.base }
         ensures entered { OnOk result (length self.old.world.trace ≤ length self.new.world.trace) }
-        ensures sink_counts { Counts (result ≡ Err (Stop.Cut IoFault.Failed)) (K.faults out.old) (K.faults out.new) }
-        ensures sink_reliable { IsReliable (result ≡ Err (Stop.Cut IoFault.Failed)) (K.never_fails out.old) (K.never_fails out.new) }
+        ensures sink_caused { IsCaused (result ≡ Err (Stop.Cut IoFault.Failed)) (K.faults out.old) (K.faults out.new)
+            (K.never_fails out.old) (K.never_fails out.new) }
     {
         self.event(alloc, WEvent::Tick { name })?;
         let endpoints = self.senders.endpoints_of(alloc, &name)?;
@@ -184,8 +184,8 @@ impl Playing {
         ensures ends { (waiting : Option (List Datagram)) (text : List Told) → EndsWriting (Then (EventEnds event) (Follows event)) result (stage_of self.old waiting text) (stage_of self.new waiting text) (K.held out.old) (K.held out.new) }
         ensures unbroken { result ≢ Err Stop.WireFailed }
         ensures base { self.new.base ≡ self.old.base }
-        ensures sink_counts { Counts (result ≡ Err (Stop.Cut IoFault.Failed)) (K.faults out.old) (K.faults out.new) }
-        ensures sink_reliable { IsReliable (result ≡ Err (Stop.Cut IoFault.Failed)) (K.never_fails out.old) (K.never_fails out.new) }
+        ensures sink_caused { IsCaused (result ≡ Err (Stop.Cut IoFault.Failed)) (K.faults out.old) (K.faults out.new)
+            (K.never_fails out.old) (K.never_fails out.new) }
     {
         match event {
             WEvent::Tick { name } => self.tick(alloc, out, name),

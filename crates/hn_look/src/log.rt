@@ -2,7 +2,7 @@
 
 ghost use Rattle.std.specs.Prelude.{◌≡◌, ◌++◌, ℕ, List, Err, IfOk, IfErr, OnOk, length, string_bytes};
 ghost use Rattle.std.specs.Io.KnownBytes.{Appends};
-ghost use Rattle.hn_io.specs.Faults.{Counts, IsReliable};
+ghost use Rattle.hn_io.specs.Faults.{IsCaused};
 ghost use Rattle.hn_rules.specs.declared.done.Note.{Note as ANote};
 ghost use Rattle.hn_world.specs.declared.parts.Parts.{Parts};
 ghost use Rattle.hn_world.specs.Step.{Step};
@@ -64,8 +64,8 @@ fn push_again(
 pub(crate) fn write_log<K: Sink>(alloc: Global, world: &World, out: &mut K) -> Result<(), IoFault>
     ensures written { OnOk result ((text : List ℕ) × IsLog world.now text × Appends (K.held out.old) (K.held out.new) text) }
     ensures cut { IfErr result (λ fault. (text : List ℕ) × IsLog world.now text × AppendsCut fault (K.held out.old) (K.held out.new) text) }
-    ensures counts { Counts (result ≡ Err IoFault.Failed) (K.faults out.old) (K.faults out.new) }
-    ensures reliable { IsReliable (result ≡ Err IoFault.Failed) (K.never_fails out.old) (K.never_fails out.new) }
+    ensures caused { IsCaused (result ≡ Err IoFault.Failed) (K.faults out.old) (K.faults out.new)
+        (K.never_fails out.old) (K.never_fails out.new) }
 {
     pieces_append();
     world.is_replayed();

@@ -1,7 +1,7 @@
 //! A look at the world of a play.
 
 ghost use Rattle.std.specs.Prelude.{◌≡◌, ◌⊎◌, ℕ, List, Err, IfOk};
-ghost use Rattle.hn_io.specs.Faults.{Counts, IsReliable};
+ghost use Rattle.hn_io.specs.Faults.{IsCaused};
 ghost use Rattle.hn_look.specs.Look.{Sees, SeesOf, EndsRefused, IsLook, MayStarve, Looked};
 
 use crate::last_line::refusal_of;
@@ -18,8 +18,8 @@ use std::alloc::Global;
 fn see<K: Sink>(alloc: Global, form: &Form, world: &World, out: &mut K) -> Result<u8, IoFault>
     ensures looked { Looked (MayStarve form.now) (Sees form.now world.now) result (K.held out.old) (K.held out.new) }
     ensures statuses { IfOk result (λ status. (status ≡ 0) ⊎ (status ≡ 2)) }
-    ensures counts { Counts (result ≡ Err IoFault.Failed) (K.faults out.old) (K.faults out.new) }
-    ensures reliable { IsReliable (result ≡ Err IoFault.Failed) (K.never_fails out.old) (K.never_fails out.new) }
+    ensures caused { IsCaused (result ≡ Err IoFault.Failed) (K.faults out.old) (K.faults out.new)
+        (K.never_fails out.old) (K.never_fails out.new) }
 {
     match form {
         Form::Log => {
@@ -40,8 +40,8 @@ fn see_any<K: Sink>(
 ) -> Result<u8, IoFault>
     ensures looked { Looked (MayStarve form.now) (SeesOf (Sees form.now) world.now) result (K.held out.old) (K.held out.new) }
     ensures statuses { IfOk result (λ status. (status ≡ 0) ⊎ (status ≡ 2)) }
-    ensures counts { Counts (result ≡ Err IoFault.Failed) (K.faults out.old) (K.faults out.new) }
-    ensures reliable { IsReliable (result ≡ Err IoFault.Failed) (K.never_fails out.old) (K.never_fails out.new) }
+    ensures caused { IsCaused (result ≡ Err IoFault.Failed) (K.faults out.old) (K.faults out.new)
+        (K.never_fails out.old) (K.never_fails out.new) }
 {
     match world {
         Some(world) => see(alloc, form, world, out),
@@ -62,8 +62,8 @@ pub(crate) fn look<K: Sink>(
     requires refused { played.now.status ≡ 2 → (line : List ℕ) × EndsRefused transcript.now line }
     ensures looked { Looked (MayStarve form.now) (IsLook (Sees form.now) played.now.status played.now.world transcript.now) result (K.held out.old) (K.held out.new) }
     ensures statuses { IfOk result (λ status. (status ≡ 0) ⊎ (status ≡ 2)) }
-    ensures counts { Counts (result ≡ Err IoFault.Failed) (K.faults out.old) (K.faults out.new) }
-    ensures reliable { IsReliable (result ≡ Err IoFault.Failed) (K.never_fails out.old) (K.never_fails out.new) }
+    ensures caused { IsCaused (result ≡ Err IoFault.Failed) (K.faults out.old) (K.faults out.new)
+        (K.never_fails out.old) (K.never_fails out.new) }
 {
     pieces_append();
     let status = see_any(alloc, form, &played.world, out)?;

@@ -2,7 +2,7 @@
 
 ghost use Rattle.std.specs.Prelude.{◌≡◌, ◌⊎◌, ℕ, List, Err, IfOk};
 ghost use Rattle.hn_base.specs.Name.{name_text};
-ghost use Rattle.hn_io.specs.Faults.{Counts, IsReliable};
+ghost use Rattle.hn_io.specs.Faults.{IsCaused};
 ghost use Rattle.hn_look.specs.Look.{Refuses, Says, SeesTable, SeesWhy, Looked};
 
 use crate::status::{DONE, REFUSED};
@@ -18,8 +18,8 @@ use std::alloc::Global;
 fn refuse<K: Sink>(alloc: Global, code: u8, out: &mut K) -> Result<u8, IoFault>
     ensures looked { Looked Unit (Refuses code) result (K.held out.old) (K.held out.new) }
     ensures status { IfOk result (λ status. status ≡ 2) }
-    ensures counts { Counts (result ≡ Err IoFault.Failed) (K.faults out.old) (K.faults out.new) }
-    ensures reliable { IsReliable (result ≡ Err IoFault.Failed) (K.never_fails out.old) (K.never_fails out.new) }
+    ensures caused { IsCaused (result ≡ Err IoFault.Failed) (K.faults out.old) (K.faults out.new)
+        (K.never_fails out.old) (K.never_fails out.new) }
 {
     write_refusal(alloc, out, 0, code)?;
     Ok(REFUSED)
@@ -29,8 +29,8 @@ fn refuse<K: Sink>(alloc: Global, code: u8, out: &mut K) -> Result<u8, IoFault>
 fn say<K: Sink>(text: &str, out: &mut K) -> Result<u8, IoFault>
     ensures looked { Looked Unit (Says text.now) result (K.held out.old) (K.held out.new) }
     ensures status { IfOk result (λ status. status ≡ 0) }
-    ensures counts { Counts (result ≡ Err IoFault.Failed) (K.faults out.old) (K.faults out.new) }
-    ensures reliable { IsReliable (result ≡ Err IoFault.Failed) (K.never_fails out.old) (K.never_fails out.new) }
+    ensures caused { IsCaused (result ≡ Err IoFault.Failed) (K.faults out.old) (K.faults out.new)
+        (K.never_fails out.old) (K.never_fails out.new) }
 {
     write_piece(out, text.as_bytes())?;
     Ok(DONE)
@@ -45,8 +45,8 @@ pub(crate) fn write_table<K: Sink>(
 ) -> Result<u8, IoFault>
     ensures looked { Looked Unit (SeesTable (name_text name.now) world.now) result (K.held out.old) (K.held out.new) }
     ensures statuses { IfOk result (λ status. (status ≡ 0) ⊎ (status ≡ 2)) }
-    ensures counts { Counts (result ≡ Err IoFault.Failed) (K.faults out.old) (K.faults out.new) }
-    ensures reliable { IsReliable (result ≡ Err IoFault.Failed) (K.never_fails out.old) (K.never_fails out.new) }
+    ensures caused { IsCaused (result ≡ Err IoFault.Failed) (K.faults out.old) (K.faults out.new)
+        (K.never_fails out.old) (K.never_fails out.new) }
 {
     let Some(member) = world.member(name) else {
         return refuse(alloc, UNKNOWN, out);
@@ -66,8 +66,8 @@ pub(crate) fn write_why<K: Sink>(
 ) -> Result<u8, IoFault>
     ensures looked { Looked Unit (SeesWhy (name_text name.now) world.now) result (K.held out.old) (K.held out.new) }
     ensures statuses { IfOk result (λ status. (status ≡ 0) ⊎ (status ≡ 2)) }
-    ensures counts { Counts (result ≡ Err IoFault.Failed) (K.faults out.old) (K.faults out.new) }
-    ensures reliable { IsReliable (result ≡ Err IoFault.Failed) (K.never_fails out.old) (K.never_fails out.new) }
+    ensures caused { IsCaused (result ≡ Err IoFault.Failed) (K.faults out.old) (K.faults out.new)
+        (K.never_fails out.old) (K.never_fails out.new) }
 {
     if let Some(code) = world.unless_runs(name) {
         return refuse(alloc, code, out);

@@ -1,6 +1,6 @@
 ghost use Rattle.std.specs.Prelude.{◌≡◌, ◌≢◌, ◌+◌, ◌^◌, ◌≤◌, ℕ, List, [], ◌∷◌, map, length, Contains, string_bytes};
 ghost use Rattle.std.specs.Io.KnownBytes.{Consumes};
-ghost use Rattle.hn_io.specs.Faults.{Counts, IsReliable};
+ghost use Rattle.hn_io.specs.Faults.{IsCaused};
 ghost use Rattle.hn_look.specs.Form.{IsFormOf};
 ghost use Rattle.hn_look.specs.Look.{Sees, SeesLog, SeesTable, SeesWhy, MayStarve, IsLookRun};
 ghost use Rattle.hn_base.specs.Name.{name_text};
@@ -22,10 +22,10 @@ use std::alloc::Global;
 fn play_and_look<S: Source, K: Sink>(alloc: Global, form: &Form, src: &mut S, out: &mut K) -> u8
     ensures look { result ≢ SOURCE_FAILED → IsLookRun (MayStarve form.now) (Sees form.now) (S.left src.old) result (K.held out.old) (K.held out.new) }
     ensures statuses { Contains (DONE ∷ REFUSED ∷ SOURCE_FAILED ∷ SINK_FAILED ∷ NO_MEMORY ∷ []) result }
-    ensures source_counts { Counts (result ≡ SOURCE_FAILED) (S.faults src.old) (S.faults src.new) }
-    ensures source_reliable { IsReliable (result ≡ SOURCE_FAILED) (S.never_fails src.old) (S.never_fails src.new) }
-    ensures sink_counts { Counts (result ≡ SINK_FAILED) (K.faults out.old) (K.faults out.new) }
-    ensures sink_reliable { IsReliable (result ≡ SINK_FAILED) (K.never_fails out.old) (K.never_fails out.new) }
+    ensures source_caused { IsCaused (result ≡ SOURCE_FAILED) (S.faults src.old) (S.faults src.new)
+        (S.never_fails src.old) (S.never_fails src.new) }
+    ensures sink_caused { IsCaused (result ≡ SINK_FAILED) (K.faults out.old) (K.faults out.new)
+        (K.never_fails out.old) (K.never_fails out.new) }
     ensures unwritten { result ≡ SOURCE_FAILED → out.new ≡ out.old }
     ensures bounded { (read : List ℕ) × (length read ≤ 2 ^ 24 + 1) × Consumes (S.left src.old) (S.left src.new) read }
 {
@@ -59,10 +59,10 @@ pub fn run<S: Source, K: Sink>(alloc: Global, words: &[String], src: &mut S, out
 
     // Where each status comes from. After 3 nothing was written. Reading ends after 2^24 + 1 bytes.
     ensures statuses { Contains (DONE ∷ BAD_USAGE ∷ REFUSED ∷ SOURCE_FAILED ∷ SINK_FAILED ∷ NO_MEMORY ∷ []) result }
-    ensures source_counts { Counts (result ≡ SOURCE_FAILED) (S.faults src.old) (S.faults src.new) }
-    ensures source_reliable { IsReliable (result ≡ SOURCE_FAILED) (S.never_fails src.old) (S.never_fails src.new) }
-    ensures sink_counts { Counts (result ≡ SINK_FAILED) (K.faults out.old) (K.faults out.new) }
-    ensures sink_reliable { IsReliable (result ≡ SINK_FAILED) (K.never_fails out.old) (K.never_fails out.new) }
+    ensures source_caused { IsCaused (result ≡ SOURCE_FAILED) (S.faults src.old) (S.faults src.new)
+        (S.never_fails src.old) (S.never_fails src.new) }
+    ensures sink_caused { IsCaused (result ≡ SINK_FAILED) (K.faults out.old) (K.faults out.new)
+        (K.never_fails out.old) (K.never_fails out.new) }
     ensures unwritten { result ≡ SOURCE_FAILED → out.new ≡ out.old }
     ensures bounded { (read : List ℕ) × (length read ≤ 2 ^ 24 + 1) × Consumes (S.left src.old) (S.left src.new) read }
 {

@@ -1,7 +1,7 @@
 -- A turn, and one turn more.
 use Rattle.std.proofs.Common.{◌≡◌, ◌+◌, ◌<◌, inl, inr, ℕ, suc, List, [], ◌∷◌, ◌++◌, Option, Some, refl, subst, append-nil, arith}
 use Rattle.hn_wire.specs.declared.datagram.Datagram.{Datagram}
-use Rattle.hn_wire.specs.Clocks.{Reads}
+use Rattle.hn_wire.specs.Clocks.{ReadsClock}
 use Rattle.hn_node.specs.declared.logged.Logged.{Logged}
 use Rattle.hn_node.specs.declared.logged.NodeEvent.{NodeEvent}
 use Rattle.hn_node.specs.declared.logged.NodeEvent.TheVariants as node
@@ -91,7 +91,7 @@ cut_taking at now waiting after told a fails =
 -- ---- one turn more
 
 module _ (at : PlainSite) (n : ℕ) (readings left rest : Option (List ℕ)) (now : ℕ) (before between : Serving) (told told_between told_after : Option (ℕ → ℕ)) (a b c : Node)
-    (past : (log : List Logged) × Turns at n log before between readings left × Grows log (handed_in at log) told told_between a b) (reads : Reads left now rest) (after : Serving) where
+    (past : (log : List Logged) × Turns at n log before between readings left × Grows log (handed_in at log) told told_between a b) (reads : ReadsClock left now rest) (after : Serving) where
   pub turn_more : (entries : List Logged) × IsTurn at now entries between after × Grows entries (handed_in at entries) told_between told_after b c
       → (log : List Logged) × Turns at (n + 1) log before after readings rest × Grows log (handed_in at log) told told_after a c
   turn_more h =

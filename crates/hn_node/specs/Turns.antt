@@ -4,8 +4,8 @@ use Rattle.std.specs.List.{flat_map}
 use Rattle.hn_base.specs.declared.addr.Addr.{Addr}
 use Rattle.hn_base.specs.declared.memory.NoMemory.{NoMemory}
 use Rattle.hn_wire.specs.declared.datagram.Datagram.{Datagram}
-use Rattle.hn_wire.specs.Wires.{Arrived, Takes}
-use Rattle.hn_wire.specs.Clocks.{Reads}
+use Rattle.hn_wire.specs.Wires.{Arrived, TakesAt}
+use Rattle.hn_wire.specs.Clocks.{ReadsClock}
 use Rattle.hn_rules.specs.declared.done.Done.{Done}
 use Rattle.hn_rules.specs.declared.done.Outgoing.{Outgoing}
 use Rattle.hn_rules.specs.declared.state.State.{State}
@@ -73,15 +73,15 @@ arrival multicast got = node.Arrive (record { 0 = 1 }) (address_of got.from) mul
 -- the next port, which counts as multicast; or else nothing.
 abbrev pub TakesTurn : PlainSite → Option NodeEvent → Option (List Datagram) → Option (List Datagram) → Type 0
 TakesTurn at None before after =
-    (between : Option (List Datagram)) × Takes at.port None before between × Takes (at.port + 1) None between after
+    (between : Option (List Datagram)) × TakesAt at.port None before between × TakesAt (at.port + 1) None between after
 TakesTurn at (Some event) before after =
-    ((got : Arrived) × (event ≡ arrival false got) × Takes at.port (Some got) before after)
+    ((got : Arrived) × (event ≡ arrival false got) × TakesAt at.port (Some got) before after)
     ⊎ ((got : Arrived) × (event ≡ arrival true got)
-    × ((between : Option (List Datagram)) × Takes at.port None before between × Takes (at.port + 1) (Some got) between after))
+    × ((between : Option (List Datagram)) × TakesAt at.port None before between × TakesAt (at.port + 1) (Some got) between after))
 
 -- The wire failed: at the port, or at the next port, after nothing waited at the port.
 abbrev pub FailsToTake : PlainSite → Option (List Datagram) → Option (List Datagram) → Type 0
-FailsToTake at before after = (after ≡ before) ⊎ Takes at.port None before after
+FailsToTake at before after = (after ≡ before) ⊎ TakesAt at.port None before after
 
 -- ---- a turn
 
@@ -131,7 +131,7 @@ abbrev pub Turns : PlainSite → ℕ → List Logged → Serving → Serving →
 Turns at zero log before after readings rest = (log ≡ []) × (after ≡ before) × (rest ≡ readings)
 Turns at (suc n) log before after readings rest =
     (between : Serving) × (past : List Logged) × (entries : List Logged) × (now : ℕ) × (left : Option (List ℕ))
-    × Turns at n past before between readings left × Reads left now rest × IsTurn at now entries between after × (log ≡ past ++ entries)
+    × Turns at n past before between readings left × ReadsClock left now rest × IsTurn at now entries between after × (log ≡ past ++ entries)
 
 -- ---- a turn that the wire cut
 
@@ -183,7 +183,7 @@ pub record CutTurns (at : PlainSite) (turns : ℕ) (log : List Logged) (handed :
   pub left : Option (List ℕ)
   pub whole : Turns at made past before between readings left
   pub now : ℕ
-  pub reads : Reads left now rest
+  pub reads : ReadsClock left now rest
   pub entries : List Logged
   pub last : List Datagram
   pub cut : CutTurn at now entries last between after

@@ -1,7 +1,7 @@
 //! The turns of a node.
 
 ghost use Rattle.std.specs.Prelude.{◌≡◌, ◌≤◌, ◌^◌, [], ◌∷◌, Some, Err, List, Option, OnOk, IfSome};
-ghost use Rattle.hn_io.specs.Faults.{Counts, IsReliable};
+ghost use Rattle.hn_io.specs.Faults.{IsCaused};
 ghost use Rattle.hn_wire.specs.declared.datagram.Datagram.{Datagram};
 ghost use Rattle.hn_node.specs.declared.logged.Logged.{Logged};
 ghost use Rattle.hn_node.specs.declared.logged.NodeEvent.{NodeEvent};
@@ -43,8 +43,8 @@ impl Node {
         ensures ok { OnOk result ((l : Logged) × Steps (plain_site site.now) now event l (serving self.old.router (W.waiting wire.old)) (serving self.new.router (W.waiting wire.new)) × Adds l (handed_of (plain_site site.now) l.sends) (D.words draw.old) (D.words draw.new) self.old self.new) }
         ensures cut { result ≡ Err IoFault.Failed → (l : Logged) × (front : List Datagram) × CutSteps (plain_site site.now) now event l front (serving self.old.router (W.waiting wire.old)) (serving self.new.router (W.waiting wire.new)) × Adds l front (D.words draw.old) (D.words draw.new) self.old self.new }
         ensures moment { OnOk result (self.new.router.moment ≡ now) }
-        ensures counts { Counts (result ≡ Err IoFault.Failed) (W.faults wire.old) (W.faults wire.new) }
-        ensures reliable { IsReliable (result ≡ Err IoFault.Failed) (W.never_fails wire.old) (W.never_fails wire.new) }
+        ensures caused { IsCaused (result ≡ Err IoFault.Failed) (W.faults wire.old) (W.faults wire.new)
+            (W.never_fails wire.old) (W.never_fails wire.new) }
     {
         moment_is_now();
         sends_are_short();
@@ -83,8 +83,8 @@ impl Node {
         ensures ok { OnOk result ((entries : List Logged) × Arrives (plain_site site.now) now taken entries (serving self.old.router (W.waiting wire.old)) (serving self.new.router (W.waiting wire.new)) × Grows entries (handed_in (plain_site site.now) entries) (D.words draw.old) (D.words draw.new) self.old self.new) }
         ensures cut { result ≡ Err IoFault.Failed → (event : NodeEvent) × (taken ≡ Some event) × ((l : Logged) × (front : List Datagram) × CutSteps (plain_site site.now) now event l front (serving self.old.router (W.waiting wire.old)) (serving self.new.router (W.waiting wire.new)) × Adds l front (D.words draw.old) (D.words draw.new) self.old self.new) }
         ensures moment { OnOk result (self.new.router.moment ≤ now) }
-        ensures counts { Counts (result ≡ Err IoFault.Failed) (W.faults wire.old) (W.faults wire.new) }
-        ensures reliable { IsReliable (result ≡ Err IoFault.Failed) (W.never_fails wire.old) (W.never_fails wire.new) }
+        ensures caused { IsCaused (result ≡ Err IoFault.Failed) (W.faults wire.old) (W.faults wire.new)
+            (W.never_fails wire.old) (W.never_fails wire.new) }
     {
         match taken {
             None => Ok(()),
@@ -107,8 +107,8 @@ impl Node {
         ensures ok { OnOk result ((entries : List Logged) × IsTurn (plain_site site.now) now entries (serving self.old.router (W.waiting wire.old)) (serving self.new.router (W.waiting wire.new)) × Grows entries (handed_in (plain_site site.now) entries) (D.words draw.old) (D.words draw.new) self.old self.new) }
         ensures cut { result ≡ Err IoFault.Failed → (entries : List Logged) × (handed : List Datagram) × CutTurn (plain_site site.now) now entries handed (serving self.old.router (W.waiting wire.old)) (serving self.new.router (W.waiting wire.new)) × Grows entries handed (D.words draw.old) (D.words draw.new) self.old self.new }
         ensures moment { OnOk result (self.new.router.moment ≡ now) }
-        ensures counts { Counts (result ≡ Err IoFault.Failed) (W.faults wire.old) (W.faults wire.new) }
-        ensures reliable { IsReliable (result ≡ Err IoFault.Failed) (W.never_fails wire.old) (W.never_fails wire.new) }
+        ensures caused { IsCaused (result ≡ Err IoFault.Failed) (W.faults wire.old) (W.faults wire.new)
+            (W.never_fails wire.old) (W.never_fails wire.new) }
     {
         let taken = take_turn(alloc, wire, site)?;
         self.arrive(alloc, site, wire, draw, taken, now)?;
@@ -129,8 +129,8 @@ impl Node {
         requires site { IsSite (plain_site site.now) }
         ensures ok { OnOk result ((log : List Logged) × Turns (plain_site site.now) turns log (serving self.old.router (W.waiting wire.old)) (serving self.new.router (W.waiting wire.new)) (C.readings clock.old) (C.readings clock.new) × Grows log (handed_in (plain_site site.now) log) (D.words draw.old) (D.words draw.new) self.old self.new) }
         ensures cut { result ≡ Err IoFault.Failed → (log : List Logged) × (handed : List Datagram) × CutTurns (plain_site site.now) turns log handed (serving self.old.router (W.waiting wire.old)) (serving self.new.router (W.waiting wire.new)) (C.readings clock.old) (C.readings clock.new) × Grows log handed (D.words draw.old) (D.words draw.new) self.old self.new }
-        ensures counts { Counts (result ≡ Err IoFault.Failed) (W.faults wire.old) (W.faults wire.new) }
-        ensures reliable { IsReliable (result ≡ Err IoFault.Failed) (W.never_fails wire.old) (W.never_fails wire.new) }
+        ensures caused { IsCaused (result ≡ Err IoFault.Failed) (W.faults wire.old) (W.faults wire.new)
+            (W.never_fails wire.old) (W.never_fails wire.new) }
     {
         for _ in 0..turns {
             let now = clock.now();

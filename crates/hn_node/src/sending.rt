@@ -1,7 +1,7 @@
 //! Datagrams are handed to the wire.
 
 ghost use Rattle.std.specs.Prelude.{◌≡◌, ◌≤◌, [], ◌∷◌, None, All, Err, length, OnOk, OnErr};
-ghost use Rattle.hn_io.specs.Faults.{Counts, IsReliable};
+ghost use Rattle.hn_io.specs.Faults.{IsCaused};
 ghost use Rattle.hn_node.specs.Turns.{handed_to, handed_by, handed_of};
 ghost use Rattle.hn_node.specs.Steps.{plain_site, HandsAll, HandsPart};
 
@@ -28,8 +28,8 @@ fn send_one<W: Wire>(
     ensures ok { OnOk result (HandsAll (record { from = from; to = to; bytes = bytes.now } ∷ []) (W.waiting wire.old) (W.waiting wire.new) sent.old sent.new) }
     ensures waiting { OnErr result (W.waiting wire.new ≡ W.waiting wire.old) }
     ensures sent { OnErr result (sent.new ≡ sent.old) }
-    ensures counts { Counts (result ≡ Err IoFault.Failed) (W.faults wire.old) (W.faults wire.new) }
-    ensures reliable { IsReliable (result ≡ Err IoFault.Failed) (W.never_fails wire.old) (W.never_fails wire.new) }
+    ensures caused { IsCaused (result ≡ Err IoFault.Failed) (W.faults wire.old) (W.faults wire.new)
+        (W.never_fails wire.old) (W.never_fails wire.new) }
 {
     wire.send(from, to, bytes)?;
     *sent = sent.saturating_add(1);
@@ -47,8 +47,8 @@ fn multicast<W: Wire>(
     requires short { length bytes.now ≤ 65507 }
     ensures ok { OnOk result (HandsAll (handed_to (plain_site site.now) None bytes.now) (W.waiting wire.old) (W.waiting wire.new) sent.old sent.new) }
     ensures cut { OnErr result (HandsPart (handed_to (plain_site site.now) None bytes.now) (W.waiting wire.old) (W.waiting wire.new) sent.old sent.new) }
-    ensures counts { Counts (result ≡ Err IoFault.Failed) (W.faults wire.old) (W.faults wire.new) }
-    ensures reliable { IsReliable (result ≡ Err IoFault.Failed) (W.never_fails wire.old) (W.never_fails wire.new) }
+    ensures caused { IsCaused (result ≡ Err IoFault.Failed) (W.faults wire.old) (W.faults wire.new)
+        (W.never_fails wire.old) (W.never_fails wire.new) }
 {
     for peer in site.peers {
         send_one(wire, site.port, *peer + 1, bytes, sent)?;
@@ -67,8 +67,8 @@ fn hand_one<W: Wire>(
     requires short { length send.now.bytes ≤ 65507 }
     ensures ok { OnOk result (HandsAll (handed_by (plain_site site.now) send.now) (W.waiting wire.old) (W.waiting wire.new) sent.old sent.new) }
     ensures cut { OnErr result (HandsPart (handed_by (plain_site site.now) send.now) (W.waiting wire.old) (W.waiting wire.new) sent.old sent.new) }
-    ensures counts { Counts (result ≡ Err IoFault.Failed) (W.faults wire.old) (W.faults wire.new) }
-    ensures reliable { IsReliable (result ≡ Err IoFault.Failed) (W.never_fails wire.old) (W.never_fails wire.new) }
+    ensures caused { IsCaused (result ≡ Err IoFault.Failed) (W.faults wire.old) (W.faults wire.new)
+        (W.never_fails wire.old) (W.never_fails wire.new) }
 {
     let bytes = send.bytes.as_slice();
     match send.to {
@@ -88,8 +88,8 @@ pub(crate) fn hand_all<W: Wire>(
     requires short { All (λ send. length send.bytes ≤ 65507) sends.now }
     ensures ok { OnOk result (HandsAll (handed_of (plain_site site.now) sends.now) (W.waiting wire.old) (W.waiting wire.new) sent.old sent.new) }
     ensures cut { OnErr result (HandsPart (handed_of (plain_site site.now) sends.now) (W.waiting wire.old) (W.waiting wire.new) sent.old sent.new) }
-    ensures counts { Counts (result ≡ Err IoFault.Failed) (W.faults wire.old) (W.faults wire.new) }
-    ensures reliable { IsReliable (result ≡ Err IoFault.Failed) (W.never_fails wire.old) (W.never_fails wire.new) }
+    ensures caused { IsCaused (result ≡ Err IoFault.Failed) (W.faults wire.old) (W.faults wire.new)
+        (W.never_fails wire.old) (W.never_fails wire.new) }
 {
     for send in sends {
         hand_one(wire, site, send, sent)?;

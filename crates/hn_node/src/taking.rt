@@ -1,8 +1,8 @@
 //! A datagram is taken.
 
 ghost use Rattle.std.specs.Prelude.{◌≡◌, ◌≤◌, Err, Option, option_map, IfOk, IfSome};
-ghost use Rattle.hn_io.specs.Faults.{Counts, IsReliable};
-ghost use Rattle.hn_wire.specs.Wires.{Arrived, Takes};
+ghost use Rattle.hn_io.specs.Faults.{IsCaused};
+ghost use Rattle.hn_wire.specs.Wires.{Arrived, TakesAt};
 ghost use Rattle.hn_node.specs.Turns.{arrival, address_of, TakesTurn, FailsToTake, IsShort};
 ghost use Rattle.hn_node.specs.Steps.{plain_site};
 
@@ -42,11 +42,11 @@ fn take_at<W: Wire>(
     at: u16,
     multicast: bool,
 ) -> Result<Option<NodeEvent>, IoFault>
-    ensures taken { IfOk result (λ taken. (got : Option Arrived) × Takes at got (W.waiting wire.old) (W.waiting wire.new) × (taken ≡ option_map (arrival multicast) got)) }
+    ensures taken { IfOk result (λ taken. (got : Option Arrived) × TakesAt at got (W.waiting wire.old) (W.waiting wire.new) × (taken ≡ option_map (arrival multicast) got)) }
     ensures short { IfOk result (λ taken. IfSome taken IsShort) }
     ensures failed { result ≡ Err IoFault.Failed → W.waiting wire.new ≡ W.waiting wire.old }
-    ensures counts { Counts (result ≡ Err IoFault.Failed) (W.faults wire.old) (W.faults wire.new) }
-    ensures reliable { IsReliable (result ≡ Err IoFault.Failed) (W.never_fails wire.old) (W.never_fails wire.new) }
+    ensures caused { IsCaused (result ≡ Err IoFault.Failed) (W.faults wire.old) (W.faults wire.new)
+        (W.never_fails wire.old) (W.never_fails wire.new) }
 {
     let mut buf = [0; 65_536];
     let Some((count, from)) = wire.take(at, &mut buf)? else {
@@ -68,8 +68,8 @@ pub(crate) fn take_turn<W: Wire>(
     ensures taken { IfOk result (λ taken. TakesTurn (plain_site site.now) taken (W.waiting wire.old) (W.waiting wire.new)) }
     ensures short { IfOk result (λ taken. IfSome taken IsShort) }
     ensures cut { result ≡ Err IoFault.Failed → FailsToTake (plain_site site.now) (W.waiting wire.old) (W.waiting wire.new) }
-    ensures counts { Counts (result ≡ Err IoFault.Failed) (W.faults wire.old) (W.faults wire.new) }
-    ensures reliable { IsReliable (result ≡ Err IoFault.Failed) (W.never_fails wire.old) (W.never_fails wire.new) }
+    ensures caused { IsCaused (result ≡ Err IoFault.Failed) (W.faults wire.old) (W.faults wire.new)
+        (W.never_fails wire.old) (W.never_fails wire.new) }
 {
     if let Some(event) = take_at(alloc, wire, site.port, false)? {
         return Ok(Some(event));

@@ -24,7 +24,7 @@ use Rattle.hn_script.specs.NodeFile.{IsNodeFile, IsFirstNodeFault}
 use Rattle.hn_script.specs.declared.fault.ScriptFault.{ScriptFault}
 use Rattle.hn_script.specs.declared.node_file.NodeLine.{NodeLine}
 use Rattle.hn_script.specs.declared.node_file.NodeLine.TheVariants as line
-use Rattle.hn_wire.specs.Clocks.{Reads}
+use Rattle.hn_wire.specs.Clocks.{ReadsClock}
 use Rattle.hn_wire.specs.declared.datagram.Datagram.{Datagram}
 use Rattle.hn_run.specs.declared.words.NodeCall.{NodeCall}
 
@@ -121,7 +121,7 @@ pub record IsServed (call : PlainCall) (bytes : List ℕ) (status : ℕ) (s : Se
   pub file : IsNodeFile lines bytes
   pub now : ℕ
   pub readings : Option (List ℕ)
-  pub reads : Reads before.readings now readings
+  pub reads : ReadsClock before.readings now readings
   pub words : List ℕ
   pub router : State
   pub set_up : IsSetUp call.id lines now words router

@@ -2,7 +2,6 @@
 use Rattle.std.specs.Prelude.{◌≡◌, ◌≢◌, ◌⊎◌, ℕ, List, Option}
 use Rattle.std.specs.Io.KnownBytes.{Appends}
 use Rattle.hn_base.specs.Input.{IsWhole}
-use Rattle.hn_io.specs.Faults.{Counts, IsReliable}
 use Rattle.hn_io.specs.declared.fault.IoFault.TheVariants.{Failed, NoMemory}
 use Rattle.hn_lab.specs.Lab.{IsScriptPlay, IsUnread, StatusOfScript}
 use Rattle.hn_lab.specs.Stage.{Mail}
@@ -10,11 +9,6 @@ use Rattle.hn_script.specs.Soak.{soak_text}
 use Rattle.hn_world.specs.declared.parts.Parts.{Parts}
 use Rattle.hn_run.specs.Decode.{SpellsTlvs, WritesDecode, CutsDecode}
 use Rattle.hn_run.specs.Watch.{IsCapture, WritesWatch, CutsWatch, StarvesWatch}
-
--- what a call says of what may fail: its count of faults, and that what never fails did not
-pub record IsCaused (failed : Type 0) (faults faults_after : ℕ) (never never_after : Type 0) : Type 0 where
-  pub counts : Counts failed faults faults_after
-  pub reliable : IsReliable failed never never_after
 
 -- what a sink holds after `decode`, by the status: the whole text; a proper front of it, where the sink failed; a front,
 -- where memory ended

@@ -1,6 +1,6 @@
 ghost use Rattle.std.specs.Prelude.{◌≡◌, ◌≢◌, ◌<◌, ◌⊎◌, ℕ, List, [], ◌∷◌, ◌++◌, length, drop, Err, OnOk, IfOk, IfErr, Contains};
 ghost use Rattle.std.specs.Io.KnownBytes.{Appends};
-ghost use Rattle.hn_io.specs.Faults.{Counts, IsReliable};
+ghost use Rattle.hn_io.specs.Faults.{IsCaused};
 ghost use Rattle.hn_tlv.specs.Grammar.{PlainTlv, IsTlvList, HasTlvs};
 ghost use Rattle.hn_decode.specs.Nested.{IsDecodeText, IsTextTo};
 ghost use Rattle.hn_run.specs.Decode.{SpellsTlvs, IsContentsOf, IsDecodeOf, WritesDecode, CutsDecode, AppendsCut, malformed_line};
@@ -20,8 +20,8 @@ use std::alloc::Global;
 fn write_malformed<K: Sink>(alloc: Global, fault: TlvFault, out: &mut K) -> Result<(), IoFault>
     ensures written { OnOk result (Appends (K.held out.old) (K.held out.new) (malformed_line fault.place fault.why)) }
     ensures cut { IfErr result (λ cut. AppendsCut cut (K.held out.old) (K.held out.new) (malformed_line fault.place fault.why)) }
-    ensures counts { Counts (result ≡ Err IoFault.Failed) (K.faults out.old) (K.faults out.new) }
-    ensures reliable { IsReliable (result ≡ Err IoFault.Failed) (K.never_fails out.old) (K.never_fails out.new) }
+    ensures caused { IsCaused (result ≡ Err IoFault.Failed) (K.faults out.old) (K.faults out.new)
+        (K.never_fails out.old) (K.never_fails out.new) }
 {
     match malformed_line(alloc, fault) {
         Ok(line) => write_piece(out, line.as_bytes()),
@@ -46,8 +46,8 @@ fn write_next<K: Sink>(
     ensures cut { IfErr result (λ fault. (after : ℕ) × (more : List ℕ)
         × ((lines : List ℕ) → IsTextTo octets.now at lines → IsTextTo octets.now after (lines ++ more))
         × AppendsCut fault (K.held out.old) (K.held out.new) more) }
-    ensures counts { Counts (result ≡ Err IoFault.Failed) (K.faults out.old) (K.faults out.new) }
-    ensures reliable { IsReliable (result ≡ Err IoFault.Failed) (K.never_fails out.old) (K.never_fails out.new) }
+    ensures caused { IsCaused (result ≡ Err IoFault.Failed) (K.faults out.old) (K.faults out.new)
+        (K.never_fails out.old) (K.never_fails out.new) }
 {
     text.clear();
     match push_next(text, octets, at) {
@@ -69,8 +69,8 @@ fn write_tlvs<K: Sink>(
     requires { (tlvs : List PlainTlv) × IsTlvList tlvs octets.now × (length tlvs ≡ count) }
     ensures written { OnOk result ((text : List ℕ) × IsDecodeText octets.now text × Appends (K.held out.old) (K.held out.new) text) }
     ensures cut { IfErr result (λ fault. (text : List ℕ) × IsDecodeText octets.now text × AppendsCut fault (K.held out.old) (K.held out.new) text) }
-    ensures counts { Counts (result ≡ Err IoFault.Failed) (K.faults out.old) (K.faults out.new) }
-    ensures reliable { IsReliable (result ≡ Err IoFault.Failed) (K.never_fails out.old) (K.never_fails out.new) }
+    ensures caused { IsCaused (result ≡ Err IoFault.Failed) (K.faults out.old) (K.faults out.new)
+        (K.never_fails out.old) (K.never_fails out.new) }
 {
     lines_make_the_text();
     lines_go_on();
@@ -95,8 +95,8 @@ fn write_contents<K: Sink>(alloc: Global, octets: &[u8], out: &mut K) -> u8
     ensures starved { result ≡ NO_MEMORY
         → (status : ℕ) × (text : List ℕ) × IsContentsOf octets.now status text × AppendsCut IoFault.NoMemory (K.held out.old) (K.held out.new) text }
     ensures statuses { Contains (DONE ∷ REFUSED ∷ SINK_FAILED ∷ NO_MEMORY ∷ []) result }
-    ensures counts { Counts (result ≡ SINK_FAILED) (K.faults out.old) (K.faults out.new) }
-    ensures reliable { IsReliable (result ≡ SINK_FAILED) (K.never_fails out.old) (K.never_fails out.new) }
+    ensures caused { IsCaused (result ≡ SINK_FAILED) (K.faults out.old) (K.faults out.new)
+        (K.never_fails out.old) (K.never_fails out.new) }
 {
     match check(octets) {
         Ok(count) => written_status(&write_tlvs(alloc, count, octets, out), DONE),
@@ -110,8 +110,8 @@ fn write_decoded<K: Sink>(alloc: Global, source: Vec<u8>, out: &mut K) -> u8
     ensures broken { result ≡ SINK_FAILED → CutsDecode source.items IoFault.Failed (K.held out.old) (K.held out.new) }
     ensures starved { result ≡ NO_MEMORY → CutsDecode source.items IoFault.NoMemory (K.held out.old) (K.held out.new) }
     ensures statuses { Contains (DONE ∷ REFUSED ∷ SINK_FAILED ∷ NO_MEMORY ∷ []) result }
-    ensures counts { Counts (result ≡ SINK_FAILED) (K.faults out.old) (K.faults out.new) }
-    ensures reliable { IsReliable (result ≡ SINK_FAILED) (K.never_fails out.old) (K.never_fails out.new) }
+    ensures caused { IsCaused (result ≡ SINK_FAILED) (K.faults out.old) (K.faults out.new)
+        (K.never_fails out.old) (K.never_fails out.new) }
 {
     if source.len() > SOURCE_LIMIT {
         return written_status(&write_refusal(alloc, out, 0, LARGE), REFUSED);
@@ -130,8 +130,8 @@ pub fn run_decode<K: Sink>(alloc: Global, source: Vec<u8>, out: &mut K) -> u8
     ensures starved { result ≡ NO_MEMORY → CutsDecode source.items IoFault.NoMemory (K.held out.old) (K.held out.new) }
     ensures complete { SpellsTlvs source.items → result ≢ REFUSED }
     ensures statuses { Contains (DONE ∷ REFUSED ∷ SINK_FAILED ∷ NO_MEMORY ∷ []) result }
-    ensures counts { Counts (result ≡ SINK_FAILED) (K.faults out.old) (K.faults out.new) }
-    ensures reliable { IsReliable (result ≡ SINK_FAILED) (K.never_fails out.old) (K.never_fails out.new) }
+    ensures caused { IsCaused (result ≡ SINK_FAILED) (K.faults out.old) (K.faults out.new)
+        (K.never_fails out.old) (K.never_fails out.new) }
 {
     first_fault_is_unique();
     write_decoded(alloc, source, out)

@@ -2,7 +2,7 @@
 
 ghost use Rattle.std.specs.Prelude.{◌≡◌, ◌≢◌, ◌≤◌, ◌^◌, ◌⊎◌, ◌+◌, ℕ, List, [], ◌∷◌, Err, OnOk, OnErr, IfOk, Contains, None, Some, length, string_bytes};
 ghost use Rattle.std.specs.Io.KnownBytes.{Appends, Consumes};
-ghost use Rattle.hn_io.specs.Faults.{Counts, IsReliable};
+ghost use Rattle.hn_io.specs.Faults.{IsCaused};
 ghost use Rattle.hn_lab.specs.Output.{AppendsPart};
 ghost use Rattle.hn_lab.specs.Reports.{refused_line};
 ghost use Rattle.hn_node.specs.declared.served.ServeEnd.{ServeEnd};
@@ -44,8 +44,8 @@ fn node_line(alloc: Global, served: &Served) -> Result<String, AllocError>
 fn write_served<K: Sink>(alloc: Global, served: &Served, out: &mut K) -> Result<(), IoFault>
     ensures ok { OnOk result (Appends (K.held out.old) (K.held out.new) (line_of served.now)) }
     ensures cut { OnErr result (AppendsPart (K.held out.old) (K.held out.new) (line_of served.now)) }
-    ensures counts { Counts (result ≡ Err IoFault.Failed) (K.faults out.old) (K.faults out.new) }
-    ensures reliable { IsReliable (result ≡ Err IoFault.Failed) (K.never_fails out.old) (K.never_fails out.new) }
+    ensures caused { IsCaused (result ≡ Err IoFault.Failed) (K.faults out.old) (K.faults out.new)
+        (K.never_fails out.old) (K.never_fails out.new) }
 {
     match node_line(alloc, served) {
         Ok(line) => write_piece(out, line.as_bytes()),
@@ -58,8 +58,8 @@ fn refuse<K: Sink>(alloc: Global, line: u32, code: u8, out: &mut K) -> Outcome
     ensures holds { (written : List ℕ) × LineHolds result.status (refused_line line code) written × Appends (K.held out.old) (K.held out.new) written }
     ensures nothing { (result.world ≡ None) × (result.served ≡ None) }
     ensures statuses { Contains (REFUSED ∷ SINK_FAILED ∷ NO_MEMORY ∷ []) result.status }
-    ensures counts { Counts (result.status ≡ SINK_FAILED) (K.faults out.old) (K.faults out.new) }
-    ensures reliable { IsReliable (result.status ≡ SINK_FAILED) (K.never_fails out.old) (K.never_fails out.new) }
+    ensures caused { IsCaused (result.status ≡ SINK_FAILED) (K.faults out.old) (K.faults out.new)
+        (K.never_fails out.old) (K.never_fails out.new) }
 {
     Outcome::of(written_status(&write_refusal(alloc, out, line, code), REFUSED))
 }
@@ -71,8 +71,8 @@ fn tell<K: Sink>(alloc: Global, served: Served, out: &mut K) -> Outcome
     ensures untold { served.end ≡ ServeEnd.WireFault → (result.status ≡ WIRE_FAILED) × (out.new ≡ out.old) }
     ensures served { ((result.status ≡ NO_MEMORY) × (result.served ≡ None)) ⊎ ((result.status ≢ NO_MEMORY) × (result.served ≡ Some served)) }
     ensures no_world { result.world ≡ None }
-    ensures counts { Counts (result.status ≡ SINK_FAILED) (K.faults out.old) (K.faults out.new) }
-    ensures reliable { IsReliable (result.status ≡ SINK_FAILED) (K.never_fails out.old) (K.never_fails out.new) }
+    ensures caused { IsCaused (result.status ≡ SINK_FAILED) (K.faults out.old) (K.faults out.new)
+        (K.never_fails out.old) (K.never_fails out.new) }
 {
     if let ServeEnd::WireFault = served.end {
         return Outcome {
@@ -109,10 +109,10 @@ fn serve_lines<K: Sink, W: Wire, C: Clock>(
     ensures no_world { result.world ≡ None }
     ensures nothing { result.status ≡ NO_MEMORY → result.served ≡ None }
     ensures statuses { Contains (DONE ∷ REFUSED ∷ SINK_FAILED ∷ WIRE_FAILED ∷ NO_MEMORY ∷ []) result.status }
-    ensures sink_counts { Counts (result.status ≡ SINK_FAILED) (K.faults out.old) (K.faults out.new) }
-    ensures sink_reliable { IsReliable (result.status ≡ SINK_FAILED) (K.never_fails out.old) (K.never_fails out.new) }
-    ensures wire_counts { Counts (result.status ≡ WIRE_FAILED) (W.faults wire.old) (W.faults wire.new) }
-    ensures wire_reliable { IsReliable (result.status ≡ WIRE_FAILED) (W.never_fails wire.old) (W.never_fails wire.new) }
+    ensures sink_caused { IsCaused (result.status ≡ SINK_FAILED) (K.faults out.old) (K.faults out.new)
+        (K.never_fails out.old) (K.never_fails out.new) }
+    ensures wire_caused { IsCaused (result.status ≡ WIRE_FAILED) (W.faults wire.old) (W.faults wire.new)
+        (W.never_fails wire.old) (W.never_fails wire.new) }
 {
     words_join();
     let now = clock.now();
@@ -148,10 +148,10 @@ fn node_of<K: Sink, W: Wire, C: Clock>(
     ensures no_world { result.world ≡ None }
     ensures nothing { result.status ≡ NO_MEMORY → result.served ≡ None }
     ensures statuses { Contains (DONE ∷ REFUSED ∷ SINK_FAILED ∷ WIRE_FAILED ∷ NO_MEMORY ∷ []) result.status }
-    ensures sink_counts { Counts (result.status ≡ SINK_FAILED) (K.faults out.old) (K.faults out.new) }
-    ensures sink_reliable { IsReliable (result.status ≡ SINK_FAILED) (K.never_fails out.old) (K.never_fails out.new) }
-    ensures wire_counts { Counts (result.status ≡ WIRE_FAILED) (W.faults wire.old) (W.faults wire.new) }
-    ensures wire_reliable { IsReliable (result.status ≡ WIRE_FAILED) (W.never_fails wire.old) (W.never_fails wire.new) }
+    ensures sink_caused { IsCaused (result.status ≡ SINK_FAILED) (K.faults out.old) (K.faults out.new)
+        (K.never_fails out.old) (K.never_fails out.new) }
+    ensures wire_caused { IsCaused (result.status ≡ WIRE_FAILED) (W.faults wire.old) (W.faults wire.new)
+        (W.never_fails wire.old) (W.never_fails wire.new) }
 {
     node_file_is_unique();
     fault_excludes_node_file();
@@ -179,12 +179,12 @@ pub fn node<S: Source, K: Sink, W: Wire, C: Clock>(
     ensures nothing { (result.status ≡ SOURCE_FAILED) ⊎ (result.status ≡ NO_MEMORY) → result.served ≡ None }
     ensures statuses { Contains (DONE ∷ REFUSED ∷ SOURCE_FAILED ∷ SINK_FAILED ∷ WIRE_FAILED ∷ NO_MEMORY ∷ []) result.status }
     ensures unwritten { result.status ≡ SOURCE_FAILED → out.new ≡ out.old }
-    ensures source_counts { Counts (result.status ≡ SOURCE_FAILED) (S.faults src.old) (S.faults src.new) }
-    ensures source_reliable { IsReliable (result.status ≡ SOURCE_FAILED) (S.never_fails src.old) (S.never_fails src.new) }
-    ensures sink_counts { Counts (result.status ≡ SINK_FAILED) (K.faults out.old) (K.faults out.new) }
-    ensures sink_reliable { IsReliable (result.status ≡ SINK_FAILED) (K.never_fails out.old) (K.never_fails out.new) }
-    ensures wire_counts { Counts (result.status ≡ WIRE_FAILED) (W.faults wire.old) (W.faults wire.new) }
-    ensures wire_reliable { IsReliable (result.status ≡ WIRE_FAILED) (W.never_fails wire.old) (W.never_fails wire.new) }
+    ensures source_caused { IsCaused (result.status ≡ SOURCE_FAILED) (S.faults src.old) (S.faults src.new)
+        (S.never_fails src.old) (S.never_fails src.new) }
+    ensures sink_caused { IsCaused (result.status ≡ SINK_FAILED) (K.faults out.old) (K.faults out.new)
+        (K.never_fails out.old) (K.never_fails out.new) }
+    ensures wire_caused { IsCaused (result.status ≡ WIRE_FAILED) (W.faults wire.old) (W.faults wire.new)
+        (W.never_fails wire.old) (W.never_fails wire.new) }
     ensures bounded { (read : List ℕ) × (length read ≤ 2 ^ 24 + 1) × Consumes (S.left src.old) (S.left src.new) read }
 {
     match read_all(alloc, src) {

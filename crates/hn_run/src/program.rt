@@ -1,6 +1,6 @@
 ghost use Rattle.std.specs.Prelude.{◌≡◌, ◌≢◌, ◌+◌, ◌^◌, ◌≤◌, ◌⊎◌, ℕ, List, [], ◌∷◌, None, map, length, Contains, IfSome, string_bytes};
 ghost use Rattle.std.specs.Io.KnownBytes.{Consumes};
-ghost use Rattle.hn_io.specs.Faults.{Counts, IsReliable};
+ghost use Rattle.hn_io.specs.Faults.{IsCaused};
 ghost use Rattle.hn_world.specs.Replay.{IsReplayed, Always, Throughout};
 ghost use Rattle.hn_world.specs.Authentic.{AuthenticUnlessInjected};
 ghost use Rattle.hn_world.specs.Leaves.{EqualHashesAgree};
@@ -10,7 +10,7 @@ ghost use Rattle.hn_audit.specs.Staying.{QuietStays};
 ghost use Rattle.hn_lab.specs.Lab.{IsLabRun};
 ghost use Rattle.hn_lab.specs.Stage.{Mail, Ports};
 ghost use Rattle.hn_run.specs.Form.{IsFormOf, HasSource, IsPlayed, IsWired, IsTimed};
-ghost use Rattle.hn_run.specs.Outcome.{IsCaused, IsDecodeRun, IsWatchRun, IsSoakRun};
+ghost use Rattle.hn_run.specs.Outcome.{IsDecodeRun, IsWatchRun, IsSoakRun};
 ghost use Rattle.hn_run.specs.Node.{IsNodeRun, plain_call};
 ghost use Rattle.hn_run.specs.declared.words.Form.{Form};
 ghost use Rattle.hn_run.specs.declared.words.NodeCall.{NodeCall};
@@ -31,10 +31,10 @@ use std::alloc::Global;
 fn decode<S: Source, K: Sink>(alloc: Global, src: &mut S, out: &mut K) -> u8
     ensures decode { result ≢ SOURCE_FAILED → IsDecodeRun (S.left src.old) result (K.held out.old) (K.held out.new) }
     ensures statuses { Contains (DONE ∷ REFUSED ∷ SOURCE_FAILED ∷ SINK_FAILED ∷ NO_MEMORY ∷ []) result }
-    ensures source_counts { Counts (result ≡ SOURCE_FAILED) (S.faults src.old) (S.faults src.new) }
-    ensures sink_counts { Counts (result ≡ SINK_FAILED) (K.faults out.old) (K.faults out.new) }
-    ensures source_reliable { IsReliable (result ≡ SOURCE_FAILED) (S.never_fails src.old) (S.never_fails src.new) }
-    ensures sink_reliable { IsReliable (result ≡ SINK_FAILED) (K.never_fails out.old) (K.never_fails out.new) }
+    ensures source_caused { IsCaused (result ≡ SOURCE_FAILED) (S.faults src.old) (S.faults src.new)
+        (S.never_fails src.old) (S.never_fails src.new) }
+    ensures sink_caused { IsCaused (result ≡ SINK_FAILED) (K.faults out.old) (K.faults out.new)
+        (K.never_fails out.old) (K.never_fails out.new) }
     ensures unwritten { result ≡ SOURCE_FAILED → out.new ≡ out.old }
     ensures bounded { (read : List ℕ) × (length read ≤ 2 ^ 24 + 1) × Consumes (S.left src.old) (S.left src.new) read }
 {
@@ -50,10 +50,10 @@ fn decode<S: Source, K: Sink>(alloc: Global, src: &mut S, out: &mut K) -> u8
 fn watch<S: Source, K: Sink>(alloc: Global, src: &mut S, out: &mut K) -> u8
     ensures watch { result ≢ SOURCE_FAILED → IsWatchRun (S.left src.old) result (K.held out.old) (K.held out.new) }
     ensures statuses { Contains (DONE ∷ REFUSED ∷ SOURCE_FAILED ∷ SINK_FAILED ∷ NO_MEMORY ∷ []) result }
-    ensures source_counts { Counts (result ≡ SOURCE_FAILED) (S.faults src.old) (S.faults src.new) }
-    ensures sink_counts { Counts (result ≡ SINK_FAILED) (K.faults out.old) (K.faults out.new) }
-    ensures source_reliable { IsReliable (result ≡ SOURCE_FAILED) (S.never_fails src.old) (S.never_fails src.new) }
-    ensures sink_reliable { IsReliable (result ≡ SINK_FAILED) (K.never_fails out.old) (K.never_fails out.new) }
+    ensures source_caused { IsCaused (result ≡ SOURCE_FAILED) (S.faults src.old) (S.faults src.new)
+        (S.never_fails src.old) (S.never_fails src.new) }
+    ensures sink_caused { IsCaused (result ≡ SINK_FAILED) (K.faults out.old) (K.faults out.new)
+        (K.never_fails out.old) (K.never_fails out.new) }
     ensures unwritten { result ≡ SOURCE_FAILED → out.new ≡ out.old }
     ensures bounded { (read : List ℕ) × (length read ≤ 2 ^ 24 + 1) × Consumes (S.left src.old) (S.left src.new) read }
 {

@@ -2,7 +2,7 @@
 
 ghost use Rattle.std.specs.Prelude.{◌≡◌, ◌≢◌, ◌⊎◌, ℕ, List, [], ◌∷◌, Err, OnOk, IfErr, Contains};
 ghost use Rattle.std.specs.Io.KnownBytes.{Appends};
-ghost use Rattle.hn_io.specs.Faults.{Counts, IsReliable};
+ghost use Rattle.hn_io.specs.Faults.{IsCaused};
 ghost use Rattle.hn_run.specs.Decode.{AppendsCut};
 ghost use Rattle.hn_run.specs.Watch.{seen_line, watch_text, IsCapture, WritesWatch, CutsWatch, StarvesWatch};
 ghost use Rattle.hn_run.specs.Capture.{IsTextOf};
@@ -20,8 +20,8 @@ use std::alloc::Global;
 fn write_seen<K: Sink>(alloc: Global, seen: &Seen, out: &mut K) -> Result<(), IoFault>
     ensures written { OnOk result (Appends (K.held out.old) (K.held out.new) (seen_line seen.now)) }
     ensures cut { IfErr result (λ cut. AppendsCut cut (K.held out.old) (K.held out.new) (seen_line seen.now)) }
-    ensures counts { Counts (result ≡ Err IoFault.Failed) (K.faults out.old) (K.faults out.new) }
-    ensures reliable { IsReliable (result ≡ Err IoFault.Failed) (K.never_fails out.old) (K.never_fails out.new) }
+    ensures caused { IsCaused (result ≡ Err IoFault.Failed) (K.faults out.old) (K.faults out.new)
+        (K.never_fails out.old) (K.never_fails out.new) }
 {
     match seen_text::seen_line(alloc, seen) {
         Ok(line) => write_piece(out, line.as_bytes()),
@@ -39,8 +39,8 @@ fn write_text<K: Sink>(
 ) -> Result<(), IoFault>
     ensures written { OnOk result (Appends (K.held out.old) (K.held out.new) (watch_text datagrams malformed seen.now)) }
     ensures cut { IfErr result (λ cut. AppendsCut cut (K.held out.old) (K.held out.new) (watch_text datagrams malformed seen.now)) }
-    ensures counts { Counts (result ≡ Err IoFault.Failed) (K.faults out.old) (K.faults out.new) }
-    ensures reliable { IsReliable (result ≡ Err IoFault.Failed) (K.never_fails out.old) (K.never_fails out.new) }
+    ensures caused { IsCaused (result ≡ Err IoFault.Failed) (K.faults out.old) (K.faults out.new)
+        (K.never_fails out.old) (K.never_fails out.new) }
 {
     pieces_append();
     let Ok(first) = seen_text::watch_line(alloc, datagrams, malformed) else {
@@ -60,8 +60,8 @@ fn write_watch<K: Sink>(alloc: Global, watch: &Watch, out: &mut K) -> u8
     ensures starved { result ≡ NO_MEMORY → Appends (K.held out.old) (K.held out.new) []
         ⊎ ((text : List ℕ) × IsTextOf watch.now text × AppendsCut IoFault.NoMemory (K.held out.old) (K.held out.new) text) }
     ensures statuses { Contains (DONE ∷ SINK_FAILED ∷ NO_MEMORY ∷ []) result }
-    ensures counts { Counts (result ≡ SINK_FAILED) (K.faults out.old) (K.faults out.new) }
-    ensures reliable { IsReliable (result ≡ SINK_FAILED) (K.never_fails out.old) (K.never_fails out.new) }
+    ensures caused { IsCaused (result ≡ SINK_FAILED) (K.faults out.old) (K.faults out.new)
+        (K.never_fails out.old) (K.never_fails out.new) }
 {
     match watch.seen(alloc) {
         Ok(seen) => {
@@ -78,8 +78,8 @@ fn write_watched<K: Sink>(alloc: Global, source: &[u8], out: &mut K) -> u8
     ensures broken { result ≡ SINK_FAILED → CutsWatch source.now IoFault.Failed (K.held out.old) (K.held out.new) }
     ensures starved { result ≡ NO_MEMORY → StarvesWatch source.now (K.held out.old) (K.held out.new) }
     ensures statuses { Contains (DONE ∷ REFUSED ∷ SINK_FAILED ∷ NO_MEMORY ∷ []) result }
-    ensures counts { Counts (result ≡ SINK_FAILED) (K.faults out.old) (K.faults out.new) }
-    ensures reliable { IsReliable (result ≡ SINK_FAILED) (K.never_fails out.old) (K.never_fails out.new) }
+    ensures caused { IsCaused (result ≡ SINK_FAILED) (K.faults out.old) (K.faults out.new)
+        (K.never_fails out.old) (K.never_fails out.new) }
 {
     if source.len() > SOURCE_LIMIT {
         return written_status(&write_refusal(alloc, out, 0, LARGE), REFUSED);
@@ -101,8 +101,8 @@ pub fn run_watch<K: Sink>(alloc: Global, source: &[u8], out: &mut K) -> u8
     ensures starved { result ≡ NO_MEMORY → StarvesWatch source.now (K.held out.old) (K.held out.new) }
     ensures complete { (datagrams : List (List ℕ)) → IsCapture source.now datagrams → result ≢ REFUSED }
     ensures statuses { Contains (DONE ∷ REFUSED ∷ SINK_FAILED ∷ NO_MEMORY ∷ []) result }
-    ensures counts { Counts (result ≡ SINK_FAILED) (K.faults out.old) (K.faults out.new) }
-    ensures reliable { IsReliable (result ≡ SINK_FAILED) (K.never_fails out.old) (K.never_fails out.new) }
+    ensures caused { IsCaused (result ≡ SINK_FAILED) (K.faults out.old) (K.faults out.new)
+        (K.never_fails out.old) (K.never_fails out.new) }
 {
     write_watched(alloc, source, out)
 }

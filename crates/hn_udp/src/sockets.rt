@@ -1,4 +1,4 @@
-ghost use Rattle.std.specs.Prelude.{◌≡◌};
+ghost use Rattle.std.specs.Prelude.{◌≡◌, Err};
 
 use hn_io::IoFault;
 use std::io;
@@ -32,7 +32,9 @@ pub(crate) fn send(socket: &UdpSocket, bytes: &[u8], to: SocketAddr) -> Result<(
 }
 
 /// Receives a datagram, if there is one. A call that is interrupted by a signal is tried again, as std does.
-pub(crate) fn receive(socket: &UdpSocket, buf: &mut [u8]) -> Result<Option<(usize, u16)>, IoFault> {
+pub(crate) fn receive(socket: &UdpSocket, buf: &mut [u8]) -> Result<Option<(usize, u16)>, IoFault>
+    ensures { ¬ (result ≡ Err IoFault.NoMemory) }
+{
     for _ in 0..u64::MAX {
         match socket.recv_from(buf) {
             Ok((count, from)) => return Ok(Some((count, from.port()))),

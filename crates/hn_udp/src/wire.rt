@@ -1,4 +1,4 @@
-ghost use Rattle.std.specs.Prelude.{◌≡◌, ◌≤◌, None};
+ghost use Rattle.std.specs.Prelude.{◌≡◌, None, Err};
 ghost use Rattle.hn_io.specs.Faults.{Rose};
 
 use crate::sockets;
@@ -32,8 +32,7 @@ pub struct UdpWire<R> {
 
 /// The count after one more fault.
 fn after_fault(faults: u64) -> u64
-    ensures rises { Rose faults result }
-    ensures counted { faults ≤ result }
+    ensures { Rose faults result }
 {
     faults.saturating_add(1)
 }
@@ -115,7 +114,8 @@ impl<R: Net> UdpWire<R> {
 
     /// Takes a datagram, if there is one, and does not count a fault.
     fn get(&mut self, at: u16, buf: &mut [u8]) -> Result<Option<(usize, u16)>, IoFault>
-        ensures { self.new.faults ≡ self.old.faults }
+        ensures faults { self.new.faults ≡ self.old.faults }
+        ensures unlent { result ≡ Err IoFault.NoMemory → buf.new ≡ buf.old }
     {
         self.bind(at)?;
         let Some(socket) = self.socket_of(at) else {

@@ -1,1 +1,1 @@
-mod Takings
+mod FirstTaken

@@ -12,10 +12,10 @@ abbrev pub ReadsOf : List ℕ → ℕ → List ℕ → Type 0
 ReadsOf [] reading after = ⊥
 ReadsOf (next ∷ readings) reading after = (reading ≡ next) × (after ≡ rest_of (next ∷ readings))
 
-abbrev pub Reads : Option (List ℕ) → ℕ → Option (List ℕ) → Type 0
-Reads None reading after = ⊤
-Reads (Some before) reading None = ⊥
-Reads (Some before) reading (Some after) = ReadsOf before reading after
+abbrev pub ReadsClock : Option (List ℕ) → ℕ → Option (List ℕ) → Type 0
+ReadsClock None reading after = ⊤
+ReadsClock (Some before) reading None = ⊥
+ReadsClock (Some before) reading (Some after) = ReadsOf before reading after
 
 -- readings in order, none below `last`, and each at most 2^48
 abbrev pub AreReadings : ℕ → List ℕ → Type 0

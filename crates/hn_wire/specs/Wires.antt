@@ -43,10 +43,10 @@ abbrev pub TakesOf : ℕ → Option Arrived → List Datagram → List Datagram 
 TakesOf at None before after = (first_at at before ≡ None) × (after ≡ before)
 TakesOf at (Some got) before after = TakesFirst at got before after
 
-abbrev pub Takes : ℕ → Option Arrived → Option (List Datagram) → Option (List Datagram) → Type 0
-Takes at got None after = ⊤
-Takes at got (Some before) None = ⊥
-Takes at got (Some before) (Some after) = TakesOf at got before after
+abbrev pub TakesAt : ℕ → Option Arrived → Option (List Datagram) → Option (List Datagram) → Type 0
+TakesAt at got None after = ⊤
+TakesAt at got (Some before) None = ⊥
+TakesAt at got (Some before) (Some after) = TakesOf at got before after
 
 -- the datagram at a place among those that wait at a port, as it would be taken, if there is one
 abbrev pub waits_at : ℕ → ℕ → List Datagram → Option Arrived

@@ -1,5 +1,5 @@
 ghost use Rattle.std.specs.Prelude.{◌≡◌, ◌≤◌, ◌^◌, ℕ, List, Option};
-ghost use Rattle.hn_wire.specs.Clocks.{Reads};
+ghost use Rattle.hn_wire.specs.Clocks.{ReadsClock};
 
 /// What tells the time, in milliseconds.
 pub trait Clock {
@@ -14,5 +14,5 @@ pub trait Clock {
         ensures last { last self.new ≡ result }
         ensures not_before { last self.old ≤ result }
         ensures in_range { result ≤ 2 ^ 48 }
-        ensures reading { Reads (readings self.old) result (readings self.new) };
+        ensures reading { ReadsClock (readings self.old) result (readings self.new) };
 }

@@ -71,7 +71,7 @@ impl MemWire {
 }
 
 impl Wire for MemWire {
-    ghost use Rattle.hn_io.specs.Faults.{Counts, IsReliable};
+    ghost use Rattle.hn_io.specs.Faults.{IsCaused};
     ghost use Rattle.hn_io.specs.Memory.{IsListed, called, faults_so_far};
     ghost use Rattle.hn_wire.specs.Wires.{TakesOf, arrived};
 
@@ -85,8 +85,8 @@ impl Wire for MemWire {
         requires { length bytes.now ≤ 65507 }
         ensures sent { OnOk result (self.new.waiting ≡ self.old.waiting ++ record { from = from; to = to; bytes = bytes.now } ∷ []) }
         ensures err { OnErr result (self.new.waiting ≡ self.old.waiting) }
-        ensures counts { Counts (result ≡ Err IoFault.Failed) (faults_so_far self.old.calls) (faults_so_far self.new.calls) }
-        ensures reliable { IsReliable (result ≡ Err IoFault.Failed) (self.old.calls.fails ≡ []) (self.new.calls.fails ≡ []) }
+        ensures caused { IsCaused (result ≡ Err IoFault.Failed) (faults_so_far self.old.calls) (faults_so_far self.new.calls)
+            (self.old.calls.fails ≡ []) (self.new.calls.fails ≡ []) }
         ensures called { self.new.calls ≡ called self.old.calls }
         ensures listed { (result ≡ Err IoFault.Failed) ↔ IsListed self.old.calls }
     {
@@ -108,8 +108,8 @@ impl Wire for MemWire {
         ensures count { IfOk result (λ got. IfSome got (λ t. t.0 ≤ 65507)) }
         ensures taken { IfOk result (λ got. TakesOf at (arrived got buf.new) self.old.waiting self.new.waiting) }
         ensures err { OnErr result (self.new.waiting ≡ self.old.waiting) }
-        ensures counts { Counts (result ≡ Err IoFault.Failed) (faults_so_far self.old.calls) (faults_so_far self.new.calls) }
-        ensures reliable { IsReliable (result ≡ Err IoFault.Failed) (self.old.calls.fails ≡ []) (self.new.calls.fails ≡ []) }
+        ensures caused { IsCaused (result ≡ Err IoFault.Failed) (faults_so_far self.old.calls) (faults_so_far self.new.calls)
+            (self.old.calls.fails ≡ []) (self.new.calls.fails ≡ []) }
         ensures called { self.new.calls ≡ called self.old.calls }
         ensures listed { (result ≡ Err IoFault.Failed) ↔ IsListed self.old.calls }
         ensures no_memory { ¬ (result ≡ Err IoFault.NoMemory) }

@@ -1,6 +1,6 @@
 ghost use Rattle.std.specs.Prelude.{◌≡◌, ◌≤◌, ℕ, List, Option, Err, length, IfOk, IfSome, OnOk, OnErr};
-ghost use Rattle.hn_io.specs.Faults.{Counts, IsReliable};
-ghost use Rattle.hn_wire.specs.Wires.{Sends, Takes, arrived};
+ghost use Rattle.hn_io.specs.Faults.{IsCaused};
+ghost use Rattle.hn_wire.specs.Wires.{Sends, TakesAt, arrived};
 ghost use Rattle.hn_wire.specs.declared.datagram.Datagram.{Datagram};
 
 use hn_io::IoFault;
@@ -21,16 +21,17 @@ pub trait Wire {
         requires { length bytes.now ≤ 65507 }
         ensures sent { OnOk result (Sends (record { from = from; to = to; bytes = bytes.now }) (waiting self.old) (waiting self.new)) }
         ensures err { OnErr result (waiting self.new ≡ waiting self.old) }
-        ensures counts { Counts (result ≡ Err IoFault.Failed) (faults self.old) (faults self.new) }
-        ensures reliable { IsReliable (result ≡ Err IoFault.Failed) (never_fails self.old) (never_fails self.new) };
+        ensures caused { IsCaused (result ≡ Err IoFault.Failed) (faults self.old) (faults self.new)
+            (never_fails self.old) (never_fails self.new) };
 
     /// Takes the first datagram that waits at a port into the front of `buf`, and answers how many bytes it has and the
     /// port that it came from; `None` if none waits there.
     fn take(&mut self, at: u16, buf: &mut [u8]) -> Result<Option<(usize, u16)>, IoFault>
         requires { length buf.old ≡ 65536 }
         ensures count { IfOk result (λ got. IfSome got (λ t. t.0 ≤ 65507)) }
-        ensures taken { IfOk result (λ got. Takes at (arrived got buf.new) (waiting self.old) (waiting self.new)) }
+        ensures taken { IfOk result (λ got. TakesAt at (arrived got buf.new) (waiting self.old) (waiting self.new)) }
         ensures err { OnErr result (waiting self.new ≡ waiting self.old) }
-        ensures counts { Counts (result ≡ Err IoFault.Failed) (faults self.old) (faults self.new) }
-        ensures reliable { IsReliable (result ≡ Err IoFault.Failed) (never_fails self.old) (never_fails self.new) };
+        ensures unlent { result ≡ Err IoFault.NoMemory → buf.new ≡ buf.old }
+        ensures caused { IsCaused (result ≡ Err IoFault.Failed) (faults self.old) (faults self.new)
+            (never_fails self.old) (never_fails self.new) };
 }

@@ -13,6 +13,6 @@ loop-rest-preserved g c =
     in
     record {
       written = (before.written.0 ++ take count rest, before.written.1 ∙ parts, Appends-more _ _ _ before.written.0 (take count rest) before.written.2 c.in_ok-count.ensures.bytes);
-      no_fault = c.in_ok-count.ensures.counts.stays (λ failed. cc) ∙ before.no_fault;
-      reliable = λ never. (c.in_ok-count.ensures.reliable (before.reliable never)).0;
+      no_fault = c.in_ok-count.ensures.caused.counts.stays (λ failed. cc) ∙ before.no_fault;
+      reliable = λ never. (c.in_ok-count.ensures.caused.reliable (before.reliable never)).0;
     }

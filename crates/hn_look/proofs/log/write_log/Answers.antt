@@ -26,8 +26,8 @@ loop-traced-preserved g c =
       on_the_way = goes_further c.args.world.now c.loop-traced.replay c.loop-traced.traced-index c.traced-item.result (sink.held c.args.out.now) (sink.held c.loop-traced.out) (rw
           c.trace-traced-items.ensures at c.loop-traced-test.true) (rw c.trace-traced-items.ensures at c.traced-item.is) before.on_the_way
           c.push_again.new.replay told.0 c.in-Ok.ensures.same told.1 c.pieces_append.ensures (sink.held c.write_piece.new.out) wrote;
-      no_fault = c.in_ok-write_piece.ensures.counts.stays (λ failed. cc) ∙ before.no_fault;
-      reliable = λ never. (c.in_ok-write_piece.ensures.reliable (before.reliable never)).0;
+      no_fault = c.in_ok-write_piece.ensures.caused.counts.stays (λ failed. cc) ∙ before.no_fault;
+      reliable = λ never. (c.in_ok-write_piece.ensures.caused.reliable (before.reliable never)).0;
     }
 
 pub returns-in_err-write_piece-clause-cut : goal.returns-in_err-write_piece-clause-cut

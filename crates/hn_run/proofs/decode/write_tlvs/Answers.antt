@@ -18,8 +18,8 @@ loop-at-preserved g c =
     let more : Grew (front ++ lines ++ next.0) = c.pieces_append.ensures _ _ _ (front ++ lines) next.0 before.written.2 next.2 in
     record {
       written = (lines ++ next.0, next.1 lines before.written.1, subst Grew (append_assoc front lines next.0) more);
-      no_fault = c.in_ok-at.ensures.counts.stays (λ failed. cc) ∙ before.no_fault;
-      reliable = λ never. (c.in_ok-at.ensures.reliable (before.reliable never)).0;
+      no_fault = c.in_ok-at.ensures.caused.counts.stays (λ failed. cc) ∙ before.no_fault;
+      reliable = λ never. (c.in_ok-at.ensures.caused.reliable (before.reliable never)).0;
     }
 
 pub returns-in_default-clause-cut : goal.returns-in_default-clause-cut

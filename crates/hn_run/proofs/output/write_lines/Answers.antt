@@ -16,8 +16,8 @@ loop-end-preserved g c =
     let parts = ap (λ xs. before.written.0 ++ xs) split ∙ sym (append_assoc before.written.0 line after) in
     record {
       written = (before.written.0 ++ line, before.written.1 ∙ parts, c.pieces_append.ensures _ _ _ before.written.0 line before.written.2 c.in_ok-write_piece.ensures.ok);
-      no_fault = c.in_ok-write_piece.ensures.counts.stays (λ failed. cc) ∙ before.no_fault;
-      reliable = λ never. (c.in_ok-write_piece.ensures.reliable (before.reliable never)).0;
+      no_fault = c.in_ok-write_piece.ensures.caused.counts.stays (λ failed. cc) ∙ before.no_fault;
+      reliable = λ never. (c.in_ok-write_piece.ensures.caused.reliable (before.reliable never)).0;
     }
 
 pub returns-in_err-write_piece-clause-cut : goal.returns-in_err-write_piece-clause-cut

@@ -21,8 +21,8 @@ loop-one-init g c =
     let first = c.as_bytes.ensures.value ∙ c.in-Ok.ensures ∙ sym (append-nil (watch_line c.args.datagrams c.args.malformed)) in
     record {
       written = subst (λ (xs : List ℕ). Appends (sink.held c.args.out.now) (sink.held c.write_piece.new.out) xs) first c.in_ok-write_piece.ensures.ok;
-      no_fault = c.in_ok-write_piece.ensures.counts.stays (λ failed. cc);
-      reliable = λ never. (c.in_ok-write_piece.ensures.reliable never).0;
+      no_fault = c.in_ok-write_piece.ensures.caused.counts.stays (λ failed. cc);
+      reliable = λ never. (c.in_ok-write_piece.ensures.caused.reliable never).0;
     }
 
 pub loop-one-preserved : goal.loop-one-preserved
@@ -32,8 +32,8 @@ loop-one-preserved g c =
     record {
       written = grows c.pieces_append.ensures c.args.datagrams c.args.malformed c.args.seen.now c.loop-one.one-index _ (sink.held c.args.out.now) (sink.held c.loop-one.out) (sink.held c.write_seen.new.out)
           c.loop-one-test.true before.written c.in_ok-write_seen.ensures.written;
-      no_fault = c.in_ok-write_seen.ensures.counts.stays (λ failed. cc) ∙ before.no_fault;
-      reliable = λ never. (c.in_ok-write_seen.ensures.reliable (before.reliable never)).0;
+      no_fault = c.in_ok-write_seen.ensures.caused.counts.stays (λ failed. cc) ∙ before.no_fault;
+      reliable = λ never. (c.in_ok-write_seen.ensures.caused.reliable (before.reliable never)).0;
     }
 
 pub returns-in_err-write_seen-clause-cut : goal.returns-in_err-write_seen-clause-cut

@@ -7,7 +7,8 @@ long : (items copied : List ℕ) (at n : ℕ) → n ≤ length (drop at items) �
 long items copied at n short is_front = ap length (is_front ∙ ap (take n) (take_rest items at)) ∙ length-take-le n (drop at items) short
 
 -- what was copied to the front, and what is left after it, are what was left
-consumed : (items buf copied : List ℕ) (at n : ℕ) → n ≤ length (drop at items) → copied ≡ take n (take (length items - at) (drop at items)) → drop at items ≡ take n (copied ++ drop n buf) ++ drop (at + n) items
+consumed : (items buf copied : List ℕ) (at n : ℕ) → n ≤ length (drop at items) → copied ≡ take n (take (length items - at) (drop at items))
+    → drop at items ≡ take n (copied ++ drop n buf) ++ drop (at + n) items
 consumed items buf copied at n short is_front =
     let front : copied ≡ take n (drop at items) = is_front ∙ ap (take n) (take_rest items at) in
     rw (take_at copied (drop n buf) n (long items copied at n short is_front), front, ← drop-drop n at items) (sym (take-append-drop n (drop at items)))

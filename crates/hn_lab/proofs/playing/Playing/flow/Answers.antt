@@ -20,8 +20,8 @@ loop-copy-preserved g c =
       base = c.in_ok-copy.ensures.base ∙ before.base;
       kept = let more = c.in_ok-copy.ensures.entered.1 in let kept = before.kept in omega arith;
       unwired = λ none. (c.in_ok-copy.ensures.unwired (before.base ∙ none)).0 ∙ before.unwired none;
-      no_fault = c.in_ok-copy.ensures.counts.stays (λ failed. cc) ∙ before.no_fault;
-      reliable = λ never. (c.in_ok-copy.ensures.reliable (before.reliable never)).0;
+      no_fault = c.in_ok-copy.ensures.caused.counts.stays (λ failed. cc) ∙ before.no_fault;
+      reliable = λ never. (c.in_ok-copy.ensures.caused.reliable (before.reliable never)).0;
     }
 
 pub returns-in_err-copy-clause-ends : goal.returns-in_err-copy-clause-ends

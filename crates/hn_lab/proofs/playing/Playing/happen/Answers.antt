@@ -55,6 +55,8 @@ returns-in_default g c = record {
       (none_follows c.args.event c.in_default.not-Tick c.in_default.not-Detach c.in_default.not-Stop c.in_default.not-Start) (c.event.ensures.ends waiting text);
   unbroken = c.event.ensures.unbroken;
   base = c.event.ensures.base;
-  sink_counts = record { rises = λ failed. absurd (c.event.ensures.unwritten failed); stays = λ _. refl; never_falls = omega arith };
-  sink_reliable = λ never. (never, c.event.ensures.unwritten);
+  sink_caused = record {
+    counts = record { rises = λ failed. absurd (c.event.ensures.unwritten failed); stays = λ _. refl; never_falls = omega arith };
+    reliable = λ never. (never, c.event.ensures.unwritten);
+  };
 }

@@ -38,10 +38,10 @@ loop-number-preserved g c =
       so_far = (ends.at.text, so_far_more _ c.loop-number.yielded c.in-Some.number c.in-Some.line p m a _ _ _ at ends);
       base = c.in-Ok.ensures.base ∙ before.base;
       unwired = λ none. (c.in-Ok.ensures.unwired (before.base ∙ none)).0 ∙ before.unwired none;
-      no_fault = c.in-Ok.ensures.sink_counts.stays (λ failed. cc) ∙ before.no_fault;
-      reliable = λ never. (c.in-Ok.ensures.sink_reliable (before.reliable never)).0;
-      no_wire_fault = c.in-Ok.ensures.counts.stays (λ failed. cc) ∙ before.no_wire_fault;
-      wire_reliable = λ never. (c.in-Ok.ensures.reliable (before.wire_reliable never)).0;
+      no_fault = c.in-Ok.ensures.sink_caused.counts.stays (λ failed. cc) ∙ before.no_fault;
+      reliable = λ never. (c.in-Ok.ensures.sink_caused.reliable (before.reliable never)).0;
+      no_wire_fault = c.in-Ok.ensures.caused.counts.stays (λ failed. cc) ∙ before.no_wire_fault;
+      wire_reliable = λ never. (c.in-Ok.ensures.caused.reliable (before.wire_reliable never)).0;
     }
 
 pub returns-in_err-write_refusal-in-Err-Refused-clause-cut : goal.returns-in_err-write_refusal-in-Err-Refused-clause-cut
@@ -112,18 +112,18 @@ returns-in-Err-Cut-clause-cut g c = λ failed.
     let ends = subst (λ (s : Stop). EndsAt (LineEnds c.in-Some.line) (Some s) m a (g.K.Sink.held c.loop-number.out) (g.K.Sink.held c.line.new.out)) is (c.in-Err-Cut.ensures.ends text) in
     cut_so _ c.loop-number.yielded c.in-Some.number c.in-Some.line p m a _ _ _ at ends
 
-pub returns-in-Err-Cut-clause-counts : goal.returns-in-Err-Cut-clause-counts
-returns-in-Err-Cut-clause-counts g c =
+pub returns-in-Err-Cut-clause-caused : goal.returns-in-Err-Cut-clause-caused
+returns-in-Err-Cut-clause-caused g c =
     let before = c.loop-number.invariant in
-    let counts = c.in-Err-Cut.ensures.sink_counts in
+    let counts = c.in-Err-Cut.ensures.sink_caused.counts in
     let is = c.in-Err-Cut.field-0-is in
     record {
-      rises = λ failed. subst (λ (n : ℕ). Rose n (g.K.Sink.faults c.line.new.out)) before.no_fault (counts.rises (ap Err (is ∙ ap Cut (same_error _ _ failed))));
-      stays = λ else. counts.stays (λ failed. else (ap Err (same_cut _ _ (sym is ∙ same_error _ _ failed)))) ∙ before.no_fault;
-      never_falls = let same = before.no_fault in let more = counts.never_falls in omega arith;
+      counts = record {
+        rises = λ failed. subst (λ (n : ℕ). Rose n (g.K.Sink.faults c.line.new.out)) before.no_fault (counts.rises (ap Err (is ∙ ap Cut (same_error _ _ failed))));
+        stays = λ else. counts.stays (λ failed. else (ap Err (same_cut _ _ (sym is ∙ same_error _ _ failed)))) ∙ before.no_fault;
+        never_falls = let same = before.no_fault in let more = counts.never_falls in omega arith;
+      };
+      reliable = λ never.
+          let after = c.in-Err-Cut.ensures.sink_caused.reliable (before.reliable never) in
+          (after.0, λ failed. after.1 (ap Err (is ∙ ap Cut (same_error _ _ failed))));
     }
-
-pub returns-in-Err-Cut-clause-reliable : goal.returns-in-Err-Cut-clause-reliable
-returns-in-Err-Cut-clause-reliable g c = λ never.
-    let after = c.in-Err-Cut.ensures.sink_reliable (c.loop-number.invariant.reliable never) in
-    (after.0, λ failed. after.1 (ap Err (c.in-Err-Cut.field-0-is ∙ ap Cut (same_error _ _ failed))))

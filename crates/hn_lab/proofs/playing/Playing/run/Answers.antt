@@ -36,10 +36,10 @@ loop-alloc-preserved g c =
           (c.in_ok-round.ensures.ends done.at.text);
       base = c.in_ok-round.ensures.base ∙ before.base;
       unwired = λ none. (c.in_ok-round.ensures.unwired (before.base ∙ none)).0 ∙ before.unwired none;
-      no_fault = c.in_ok-round.ensures.counts.stays (λ failed. cc) ∙ before.no_fault;
-      reliable = λ never. (c.in_ok-round.ensures.reliable (before.reliable never)).0;
-      no_sink_fault = c.in_ok-round.ensures.sink_counts.stays (λ failed. cc) ∙ before.no_sink_fault;
-      sink_reliable = λ never. (c.in_ok-round.ensures.sink_reliable (before.sink_reliable never)).0;
+      no_fault = c.in_ok-round.ensures.caused.counts.stays (λ failed. cc) ∙ before.no_fault;
+      reliable = λ never. (c.in_ok-round.ensures.caused.reliable (before.reliable never)).0;
+      no_sink_fault = c.in_ok-round.ensures.sink_caused.counts.stays (λ failed. cc) ∙ before.no_sink_fault;
+      sink_reliable = λ never. (c.in_ok-round.ensures.sink_caused.reliable (before.sink_reliable never)).0;
     }
 
 pub returns-then-end-moment-clause-ends : goal.returns-then-end-moment-clause-ends

@@ -36,8 +36,8 @@ loop-name-preserved g c =
           (subst (λ (name : Name). EndsAt (TickEnds name) None (record b { text = done.at.text }) (record a { text = done.at.text }) (sink.held c.loop-name.out) (sink.held c.tick.new.out)) c.name-item.is (c.in_ok-tick.ensures.ends waiting done.at.text));
       base = c.in_ok-tick.ensures.base ∙ before.base;
       kept = let more = c.in_ok-tick.ensures.entered in let kept = before.kept in omega arith;
-      no_fault = c.in_ok-tick.ensures.sink_counts.stays (λ failed. cc) ∙ before.no_fault;
-      reliable = λ never. (c.in_ok-tick.ensures.sink_reliable (before.reliable never)).0;
+      no_fault = c.in_ok-tick.ensures.sink_caused.counts.stays (λ failed. cc) ∙ before.no_fault;
+      reliable = λ never. (c.in_ok-tick.ensures.sink_caused.reliable (before.reliable never)).0;
     }
 
 pub returns-clause-ends : goal.returns-clause-ends

@@ -33,8 +33,8 @@ returns-clause-ends g c text =
 unwritten : (g : _) (c : goal.After-from_residual g) → c.from_residual.result ≢ Err (Cut Failed)
 unwritten g c = no_other_error c.in_err-lines.field-0.0 (Cut Failed) c.from_residual.result c.from_residual.ensures.1 (c.in_err-lines.ensures.ends []).unwritten
 
-pub returns-in_err-lines-clause-sink_counts : goal.returns-in_err-lines-clause-sink_counts
-returns-in_err-lines-clause-sink_counts g c = record { rises = λ failed. absurd (unwritten g c failed); stays = λ _. refl; never_falls = omega arith }
-
-pub returns-in_err-lines-clause-sink_reliable : goal.returns-in_err-lines-clause-sink_reliable
-returns-in_err-lines-clause-sink_reliable g c = λ never. (never, unwritten g c)
+pub returns-in_err-lines-clause-sink_caused : goal.returns-in_err-lines-clause-sink_caused
+returns-in_err-lines-clause-sink_caused g c = record {
+  counts = record { rises = λ failed. absurd (unwritten g c failed); stays = λ _. refl; never_falls = omega arith };
+  reliable = λ never. (never, unwritten g c);
+}

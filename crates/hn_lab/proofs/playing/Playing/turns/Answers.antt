@@ -35,8 +35,8 @@ loop-endpoint-preserved g c =
           each_further (TurnEnds name) xs p b _ _ c.loop-endpoint.endpoint-index d c.loop-endpoint-test.true done a _ (c.in_ok-turn.ensures.ends waiting done.at.text);
       world = c.in_ok-turn.ensures.world ∙ before.world;
       base = c.in_ok-turn.ensures.base ∙ before.base;
-      no_fault = c.in_ok-turn.ensures.sink_counts.stays (λ failed. cc) ∙ before.no_fault;
-      reliable = λ never. (c.in_ok-turn.ensures.sink_reliable (before.reliable never)).0;
+      no_fault = c.in_ok-turn.ensures.sink_caused.counts.stays (λ failed. cc) ∙ before.no_fault;
+      reliable = λ never. (c.in_ok-turn.ensures.sink_caused.reliable (before.reliable never)).0;
     }
 
 pub returns-clause-ends : goal.returns-clause-ends

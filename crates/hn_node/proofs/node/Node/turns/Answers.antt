@@ -10,8 +10,8 @@ loop-preserved g c =
     record {
       so_far = turn_more (plain_site c.args.site.now) c.loop.counter _ _ _ c.now-now.result _ _ _ _ _ c.args.self.now c.loop.self _ before.so_far c.now-now.ensures.reading _ turned.ok;
       past = let moment = turned.moment in let last = c.now-now.ensures.last in omega (arith, moment, last);
-      no_fault = turned.counts.stays (λ failed. cc) ∙ before.no_fault;
-      reliable = λ never. (turned.reliable (before.reliable never)).0;
+      no_fault = turned.caused.counts.stays (λ failed. cc) ∙ before.no_fault;
+      reliable = λ never. (turned.caused.reliable (before.reliable never)).0;
     }
 
 pub returns-in-Err-clause-cut : goal.returns-in-Err-clause-cut

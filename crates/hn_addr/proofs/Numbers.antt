@@ -6,7 +6,7 @@ use Rattle.hn_assign.specs.declared.assigned.Assigned.{Assigned}
 use Rattle.hn_base.specs.Prefix.{PlainPrefix}
 use Rattle.hn_data.specs.View.{PlainView}
 use Rattle.hn_own.specs.Addresses.{OwnAddress}
-use Rattle.hn_addr.specs.Addresses.{Fits, IsFirstFit, start_of, ahead}
+use Rattle.hn_addr.specs.Addresses.{NumberFits, IsFirstFit, start_of, ahead}
 use Rattle.hn_addr.specs.Choosings.{IsFirstAround}
 use Rattle.hn_addr.specs.Numbers.{FitsBeside, HasNoneFrom, IsFirstFrom}
 use Rattle.hn_addr.specs.Others.{AreOthers}
@@ -92,7 +92,7 @@ module _ (others : Others) (list : List OwnAddress) (prefix : PlainPrefix) where
 -- ---- as the router sees the others
 
 module _ (view : PlainView) (others : Others) (are : AreOthers view others) (c : Assigned) (list : List OwnAddress) where
-  fits_beside : (k : ℕ) → Fits view c list k → FitsBeside others list c.prefix k
+  fits_beside : (k : ℕ) → NumberFits view c list k → FitsBeside others list c.prefix k
   fits_beside k f = record {
     low = f.low;
     high = f.high;
@@ -103,7 +103,7 @@ module _ (view : PlainView) (others : Others) (are : AreOthers view others) (c :
     };
   }
 
-  fits_so : (k : ℕ) → FitsBeside others list c.prefix k → Fits view c list k
+  fits_so : (k : ℕ) → FitsBeside others list c.prefix k → NumberFits view c list k
   fits_so k f = record {
     low = f.low;
     high = f.high;
@@ -112,7 +112,7 @@ module _ (view : PlainView) (others : Others) (are : AreOthers view others) (c :
     new = f.free.new;
   }
 
-  pub none_fits : HasNoneFrom others list c.prefix 1 → (k : ℕ) → ¬ Fits view c list k
+  pub none_fits : HasNoneFrom others list c.prefix 1 → (k : ℕ) → ¬ NumberFits view c list k
   none_fits none k fits = none k fits.low (fits_beside k fits)
 
   pub first_fit : (word k : ℕ) → IsFirstAround others list c.prefix word k → IsFirstFit view c list word k

@@ -54,7 +54,7 @@ pub record Stays (view : PlainView) (own : List OwnAddress) (c : Assigned) (list
 -- ---- a new address
 
 -- A number fits: the address that it makes is inside the prefix, is no other node's, and did not come already.
-pub record Fits (view : PlainView) (c : Assigned) (list : List OwnAddress) (k : ℕ) : Type 0 where
+pub record NumberFits (view : PlainView) (c : Assigned) (list : List OwnAddress) (k : ℕ) : Type 0 where
   pub low : 1 ≤ k
   pub high : k ≤ 65535
   pub inside : k < 2 ^ (128 - c.prefix.len)
@@ -71,8 +71,8 @@ ahead start k = (k + 65535 - start) % 65535
 
 -- the first number that fits, from the start that a word says
 pub record IsFirstFit (view : PlainView) (c : Assigned) (list : List OwnAddress) (word k : ℕ) : Type 0 where
-  pub fits : Fits view c list k
-  pub first : (j : ℕ) → Fits view c list j → ahead (start_of word) k ≤ ahead (start_of word) j
+  pub fits : NumberFits view c list k
+  pub first : (j : ℕ) → NumberFits view c list j → ahead (start_of word) k ≤ ahead (start_of word) j
 
 -- ---- what comes of one assignment
 
@@ -92,7 +92,7 @@ DrawsOne view c before after =
 
 -- no number fits, and nothing comes
 abbrev pub GetsNone : PlainView → Assigned → RuleOf Choosing
-GetsNone view c before after = ((k : ℕ) → ¬ Fits view c before.list k) × (after ≡ before)
+GetsNone view c before after = ((k : ℕ) → ¬ NumberFits view c before.list k) × (after ≡ before)
 
 -- Its least own address stays; or it does not, and one with a number that fits comes, or none.
 abbrev pub IsChosenFor : PlainView → List OwnAddress → Assigned → RuleOf Choosing

@@ -6,7 +6,7 @@ use Rattle.hn_addr.specs.Addresses.{HasCome}
 use Rattle.hn_addr.specs.declared.others.Others.{Others}
 
 -- an address is no other node's, and did not come already
-pub record IsFree (others : Others) (list : List OwnAddress) (x : ℕ) : Type 0 where
+pub record IsFreeAddress (others : Others) (list : List OwnAddress) (x : ℕ) : Type 0 where
   pub free : ¬ Contains others.addresses.items x
   pub new : ¬ HasCome list x
 
@@ -15,7 +15,7 @@ pub record FitsBeside (others : Others) (list : List OwnAddress) (prefix : Plain
   pub low : 1 ≤ k
   pub high : k ≤ 65535
   pub inside : k < 2 ^ (128 - prefix.len)
-  pub free : IsFree others list (prefix.bits + k)
+  pub free : IsFreeAddress others list (prefix.bits + k)
 
 -- none does from a number on
 abbrev pub HasNoneFrom : Others → List OwnAddress → PlainPrefix → ℕ → Type 0

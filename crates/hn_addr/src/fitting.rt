@@ -3,7 +3,7 @@
 ghost use Rattle.std.specs.Prelude.{◌≡◌, ◌↔◌, ◌+◌, ◌-◌, ◌^◌, ◌<◌, ◌≤◌, ℕ, IsTrue, MatchOption};
 ghost use Rattle.std.specs.Ordering.{nat_cmp};
 ghost use Rattle.std.specs.List.Sorted.{IsStrictlySortedBy};
-ghost use Rattle.hn_addr.specs.Numbers.{IsFree, HasNoneFrom, IsFirstFrom};
+ghost use Rattle.hn_addr.specs.Numbers.{IsFreeAddress, HasNoneFrom, IsFirstFrom};
 
 use crate::others::Others;
 use crate::stays::has_come;
@@ -31,7 +31,7 @@ pub(crate) fn address_of(prefix: &Prefix, k: u32) -> u128
 /// Whether an address is no other node's, and did not come already.
 fn is_free(others: &Others, list: &[(EpId, u128)], address: u128) -> bool
     requires { IsStrictlySortedBy nat_cmp others.now.addresses.items }
-    ensures { IsTrue result ↔ IsFree others.now list.now address }
+    ensures { IsTrue result ↔ IsFreeAddress others.now list.now address }
 {
     !others.have(address) && !has_come(list, address)
 }

@@ -8,7 +8,7 @@ use Rattle.hn_data.specs.declared.said.AssignedPrefix.{AssignedPrefix}
 use Rattle.hn_data.specs.declared.view.Entry.{Entry}
 use Rattle.hn_assign.specs.declared.assigned.Advertised.{Advertised}
 use Rattle.hn_assign.specs.declared.assigned.Assigned.{Assigned}
-use Rattle.hn_assign.specs.Gathered.{IsOfNode, IsOfOther, IsOwn, IsAdvertised, own_advertised}
+use Rattle.hn_assign.specs.Gathered.{IsSaidByNode, IsOfOther, IsOwn, IsAdvertised, own_advertised}
 use Rattle.hn_assign.proofs.GrownByEach.{Of}
 
 -- what a node says by an Assigned-Prefix
@@ -16,13 +16,13 @@ abbrev pub said_by : NodeId → AssignedPrefix → Advertised
 said_by node said = record { key = record { priority = said.priority; node = node; endpoint = said.endpoint }; prefix = said.prefix }
 
 pub of_node : (entry : Entry) (said : List AssignedPrefix) (old : List Advertised) (a : Advertised) → ((s : AssignedPrefix) → Contains said s ↔ HasAssigned entry.body s)
-    → (Contains old a ⊎ Of (λ s b. said_by entry.id s ≡ b) said a) ↔ (Contains old a ⊎ IsOfNode entry a)
+    → (Contains old a ⊎ Of (λ s b. said_by entry.id s ≡ b) said a) ↔ (Contains old a ⊎ IsSaidByNode entry a)
 of_node entry said old a are = (⊎_elim (λ o. inl o) (λ s. inr (there s)), ⊎_elim (λ o. inl o) (λ h. inr (back h)))
   where
-    there : Of (λ s b. said_by entry.id s ≡ b) said a → IsOfNode entry a
-    there s = subst (IsOfNode entry) s.2 (record { node = refl; assigned = (are s.0).0 s.1 })
+    there : Of (λ s b. said_by entry.id s ≡ b) said a → IsSaidByNode entry a
+    there s = subst (IsSaidByNode entry) s.2 (record { node = refl; assigned = (are s.0).0 s.1 })
 
-    back : IsOfNode entry a → Of (λ s b. said_by entry.id s ≡ b) said a
+    back : IsSaidByNode entry a → Of (λ s b. said_by entry.id s ≡ b) said a
     back h =
         let s : AssignedPrefix = record { endpoint = a.key.endpoint; priority = a.key.priority; prefix = a.prefix } in
         let named : NodeId → Advertised = λ n. record { key = record { priority = a.key.priority; node = n; endpoint = a.key.endpoint }; prefix = a.prefix } in
@@ -47,7 +47,7 @@ other_none own entry old a none = (λ h. inl h, ⊎_elim (λ h. h) (λ h. absurd
 
 -- any other one adds what its data say
 pub other_some : (own : ℕ) (entry : Entry) (old : List Advertised) (a : Advertised)
-    → (IsOfNode entry a → IsOfOther own entry a) → (Contains old a ⊎ IsOfNode entry a) ↔ (Contains old a ⊎ IsOfOther own entry a)
+    → (IsSaidByNode entry a → IsOfOther own entry a) → (Contains old a ⊎ IsSaidByNode entry a) ↔ (Contains old a ⊎ IsOfOther own entry a)
 other_some own entry old a some = (⊎_elim (λ h. inl h) (λ h. inr (some h)), ⊎_elim (λ h. inl h) (λ h. inr h.says))
 
 pub both : {P Q R : Type 0} → P ↔ Q → Q ↔ R → P ↔ R

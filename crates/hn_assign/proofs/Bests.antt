@@ -6,13 +6,13 @@ use Rattle.std.proofs.lemmas.Cmp.{upto, tied_itself}
 use Rattle.std.proofs.lemmas.List.Elements.{Contains-push, Contains-push_cases, Contains-append_left}
 use Rattle.hn_base.specs.Prefix.{PlainPrefix, IsWithin}
 use Rattle.hn_assign.specs.declared.assigned.Advertised.{Advertised}
-use Rattle.hn_assign.specs.Advertised.{LinkEndpoints, IsOnLink, advertised_cmp}
+use Rattle.hn_assign.specs.Advertised.{LinkEndpoints, IsAdvertisedOnLink, advertised_cmp}
 use Rattle.hn_assign.specs.Best.{IsCandidatePrefix, IsBest, IsBestIfAny}
 use Rattle.hn_assign.proofs.Orders.{advertised_total}
 
 -- what makes an advertised prefix a candidate
 abbrev pub IsEligible : ℕ → LinkEndpoints → PlainPrefix → Advertised → Type 0
-IsEligible own common d a = (a.key.node.0 ≢ own) × IsOnLink common a × IsWithin a.prefix d
+IsEligible own common d a = (a.key.node.0 ≢ own) × IsAdvertisedOnLink common a × IsWithin a.prefix d
 
 module _ (own : ℕ) (common : LinkEndpoints) (d : PlainPrefix) where
   older : (xs : List Advertised) (x a : Advertised) → IsCandidatePrefix xs own common d a → IsCandidatePrefix (xs ++ x ∷ []) own common d a

@@ -14,7 +14,7 @@ use Rattle.hn_data.specs.declared.said.AssignedPrefix.{AssignedPrefix}
 use Rattle.hn_data.specs.declared.view.Entry.{Entry}
 use Rattle.hn_assign.specs.declared.assigned.Advertised.{Advertised}
 use Rattle.hn_assign.specs.declared.assigned.Assigned.{Assigned}
-use Rattle.hn_assign.specs.Gathered.{IsOfNode, IsOfOther, IsOwn, IsAdvertised, own_advertised}
+use Rattle.hn_assign.specs.Gathered.{IsSaidByNode, IsOfOther, IsOwn, IsAdvertised, own_advertised}
 use Rattle.hn_assign.specs.Laws.{AdvertisedExists}
 use Rattle.hn_assign.proofs.AdvertisedBy.{said_by, of_node, own_some}
 use Rattle.hn_assign.proofs.GrownByEach.{Of}
@@ -89,13 +89,13 @@ module _ (items_or_none : ItemsOrNone) (items_unique : ItemsAreUnique) where
       by_first items are None is = inr (λ h. none-some h.0 (sym is ∙ subst (λ (l : List PlainItem). version_of l ≡ Some h.0) (items_unique bytes h.1.0 items h.1.1 are) h.1.2))
 
   -- the Assigned-Prefixes of a node's data
-  node_listed : (entry : Entry) → Listed (IsOfNode entry)
+  node_listed : (entry : Entry) → Listed (IsSaidByNode entry)
   node_listed entry = elim (items_or_none entry.body) [
-    | inr none ↦ none_listed (IsOfNode entry) (λ a h. none h.assigned.0 h.assigned.1)
+    | inr none ↦ none_listed (IsSaidByNode entry) (λ a h. none h.assigned.0 h.assigned.1)
     | inl (items, are) ↦ of_items items are
   ]
     where
-      of_items : (items : List PlainItem) → AreItems entry.body items → Listed (IsOfNode entry)
+      of_items : (items : List PlainItem) → AreItems entry.body items → Listed (IsSaidByNode entry)
       of_items items are =
           let said = filter_map assigned_prefix_of items in
           let exact : (s : AssignedPrefix) → Contains said s ↔ HasAssigned entry.body s = λ s. (

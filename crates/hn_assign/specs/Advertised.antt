@@ -18,8 +18,8 @@ abbrev pub key_of : ℕ → ℕ → ℕ → Key
 key_of priority node endpoint = record { priority = priority; node = record { 0 = node }; endpoint = record { 0 = endpoint } }
 
 -- advertised on an endpoint of the link
-abbrev pub IsOnLink : LinkEndpoints → Advertised → Type 0
-IsOnLink common a = Contains common (a.key.node, a.key.endpoint)
+abbrev pub IsAdvertisedOnLink : LinkEndpoints → Advertised → Type 0
+IsAdvertisedOnLink common a = Contains common (a.key.node, a.key.endpoint)
 
 -- advertised prefixes in order: by key, then by prefix
 abbrev pub advertised_cmp : Advertised → Advertised → Ordering

@@ -6,14 +6,14 @@ use Rattle.hn_base.specs.Prefix.{PlainPrefix, IsWithin, Overlaps}
 use Rattle.hn_prefix.specs.Free.{IsPrefixInside}
 use Rattle.hn_assign.specs.declared.assigned.Advertised.{Advertised}
 use Rattle.hn_assign.specs.declared.assigned.Assigned.{Assigned}
-use Rattle.hn_assign.specs.Advertised.{LinkEndpoints, key_of, IsOnLink, advertised_cmp}
+use Rattle.hn_assign.specs.Advertised.{LinkEndpoints, key_of, IsAdvertisedOnLink, advertised_cmp}
 
 -- another node advertises it on the link, inside the delegated prefix d
 pub record IsCandidatePrefix (adv : List Advertised) (own : ℕ) (common : LinkEndpoints) (d : PlainPrefix) (a : Advertised)
     : Type 0 where
   pub advertised : Contains adv a
   pub of_another : a.key.node.0 ≢ own
-  pub on_link : IsOnLink common a
+  pub on_link : IsAdvertisedOnLink common a
   pub inside : IsWithin a.prefix d
 
 -- the best: no candidate is greater, by key and then by prefix
@@ -29,7 +29,7 @@ HasNoBest adv own common d = (a : Advertised) → ¬ (IsCandidatePrefix adv own 
 -- of the assignment. Its key is the one that it has where the router publishes it, with priority 2.
 abbrev pub IsValid : List Advertised → ℕ → LinkEndpoints → Assigned → Type 0
 IsValid adv own common c =
-    (a : Advertised) → Contains adv a → ¬ (IsOnLink common a) → Overlaps a.prefix c.prefix
+    (a : Advertised) → Contains adv a → ¬ (IsAdvertisedOnLink common a) → Overlaps a.prefix c.prefix
     → ¬ (IsAbove a.key (key_of 2 own c.endpoint.0))
 
 -- a prefix of the length inside d that overlaps no advertised prefix

@@ -10,7 +10,7 @@ use Rattle.hn_assign.specs.declared.assigned.Assigned.{Assigned}
 use Rattle.hn_assign.specs.Advertised.{key_of}
 
 -- the data of a node have it as an Assigned-Prefix
-pub record IsOfNode (entry : Entry) (a : Advertised) : Type 0 where
+pub record IsSaidByNode (entry : Entry) (a : Advertised) : Type 0 where
   pub node : a.key.node ≡ entry.id
   pub assigned : HasAssigned entry.body (record { endpoint = a.key.endpoint; priority = a.key.priority; prefix = a.prefix })
 
@@ -18,7 +18,7 @@ pub record IsOfNode (entry : Entry) (a : Advertised) : Type 0 where
 pub record IsOfOther (own : ℕ) (entry : Entry) (a : Advertised) : Type 0 where
   pub another : entry.id.0 ≢ own
   pub version : HasVersion entry.body
-  pub says : IsOfNode entry a
+  pub says : IsSaidByNode entry a
 
 -- what is advertised of a router's own assignment with this priority
 abbrev pub own_advertised : ℕ → ℕ → Assigned → Advertised

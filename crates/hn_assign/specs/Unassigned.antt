@@ -16,7 +16,7 @@ abbrev pub HasNothingToDo : PlainScene → Type 0
 HasNothingToDo at = ¬ (IsTrue at.wish.wanted) ⊎ HasNoFreeFor at
 
 -- then the pair has no backoff
-pub record IsLeft (at : PlainScene) (before : Slot) (words : List ℕ) (after : Slot) : Type 0 where
+pub record IsLeftAlone (at : PlainScene) (before : Slot) (words : List ℕ) (after : Slot) : Type 0 where
   pub nothing_to_do : HasNothingToDo at
   pub gives : after ≡ record before { backoff = None }
   pub took : words ≡ []
@@ -59,5 +59,5 @@ pub record IsMade (at : PlainScene) (before : Slot) (words : List ℕ) (after : 
 -- the line
 abbrev pub IsUnassigned : PlainScene → Slot → List ℕ → Slot → Type 0
 IsUnassigned at before words after =
-    IsLeft at before words after
+    IsLeftAlone at before words after
     ⊎ (IsPostponed at before words after ⊎ (IsWaiting at before words after ⊎ IsMade at before words after))

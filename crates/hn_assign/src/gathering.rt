@@ -1,7 +1,7 @@
 ghost use Rattle.std.specs.Prelude.{◌≡◌, ◌↔◌, ◌⊎◌, ◌^◌, ◌≤◌, IfOk, OnOk, Contains};
 ghost use Rattle.hn_data.specs.View.{plain_view, IsNetwork};
 ghost use Rattle.hn_assign.specs.declared.assigned.Advertised.{Advertised};
-ghost use Rattle.hn_assign.specs.Gathered.{IsOfNode, IsOfOther, IsOwn, AreAdvertised};
+ghost use Rattle.hn_assign.specs.Gathered.{IsSaidByNode, IsOfOther, IsOwn, AreAdvertised};
 
 use crate::assigned::{Advertised, Assigned};
 use crate::held::Held;
@@ -49,7 +49,7 @@ fn add_other(items: &mut Vec<Advertised>, own: NodeId, node: &Entry) -> Result<(
 /// Adds the Assigned-Prefix TLVs of a node.
 fn add_node(items: &mut Vec<Advertised>, node: &Entry) -> Result<(), NoMemory>
     ensures { OnOk result ((a : Advertised) → Contains items.new.items a
-        ↔ (Contains items.old.items a ⊎ IsOfNode node.now a)) }
+        ↔ (Contains items.old.items a ⊎ IsSaidByNode node.now a)) }
 {
     for said in node.body.assigned() {
         items.push(Advertised {

@@ -2,7 +2,7 @@ ghost use Rattle.std.specs.Prelude.{◌≡◌, ◌≢◌, ◌↔◌, IsTrue, Mat
 ghost use Rattle.std.specs.Ordering.{is_lt};
 ghost use Rattle.hn_base.specs.Key.{IsAbove};
 ghost use Rattle.hn_base.specs.Prefix.{IsWithin, Overlaps};
-ghost use Rattle.hn_assign.specs.Advertised.{IsOnLink, advertised_cmp};
+ghost use Rattle.hn_assign.specs.Advertised.{IsAdvertisedOnLink, advertised_cmp};
 ghost use Rattle.hn_assign.specs.Best.{IsBestIfAny, IsValid};
 
 use crate::assigned::{Advertised, Assigned};
@@ -46,14 +46,14 @@ fn greater_of(best: Option<Advertised>, a: &Advertised) -> Advertised
 /// Whether another node than `own` advertises the prefix on the link, inside the delegated prefix.
 fn is_eligible(a: &Advertised, own: NodeId, common: &[(NodeId, EpId)], delegated: &Prefix) -> bool
     ensures { IsTrue result
-        ↔ (a.now.key.node.0 ≢ own.0) × IsOnLink common.now a.now × IsWithin a.now.prefix delegated.now }
+        ↔ (a.now.key.node.0 ≢ own.0) × IsAdvertisedOnLink common.now a.now × IsWithin a.now.prefix delegated.now }
 {
     a.key.node != own && is_on_link(a, common) && delegated.contains(&a.prefix)
 }
 
 /// Whether it is advertised on the link.
 fn is_on_link(a: &Advertised, common: &[(NodeId, EpId)]) -> bool
-    ensures { IsTrue result ↔ IsOnLink common.now a.now }
+    ensures { IsTrue result ↔ IsAdvertisedOnLink common.now a.now }
 {
     common
         .iter()
@@ -87,7 +87,7 @@ pub fn valid(
 /// Whether a prefix of another link keeps one with this key from its own link.
 fn overrides(a: &Advertised, common: &[(NodeId, EpId)], key: &Key, prefix: &Prefix) -> bool
     ensures { IsTrue result
-        ↔ ¬ (IsOnLink common.now a.now) × Overlaps a.now.prefix prefix.now × IsAbove a.now.key key.now }
+        ↔ ¬ (IsAdvertisedOnLink common.now a.now) × Overlaps a.now.prefix prefix.now × IsAbove a.now.key key.now }
 {
     a.key.is_above(key) && a.prefix.overlaps(prefix) && !is_on_link(a, common)
 }

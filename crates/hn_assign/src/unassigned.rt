@@ -4,7 +4,7 @@ ghost use Rattle.std.specs.Prelude.{◌≡◌, ◌^◌, ◌≤◌, Some, None, M
 ghost use Rattle.std.specs.Option.{option_to_list};
 ghost use Rattle.hn_base.specs.Words.{Took};
 ghost use Rattle.hn_assign.specs.Scene.{plain_scene};
-ghost use Rattle.hn_assign.specs.Unassigned.{HasFree, HasNothingToDo, IsLeft, IsPostponed, IsWaiting, IsMade, IsUnassigned};
+ghost use Rattle.hn_assign.specs.Unassigned.{HasFree, HasNothingToDo, IsLeftAlone, IsPostponed, IsWaiting, IsMade, IsUnassigned};
 
 use crate::backoff::Backoff;
 use crate::precedence::PRIORITY;

@@ -22,7 +22,7 @@ use Rattle.hn_data.specs.Laws.{ItemsAreUnique}
 use Rattle.hn_data.specs.Said.{version_of}
 use Rattle.hn_deleg.specs.declared.delegated.Delegated.{Delegated}
 use Rattle.hn_link.specs.CommonLink.{IsCommonLink, IsOnCommonLink, endpoint_cmp}
-use Rattle.hn_link.specs.Election.{IsServing, IsCandidate, IsElected, HasNoCandidate, priority_of, rank_of, rank_cmp}
+use Rattle.hn_link.specs.Election.{IsServing, IsElectionCandidate, IsElected, HasNoCandidate, priority_of, rank_of, rank_cmp}
 use Rattle.hn_rules.specs.Seen.{seen_by}
 use Rattle.hn_sound.specs.Home.{common_link}
 use Rattle.hn_sound.specs.Members.{IsOnLinkOf}
@@ -124,7 +124,7 @@ module _ (w : Parts) (r : Member) (usable : List Delegated) (case : IsCase w r u
       }
 
   candidate_too : (s u : Member) (common : List (NodeId × EpId)) (letter : Letter) (id : NodeId) (caps : PlainCaps) → IsReached w r s → IsReached w r u
-      → IsCandidate (seen_by s.router) common letter id caps → IsCandidate (seen_by u.router) common letter id caps
+      → IsElectionCandidate (seen_by s.router) common letter id caps → IsElectionCandidate (seen_by u.router) common letter id caps
   candidate_too s u common letter id caps s_in u_in candidate =
       record { endpoint = candidate.endpoint; on_link = candidate.on_link; serves = serving_too s u letter id caps s_in u_in candidate.serves }
 
@@ -177,7 +177,7 @@ module _ (w : Parts) (r : Member) (usable : List Delegated) (case : IsCase w r u
 
   -- it is a candidate
   to_candidate : (s : Member) (common : List (NodeId × EpId)) (letter : Letter) (m : Member) → IsReached w r s → IsStanding common letter m
-      → IsCandidate (seen_by s.router) common letter m.router.id (caps_of m)
+      → IsElectionCandidate (seen_by s.router) common letter m.router.id (caps_of m)
   to_candidate s common letter m s_in is =
       let n = in_view w r case.known s m s_in is.reached in
       record {
@@ -199,7 +199,7 @@ module _ (w : Parts) (r : Member) (usable : List Delegated) (case : IsCase w r u
     has_caps : caps_of m ≡ caps
 
   of_candidate : (s : Member) (common : List (NodeId × EpId)) (letter : Letter) (id : NodeId) (caps : PlainCaps) → IsReached w r s
-      → IsCandidate (seen_by s.router) common letter id caps → (m : Member) × IsCandidateOf common letter id caps m
+      → IsElectionCandidate (seen_by s.router) common letter id caps → (m : Member) × IsCandidateOf common letter id caps m
   of_candidate s common letter id caps s_in candidate =
       let serves = candidate.serves in
       let who = of_view w r case.known s serves.node s_in serves.there in

@@ -9,7 +9,7 @@ use Rattle.hn_world.specs.declared.parts.Parts.{Parts}
 use Rattle.hn_world.specs.Names.{is_named, member_named}
 use Rattle.hn_world.specs.Replay.{IsSound, IsSoundMember}
 use Rattle.hn_audit.specs.Fixed.{ChangesNothing, IsFixed, MayChangeNothing}
-use Rattle.hn_audit.specs.Laws.{RestChangesNothing, RestHasARun, UnchangedIsAtRest}
+use Rattle.hn_audit.specs.Laws.{RestKeepsAssignments, RestHasARun, UnchangedIsAtRest}
 use Rattle.hn_audit.specs.Quiet.{IsQuiet}
 use Rattle.hn_audit.specs.Reached.{runs, IsRunning, IsReached}
 use Rattle.hn_base.proofs.Elements.{found_passes}
@@ -19,7 +19,7 @@ pub router_of : (w : Parts) (r s : Member) → IsSound w → IsReached w r s →
 router_of w r s sound reached = (All-contains (IsSoundMember w.moment) w.members s sound reached.runs.there).router
 
 module _ (w : Parts) (r : Member) (sound : IsSound w) (answer : Bool) (quiet : IsTrue answer ↔ IsQuiet w r) where
-  pub quiet_changes_nothing : RestChangesNothing → IsTrue answer → ChangesNothing w r
+  pub quiet_changes_nothing : RestKeepsAssignments → IsTrue answer → ChangesNothing w r
   quiet_changes_nothing law is s ran reached run = law s.router ran (router_of w r s sound reached) run (quiet.0 is s reached)
 
   pub unchanged_is_quiet : UnchangedIsAtRest → MayChangeNothing w r → IsTrue answer

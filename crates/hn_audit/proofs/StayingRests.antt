@@ -29,7 +29,7 @@ use Rattle.hn_store.specs.Nodes.{held}
 use Rattle.hn_store.specs.declared.stored.Stored.{Stored}
 use Rattle.hn_rules.specs.declared.running.Running.{Running}
 use Rattle.hn_rules.specs.declared.state.State.{State}
-use Rattle.hn_rules.specs.Assigning.{IsWishAt, AreAsked, IsAssigned}
+use Rattle.hn_rules.specs.Assigning.{IsWishAt, AreAsked, IsRunAssigned}
 use Rattle.hn_rules.specs.Nodes.{held_entry, entry_of, view_of}
 use Rattle.hn_rules.specs.Rested.{IsRested, RestfulTick, UsedWhereAssigned, ViewOfLater}
 use Rattle.hn_rules.specs.Router.{IsRouter}
@@ -126,7 +126,7 @@ module _ (laws : RestLaws) (now : ℕ) (s : State) (router : IsRouter s) (begun 
 
   -- ---- where the tick assigns prefixes
 
-  module _ (ran : Ran) (is : IsAssigned (at_moment now s) ran) where
+  module _ (ran : Ran) (is : IsRunAssigned (at_moment now s) ran) where
     used_at : (prefixes_of is.usable ≡ prefixes_of rest.usable) × ((place : ℕ) → IsUnwanted rest.usable place → IsUnwanted is.usable place)
     used_at =
         laws.used now s after rest.usable is.usable use_same.other router begun quiet tick rest.are_usable is.are_usable use_same.is_other same_used.prefixes (λ place. (same_used.wanted place).0)

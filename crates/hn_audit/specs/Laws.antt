@@ -64,8 +64,8 @@ IsOfEachFront P =
     → Always P w → Always P v
 
 -- On a router at rest the assignment subroutine, run anew, makes, changes and destroys no assignment.
-abbrev pub RestChangesNothing : Type 0
-RestChangesNothing =
+abbrev pub RestKeepsAssignments : Type 0
+RestKeepsAssignments =
     (s : State) (ran : Ran) → IsRouter s → IsRunAnew s ran → IsRouterAtRest s
     → AreAssignmentsUnchanged s.held.assigned ran.held.assigned
 

@@ -1,7 +1,7 @@
 //! Laws of settled and quiet routers. Each is the contract of a function that does nothing.
 
 ghost use Rattle.hn_world.specs.Leaves.{EqualHashesAgree};
-ghost use Rattle.hn_audit.specs.Laws.{SettledAndQuietIsSound, SetIsSoundAlike, SettledSeeEachOther, AlwaysSettledAreSound, IsOfEachFront, SettledAreSound, RestChangesNothing, RestHasARun, UnchangedIsAtRest, WitnessRefutesSettled, WitnessRefutesQuiet, UnsettledIsOne, UnquietIsOne};
+ghost use Rattle.hn_audit.specs.Laws.{SettledAndQuietIsSound, SetIsSoundAlike, SettledSeeEachOther, AlwaysSettledAreSound, IsOfEachFront, SettledAreSound, RestKeepsAssignments, RestHasARun, UnchangedIsAtRest, WitnessRefutesSettled, WitnessRefutesQuiet, UnsettledIsOne, UnquietIsOne};
 ghost use Rattle.hn_audit.specs.Staying.{QuietHomesStay, QuietHomesAlwaysStay};
 
 use hn_assign::{
@@ -92,7 +92,7 @@ pub fn headline_of_each_front()
 /// makes, changes and destroys no assignment, whatever the random words are (RFC 7695, section 4.1); and it comes to a
 /// result, which takes no random word. Where a result makes, changes and destroys none, the router is at rest.
 pub fn rest_is_the_fixed_point()
-    ensures unchanged { RestChangesNothing }
+    ensures unchanged { RestKeepsAssignments }
     ensures rests { UnchangedIsAtRest }
     ensures comes { RestHasARun }
 {

@@ -7,14 +7,14 @@ use Rattle.hn_typed.specs.Item.{PlainItem}
 use Rattle.hn_typed.specs.Laws.{ItemIsUnique, ItemHasNoFault, ItemFaultIsUnique}
 use Rattle.hn_decode.specs.ItemText.{item_text, bad_text}
 use Rattle.hn_decode.specs.Line.{within, within_name, named_bytes, line, HasLines, IsLineAlone}
-use Rattle.hn_decode.specs.Nested.{InOrder, ShowsList, place_within, ShowsWithin, Shows, IsDecodeText}
+use Rattle.hn_decode.specs.Nested.{TextsInOrder, ShowsList, place_within, ShowsWithin, Shows, IsDecodeText}
 
 -- there is one text at most for a TLV at a place
 abbrev IsFunction : (ℕ → PlainTlv → List ℕ → Type 0) → Type 0
 IsFunction Shows = (place : ℕ) (tlv : PlainTlv) (text other : List ℕ) → Shows place tlv text → Shows place tlv other → text ≡ other
 
 same_order : (Shows : ℕ → PlainTlv → List ℕ → Type 0) → IsFunction Shows → (tlvs : List PlainTlv) (place : ℕ) (text other : List ℕ)
-    → InOrder Shows place tlvs text → InOrder Shows place tlvs other → text ≡ other
+    → TextsInOrder Shows place tlvs text → TextsInOrder Shows place tlvs other → text ≡ other
 same_order Shows one [] place text other h k = h ∙ sym k
 same_order Shows one (tlv ∷ tlvs) place text other h k =
     let fronts : h.0 ≡ k.0 = one place tlv h.0 k.0 h.2 k.2 in
@@ -27,7 +27,7 @@ module _ (same_list : ListIsUnique) (same_item : ItemIsUnique) (no_fault : ItemH
       → ShowsList Shows place bytes text → ShowsList Shows place bytes other → text ≡ other
   same_shown Shows one place bytes text other h k =
       let lists : k.tlvs ≡ h.tlvs = same_list k.tlvs h.tlvs bytes k.is_list h.is_list in
-      same_order Shows one h.tlvs place text other h.in_order (subst (λ (ts : List PlainTlv). InOrder Shows place ts other) lists k.in_order)
+      same_order Shows one h.tlvs place text other h.in_order (subst (λ (ts : List PlainTlv). TextsInOrder Shows place ts other) lists k.in_order)
 
   same_alone : (below place : ℕ) (tlv : PlainTlv) (text other : List ℕ) → IsLineAlone below place tlv text → IsLineAlone below place tlv other → text ≡ other
   same_alone below place tlv text other (inl h) (inl k) =

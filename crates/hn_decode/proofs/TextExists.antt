@@ -12,8 +12,8 @@ use Rattle.hn_typed.specs.Fields.{word}
 use Rattle.hn_typed.specs.Table.{IsItem}
 use Rattle.hn_typed.specs.Laws.{ItemOrFault}
 use Rattle.hn_decode.specs.ItemText.{item_text, bad_text}
-use Rattle.hn_decode.specs.Line.{within, within_name, named_bytes, line, HasLines, IsNodeState, IsLineAbove}
-use Rattle.hn_decode.specs.Nested.{InOrder, ShowsList, place_within, Shows, first_line, IsDecodeText, IsTextTo}
+use Rattle.hn_decode.specs.Line.{within, within_name, named_bytes, line, HasLines, HoldsNodeData, IsLineAbove}
+use Rattle.hn_decode.specs.Nested.{TextsInOrder, ShowsList, place_within, Shows, tlvs_line, IsDecodeText, IsTextTo}
 use Rattle.hn_decode.proofs.Within.{list_within}
 use Rattle.hn_decode.proofs.TextSoFar.{shows_line, shows_within}
 
@@ -21,7 +21,8 @@ use Rattle.hn_decode.proofs.TextSoFar.{shows_line, shows_within}
 abbrev HaveTexts : (ℕ → PlainTlv → List ℕ → Type 0) → Type 0
 HaveTexts Shows = (place : ℕ) (tlv : PlainTlv) → IsTlv tlv → (text : List ℕ) × Shows place tlv text
 
-in_order : (Shows : ℕ → PlainTlv → List ℕ → Type 0) → HaveTexts Shows → (tlvs : List PlainTlv) (place : ℕ) (bytes : List ℕ) → IsTlvList tlvs bytes → (text : List ℕ) × InOrder Shows place tlvs text
+in_order : (Shows : ℕ → PlainTlv → List ℕ → Type 0) → HaveTexts Shows → (tlvs : List PlainTlv) (place : ℕ) (bytes : List ℕ) → IsTlvList tlvs bytes
+    → (text : List ℕ) × TextsInOrder Shows place tlvs text
 in_order Shows each [] place bytes list = ([], refl)
 in_order Shows each (tlv ∷ tlvs) place bytes list =
     let front = each place tlv list.1 in
@@ -33,12 +34,12 @@ list_shown Shows each place bytes (tlvs, list) =
     let told = in_order Shows each tlvs place bytes list in
     (told.0, record { tlvs = tlvs; is_list = list; in_order = told.1 })
 
-is_node_state : (item : PlainItem) → IsNodeState item ⊎ (¬ IsNodeState item)
+is_node_state : (item : PlainItem) → HoldsNodeData item ⊎ (¬ HoldsNodeData item)
 is_node_state (NodeState node number age hash body) = inl tt
 is_node_state _ = inr (λ no. no)
 
 -- the bytes of a node's data
-body_bytes : (tlv : PlainTlv) (item : PlainItem) → IsTlv tlv → IsItem tlv item → IsNodeState item → All IsByte (within item)
+body_bytes : (tlv : PlainTlv) (item : PlainItem) → IsTlv tlv → IsItem tlv item → HoldsNodeData item → All IsByte (within item)
 body_bytes tlv (NodeState node number age hash body) valid h is =
     let fixed : List ℕ = word node ++ word number ++ word age ++ hash in
     let rest : drop (length fixed) tlv.value ≡ body = ap (drop (length fixed)) h.spelled.2 ∙ drop_at fixed body (length fixed) refl in
@@ -106,14 +107,14 @@ module _ (item_or_fault : ItemOrFault) (list_or_fault : ListOrFirstFault) (no_li
   pub text_exists : (bytes : List ℕ) → HasTlvs bytes → (text : List ℕ) × IsDecodeText bytes text
   text_exists bytes list =
       let told = list_shown (Shows 7) (shown 7) 0 bytes list in
-      (first_line (length told.1.tlvs) ++ told.0, record { lines = told.0; shown = told.1; text_is = refl })
+      (tlvs_line (length told.1.tlvs) ++ told.0, record { lines = told.0; shown = told.1; text_is = refl })
 
   -- lines up to a place, and those of the rest
   pub text_goes_on : ListIsUnique → (bytes lines : List ℕ) (at : ℕ) (tlvs : List PlainTlv) → IsTlvList tlvs bytes → IsTextTo bytes at lines
-      → (rest : List ℕ) × IsDecodeText bytes (first_line (length tlvs) ++ (lines ++ rest))
+      → (rest : List ℕ) × IsDecodeText bytes (tlvs_line (length tlvs) ++ (lines ++ rest))
   text_goes_on unique bytes lines at tlvs list so_far =
       let rest = list_shown (Shows 7) (shown 7) (0 + at) (drop at bytes) so_far.is_list in
       let told = so_far.goes_on rest.0 rest.1 in
       let same = unique told.tlvs tlvs bytes told.is_list list in
-      let Told : List PlainTlv → Type 0 = λ all. IsDecodeText bytes (first_line (length all) ++ (lines ++ rest.0)) in
+      let Told : List PlainTlv → Type 0 = λ all. IsDecodeText bytes (tlvs_line (length all) ++ (lines ++ rest.0)) in
       (rest.0, subst Told same (record { lines = lines ++ rest.0; shown = told; text_is = refl }))

@@ -6,7 +6,7 @@ use Rattle.hn_tlv.specs.Grammar.{PlainTlv, tlv_size, HasTlvs, IsTlvAt, IsFault, 
 use Rattle.hn_tlv.specs.Laws.{ListSplits, ListHasNoFirstFault}
 use Rattle.hn_typed.specs.Item.{PlainItem}
 use Rattle.hn_decode.specs.Line.{within, IsLineAbove, IsLineAlone}
-use Rattle.hn_decode.specs.Nested.{InOrder, ShowsList, place_within, Shows, IsShownTo, Adds}
+use Rattle.hn_decode.specs.Nested.{TextsInOrder, ShowsList, place_within, Shows, IsShownTo, GrowsByText}
 
 pub shown_none : (Shows : ℕ → PlainTlv → List ℕ → Type 0) (place : ℕ) (bytes : List ℕ) → HasTlvs bytes → IsShownTo Shows place bytes 0 []
 shown_none Shows place bytes list = record {
@@ -23,7 +23,7 @@ list_from Shows place bytes at after tlv front rest here shown s =
     record {
       tlvs = tlv ∷ s.tlvs;
       is_list = (drop after bytes, here.valid, here.spelled, s.is_list);
-      in_order = (front, rest, shown, subst (λ (n : ℕ). InOrder Shows n s.tlvs rest) next s.in_order, refl);
+      in_order = (front, rest, shown, subst (λ (n : ℕ). TextsInOrder Shows n s.tlvs rest) next s.in_order, refl);
     }
 
 pub shown_more : ListSplits → (Shows : ℕ → PlainTlv → List ℕ → Type 0) (place : ℕ) (bytes : List ℕ) (at after : ℕ) (tlv : PlainTlv) (text front : List ℕ) → IsShownTo Shows place bytes at text
@@ -74,8 +74,8 @@ shows_within below place tlv item line lines above inside =
 
 -- the text below an item's line, added after the line
 pub added_within : {E : Type 0} (below place : ℕ) (tlv : PlainTlv) (inner old start new : List ℕ) (result : Result (Unit {0}) E)
-    → ((item : PlainItem) × (inner ≡ within item) × Adds (IsLineAbove below place tlv item) old start)
-    → OnOk result (Adds (ShowsList (Shows (below - 1)) (place + 4 + (length tlv.value - length inner)) inner) start new) → OnOk result (Adds (Shows below place tlv) old new)
+    → ((item : PlainItem) × (inner ≡ within item) × GrowsByText (IsLineAbove below place tlv item) old start)
+    → OnOk result (GrowsByText (ShowsList (Shows (below - 1)) (place + 4 + (length tlv.value - length inner)) inner) start new) → OnOk result (GrowsByText (Shows below place tlv) old new)
 added_within below place tlv inner old start new (Ok _) (item, inner_is, begun) (lines, shown, ends) =
     let inside : ShowsList (Shows (below - 1)) (place_within place tlv item) (within item) lines =
     subst (λ (z : List ℕ). ShowsList (Shows (below - 1)) (place + 4 + (length tlv.value - length z)) z lines) inner_is shown in

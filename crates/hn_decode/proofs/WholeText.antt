@@ -2,10 +2,10 @@
 use Rattle.std.proofs.Common.{ℕ, List, ◌++◌, length, ap}
 use Rattle.hn_tlv.specs.Grammar.{PlainTlv, IsTlvList}
 use Rattle.hn_tlv.specs.Laws.{ListIsUnique}
-use Rattle.hn_decode.specs.Nested.{ShowsList, Shows, first_line, IsDecodeText}
+use Rattle.hn_decode.specs.Nested.{ShowsList, Shows, tlvs_line, IsDecodeText}
 
 -- the first line and the lines of the TLVs
 pub whole_text : ListIsUnique → (bytes lines : List ℕ) (tlvs : List PlainTlv) → IsTlvList tlvs bytes → ShowsList (Shows 7) 0 bytes lines
-    → IsDecodeText bytes (first_line (length tlvs) ++ lines)
+    → IsDecodeText bytes (tlvs_line (length tlvs) ++ lines)
 whole_text same_list bytes lines tlvs list shown =
-    record { lines = lines; shown = shown; text_is = ap (λ (ts : List PlainTlv). first_line (length ts) ++ lines) (same_list tlvs shown.tlvs bytes list shown.is_list) }
+    record { lines = lines; shown = shown; text_is = ap (λ (ts : List PlainTlv). tlvs_line (length ts) ++ lines) (same_list tlvs shown.tlvs bytes list shown.is_list) }

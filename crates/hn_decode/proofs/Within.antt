@@ -7,7 +7,7 @@ use Rattle.hn_typed.specs.Fields.{ThenSubs}
 use Rattle.hn_typed.specs.Shape.{After, Subs, Text, Anything, shape, fields_bytes}
 use Rattle.hn_typed.specs.Table.{IsValue, IsItem}
 use Rattle.hn_typed.specs.Written.{bytes_after, AreTlvs, tail_of, HasTlvsAfter}
-use Rattle.hn_decode.specs.Line.{within, IsNodeState}
+use Rattle.hn_decode.specs.Line.{within, HoldsNodeData}
 
 then_subs_fit : (len : ℕ) (after subs : List ℕ) → ThenSubs len after subs → length subs ≤ length after
 then_subs_fit len after subs (_, inl none) = omega (arith, ap length none.1)
@@ -35,7 +35,7 @@ tlvs_after : (tlv : PlainTlv) (item : PlainItem) → IsItem tlv item → HasTlvs
 tlvs_after tlv item h = after_tlvs (fields_bytes h.spelled.1 (shape item).fields) (shape item).after tlv.value h.spelled.2
 
 -- what lies within an item that is no node state is a list of TLVs
-pub list_within : (tlv : PlainTlv) (item : PlainItem) → IsItem tlv item → (IsNodeState item → HasTlvs (within item)) → HasTlvs (within item)
+pub list_within : (tlv : PlainTlv) (item : PlainItem) → IsItem tlv item → (HoldsNodeData item → HasTlvs (within item)) → HasTlvs (within item)
 list_within tlv (NodeState node number age hash data') h body = body tt
 list_within tlv (Version caps agent) h body = ([], refl)
 list_within tlv (Other kind value) h body = ([], refl)

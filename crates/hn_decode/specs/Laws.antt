@@ -1,7 +1,7 @@
 -- Laws of the text of a datagram.
 use Rattle.std.specs.Prelude.{ℕ, List, ◌++◌, length}
 use Rattle.hn_tlv.specs.Grammar.{PlainTlv, IsTlvList, HasTlvs}
-use Rattle.hn_decode.specs.Nested.{first_line, IsTextTo, IsDecodeText}
+use Rattle.hn_decode.specs.Nested.{tlvs_line, IsTextTo, IsDecodeText}
 
 -- A datagram that is a list of TLVs has a text.
 abbrev pub DecodeTextExists : Type 0
@@ -11,4 +11,4 @@ DecodeTextExists = (bytes : List ℕ) → HasTlvs bytes → (text : List ℕ) ×
 abbrev pub LinesGoOn : Type 0
 LinesGoOn =
     (bytes lines : List ℕ) (at : ℕ) (tlvs : List PlainTlv) → IsTlvList tlvs bytes → IsTextTo bytes at lines
-    → (rest : List ℕ) × IsDecodeText bytes (first_line (length tlvs) ++ (lines ++ rest))
+    → (rest : List ℕ) × IsDecodeText bytes (tlvs_line (length tlvs) ++ (lines ++ rest))

@@ -16,9 +16,9 @@ within (Other kind value) = []
 within item = tail_of item
 
 -- the item has the data of a node within, which may be no list of TLVs
-abbrev pub IsNodeState : PlainItem → Type 0
-IsNodeState (NodeState node number age hash body) = Unit {0}
-IsNodeState _ = ⊥
+abbrev pub HoldsNodeData : PlainItem → Type 0
+HoldsNodeData (NodeState node number age hash body) = Unit {0}
+HoldsNodeData _ = ⊥
 
 -- the name of what lies within
 abbrev pub within_name : PlainItem → List ℕ

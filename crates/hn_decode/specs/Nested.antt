@@ -6,16 +6,16 @@ use Rattle.hn_typed.specs.Item.{PlainItem}
 use Rattle.hn_decode.specs.Line.{within, deepest, IsLineAbove, IsLineAlone}
 
 -- the texts of TLVs one after another, of which the first lies at this place
-abbrev pub InOrder : (ℕ → PlainTlv → List ℕ → Type 0) → ℕ → List PlainTlv → List ℕ → Type 0
-InOrder Shows place [] text = text ≡ []
-InOrder Shows place (tlv ∷ tlvs) text =
-    (front rest : List ℕ) × Shows place tlv front × InOrder Shows (place + tlv_size (length tlv.value)) tlvs rest × (text ≡ front ++ rest)
+abbrev pub TextsInOrder : (ℕ → PlainTlv → List ℕ → Type 0) → ℕ → List PlainTlv → List ℕ → Type 0
+TextsInOrder Shows place [] text = text ≡ []
+TextsInOrder Shows place (tlv ∷ tlvs) text =
+    (front rest : List ℕ) × Shows place tlv front × TextsInOrder Shows (place + tlv_size (length tlv.value)) tlvs rest × (text ≡ front ++ rest)
 
 -- the bytes, which lie at this place, are a list of TLVs, and this is their text
 pub record ShowsList (Shows : ℕ → PlainTlv → List ℕ → Type 0) (place : ℕ) (bytes text : List ℕ) : Type 0 where
   pub tlvs : List PlainTlv
   pub is_list : IsTlvList tlvs bytes
-  pub in_order : InOrder Shows place tlvs text
+  pub in_order : TextsInOrder Shows place tlvs text
 
 -- the place of what lies within an item, which is the end of the TLV's value
 abbrev pub place_within : ℕ → PlainTlv → PlainItem → ℕ
@@ -36,14 +36,14 @@ Shows zero place tlv text = IsLineAlone zero place tlv text
 Shows (suc below) place tlv text = IsLineAlone (suc below) place tlv text ⊎ ShowsWithin (Shows below) (suc below) place tlv text
 
 -- the first line of a text: how many TLVs there are
-abbrev pub first_line : ℕ → List ℕ
-first_line count = codes "tlvs " ++ decimal count ++ codes "\n"
+abbrev pub tlvs_line : ℕ → List ℕ
+tlvs_line count = codes "tlvs " ++ decimal count ++ codes "\n"
 
 -- the text of a datagram: how many TLVs it is a list of, and their texts in order
 pub record IsDecodeText (bytes text : List ℕ) : Type 0 where
   pub lines : List ℕ
   pub shown : ShowsList (Shows deepest) 0 bytes lines
-  pub text_is : text ≡ first_line (length shown.tlvs) ++ lines
+  pub text_is : text ≡ tlvs_line (length shown.tlvs) ++ lines
 
 -- The text of the TLVs before a place `at` of the bytes, which lie at this place: with the text of the TLVs from there
 -- on it is the text of all.
@@ -57,5 +57,5 @@ abbrev pub IsTextTo : List ℕ → ℕ → List ℕ → Type 0
 IsTextTo bytes at lines = IsShownTo (Shows deepest) 0 bytes at lines
 
 -- the text was longer by a text of that kind
-abbrev pub Adds : (List ℕ → Type 0) → List ℕ → List ℕ → Type 0
-Adds IsAdded old new = (added : List ℕ) × IsAdded added × (new ≡ old ++ added)
+abbrev pub GrowsByText : (List ℕ → Type 0) → List ℕ → List ℕ → Type 0
+GrowsByText IsAdded old new = (added : List ℕ) × IsAdded added × (new ≡ old ++ added)

@@ -1,7 +1,7 @@
 ghost use Rattle.std.specs.Prelude.{◌≡◌, ◌++◌, ◌<◌, ◌^◌, ℕ, List, ◌↔◌, Err, IfOk, length, drop, string_bytes};
 ghost use Rattle.hn_tlv.specs.Grammar.{HasTlvs, FirstFault};
 ghost use Rattle.hn_tlv.specs.declared.list_fault.ListFault.TheVariants.{Malformed};
-ghost use Rattle.hn_decode.specs.Nested.{first_line, IsTextTo, IsDecodeText, Adds};
+ghost use Rattle.hn_decode.specs.Nested.{tlvs_line, IsTextTo, IsDecodeText, GrowsByText};
 
 use crate::laws::lines_make_the_text;
 use crate::line::DEEPEST;
@@ -12,7 +12,7 @@ use std::alloc::Global;
 
 /// The first line of the text of a datagram: `tlvs C` with the number of its TLVs, and LF.
 pub fn first_line(alloc: Global, count: usize) -> Result<String, NoMemory>
-    ensures { IfOk result (λ text. string_bytes text ≡ first_line count) }
+    ensures { IfOk result (λ text. string_bytes text ≡ tlvs_line count) }
 {
     let text = format!(in alloc; "tlvs {count}\n")?;
     Ok(text)
@@ -29,7 +29,7 @@ pub fn push_next(out: &mut String, bytes: &[u8], at: usize) -> Result<usize, NoM
     requires inside { at < length bytes.now }
     requires list { HasTlvs (drop at bytes.now) }
     ensures later { IfOk result (λ after. at < after) }
-    ensures lines { IfOk result (λ after. Adds (λ more.
+    ensures lines { IfOk result (λ after. GrowsByText (λ more.
         (lines : List ℕ) → IsTextTo bytes.now at lines → IsTextTo bytes.now after (lines ++ more))
         (string_bytes out.old) (string_bytes out.new)) }
 {

@@ -3,7 +3,7 @@
 ghost use Rattle.std.specs.Prelude.{◌≡◌, ◌++◌, [], ℕ, List, length};
 ghost use Rattle.hn_tlv.specs.Grammar.{PlainTlv, IsTlvList, HasTlvs, FirstFault};
 ghost use Rattle.hn_decode.specs.Laws.{DecodeTextExists, LinesGoOn};
-ghost use Rattle.hn_decode.specs.Nested.{first_line, IsTextTo, IsDecodeText};
+ghost use Rattle.hn_decode.specs.Nested.{tlvs_line, IsTextTo, IsDecodeText};
 
 use hn_tlv::{first_fault_is_unique, list_is_unique, list_or_first_fault};
 use hn_typed::{item_fault_is_unique, item_is_unique, item_or_fault};
@@ -32,7 +32,7 @@ pub fn decode_text_exists()
 pub fn lines_make_the_text()
     ensures begins { (bytes : List ℕ) → HasTlvs bytes → IsTextTo bytes 0 [] }
     ensures whole { (bytes lines : List ℕ) (tlvs : List PlainTlv) → IsTlvList tlvs bytes
-        → IsTextTo bytes (length bytes) lines → IsDecodeText bytes (first_line (length tlvs) ++ lines) }
+        → IsTextTo bytes (length bytes) lines → IsDecodeText bytes (tlvs_line (length tlvs) ++ lines) }
 {
     list_is_unique();
 }

@@ -8,7 +8,7 @@ ghost use Rattle.hn_typed.specs.Table.{IsItem};
 ghost use Rattle.hn_typed.specs.View.{plain_item};
 ghost use Rattle.hn_decode.specs.Line.{within, within_name, named_bytes, deepest, line_start, HasLines, IsLineAbove, IsLineAlone};
 ghost use Rattle.hn_decode.specs.ItemText.{item_text};
-ghost use Rattle.hn_decode.specs.Nested.{Adds};
+ghost use Rattle.hn_decode.specs.Nested.{GrowsByText};
 
 use crate::item_text::{push_bad, push_item};
 use hn_base::Hex;
@@ -133,9 +133,9 @@ pub(crate) fn push_line<'a>(
 ) -> Result<Option<&'a [u8]>, AllocError>
     requires { below ≤ deepest }
     ensures alone { IfOk result (λ inner. IfNone inner
-        (Adds (IsLineAlone below place (plain tlv.now)) (string_bytes out.old) (string_bytes out.new))) }
+        (GrowsByText (IsLineAlone below place (plain tlv.now)) (string_bytes out.old) (string_bytes out.new))) }
     ensures above { IfOk result (λ inner. IfSome inner (λ bytes. (item : PlainItem) × (bytes.now ≡ within item)
-        × Adds (IsLineAbove below place (plain tlv.now) item) (string_bytes out.old) (string_bytes out.new))) }
+        × GrowsByText (IsLineAbove below place (plain tlv.now) item) (string_bytes out.old) (string_bytes out.new))) }
 {
     push_line_start(out, tlv, place, DEEPEST - below)?;
     match read(tlv) {

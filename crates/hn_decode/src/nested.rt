@@ -4,7 +4,7 @@ ghost use Rattle.std.specs.Prelude.{◌≡◌, ◌+◌, ◌^◌, ◌<◌, ◌≤
 ghost use Rattle.hn_tlv.specs.Grammar.{tlv_size, HasTlvs, IsTlvAt};
 ghost use Rattle.hn_tlv.specs.View.{plain};
 ghost use Rattle.hn_decode.specs.Line.{deepest};
-ghost use Rattle.hn_decode.specs.Nested.{ShowsList, Shows, Adds};
+ghost use Rattle.hn_decode.specs.Nested.{ShowsList, Shows, GrowsByText};
 
 use crate::line::push_line;
 use hn_tlv::{HEADER_SIZE, Tlv, first_fault_is_unique, list_continues, next};
@@ -31,7 +31,7 @@ pub(crate) fn push_list(
     requires list { HasTlvs bytes.now }
     requires places_fit { place + length bytes.now < 2 ^ 64 }
     requires levels { below ≤ deepest }
-    ensures { OnOk result (Adds (ShowsList (Shows below) place bytes.now) (string_bytes out.old) (string_bytes out.new)) }
+    ensures { OnOk result (GrowsByText (ShowsList (Shows below) place bytes.now) (string_bytes out.old) (string_bytes out.new)) }
 {
     list_continues();
     let mut at = 0;
@@ -53,7 +53,7 @@ pub(crate) fn push_tlv(
 ) -> Result<(), AllocError>
     requires places_fit { place + tlv_size (length tlv.now.value.now) < 2 ^ 64 }
     requires levels { below ≤ deepest }
-    ensures { OnOk result (Adds (Shows below place (plain tlv.now)) (string_bytes out.old) (string_bytes out.new)) }
+    ensures { OnOk result (GrowsByText (Shows below place (plain tlv.now)) (string_bytes out.old) (string_bytes out.new)) }
 {
     let Some(inner) = push_line(out, tlv, place, below)? else {
         return Ok(());

@@ -13,7 +13,7 @@ use Rattle.hn_data.specs.View.{PlainView}
 use Rattle.hn_data.specs.declared.view.Entry.{Entry}
 use Rattle.hn_deleg.specs.declared.delegated.Delegated.{Delegated}
 use Rattle.hn_deleg.specs.Candidates.{IsPreferred, SameCandidatesSameUsed, PreferredIsAnnounced, PreferredWasSo}
-use Rattle.hn_deleg.specs.Live.{remaining, IsAnnounced, IsCandidate}
+use Rattle.hn_deleg.specs.Live.{remaining, IsAnnounced, IsAnnouncedPrefix}
 use Rattle.hn_deleg.specs.Used.{prefixes_of, IsOutermost, HasLifetimes, AreUsable}
 use Rattle.hn_deleg.proofs.LaterUsable.{remaining_before}
 use Rattle.hn_deleg.proofs.OneUsableList.{outermost_of}
@@ -21,7 +21,7 @@ use Rattle.hn_deleg.proofs.OneUsableList.{outermost_of}
 -- ---- the same candidates
 
 abbrev HaveSameCandidates : PlainView → PlainView → Type 0
-HaveSameCandidates view other = (p : PlainPrefix) → IsCandidate view p ↔ IsCandidate other p
+HaveSameCandidates view other = (p : PlainPrefix) → IsAnnouncedPrefix view p ↔ IsAnnouncedPrefix other p
 
 outermost_too : (view other : PlainView) → HaveSameCandidates view other → (p : PlainPrefix) → IsOutermost view p → IsOutermost other p
 outermost_too view other same p outer = record { candidate = (same p).0 outer.candidate; not_inside = λ q there within. outer.not_inside q ((same q).1 there) within }

@@ -13,7 +13,7 @@ use Rattle.hn_data.specs.Items.{IsReading}
 use Rattle.hn_data.specs.Delegations.{HasDelegation, delegation_of}
 use Rattle.hn_data.specs.declared.said.Delegation.{Delegation}
 use Rattle.hn_data.specs.View.{PlainView}
-use Rattle.hn_deleg.specs.Live.{IsCandidate, IsGreatest}
+use Rattle.hn_deleg.specs.Live.{IsAnnouncedPrefix, IsLongestLeft}
 use Rattle.hn_deleg.specs.Used.{HasLifetimes, whole_seconds}
 use Rattle.hn_deleg.specs.declared.delegated.Delegated.{Delegated}
 
@@ -45,7 +45,7 @@ said_in_range bytes d said =
     let found = from_filter_map delegation_of inside.0 d inside.2 in
     of_item found.0 d found.2 (read_in_range inside.1.tlvs inside.0 found.0 inside.1.read found.1)
 
-pub candidate_is_prefix : (view : PlainView) (p : PlainPrefix) → IsCandidate view p → IsPrefix p
+pub candidate_is_prefix : (view : PlainView) (p : PlainPrefix) → IsAnnouncedPrefix view p → IsPrefix p
 candidate_is_prefix view p c = subst IsPrefix c.is_it (said_in_range c.node.body c.delegation c.announced.said).prefix
 
 -- ---- lifetimes
@@ -68,7 +68,7 @@ whole_by_test false ms e is =
 whole_fits : (ms : ℕ) → IsLifetime ms → whole_seconds ms < 2 ^ 32
 whole_fits ms is = whole_by_test (eqb ms (2 ^ 64 - 1)) ms refl is
 
-greatest_is_lifetime : (view : PlainView) (p : PlainPrefix) (f : Delegation → ℕ) (ms : ℕ) → ((d : Delegation) → IsDelegation d → f d < 2 ^ 32) → IsGreatest view p f ms → IsLifetime ms
+greatest_is_lifetime : (view : PlainView) (p : PlainPrefix) (f : Delegation → ℕ) (ms : ℕ) → ((d : Delegation) → IsDelegation d → f d < 2 ^ 32) → IsLongestLeft view p f ms → IsLifetime ms
 greatest_is_lifetime view p f ms small g =
     let seconds = f g.delegation in
     subst IsLifetime (sym g.this) (remaining_by_test (eqb seconds 4294967295) g.node.age seconds refl (small g.delegation (said_in_range g.node.body g.delegation g.announced.said)))

@@ -17,10 +17,10 @@ use Rattle.hn_data.specs.View.{PlainView}
 use Rattle.hn_data.specs.declared.said.Delegation.{Delegation}
 use Rattle.hn_data.specs.declared.view.Entry.{Entry}
 use Rattle.hn_deleg.specs.declared.delegated.Delegated.{Delegated}
-use Rattle.hn_deleg.specs.Due.{IsEnd, IsEndOf, IsEndIn, IsLifetimeEnd}
+use Rattle.hn_deleg.specs.Due.{IsEnd, IsDelegationEnd, IsEndIn, IsLifetimeEnd}
 use Rattle.hn_deleg.specs.Later.{left_after, aged_delegated}
 use Rattle.hn_deleg.specs.Laws.{AgedAreTheSamePrefixes, EndsOfLater, UsableOfLater, UnwantedOfLater}
-use Rattle.hn_deleg.specs.Live.{remaining, IsAnnounced, IsCandidate, IsGreatest}
+use Rattle.hn_deleg.specs.Live.{remaining, IsAnnounced, IsAnnouncedPrefix, IsLongestLeft}
 use Rattle.hn_deleg.specs.Used.{IsOutermost, HasLifetimes, IsUnwanted}
 use Rattle.hn_deleg.proofs.Fits.{IsDelegation, said_in_range}
 
@@ -178,7 +178,7 @@ module _ (before after : PlainView) (later : IsLater before after) (none : (m : 
 
   -- a lifetime of an announced prefix that has not ended does not end
   lasts : (x : Entry) (d : Delegation) (seconds : ℕ) → Contains before.nodes x → HasVersion x.body → HasDelegation x.body d
-      → ((m : ℕ) → IsEnd before.now x.age seconds m → IsEndOf before.now x.age d m) → 0 < remaining x.age seconds
+      → ((m : ℕ) → IsEnd before.now x.age seconds m → IsDelegationEnd before.now x.age d m) → 0 < remaining x.age seconds
       → 0 < remaining (x.age + later.time) seconds
   lasts x d seconds there version said of some = elim (remaining_cases (x.age + later.time) seconds) [
     | inl (endless, is) ↦ omega (arith, is)
@@ -211,10 +211,10 @@ module _ (before after : PlainView) (later : IsLater before after) (none : (m : 
         found.2,
       )
 
-  still_candidate : (p : PlainPrefix) → IsCandidate before p → IsCandidate after p
+  still_candidate : (p : PlainPrefix) → IsAnnouncedPrefix before p → IsAnnouncedPrefix after p
   still_candidate p c = record { short = c.short; node = aged_entry later.time c.node; delegation = c.delegation; announced = still_announced c.node c.delegation c.announced; is_it = c.is_it }
 
-  was_candidate : (p : PlainPrefix) → IsCandidate after p → IsCandidate before p
+  was_candidate : (p : PlainPrefix) → IsAnnouncedPrefix after p → IsAnnouncedPrefix before p
   was_candidate p c =
       let was = was_announced c.node c.delegation c.announced in
       record { short = c.short; node = was.0; delegation = c.delegation; announced = was.1; is_it = c.is_it }
@@ -227,7 +227,7 @@ module _ (before after : PlainView) (later : IsLater before after) (none : (m : 
 
   -- ---- lifetimes of a prefix
 
-  module _ (p : PlainPrefix) (f : Delegation → ℕ) (small : (d : Delegation) → IsDelegation d → f d < 2 ^ 32) (ms : ℕ) (g : IsGreatest before p f ms) where
+  module _ (p : PlainPrefix) (f : Delegation → ℕ) (small : (d : Delegation) → IsDelegation d → f d < 2 ^ 32) (ms : ℕ) (g : IsLongestLeft before p f ms) where
     fits : (x : Entry) (d : Delegation) → IsAnnounced before x d → f d < 2 ^ 32
     fits x d a = small d (said_in_range x.body d a.said)
 
@@ -242,7 +242,7 @@ module _ (before after : PlainView) (later : IsLater before after) (none : (m : 
         let less = left_in_order later.time (remaining x.age (f d)) ms greatest_within (g.none_greater x d a e) in
         subst (λ (n : ℕ). n ≤ left_after later.time ms) (remaining_later later.time x.age (f d) (fits x d a)) less
 
-    still_greatest : IsGreatest after p f (left_after later.time ms)
+    still_greatest : IsLongestLeft after p f (left_after later.time ms)
     still_greatest = record {
       node = aged_entry later.time g.node;
       delegation = g.delegation;
@@ -254,7 +254,7 @@ module _ (before after : PlainView) (later : IsLater before after) (none : (m : 
           subst (λ (y : Entry). remaining y.age (f d) ≤ left_after later.time ms) was.2 (not_greater was.0 d was.1 e);
     }
 
-    greatest_lasts : ((d : Delegation) (age m : ℕ) → IsEnd before.now age (f d) m → IsEndOf before.now age d m) → 0 < ms → 0 < left_after later.time ms
+    greatest_lasts : ((d : Delegation) (age m : ℕ) → IsEnd before.now age (f d) m → IsDelegationEnd before.now age d m) → 0 < ms → 0 < left_after later.time ms
     greatest_lasts of some =
         let a = g.announced in
         let was : 0 < remaining g.node.age (f g.delegation) = subst (λ (n : ℕ). 0 < n) g.this some in

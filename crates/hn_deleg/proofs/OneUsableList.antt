@@ -9,7 +9,7 @@ use Rattle.hn_base.specs.Prefix.{PlainPrefix, IsWithin, Overlaps, prefix_cmp}
 use Rattle.hn_data.specs.View.{PlainView}
 use Rattle.hn_data.specs.declared.said.Delegation.{Delegation}
 use Rattle.hn_deleg.specs.declared.delegated.Delegated.{Delegated}
-use Rattle.hn_deleg.specs.Live.{IsGreatest}
+use Rattle.hn_deleg.specs.Live.{IsLongestLeft}
 use Rattle.hn_deleg.specs.Used.{prefixes_of, IsOutermost, HasLifetimes, AreUsable}
 use Rattle.hn_base.proofs.Pigeonhole.{no_longer}
 use Rattle.hn_deleg.proofs.Prefixes.{OverlapIsNesting}
@@ -54,7 +54,7 @@ same_prefix view a b are_a are_b p h =
 
 -- ---- the same lifetimes
 
-one_greatest : (view : PlainView) (p : PlainPrefix) (f : Delegation → ℕ) (m n : ℕ) → IsGreatest view p f m → IsGreatest view p f n → m ≡ n
+one_greatest : (view : PlainView) (p : PlainPrefix) (f : Delegation → ℕ) (m n : ℕ) → IsLongestLeft view p f m → IsLongestLeft view p f n → m ≡ n
 one_greatest view p f m n g h =
     let up : m ≤ n = subst (λ (k : ℕ). k ≤ n) (sym g.this) (h.none_greater g.node g.delegation g.announced g.is_it) in
     let down : n ≤ m = subst (λ (k : ℕ). k ≤ m) (sym h.this) (g.none_greater h.node h.delegation h.announced h.is_it) in
@@ -63,9 +63,9 @@ one_greatest view p f m n g h =
 one_delegated : (view : PlainView) (u v : Delegated) → HasLifetimes view u → HasLifetimes view v → u.prefix ≡ v.prefix → u ≡ v
 one_delegated view u v g h same =
     let valid : u.valid ≡ v.valid = one_greatest view v.prefix (λ d. d.valid) u.valid v.valid
-    (subst (λ (p : PlainPrefix). IsGreatest view p (λ d. d.valid) u.valid) same g.greatest_valid) h.greatest_valid in
+    (subst (λ (p : PlainPrefix). IsLongestLeft view p (λ d. d.valid) u.valid) same g.greatest_valid) h.greatest_valid in
     let most : g.preferred ≡ h.preferred = one_greatest view v.prefix (λ d. d.preferred) g.preferred h.preferred
-    (subst (λ (p : PlainPrefix). IsGreatest view p (λ d. d.preferred) g.preferred) same g.greatest_preferred) h.greatest_preferred in
+    (subst (λ (p : PlainPrefix). IsLongestLeft view p (λ d. d.preferred) g.preferred) same g.greatest_preferred) h.greatest_preferred in
     let preferred : u.preferred ≡ v.preferred = g.cut ∙ ap (λ n. min n u.valid) most ∙ ap (λ n. min h.preferred n) valid ∙ sym h.cut in
     ap (λ (p : PlainPrefix). record { prefix = p; valid = u.valid; preferred = u.preferred }) same
     ∙ ap (λ (n : ℕ). record { prefix = v.prefix; valid = n; preferred = u.preferred }) valid

@@ -12,7 +12,7 @@ use Rattle.hn_data.specs.View.{PlainView}
 use Rattle.hn_data.specs.declared.said.Delegation.{Delegation}
 use Rattle.hn_data.specs.declared.view.Entry.{Entry}
 use Rattle.hn_deleg.specs.declared.delegated.Delegated.{Delegated}
-use Rattle.hn_deleg.specs.Live.{remaining, IsAnnounced, IsCandidate, IsGreatest}
+use Rattle.hn_deleg.specs.Live.{remaining, IsAnnounced, IsAnnouncedPrefix, IsLongestLeft}
 use Rattle.hn_deleg.specs.Steps.{live_of, HasPrefixes, IsLiveIn, IsOutermostIn, AreOutermost, IsGreatestIn, HasLifetimesIn}
 use Rattle.hn_deleg.specs.Used.{prefixes_of, IsOutermost, HasLifetimes, AreUsable}
 use Rattle.hn_deleg.proofs.Live.{leaves, left, left_of}
@@ -31,7 +31,7 @@ announced_from_live view u l = record { reachable = l.among; version = l.at.vers
 live_from_announced : (view : PlainView) (node : Entry) (d : Delegation) → d.prefix.len ≤ 64 → IsAnnounced view node d → IsLiveIn view.nodes (left_of node.age d)
 live_from_announced view node d short a = record { node = node; among = a.reachable; at = record { version = a.version; delegation = d; said = a.said; remains = left node.age d short a.live } }
 
-pub candidate_from_live : (view : PlainView) (live : List Delegated) (p : PlainPrefix) → AreLive view live → Contains (prefixes_of live) p → IsCandidate view p
+pub candidate_from_live : (view : PlainView) (live : List Delegated) (p : PlainPrefix) → AreLive view live → Contains (prefixes_of live) p → IsAnnouncedPrefix view p
 candidate_from_live view live p are h =
     let found = Contains-from_map (λ (u : Delegated). u.prefix) live p h in
     let l = (are found.0).0 found.1 in
@@ -45,7 +45,7 @@ candidate_from_live view live p are h =
       is_it = is;
     }
 
-pub live_from_candidate : (view : PlainView) (live : List Delegated) (p : PlainPrefix) → AreLive view live → IsCandidate view p → Contains (prefixes_of live) p
+pub live_from_candidate : (view : PlainView) (live : List Delegated) (p : PlainPrefix) → AreLive view live → IsAnnouncedPrefix view p → Contains (prefixes_of live) p
 live_from_candidate view live p are c =
     let short : c.delegation.prefix.len ≤ 64 = subst (λ (q : PlainPrefix). q.len ≤ 64) (sym c.is_it) c.short in
     let u = left_of c.node.age c.delegation in
@@ -53,7 +53,7 @@ live_from_candidate view live p are c =
     subst (Contains (prefixes_of live)) c.is_it (Contains-map (λ (x : Delegated). x.prefix) live u there)
 
 greatest_in_view : (view : PlainView) (live : List Delegated) (p : PlainPrefix) (f : Delegation → ℕ) (g : Delegated → ℕ) (ms : ℕ) → AreLive view live → p.len ≤ 64
-    → ((age : ℕ) (d : Delegation) (u : Delegated) → live_of age d ≡ Some u → g u ≡ remaining age (f d)) → IsGreatestIn live p g ms → IsGreatest view p f ms
+    → ((age : ℕ) (d : Delegation) (u : Delegated) → live_of age d ≡ Some u → g u ≡ remaining age (f d)) → IsGreatestIn live p g ms → IsLongestLeft view p f ms
 greatest_in_view view live p f g ms are short same greatest =
     let l = (are greatest.one).0 greatest.among in
     let left_there = leaves l.node.age l.at.delegation greatest.one l.at.remains in

@@ -6,7 +6,7 @@ use Rattle.hn_data.specs.View.{PlainView}
 use Rattle.hn_data.specs.declared.said.Delegation.{Delegation}
 use Rattle.hn_data.specs.declared.view.Entry.{Entry}
 use Rattle.hn_deleg.specs.declared.delegated.Delegated.{Delegated}
-use Rattle.hn_deleg.specs.Live.{remaining, IsAnnounced, IsCandidate}
+use Rattle.hn_deleg.specs.Live.{remaining, IsAnnounced, IsAnnouncedPrefix}
 use Rattle.hn_deleg.specs.Used.{AreUsable, prefixes_of}
 
 -- an announcement of the prefix whose preferred lifetime has not ended
@@ -20,7 +20,7 @@ pub record IsPreferred (view : PlainView) (p : PlainPrefix) : Type 0 where
 -- Views with the same candidates have the same usable prefixes.
 abbrev pub SameCandidatesSameUsed : Type 0
 SameCandidatesSameUsed =
-    (view other : PlainView) (a b : List Delegated) → ((p : PlainPrefix) → IsCandidate view p ↔ IsCandidate other p)
+    (view other : PlainView) (a b : List Delegated) → ((p : PlainPrefix) → IsAnnouncedPrefix view p ↔ IsAnnouncedPrefix other p)
     → AreUsable view a → AreUsable other b → prefixes_of a ≡ prefixes_of b
 
 -- The preferred lifetime of a usable prefix has not ended if and only if that of one of its announcements has not.

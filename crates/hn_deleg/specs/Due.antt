@@ -15,15 +15,15 @@ pub record IsEnd (now age seconds m : ℕ) : Type 0 where
   pub is : m ≡ now + remaining age seconds
 
 -- the valid or the preferred lifetime of a delegation ends then
-abbrev pub IsEndOf : ℕ → ℕ → Delegation → ℕ → Type 0
-IsEndOf now age d m = IsEnd now age d.valid m ⊎ IsEnd now age d.preferred m
+abbrev pub IsDelegationEnd : ℕ → ℕ → Delegation → ℕ → Type 0
+IsDelegationEnd now age d m = IsEnd now age d.valid m ⊎ IsEnd now age d.preferred m
 
 -- a lifetime that a node with an HNCP-Version announces ends then, of a prefix of any length, used or not
 pub record IsEndIn (now : ℕ) (node : Entry) (m : ℕ) : Type 0 where
   pub version : HasVersion node.body
   pub delegation : Delegation
   pub said : HasDelegation node.body delegation
-  pub ends : IsEndOf now node.age delegation m
+  pub ends : IsDelegationEnd now node.age delegation m
 
 -- a lifetime that a reachable node announces ends then, the own node too
 abbrev pub IsLifetimeEnd : PlainView → ℕ → Type 0

@@ -19,7 +19,7 @@ pub record IsAnnounced (view : PlainView) (node : Entry) (d : Delegation) : Type
   pub live : 0 < remaining node.age d.valid
 
 -- a prefix of at most 64 bits that is announced
-pub record IsCandidate (view : PlainView) (p : PlainPrefix) : Type 0 where
+pub record IsAnnouncedPrefix (view : PlainView) (p : PlainPrefix) : Type 0 where
   pub short : p.len ≤ 64
   pub node : Entry
   pub delegation : Delegation
@@ -27,7 +27,7 @@ pub record IsCandidate (view : PlainView) (p : PlainPrefix) : Type 0 where
   pub is_it : delegation.prefix ≡ p
 
 -- the greatest of what its announcements leave of a lifetime
-pub record IsGreatest (view : PlainView) (p : PlainPrefix) (lifetime : Delegation → ℕ) (ms : ℕ) : Type 0 where
+pub record IsLongestLeft (view : PlainView) (p : PlainPrefix) (lifetime : Delegation → ℕ) (ms : ℕ) : Type 0 where
   pub node : Entry
   pub delegation : Delegation
   pub announced : IsAnnounced view node delegation

@@ -7,19 +7,19 @@ use Rattle.hn_data.specs.Said.{HasVersion}
 use Rattle.hn_data.specs.Delegations.{HasExternal}
 use Rattle.hn_data.specs.declared.view.Entry.{Entry}
 use Rattle.hn_data.specs.View.{PlainView}
-use Rattle.hn_deleg.specs.Live.{IsCandidate, IsGreatest}
+use Rattle.hn_deleg.specs.Live.{IsAnnouncedPrefix, IsLongestLeft}
 use Rattle.hn_deleg.specs.declared.delegated.Delegated.{Delegated}
 
 -- a candidate that is not strictly inside another
 pub record IsOutermost (view : PlainView) (p : PlainPrefix) : Type 0 where
-  pub candidate : IsCandidate view p
-  pub not_inside : (q : PlainPrefix) → IsCandidate view q → IsWithin p q → q ≡ p
+  pub candidate : IsAnnouncedPrefix view p
+  pub not_inside : (q : PlainPrefix) → IsAnnouncedPrefix view q → IsWithin p q → q ≡ p
 
 -- its remaining lifetimes in ms: the greatest of its announcements; the preferred one is never above the valid one
 pub record HasLifetimes (view : PlainView) (u : Delegated) : Type 0 where
   pub preferred : ℕ
-  pub greatest_valid : IsGreatest view u.prefix (λ d. d.valid) u.valid
-  pub greatest_preferred : IsGreatest view u.prefix (λ d. d.preferred) preferred
+  pub greatest_valid : IsLongestLeft view u.prefix (λ d. d.valid) u.valid
+  pub greatest_preferred : IsLongestLeft view u.prefix (λ d. d.preferred) preferred
   pub cut : u.preferred ≡ min preferred u.valid
 
 -- a remaining lifetime in whole seconds, rounded down; 4294967295 for one that never ends

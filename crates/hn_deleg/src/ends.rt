@@ -2,7 +2,7 @@
 
 ghost use Rattle.hn_base.specs.Sooner.{IsSooner, IsOfElement};
 ghost use Rattle.hn_data.specs.View.{plain_view};
-ghost use Rattle.hn_deleg.specs.Due.{IsEnd, IsEndOf, IsEndIn, IsLifetimeEnd};
+ghost use Rattle.hn_deleg.specs.Due.{IsEnd, IsDelegationEnd, IsEndIn, IsLifetimeEnd};
 
 use crate::announcements::remaining;
 use hn_base::{Moment, sooner};
@@ -21,7 +21,7 @@ fn next_of_lifetime(now: Moment, age: u64, seconds: u32, best: Moment) -> Moment
 
 /// The first of the moments at which the two lifetimes of a delegation end.
 fn next_of_delegation(now: Moment, age: u64, d: &Delegation, best: Moment) -> Moment
-    ensures { IsSooner (IsEndOf now age d.now) now best result }
+    ensures { IsSooner (IsDelegationEnd now age d.now) now best result }
 {
     let valid = next_of_lifetime(now, age, d.valid, best);
     next_of_lifetime(now, age, d.preferred, valid)
@@ -29,7 +29,7 @@ fn next_of_delegation(now: Moment, age: u64, d: &Delegation, best: Moment) -> Mo
 
 /// The first of these moments of delegations.
 fn next_of_delegations(now: Moment, age: u64, delegations: &[Delegation], best: Moment) -> Moment
-    ensures { IsSooner (IsOfElement (IsEndOf now age) delegations.now) now best result }
+    ensures { IsSooner (IsOfElement (IsDelegationEnd now age) delegations.now) now best result }
 {
     let mut first = best;
     for d in delegations {

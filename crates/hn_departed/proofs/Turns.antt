@@ -6,7 +6,7 @@ use Rattle.hn_base.proofs.AscendingLists.{Contains-map}
 use Rattle.hn_base.proofs.Elements.{in_filter}
 use Rattle.hn_advert.specs.declared.advert.Info.{Info}
 use Rattle.hn_departed.specs.declared.departures.Told.{Told}
-use Rattle.hn_departed.specs.Departed.{until_of, told_of, deprecated, is_among, is_departed, departed, told_after}
+use Rattle.hn_departed.specs.Departed.{until_of, told_of, deprecated, is_prefix_among, is_departed, departed, told_after}
 use Rattle.hn_departed.specs.Laws.{Turn, sent_in, IsDeprecatedIn}
 
 both_true : (a b : Bool) → a ≡ true → b ≡ false → (a && not b) ≡ true
@@ -14,14 +14,14 @@ both_true true true p q = absurd (cc)
 both_true true false p q = refl
 both_true false b p q = absurd (cc)
 
-passes : (now : ℕ) (infos : List Info) (told : Told) → now < told.until → is_among told.prefix infos ≡ false → is_departed now infos told ≡ true
-passes now infos told before absent = both_true (nat_lt now told.until) (is_among told.prefix infos) (search (rules, tests)) absent
+passes : (now : ℕ) (infos : List Info) (told : Told) → now < told.until → is_prefix_among told.prefix infos ≡ false → is_departed now infos told ≡ true
+passes now infos told before absent = both_true (nat_lt now told.until) (is_prefix_among told.prefix infos) (search (rules, tests)) absent
 
-stays_departed : (now : ℕ) (infos : List Info) (all : List Told) (told : Told) → Contains all told → now < told.until → is_among told.prefix infos ≡ false → Contains (departed now infos all) told
+stays_departed : (now : ℕ) (infos : List Info) (all : List Told) (told : Told) → Contains all told → now < told.until → is_prefix_among told.prefix infos ≡ false → Contains (departed now infos all) told
 stays_departed now infos all told there before absent = in_filter (is_departed now infos) all told there (passes now infos told before absent)
 
 abbrev IsQuiet : Info → ℕ → Turn → Type 0
-IsQuiet info end turn = (turn.now < end) × (is_among info.prefix turn.infos ≡ false)
+IsQuiet info end turn = (turn.now < end) × (is_prefix_among info.prefix turn.infos ≡ false)
 
 told_again : (now : ℕ) (info : Info) (turns : List Turn) (all : List Told) → Contains all (told_of now info)
     → All (IsQuiet info (until_of now info.valid)) turns → All (IsDeprecatedIn info) (sent_in turns all)

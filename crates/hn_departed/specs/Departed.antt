@@ -23,12 +23,12 @@ abbrev pub deprecated : ℕ → Told → Info
 deprecated now told = record { prefix = told.prefix; valid = left_of now told.until; preferred = 0 }
 
 -- whether a prefix is among those
-abbrev pub is_among : PlainPrefix → List Info → Bool
-is_among prefix infos = list_any (λ info. info.prefix.bits == prefix.bits && info.prefix.len == prefix.len) infos
+abbrev pub is_prefix_among : PlainPrefix → List Info → Bool
+is_prefix_among prefix infos = list_any (λ info. info.prefix.bits == prefix.bits && info.prefix.len == prefix.len) infos
 
 -- whether what was told has not ended and is not among those
 abbrev pub is_departed : ℕ → List Info → Told → Bool
-is_departed now infos told = nat_lt now told.until && not (is_among told.prefix infos)
+is_departed now infos told = nat_lt now told.until && not (is_prefix_among told.prefix infos)
 
 -- all of what was told that is so
 abbrev pub departed : ℕ → List Info → List Told → List Told

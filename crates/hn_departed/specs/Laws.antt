@@ -3,7 +3,7 @@ use Rattle.std.specs.Prelude.{◌≡◌, ◌≢◌, ℕ, ◌<◌, false, List, [
 use Rattle.hn_base.specs.declared.ids.EpId.{EpId}
 use Rattle.hn_advert.specs.declared.advert.Info.{Info}
 use Rattle.hn_departed.specs.declared.departures.Told.{Told}
-use Rattle.hn_departed.specs.Departed.{until_of, deprecated, told_of, is_among, with_departed, told_after, told_at, with_told}
+use Rattle.hn_departed.specs.Departed.{until_of, deprecated, told_of, is_prefix_among, with_departed, told_after, told_at, with_told}
 
 -- at a moment an advertisement is sent that is to have these prefixes
 pub record Turn : Type 0 where
@@ -27,7 +27,7 @@ pub record IsDeprecatedIn (info : Info) (sent : List Info) : Type 0 where
 abbrev pub DepartedAreTold : Type 0
 DepartedAreTold =
     (told : List Told) (now : ℕ) (infos : List Info) (info : Info) (turns : List Turn)
-    → Contains infos info → All (λ turn. (turn.now < until_of now info.valid) × (is_among info.prefix turn.infos ≡ false)) turns
+    → Contains infos info → All (λ turn. (turn.now < until_of now info.valid) × (is_prefix_among info.prefix turn.infos ≡ false)) turns
     → All (IsDeprecatedIn info) (sent_in turns (told_after now infos told))
 
 -- What is told on an endpoint is what was told there last.

@@ -1,5 +1,5 @@
 ghost use Rattle.std.specs.Prelude.{◌≡◌, ◌++◌, [], map, IfOk, OnOk, OnErr};
-ghost use Rattle.hn_departed.specs.Departed.{until_of, left_of, told_of, deprecated, is_among, departed, with_departed, told_after, told_at, told_beside, with_told};
+ghost use Rattle.hn_departed.specs.Departed.{until_of, left_of, told_of, deprecated, is_prefix_among, departed, with_departed, told_after, told_at, told_beside, with_told};
 
 use hn_advert::{Info, Infos};
 use hn_base::{EpId, Moment, NoMemory, Sequence};
@@ -65,7 +65,7 @@ fn deprecated(now: Moment, told: &Told) -> Info
 
 /// Whether a prefix is among those.
 fn is_among(prefix: Prefix, infos: &[Info]) -> bool
-    ensures { result ≡ is_among prefix infos.now }
+    ensures { result ≡ is_prefix_among prefix infos.now }
 {
     infos.iter().any(|info| info.prefix == prefix)
 }

@@ -13,7 +13,7 @@ use Rattle.hn_base.proofs.AmongFirst.{IsOfFirst, none_of_first, first_further, f
 use Rattle.hn_base.proofs.PartsAtPlaces.{part_stands}
 use Rattle.hn_data.specs.View.{ids_of}
 use Rattle.hn_data.specs.declared.view.Entry.{Entry}
-use Rattle.hn_graph.specs.Search.{IsFound, HasFound}
+use Rattle.hn_graph.specs.Search.{IsPlaceMarked, HasFound}
 
 nothing_sorted : IsStrictlySortedBy node_cmp []
 unfolding IsStrictlySortedBy
@@ -21,7 +21,7 @@ nothing_sorted = tt
 
 -- one of the first n nodes is marked and has this identifier
 abbrev pub HasFoundBefore : List Entry → List Bool → ℕ → NodeId → Type 0
-HasFoundBefore nodes found n id = IsOfFirst (λ place node. IsFound found place × (node.id ≡ id)) nodes n
+HasFoundBefore nodes found n id = IsOfFirst (λ place node. IsPlaceMarked found place × (node.id ≡ id)) nodes n
 
 -- the identifiers of the marked ones of the first n nodes, in ascending order
 pub record AreFound (nodes : List Entry) (found : List Bool) (n : ℕ) (ids : List NodeId) : Type 0 where
@@ -31,18 +31,18 @@ pub record AreFound (nodes : List Entry) (found : List Bool) (n : ℕ) (ids : Li
 pub none_found : (nodes : List Entry) (found : List Bool) → AreFound nodes found 0 []
 none_found nodes found = record {
   ascending = nothing_sorted;
-  exact = λ id. (λ h. absurd (nothing_in id h), λ h. absurd (none_of_first (λ place node. IsFound found place × (node.id ≡ id)) nodes h));
+  exact = λ id. (λ h. absurd (nothing_in id h), λ h. absurd (none_of_first (λ place node. IsPlaceMarked found place × (node.id ≡ id)) nodes h));
 }
 
 -- the next node is not marked
 pub found_same : (nodes : List Entry) (found : List Bool) (n : ℕ) (ids : List NodeId) (node : Entry) → AreFound nodes found n ids
-    → slice_get nodes n ≡ Some node → ¬ (IsFound found n) → AreFound nodes found (n + 1) ids
+    → slice_get nodes n ≡ Some node → ¬ (IsPlaceMarked found n) → AreFound nodes found (n + 1) ids
 found_same nodes found n ids node were at un = record {
   ascending = were.ascending;
   exact = λ id. (
-    λ h. first_further (λ place x. IsFound found place × (x.id ≡ id)) nodes n ((were.exact id).0 h),
-    λ h. ⊎_elim (λ (old : HasFoundBefore nodes found n id). (were.exact id).1 old) (λ (new : IsFound found n × (node.id ≡ id)). absurd (un new.0))
-        (first_cases (λ place x. IsFound found place × (x.id ≡ id)) nodes n node at h),
+    λ h. first_further (λ place x. IsPlaceMarked found place × (x.id ≡ id)) nodes n ((were.exact id).0 h),
+    λ h. ⊎_elim (λ (old : HasFoundBefore nodes found n id). (were.exact id).1 old) (λ (new : IsPlaceMarked found n × (node.id ≡ id)). absurd (un new.0))
+        (first_cases (λ place x. IsPlaceMarked found place × (x.id ≡ id)) nodes n node at h),
   );
 }
 
@@ -60,16 +60,16 @@ below_next nodes found n node id up at h =
 
 -- the next node is marked
 pub found_more : (nodes : List Entry) (found : List Bool) (n : ℕ) (ids : List NodeId) (node : Entry) → IsStrictlySortedBy nat_cmp (ids_of nodes)
-    → AreFound nodes found n ids → slice_get nodes n ≡ Some node → IsFound found n → AreFound nodes found (n + 1) (ids ++ node.id ∷ [])
+    → AreFound nodes found n ids → slice_get nodes n ≡ Some node → IsPlaceMarked found n → AreFound nodes found (n + 1) (ids ++ node.id ∷ [])
 found_more nodes found n ids node up were at marked = record {
   ascending = sorted_push node_cmp ids node.id were.ascending (λ id h. below_next nodes found n node id up at ((were.exact id).0 h));
   exact = λ id. (
-    λ h. ⊎_elim (λ (old : Contains ids id). first_further (λ place x. IsFound found place × (x.id ≡ id)) nodes n ((were.exact id).0 old))
-        (λ (is : node.id ≡ id). first_last (λ place x. IsFound found place × (x.id ≡ id)) nodes n node at (marked, is))
+    λ h. ⊎_elim (λ (old : Contains ids id). first_further (λ place x. IsPlaceMarked found place × (x.id ≡ id)) nodes n ((were.exact id).0 old))
+        (λ (is : node.id ≡ id). first_last (λ place x. IsPlaceMarked found place × (x.id ≡ id)) nodes n node at (marked, is))
         (Contains-push_cases ids node.id id h),
     λ h. ⊎_elim (λ (old : HasFoundBefore nodes found n id). Contains-append_left ids (node.id ∷ []) id ((were.exact id).1 old))
-        (λ (new : IsFound found n × (node.id ≡ id)). subst (λ (i : NodeId). Contains (ids ++ node.id ∷ []) i) new.1 (Contains-push ids node.id))
-        (first_cases (λ place x. IsFound found place × (x.id ≡ id)) nodes n node at h),
+        (λ (new : IsPlaceMarked found n × (node.id ≡ id)). subst (λ (i : NodeId). Contains (ids ++ node.id ∷ []) i) new.1 (Contains-push ids node.id))
+        (first_cases (λ place x. IsPlaceMarked found place × (x.id ≡ id)) nodes n node at h),
   );
 }
 
@@ -77,5 +77,5 @@ found_more nodes found n ids node up were at marked = record {
 pub found_all : (nodes : List Entry) (found : List Bool) (n : ℕ) (ids : List NodeId) (id : NodeId) → length nodes ≤ n → AreFound nodes found n ids → Contains ids id ↔ HasFound nodes found id
 found_all nodes found n ids id all are = (
   λ c. let h = (are.exact id).0 c in record { place = h.k; node = h.x; at = h.at; marked = h.fact.0; is_it = h.fact.1 },
-  λ h. (are.exact id).1 (first_of_all (λ place x. IsFound found place × (x.id ≡ id)) nodes n h.place h.node all h.at (h.marked, h.is_it)),
+  λ h. (are.exact id).1 (first_of_all (λ place x. IsPlaceMarked found place × (x.id ≡ id)) nodes n h.place h.node all h.at (h.marked, h.is_it)),
 )

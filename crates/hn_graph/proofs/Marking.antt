@@ -6,7 +6,7 @@ use Rattle.std.proofs.lemmas.List.{length-set, get_or-set_same, get_or-set_other
 use Rattle.std.proofs.lemmas.List.Elements.{Contains-push, Contains-push_cases, Contains-append_left}
 use Rattle.std.proofs.lemmas.List.Sums.{sum_by-set}
 use Rattle.hn_base.proofs.AscendingLists.{nothing_in}
-use Rattle.hn_graph.specs.Search.{IsFound, HasMarked}
+use Rattle.hn_graph.specs.Search.{IsPlaceMarked, HasMarked}
 
 pub none_marked : (found : List Bool) (visits : List ℕ) → HasMarked [] found visits found visits
 none_marked found visits = record {
@@ -21,24 +21,25 @@ none_marked found visits = record {
 
 -- a place that is marked already
 pub mark_again : (places : List ℕ) (found : List Bool) (visits : List ℕ) (found' : List Bool) (visits' : List ℕ) (p : ℕ)
-    → HasMarked places found visits found' visits' → IsFound found' p → HasMarked (places ++ p ∷ []) found visits found' visits'
+    → HasMarked places found visits found' visits' → IsPlaceMarked found' p → HasMarked (places ++ p ∷ []) found visits found' visits'
 mark_again places found visits found' visits' p m is = record {
   same_length = m.same_length;
   marks_stay = m.marks_stay;
-  marks_given = λ k h. ⊎_elim (m.marks_given k) (λ (e : p ≡ k). subst (IsFound found') e is) (Contains-push_cases places p k h);
-  marks_only = λ k h. ⊎_elim (λ (old : IsFound found k). inl old) (λ (new : Contains places k × Contains visits' k). inr (Contains-append_left places (p ∷ []) k new.0, new.1)) (m.marks_only k h);
+  marks_given = λ k h. ⊎_elim (m.marks_given k) (λ (e : p ≡ k). subst (IsPlaceMarked found') e is) (Contains-push_cases places p k h);
+  marks_only = λ k h. ⊎_elim (λ (old : IsPlaceMarked found k). inl old)
+      (λ (new : Contains places k × Contains visits' k). inr (Contains-append_left places (p ∷ []) k new.0, new.1)) (m.marks_only k h);
   visits_stay = m.visits_stay;
   visits_only = λ k h. ⊎_elim (λ (old : Contains visits k). inl old) (λ (new : Contains places k). inr (Contains-append_left places (p ∷ []) k new)) (m.visits_only k h);
   as_many = m.as_many;
 }
 
-set_stays : (found : List Bool) (p k : ℕ) → p < length found → IsFound found k → IsFound (set found p true) k
+set_stays : (found : List Bool) (p k : ℕ) → p < length found → IsPlaceMarked found k → IsPlaceMarked (set found p true) k
 set_stays found p k lt h =
     ⊎_elim (λ (e : k ≡ p). rw e (get_or-set_same found p true false lt))
     (λ (ne : k ≢ p). get_or-set_other found p k true false ne ∙ h)
     (cases_eq k p)
 
-set_only : (found : List Bool) (p k : ℕ) → IsFound (set found p true) k → IsFound found k ⊎ (p ≡ k)
+set_only : (found : List Bool) (p k : ℕ) → IsPlaceMarked (set found p true) k → IsPlaceMarked found k ⊎ (p ≡ k)
 set_only found p k h =
     ⊎_elim (λ (e : k ≡ p). inr (sym e))
     (λ (ne : k ≢ p). inl (sym (get_or-set_other found p k true false ne) ∙ h))
@@ -58,8 +59,8 @@ mark_new places found visits found' visits' p m lt un = record {
   same_length = length-set found' p true ∙ m.same_length;
   marks_stay = λ k h. set_stays found' p k lt (m.marks_stay k h);
   marks_given = λ k h. ⊎_elim (λ (old : Contains places k). set_stays found' p k lt (m.marks_given k old))
-      (λ (e : p ≡ k). subst (IsFound (set found' p true)) e (get_or-set_same found' p true false lt)) (Contains-push_cases places p k h);
-  marks_only = λ k h. ⊎_elim (λ (was : IsFound found' k). ⊎_elim (λ (old : IsFound found k). inl old)
+      (λ (e : p ≡ k). subst (IsPlaceMarked (set found' p true)) e (get_or-set_same found' p true false lt)) (Contains-push_cases places p k h);
+  marks_only = λ k h. ⊎_elim (λ (was : IsPlaceMarked found' k). ⊎_elim (λ (old : IsPlaceMarked found k). inl old)
       (λ (new : Contains places k × Contains visits' k). inr (Contains-append_left places (p ∷ []) k new.0, Contains-append_left visits' (p ∷ []) k new.1)) (m.marks_only k was))
       (λ (e : p ≡ k). inr (subst (Contains (places ++ p ∷ [])) e (Contains-push places p), subst (Contains (visits' ++ p ∷ [])) e (Contains-push visits' p)))
       (set_only found' p k h);

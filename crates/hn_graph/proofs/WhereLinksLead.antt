@@ -12,7 +12,7 @@ use Rattle.hn_data.specs.Peers.{HasPeer, peer_link}
 use Rattle.hn_data.specs.declared.said.PeerLink.{PeerLink}
 use Rattle.hn_data.specs.declared.view.Entry.{Entry}
 use Rattle.hn_data.specs.Links.{IsPeerAt}
-use Rattle.hn_graph.specs.Search.{IsNext, IsFound}
+use Rattle.hn_graph.specs.Search.{IsNext, IsPlaceMarked}
 use Rattle.hn_graph.specs.Path.{IsRecent}
 
 -- one of the first n links leads to the place
@@ -22,7 +22,7 @@ IsAcross nodes x links n place = IsOfFirst (λ _ link. IsPeerAt nodes x link pla
 -- a list has the places to which one of the first n links leads, but for places that are marked
 abbrev pub AreAcross : List Entry → Entry → List PeerLink → List Bool → ℕ → List ℕ → Type 0
 AreAcross nodes x links found n places =
-    (place : ℕ) → (Contains places place → IsAcross nodes x links n place) × (IsAcross nodes x links n place → IsFound found place ⊎ Contains places place)
+    (place : ℕ) → (Contains places place → IsAcross nodes x links n place) × (IsAcross nodes x links n place → IsPlaceMarked found place ⊎ Contains places place)
 
 pub none_across : (nodes : List Entry) (x : Entry) (links : List PeerLink) (found : List Bool) → AreAcross nodes x links found 0 []
 none_across nodes x links found place = (λ h. absurd (nothing_in place h), λ across. absurd (none_of_first (λ _ link. IsPeerAt nodes x link place) links across))
@@ -35,7 +35,7 @@ across_more nodes x links found n places link there up were at leads place = (
       (λ (is : there ≡ place). first_last (λ _ l. IsPeerAt nodes x l place) links n link at (subst (λ (p : ℕ). IsPeerAt nodes x link p) is leads))
       (Contains-push_cases places there place h),
   λ across. ⊎_elim (λ (old : IsAcross nodes x links n place).
-      ⊎_elim (λ (marked : IsFound found place). inl marked) (λ (in' : Contains places place). inr (Contains-append_left places (there ∷ []) place in')) ((were place).1 old))
+      ⊎_elim (λ (marked : IsPlaceMarked found place). inl marked) (λ (in' : Contains places place). inr (Contains-append_left places (there ∷ []) place in')) ((were place).1 old))
       (λ (last : IsPeerAt nodes x link place).
       let same : there ≡ place = one_place_of (λ n. n.id.0) nodes up there place leads.y last.y leads.at last.at (leads.is_peer ∙ sym last.is_peer) in
       inr (subst (λ (p : ℕ). Contains (places ++ there ∷ []) p) same (Contains-push places there)))
@@ -44,7 +44,7 @@ across_more nodes x links found n places link there up were at leads place = (
 
 -- the next link leads nowhere, or to a place that is marked
 pub across_same : (nodes : List Entry) (x : Entry) (links : List PeerLink) (found : List Bool) (n : ℕ) (places : List ℕ) (link : PeerLink)
-    → AreAcross nodes x links found n places → slice_get links n ≡ Some link → ((place : ℕ) → IsPeerAt nodes x link place → IsFound found place) → AreAcross nodes x links found (n + 1) places
+    → AreAcross nodes x links found n places → slice_get links n ≡ Some link → ((place : ℕ) → IsPeerAt nodes x link place → IsPlaceMarked found place) → AreAcross nodes x links found (n + 1) places
 across_same nodes x links found n places link were at marked place = (
   λ h. first_further (λ _ l. IsPeerAt nodes x l place) links n ((were place).0 h),
   λ across. ⊎_elim (λ (old : IsAcross nodes x links n place). (were place).1 old) (λ (last : IsPeerAt nodes x link place). inl (marked place last))
@@ -75,7 +75,7 @@ leads_at nodes x link place leads = part_stands (λ (n : Entry). n.id.0) nodes p
 
 -- so where that node is marked, it leads to a marked one
 pub leads_there : (nodes : List Entry) (x : Entry) (link : PeerLink) (found : List Bool) (there : ℕ) → IsStrictlySortedBy nat_cmp (ids_of nodes)
-    → slice_get (ids_of nodes) there ≡ Some link.peer.0 → IsFound found there
-    → (place : ℕ) → IsPeerAt nodes x link place → IsFound found place
+    → slice_get (ids_of nodes) there ≡ Some link.peer.0 → IsPlaceMarked found there
+    → (place : ℕ) → IsPeerAt nodes x link place → IsPlaceMarked found place
 leads_there nodes x link found there up is marked place leads =
-    subst (IsFound found) (one_place (ids_of nodes) up there place link.peer.0 is (leads_at nodes x link place leads)) marked
+    subst (IsPlaceMarked found) (one_place (ids_of nodes) up there place link.peer.0 is (leads_at nodes x link place leads)) marked

@@ -21,20 +21,20 @@ abbrev pub AreAbove : List ℕ → ℕ → ℕ → Type 0
 AreAbove numbers place number = (k : ℕ) → place ≤ k → k < length numbers → number < slice_index_or numbers k 0
 
 -- the place is marked
-abbrev pub IsFound : List Bool → ℕ → Type 0
-IsFound found place = slice_index_or found place false ≡ true
+abbrev pub IsPlaceMarked : List Bool → ℕ → Type 0
+IsPlaceMarked found place = slice_index_or found place false ≡ true
 
 -- Paths may go from x to these places, and to no others but those that are marked.
-pub record AreNext (nodes : List Entry) (x : Entry) (found : List Bool) (places : List ℕ) : Type 0 where
+pub record ArePlacesNext (nodes : List Entry) (x : Entry) (found : List Bool) (places : List ℕ) : Type 0 where
   pub only : (place : ℕ) → Contains places place → IsNext nodes x place
-  pub all : (place : ℕ) → IsNext nodes x place → IsFound found place ⊎ Contains places place
+  pub all : (place : ℕ) → IsNext nodes x place → IsPlaceMarked found place ⊎ Contains places place
 
 -- The given places are marked too, and no others; those newly marked are to be visited, and no others.
 pub record HasMarked (places : List ℕ) (found : List Bool) (visits : List ℕ) (found' : List Bool) (visits' : List ℕ) : Type 0 where
   pub same_length : length found' ≡ length found
-  pub marks_stay : (k : ℕ) → IsFound found k → IsFound found' k
-  pub marks_given : (k : ℕ) → Contains places k → IsFound found' k
-  pub marks_only : (k : ℕ) → IsFound found' k → IsFound found k ⊎ (Contains places k × Contains visits' k)
+  pub marks_stay : (k : ℕ) → IsPlaceMarked found k → IsPlaceMarked found' k
+  pub marks_given : (k : ℕ) → Contains places k → IsPlaceMarked found' k
+  pub marks_only : (k : ℕ) → IsPlaceMarked found' k → IsPlaceMarked found k ⊎ (Contains places k × Contains visits' k)
   pub visits_stay : (k : ℕ) → Contains visits k → Contains visits' k
   pub visits_only : (k : ℕ) → Contains visits' k → Contains visits k ⊎ Contains places k
   pub as_many : count_by not found' + length visits' ≡ count_by not found + length visits
@@ -44,5 +44,5 @@ pub record HasFound (nodes : List Entry) (found : List Bool) (id : NodeId) : Typ
   pub place : ℕ
   pub node : Entry
   pub at : slice_get nodes place ≡ Some node
-  pub marked : IsFound found place
+  pub marked : IsPlaceMarked found place
   pub is_it : node.id ≡ id

@@ -9,7 +9,7 @@ ghost use Rattle.hn_base.specs.declared.ids.NodeId.{NodeId};
 ghost use Rattle.hn_data.specs.Links.{IsPeerAt};
 ghost use Rattle.hn_data.specs.Peers.{HasPeer, peer_link};
 ghost use Rattle.hn_data.specs.View.{ids_of};
-ghost use Rattle.hn_graph.specs.Search.{IsFound, AreNext, HasMarked, HasFound, AreBelow, AreAbove};
+ghost use Rattle.hn_graph.specs.Search.{IsPlaceMarked, ArePlacesNext, HasMarked, HasFound, AreBelow, AreAbove};
 
 use hn_base::{NoMemory, NodeId, NodeIds, is_in_set};
 use hn_data::{Entry, PeerLink};
@@ -109,7 +109,7 @@ fn open_place(
     requires marks { length found.now ≡ length nodes.now }
     requires said { HasPeer node.now.body link.now }
     ensures found { IfSome result (IsPeerAt nodes.now node.now link.now) }
-    ensures absent { IfNone result ((place : ℕ) → IsPeerAt nodes.now node.now link.now place → IsFound found.now place) }
+    ensures absent { IfNone result ((place : ℕ) → IsPeerAt nodes.now node.now link.now place → IsPlaceMarked found.now place) }
 {
     let Some(place) = next_to(nodes, near, link.peer) else {
         return None;
@@ -133,7 +133,7 @@ pub(crate) fn next_places(
 ) -> Result<(), NoMemory>
     requires ascending { IsStrictlySortedBy nat_cmp (ids_of nodes.now) }
     requires marks { length found.now ≡ length nodes.now }
-    ensures { OnOk result (AreNext nodes.now node.now found.now places.new.items) }
+    ensures { OnOk result (ArePlacesNext nodes.now node.now found.now places.new.items) }
 {
     places.clear();
     if node.age >= AGE_LIMIT {

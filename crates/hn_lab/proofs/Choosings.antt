@@ -17,7 +17,7 @@ use Rattle.hn_lab.specs.declared.end.Stop.{Stop}
 use Rattle.hn_lab.specs.declared.end.Stop.TheVariants.{Refused, Cut}
 use Rattle.hn_lab.specs.Choosing.{TakesWords, MayHappen, MakesChoice, Chooses}
 use Rattle.hn_lab.specs.Ended.{IsStopped, Leaves}
-use Rattle.hn_lab.specs.Process.{Unless, Then}
+use Rattle.hn_lab.specs.Process.{Unless, ThenProcess}
 use Rattle.hn_lab.specs.Stage.{Stage}
 use Rattle.hn_lab.specs.Tells.{TellsLines}
 use Rattle.hn_lab.proofs.RunStops.{then_on, stopped_within, stopped_last, starved}
@@ -73,7 +73,7 @@ module _ {A : Type 0} (name : Name) (IsMadeBy : State → A → List ℕ → Typ
     takes_words = takes words p q took same;
   }
 
-  choice_ends : (made : A) (stop : Option Stop) (p q a : Stage) → HasChosen made p q → Then (MayHappen (event_for made)) (TellsLines (told_of made)) stop q a → Chooses name IsMadeBy event_for told_of stop p a
+  choice_ends : (made : A) (stop : Option Stop) (p q a : Stage) → HasChosen made p q → ThenProcess (MayHappen (event_for made)) (TellsLines (told_of made)) stop q a → Chooses name IsMadeBy event_for told_of stop p a
   choice_ends made stop p q a chosen ends =
       then_on (Unless (unless_runs name p.world)) (MakesChoice name IsMadeBy event_for told_of) stop p p a (chosen.runs, refl) (record {
         member = chosen.member;

@@ -6,7 +6,7 @@ use Rattle.hn_rules.specs.declared.done.Note.{Note}
 use Rattle.hn_lab.specs.declared.end.Stop.{Stop}
 use Rattle.hn_lab.specs.declared.end.Stop.TheVariants.{Refused, WireFailed, Cut}
 use Rattle.hn_lab.specs.Laws.{IsTold}
-use Rattle.hn_lab.specs.Process.{Process, Nothing, Unless, Then, Each}
+use Rattle.hn_lab.specs.Process.{Process, Nothing, Unless, ThenProcess, EachProcess}
 use Rattle.hn_lab.specs.Stage.{Stage}
 use Rattle.hn_lab.specs.Told.{Told}
 
@@ -195,7 +195,7 @@ Joined P R c p a = (between : Stage) × P None p between × R c between a
 abbrev Fails : Process → Process
 Fails P c p a = (stop : Stop) × (c ≡ Some stop) × P (Some stop) p a
 
-parts_of : (P R : Process) (c : Option Stop) (p a : Stage) → Then P R c p a → Fails P c p a ⊎ Joined P R c p a
+parts_of : (P R : Process) (c : Option Stop) (p a : Stage) → ThenProcess P R c p a → Fails P c p a ⊎ Joined P R c p a
 parts_of P R None p a h = inr h
 parts_of P R (Some stop) p a (inl h) = inl (stop, refl, h)
 parts_of P R (Some stop) p a (inr h) = inr h
@@ -210,7 +210,7 @@ stopped_or_on P Q S alike grows c d p a b told h k = by_first (alike (Some h.0) 
     by_first (SecondIsShort short on) = absurd short
 
 pub alike_then : (P Q R S : Process) → AreAlike P Q → KeepsTold P → OnlyGrows R → OnlyGrows S
-    → ((p x y : Stage) → IsTold p.route → P None p x → Q None p y → AreAlike R S) → AreAlike (Then P R) (Then Q S)
+    → ((p x y : Stage) → IsTold p.route → P None p x → Q None p y → AreAlike R S) → AreAlike (ThenProcess P R) (ThenProcess Q S)
 alike_then P Q R S alike keeps grows_r grows_s after c d p a b told h k = cases (parts_of P R c p a h) (parts_of Q S d p b k)
   where
     cases : Fails P c p a ⊎ Joined P R c p a → Fails Q d p b ⊎ Joined Q S d p b → Agree c d a b
@@ -224,17 +224,17 @@ alike_then P Q R S alike keeps grows_r grows_s after c d p a b told h k = cases 
         let same = both_done x.0 y.0 (alike None None p x.0 y.0 told x.1 y.1) in
         after p x.0 y.0 told x.1 y.1 c d x.0 a b (keeps p x.0 told x.1) x.2 (subst (λ (s : Stage). S d s b) (sym same) y.2)
 
-pub grows_then : (P R : Process) → OnlyGrows P → OnlyGrows R → OnlyGrows (Then P R)
+pub grows_then : (P R : Process) → OnlyGrows P → OnlyGrows R → OnlyGrows (ThenProcess P R)
 grows_then P R grows_p grows_r c p a h = cases (parts_of P R c p a h)
   where
     cases : Fails P c p a ⊎ Joined P R c p a → Grows p a
     cases (inl x) = grows_p (Some x.0) p a x.2
     cases (inr x) = grows_on p x.0 a (grows_p None p x.0 x.1) (grows_r c x.0 a x.2)
 
-pub keeps_then : (P R : Process) → KeepsTold P → KeepsTold R → KeepsTold (Then P R)
+pub keeps_then : (P R : Process) → KeepsTold P → KeepsTold R → KeepsTold (ThenProcess P R)
 keeps_then P R keeps_p keeps_r p a told h = keeps_r h.0 a (keeps_p p h.0 told h.1) h.2
 
-pub sole_then : (P R : Process) → IsSole P → IsSole R → IsSole (Then P R)
+pub sole_then : (P R : Process) → IsSole P → IsSole R → IsSole (ThenProcess P R)
 sole_then P R first second = record {
   one = alike_then P P R R first.one first.keeps second.grows second.grows (λ p x y told h k. second.one);
   keeps = keeps_then P R first.keeps second.keeps;
@@ -242,12 +242,12 @@ sole_then P R first second = record {
 }
 
 -- for each of a list
-pub sole_each : {A : Type 0} (each : A → Process) → ((x : A) → IsSole (each x)) → (xs : List A) → IsSole (Each each xs)
+pub sole_each : {A : Type 0} (each : A → Process) → ((x : A) → IsSole (each x)) → (xs : List A) → IsSole (EachProcess each xs)
 sole_each each sole [] = sole_nothing
-sole_each each sole (x ∷ xs) = sole_then (each x) (Each each xs) (sole x) (sole_each each sole xs)
+sole_each each sole (x ∷ xs) = sole_then (each x) (EachProcess each xs) (sole x) (sole_each each sole xs)
 
 -- then one that notes something
-pub then_noting : (P : Process) (R : List Note → Process) → IsSole P → IsSoleNoting R → IsSoleNoting (λ notes. Then P (R notes))
+pub then_noting : (P : Process) (R : List Note → Process) → IsSole P → IsSoleNoting R → IsSoleNoting (λ notes. ThenProcess P (R notes))
 then_noting P R first second = record {
   one = λ m n. alike_then P P (R m) (R n) first.one first.keeps (second.grows m) (second.grows n) (λ p x y told h k. second.one m n);
   notes = λ m n p a b told h k.
@@ -259,7 +259,7 @@ then_noting P R first second = record {
 
 -- what is noted, and then what follows from it
 pub noting_then : (P : List Note → Process) (R : List Note → Process) → IsSoleNoting P → ((n : List Note) → IsSole (R n))
-    → IsSole (λ stop p a. (notes : List Note) × Then (P notes) (R notes) stop p a)
+    → IsSole (λ stop p a. (notes : List Note) × ThenProcess (P notes) (R notes) stop p a)
 noting_then P R first second = record {
   one = λ c d p a b told h k.
       alike_then (P h.0) (P k.0) (R h.0) (R k.0) (first.one h.0 k.0) (first.keeps h.0) (second h.0).grows (second k.0).grows

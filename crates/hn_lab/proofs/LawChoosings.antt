@@ -20,7 +20,7 @@ use Rattle.hn_lab.specs.declared.end.Stop.{Stop}
 use Rattle.hn_lab.specs.AddressReports.{addresses_lines, IsAddressed, IsAddressedLine}
 use Rattle.hn_lab.specs.Choosing.{TakesWords, MayHappen, MakesChoice, Chooses}
 use Rattle.hn_lab.specs.Laws.{IsTold}
-use Rattle.hn_lab.specs.Process.{Unless, Then}
+use Rattle.hn_lab.specs.Process.{Unless, ThenProcess}
 use Rattle.hn_lab.specs.Stage.{Stage}
 use Rattle.hn_lab.specs.Tells.{TellsLines}
 use Rattle.hn_lab.specs.UlaReports.{IsUlaCount, IsUlasTold, IsUlasLine}
@@ -42,7 +42,7 @@ sole_may_happen steps (Some event) = sole_event steps event
 
 module _ {A : Type 0} (steps : StepIsUnique) (name : Name) (IsMadeBy : State → A → List ℕ → Type 0) (event_for : A → Option WEvent) (told_of : A → List (List ℕ)) (unique : IsOneChoice IsMadeBy) where
   -- what follows from a choice
-  sole_made : (made : A) → IsSole (Then (MayHappen (event_for made)) (TellsLines (told_of made)))
+  sole_made : (made : A) → IsSole (ThenProcess (MayHappen (event_for made)) (TellsLines (told_of made)))
   sole_made made = sole_then (MayHappen (event_for made)) (TellsLines (told_of made)) (sole_may_happen steps (event_for made)) (sole_tells (told_of made))
 
   -- words are taken: the route and the text stay
@@ -51,15 +51,15 @@ module _ {A : Type 0} (steps : StepIsUnique) (name : Name) (IsMadeBy : State →
 
   -- the other choice is the same, and so it comes to its end from there
   same_choice : (c d : Option Stop) (p a b : Stage) → (h : MakesChoice name IsMadeBy event_for told_of c p a) (k : MakesChoice name IsMadeBy event_for told_of d p b)
-      → Then (MayHappen (event_for h.made)) (TellsLines (told_of h.made)) d h.between b
+      → ThenProcess (MayHappen (event_for h.made)) (TellsLines (told_of h.made)) d h.between b
   same_choice c d p a b h k =
       let member : k.member ≡ h.member = same_Some k.member h.member (sym k.is_member ∙ h.is_member) in
       let is_made : IsMadeBy h.member.router k.made k.words = subst (λ (m : Member). IsMadeBy m.router k.made k.words) member k.is_made in
       let one = unique h.member.router k.made h.made k.words h.words p.words is_made h.is_made k.takes.begins h.takes.begins in
       let takes : TakesWords h.words p k.between = subst (λ (ws : List ℕ). TakesWords ws p k.between) one.1 k.takes in
       let between : k.between ≡ h.between = takes.gives ∙ sym h.takes.gives in
-      subst (λ (s : Stage). Then (MayHappen (event_for h.made)) (TellsLines (told_of h.made)) d s b) between
-      (subst (λ (x : A). Then (MayHappen (event_for x)) (TellsLines (told_of x)) d k.between b) one.0 k.ends)
+      subst (λ (s : Stage). ThenProcess (MayHappen (event_for h.made)) (TellsLines (told_of h.made)) d s b) between
+      (subst (λ (x : A). ThenProcess (MayHappen (event_for x)) (TellsLines (told_of x)) d k.between b) one.0 k.ends)
 
   sole_makes : IsSole (MakesChoice name IsMadeBy event_for told_of)
   sole_makes = record { one = one; keeps = keeps; grows = grows }
@@ -75,7 +75,7 @@ module _ {A : Type 0} (steps : StepIsUnique) (name : Name) (IsMadeBy : State →
       grows c p a h = grows_from h.between p a (sym (ap (λ (s : Stage). s.text) h.takes.gives)) ((sole_made h.made).grows c h.between a h.ends)
 
   pub sole_choice : IsSole (Chooses name IsMadeBy event_for told_of)
-  sole_choice = sole_at (λ p. Then (Unless (unless_runs name p.world)) (MakesChoice name IsMadeBy event_for told_of))
+  sole_choice = sole_at (λ p. ThenProcess (Unless (unless_runs name p.world)) (MakesChoice name IsMadeBy event_for told_of))
       (λ p. sole_then (Unless (unless_runs name p.world)) (MakesChoice name IsMadeBy event_for told_of) (sole_unless (unless_runs name p.world)) sole_makes)
 
 -- ---- reports on addresses

@@ -19,7 +19,7 @@ use Rattle.hn_lab.specs.Carrying.{Carries}
 use Rattle.hn_lab.specs.Delivery.{Happens, EventNotes, EventEnds, injection_for, Replaces, ComesTo, IsConveyed, Conveys, DeliveryEnds}
 use Rattle.hn_lab.specs.Events.{TreatmentEnds, CopyEnds, HasWaiting, Flow, Ticks, Passes, Round, Runs, drawn, is_lost}
 use Rattle.hn_lab.specs.Laws.{IsTold, AdvertIsUnique}
-use Rattle.hn_lab.specs.Process.{Unless, Then, Each, Until}
+use Rattle.hn_lab.specs.Process.{Unless, ThenProcess, EachProcess, Until}
 use Rattle.hn_lab.specs.Sending.{Turns, TickEnds}
 use Rattle.hn_lab.specs.Stage.{Stage, Route}
 use Rattle.hn_lab.proofs.LawAlike.{Grows, grows_none, grows_from, Agree, AreOne, FirstIsShort, SecondIsShort, IsCutShort, apart, IsSole, IsSoleNoting, sole_notes, sole_at, noting_at, IsStill, alike_still, grows_still, sole_unless, sole_then, sole_each, then_noting}
@@ -117,7 +117,7 @@ module _ (steps : StepIsUnique) where
 
   pub noting_delivery : (copy : ℕ) → IsSoleNoting (DeliveryEnds copy)
   noting_delivery copy = noting_at
-      (λ p notes. Then (Unless (refusal p.world (event.Deliver copy))) (Conveys copy notes))
+      (λ p notes. ThenProcess (Unless (refusal p.world (event.Deliver copy))) (Conveys copy notes))
       (λ p. then_noting (Unless (refusal p.world (event.Deliver copy))) (Conveys copy) (sole_unless (refusal p.world (event.Deliver copy))) (noting_conveys copy))
 
   -- ---- the mail flows
@@ -164,13 +164,13 @@ module _ (steps : StepIsUnique) (adverts : RouterHasOneAdvert) (readings : Adver
   sole_tick name = sole_then (EventEnds (event.Tick name)) (Turns name) (sole_event steps (event.Tick name)) (sole_turns adverts readings name)
 
   sole_ticks : IsSole Ticks
-  sole_ticks = sole_at (λ p. Each TickEnds (running_names p.world)) (λ p. sole_each TickEnds sole_tick (running_names p.world))
+  sole_ticks = sole_at (λ p. EachProcess TickEnds (running_names p.world)) (λ p. sole_each TickEnds sole_tick (running_names p.world))
 
   sole_passes : (end step : ℕ) → IsSole (Passes end step)
   sole_passes end step = sole_at (λ p. EventEnds (event.Time (min (p.world.moment + step) end))) (λ p. sole_event steps (event.Time (min (p.world.moment + step) end)))
 
   sole_round : (end step : ℕ) → IsSole (Round end step)
-  sole_round end step = sole_then (Passes end step) (Then Ticks Flow) (sole_passes end step) (sole_then Ticks Flow sole_ticks (sole_flow steps))
+  sole_round end step = sole_then (Passes end step) (ThenProcess Ticks Flow) (sole_passes end step) (sole_then Ticks Flow sole_ticks (sole_flow steps))
 
   sole_rounds : (end step : ℕ) → IsSole (Until (λ p. p.world.moment < end) (Round end step))
   sole_rounds end step = sole_until (λ p. p.world.moment < end) (Round end step) (sole_round end step)

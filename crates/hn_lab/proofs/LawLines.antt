@@ -28,7 +28,7 @@ use Rattle.hn_lab.specs.Laws.{IsTold, ResultsAreUnique}
 use Rattle.hn_lab.specs.Line.{Noted, Delivered, Sets, Tells, IsOf, Compares, OtherEnds, Follows, EndsBy, LineEnds, event_of, receiver, injection, unless_elects, mail_report, seeded}
 use Rattle.hn_lab.specs.PrefixReports.{AreUsedLines, used_lines, prefixes_lines, IsElectLine, elect_line}
 use Rattle.hn_lab.specs.Reports.{IsCompareLine, compare_line, show_line, hash_line}
-use Rattle.hn_lab.specs.Process.{Unless, Then}
+use Rattle.hn_lab.specs.Process.{Unless, ThenProcess}
 use Rattle.hn_lab.specs.Sending.{Solicits, starting, ending, ending_all}
 use Rattle.hn_lab.specs.Stage.{Stage}
 use Rattle.hn_lab.specs.Tells.{TellsLines, ReportsLines, Reports, IsOneLine, note_lines}
@@ -195,10 +195,10 @@ sole_other unique (line.Ulas name) =
     reports_at (unless_runs name) (λ w. Tells name w (IsUlasLine name w)) (λ w. one_tells name w (IsUlasLine name w) (one_ulas name w))
 sole_other unique (line.Sync left right) = sole_sync unique.exchanges left right
 sole_other unique (line.Radv name e) =
-    sole_at (λ p. Then (Unless (unless_elects name e p.world)) (Sets (starting name e)))
+    sole_at (λ p. ThenProcess (Unless (unless_elects name e p.world)) (Sets (starting name e)))
     (λ p. sole_then (Unless (unless_elects name e p.world)) (Sets (starting name e)) (sole_unless (unless_elects name e p.world)) (sole_sets (starting name e) (λ q. refl) (λ q. refl)))
 sole_other unique (line.Solicit name e) =
-    sole_at (λ p. Then (Unless (unless_elects name e p.world)) (Solicits name e))
+    sole_at (λ p. ThenProcess (Unless (unless_elects name e p.world)) (Solicits name e))
     (λ p. sole_then (Unless (unless_elects name e p.world)) (Solicits name e) (sole_unless (unless_elects name e p.world)) (sole_solicits name e))
 sole_other unique _ = sole_never
 

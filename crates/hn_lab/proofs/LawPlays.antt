@@ -13,7 +13,7 @@ use Rattle.hn_lab.specs.declared.end.Stop.TheVariants.{Refused, WireFailed, Cut}
 use Rattle.hn_lab.specs.Laws.{IsTold, IsUnbroken, ResultsAreUnique, CutTextsAreFronts}
 use Rattle.hn_lab.specs.Line.{LineEnds}
 use Rattle.hn_lab.specs.Play.{LineSaid, LinesDone, StopsAt, IsPlay, IsCut, IsCutPlay}
-use Rattle.hn_lab.specs.Process.{Process, Nothing, Then}
+use Rattle.hn_lab.specs.Process.{Process, Nothing, ThenProcess}
 use Rattle.hn_lab.specs.Reports.{refused_line}
 use Rattle.hn_lab.specs.Stage.{Stage}
 use Rattle.hn_lab.specs.Tells.{TellsLines}
@@ -109,7 +109,7 @@ module _ (number : ℕ) (l : Line) (sole : IsSole (LineEnds l)) where
 -- lines are played, one after another
 abbrev Plays : List (ℕ × Line) → Process
 Plays [] stop p a = Nothing stop p a
-Plays (l ∷ ls) stop p a = Then (LineSaid l.0 l.1) (Plays ls) stop p a
+Plays (l ∷ ls) stop p a = ThenProcess (LineSaid l.0 l.1) (Plays ls) stop p a
 
 -- they are stopped at the line of this number
 abbrev Halts : ℕ → Stop → List (ℕ × Line) → Stage → Stage → Type 0

@@ -15,8 +15,8 @@ use Rattle.hn_lab.specs.declared.end.Stop.{Stop}
 use Rattle.hn_lab.specs.declared.senders.Sending.{Sending}
 use Rattle.hn_lab.specs.declared.senders.Shape.{Shape}
 use Rattle.hn_lab.specs.Laws.{IsTold, AdvertIsUnique}
-use Rattle.hn_lab.specs.Process.{Nothing, Each}
-use Rattle.hn_lab.specs.Senders.{shape_of, sends_at, endpoints_of, IsAt}
+use Rattle.hn_lab.specs.Process.{Nothing, EachProcess}
+use Rattle.hn_lab.specs.Senders.{shape_of, sends_at, sender_endpoints, IsSenderAt}
 use Rattle.hn_lab.specs.Sending.{ra_line, IsAsked, IsDue, line_if, sending_now, with_this, drawing, IsTurn, HasNoTurn, MayTurn, TurnEnds, Turns, IsSolicited, Solicits}
 use Rattle.hn_lab.specs.Stage.{Stage}
 use Rattle.hn_lab.specs.Tells.{TellsLines}
@@ -25,7 +25,7 @@ use Rattle.hn_lab.proofs.LawTells.{sole_tells}
 
 -- ---- what decides a turn is one thing
 
-one_at : (name : Name) (e : EpId) (senders : List Sending) (i j : ℕ) (s t : Sending) → IsAt name e senders i s → IsAt name e senders j t → (i ≡ j) × (s ≡ t)
+one_at : (name : Name) (e : EpId) (senders : List Sending) (i j : ℕ) (s t : Sending) → IsSenderAt name e senders i s → IsSenderAt name e senders j t → (i ≡ j) × (s ≡ t)
 one_at name e senders i j s t h k =
     let place : i ≡ j = same_Some i j (sym h.is_first ∙ k.is_first) in
     let there : slice_get senders j ≡ Some s = subst (λ (n : ℕ). slice_get senders n ≡ Some s) place h.is_there in
@@ -108,8 +108,8 @@ module _ (adverts : RouterHasOneAdvert) (readings : AdvertIsUnique) where
             ((sole_tells (line_if h.due (ra_line name e p.world.moment (advert_bytes h.advert)))).grows c h.between a h.ends)
 
   pub sole_turns : (name : Name) → IsSole (Turns name)
-  sole_turns name = sole_at (λ p. Each (TurnEnds name) (endpoints_of name p.senders))
-      (λ p. sole_each (TurnEnds name) (λ e. sole_then Nothing (MayTurn name e) sole_nothing (sole_may_turn name e)) (endpoints_of name p.senders))
+  sole_turns name = sole_at (λ p. EachProcess (TurnEnds name) (sender_endpoints name p.senders))
+      (λ p. sole_each (TurnEnds name) (λ e. sole_then Nothing (MayTurn name e) sole_nothing (sole_may_turn name e)) (sender_endpoints name p.senders))
 
 -- ---- a solicitation
 

@@ -6,7 +6,7 @@ use Rattle.hn_sync.specs.Laws.{ExchangeIsUnique}
 use Rattle.hn_lab.specs.declared.end.Stop.{Stop}
 use Rattle.hn_lab.specs.declared.end.Stop.TheVariants.{Refused, WireFailed, Cut}
 use Rattle.hn_lab.specs.Laws.{IsTold}
-use Rattle.hn_lab.specs.Process.{Unless, Then}
+use Rattle.hn_lab.specs.Process.{Unless, ThenProcess}
 use Rattle.hn_lab.specs.Stage.{Stage}
 use Rattle.hn_lab.specs.Syncing.{Syncs, Exchanges, SyncEnds}
 use Rattle.hn_lab.proofs.LawAlike.{Grows, grows_none, Agree, AreOne, FirstIsShort, SecondIsShort, IsSole, sole_at, sole_unless, sole_then}
@@ -54,5 +54,5 @@ module _ (exchanges : ExchangeIsUnique) (m n : Name) where
   }
 
   pub sole_sync : IsSole (SyncEnds m n)
-  sole_sync = sole_at (λ p. Then (Unless (unless_exchange m n p.world)) (Exchanges m n))
+  sole_sync = sole_at (λ p. ThenProcess (Unless (unless_exchange m n p.world)) (Exchanges m n))
       (λ p. sole_then (Unless (unless_exchange m n p.world)) (Exchanges m n) (sole_unless (unless_exchange m n p.world)) sole_exchange)

@@ -6,12 +6,12 @@ use Rattle.hn_io.specs.declared.fault.IoFault.TheVariants.{Failed, NoMemory}
 use Rattle.hn_lab.specs.declared.end.Stop.{Stop}
 use Rattle.hn_lab.specs.declared.end.Stop.TheVariants.{Refused, WireFailed, Cut}
 use Rattle.hn_lab.specs.Ended.{IsStopped, EndsWith, Ended, Leaves, EndsLeaving}
-use Rattle.hn_lab.specs.Process.{Process, Then}
+use Rattle.hn_lab.specs.Process.{Process, ThenProcess}
 use Rattle.hn_lab.specs.Stage.{Stage, telling}
 use Rattle.hn_lab.specs.Tells.{TellsLines}
 
 -- what goes on after the first
-pub then_on : (first second : Process) (stop : Option Stop) (before between after : Stage) → first None before between → second stop between after → Then first second stop before after
+pub then_on : (first second : Process) (stop : Option Stop) (before between after : Stage) → first None before between → second stop between after → ThenProcess first second stop before after
 then_on first second None before between after done rest = (between, done, rest)
 then_on first second (Some stop) before between after done rest = inr (between, done, rest)
 
@@ -83,6 +83,6 @@ nothing_left process lines before after none done (Some WireFailed) end tells = 
 nothing_left process lines before after none done (Some (Cut fault)) end tells = absurd (no_line tells.0 tells.1 tells.2 (sym none ∙ tells.3))
 
 -- the rest of a process is to tell its lines
-pub lines_left : (first outer : Process) (lines : List (List ℕ)) (before after : Stage) → ((stop : Option Stop) (at : Stage) → Then first (TellsLines lines) stop before at → outer stop before at)
+pub lines_left : (first outer : Process) (lines : List (List ℕ)) (before after : Stage) → ((stop : Option Stop) (at : Stage) → ThenProcess first (TellsLines lines) stop before at → outer stop before at)
     → first None before after → Leaves outer lines before after
 lines_left first outer lines before after so done stop end tells = so stop end (then_on first (TellsLines lines) stop before after end done tells)

@@ -1,7 +1,7 @@
 -- Rounds, again and again.
 use Rattle.std.proofs.Common.{ℕ, List, suc, Option, None, Some, inl, inr}
 use Rattle.hn_lab.specs.declared.end.Stop.{Stop}
-use Rattle.hn_lab.specs.Process.{Process, Then, Times}
+use Rattle.hn_lab.specs.Process.{Process, ThenProcess, Times}
 use Rattle.hn_lab.specs.Stage.{Stage}
 use Rattle.hn_lab.specs.Writing.{EndsAt}
 use Rattle.hn_lab.proofs.RunWrites.{goes_on}
@@ -21,7 +21,7 @@ module _ (HasMore : Stage → Type 0) (round : Process) (p b a : Stage) (h j k :
       (λ at ends. (suc done.ended.0, (done.at, done.ended.1, more, ends))) next
 
 -- two in a row, and a third
-pub then_assoc : (P Q R : Process) (stop : Option Stop) (p a : Stage) → Then (Then P Q) R stop p a → Then P (Then Q R) stop p a
+pub then_assoc : (P Q R : Process) (stop : Option Stop) (p a : Stage) → ThenProcess (ThenProcess P Q) R stop p a → ThenProcess P (ThenProcess Q R) stop p a
 then_assoc P Q R None p a (x, (y, first, second), third) = (y, first, (x, second, third))
 then_assoc P Q R (Some stop) p a (inl (inl first)) = inl first
 then_assoc P Q R (Some stop) p a (inl (inr (y, first, second))) = inr (y, first, inl second)

@@ -26,7 +26,7 @@ use Rattle.hn_lab.specs.declared.senders.Shape.{Shape}
 use Rattle.hn_lab.specs.Ended.{IsStopped, Leaves}
 use Rattle.hn_lab.specs.Line.{OtherEnds, Follows, unless_elects}
 use Rattle.hn_lab.specs.Process.{Nothing}
-use Rattle.hn_lab.specs.Senders.{shape_of, sends_at, IsAt, with_sender}
+use Rattle.hn_lab.specs.Senders.{shape_of, sends_at, IsSenderAt, with_sender}
 use Rattle.hn_lab.specs.Sending.{ra_line, IsAsked, IsDue, line_if, with_this, HasNoTurn, MayTurn, TurnEnds, starting, IsSolicited, Solicits}
 use Rattle.hn_lab.specs.Stage.{Stage}
 use Rattle.hn_lab.specs.Writing.{EndsAt}
@@ -86,7 +86,7 @@ module _ (place : ℕ) (s : Sending) (shape : Shape) (asked : PlainSender) (now 
 -- ---- a turn
 
 -- the sender of an endpoint, where its place is found
-pub found_at : (name : Name) (e : EpId) (senders : List Sending) (place : ℕ) → position (sends_at name e) senders ≡ Some place → (s : Sending) × IsAt name e senders place s
+pub found_at : (name : Name) (e : EpId) (senders : List Sending) (place : ℕ) → position (sends_at name e) senders ≡ Some place → (s : Sending) × IsSenderAt name e senders place s
 found_at name e [] place is = absurd cc
 found_at name e (s ∷ senders) place is =
     let at = position-Some (sends_at name e) (s ∷ senders) place s is in
@@ -109,7 +109,7 @@ module _ (name : Name) (e : EpId) (router : State) (place : ℕ) (advert : Adver
     (found : (m : Member) × (member_named (name_text name) p.world ≡ Some m) × (router ≡ m.router)) (is_place : position (sends_at name e) p.senders ≡ Some place)
     (is_advert : IsAdvertAt router e advert) (is_read : IsAdvert (advert_bytes advert) advert) where
   -- it has its turn, and its line is left to tell, if it sends
-  pub turn_left : (s : Sending) (due : Bool) (b : Stage) → IsAt name e p.senders place s → IsDue place s (shape_of advert) due p b
+  pub turn_left : (s : Sending) (due : Bool) (b : Stage) → IsSenderAt name e p.senders place s → IsDue place s (shape_of advert) due p b
       → Leaves (TurnEnds name e) (line_if due (ra_line name e p.world.moment (advert_bytes advert))) p b
   turn_left s due b is_at comes stop end tells =
       then_on Nothing (MayTurn name e) stop p p end refl (inr (record {
@@ -147,7 +147,7 @@ pub solicit_left : (name : Name) (e : EpId) (lines : List (List ℕ)) (p a : Sta
     → Leaves (OtherEnds (line.Solicit name e)) lines p a
 solicit_left name e lines p a none done empty = nothing_left (OtherEnds (line.Solicit name e)) lines p a empty (p, (none, refl), done)
 
-pub is_solicited : (name : Name) (e : EpId) (place : ℕ) (s : Sending) (now word : ℕ) (sender : PlainSender) (next : ℕ → ℕ) (p a : Stage) → IsAt name e p.senders place s → now ≡ p.world.moment → word ≡ p.words 0
+pub is_solicited : (name : Name) (e : EpId) (place : ℕ) (s : Sending) (now word : ℕ) (sender : PlainSender) (next : ℕ → ℕ) (p a : Stage) → IsSenderAt name e p.senders place s → now ≡ p.world.moment → word ≡ p.words 0
     → sender ≡ solicited now word s.sender → Some next ≡ Some (λ at. p.words (suc at)) → a ≡ record (with_this place (record s { sender = sender }) p) { words = next } → IsSolicited name e p a
 is_solicited name e place s now word sender next p a is_at now_is word_is sender_is next_is after_is = record {
   place = place;

@@ -13,7 +13,7 @@ use Rattle.hn_lab.specs.declared.end.Stop.{Stop}
 use Rattle.hn_lab.specs.declared.end.Stop.TheVariants.{Refused, WireFailed, Cut}
 use Rattle.hn_lab.specs.Ended.{IsStopped, Ended, Leaves}
 use Rattle.hn_lab.specs.Output.{IsPart, AppendsPart, AreCut, joined}
-use Rattle.hn_lab.specs.Process.{Process, Then}
+use Rattle.hn_lab.specs.Process.{Process, ThenProcess}
 use Rattle.hn_lab.specs.Stage.{Stage, telling}
 use Rattle.hn_lab.specs.Told.{Told, told, bytes_of}
 use Rattle.hn_lab.specs.Writing.{Gets, EndsAt, EndsWriting}
@@ -92,13 +92,13 @@ goes_on P Q R stop p m a h j k first so second = record {
 }
 
 pub then_writes : {A : Type 0} (P Q : Process) (r : Result A Stop) (p m a : Stage) (h j k : Option (List ℕ)) (first : EndsAt P None p m h j)
-    → EndsWriting Q r (record m { text = first.at.text }) (record a { text = first.at.text }) j k → EndsWriting (Then P Q) r p a h k
-then_writes P Q (Ok x) p m a h j k first second = goes_on P Q (Then P Q) None p m a h j k first (λ at ends. then_on P Q None p first.at at first.ended ends) second
-then_writes P Q (Err stop) p m a h j k first second = goes_on P Q (Then P Q) (Some stop) p m a h j k first (λ at ends. then_on P Q (Some stop) p first.at at first.ended ends) second
+    → EndsWriting Q r (record m { text = first.at.text }) (record a { text = first.at.text }) j k → EndsWriting (ThenProcess P Q) r p a h k
+then_writes P Q (Ok x) p m a h j k first second = goes_on P Q (ThenProcess P Q) None p m a h j k first (λ at ends. then_on P Q None p first.at at first.ended ends) second
+then_writes P Q (Err stop) p m a h j k first second = goes_on P Q (ThenProcess P Q) (Some stop) p m a h j k first (λ at ends. then_on P Q (Some stop) p first.at at first.ended ends) second
 
 -- or it is stopped
-pub first_stops : (P Q : Process) (stop : Stop) (p a : Stage) (h k : Option (List ℕ)) → EndsAt P (Some stop) p a h k → EndsAt (Then P Q) (Some stop) p a h k
-first_stops P Q stop p a h k e = ends_as P (Then P Q) (Some stop) p a h k e (inl e.ended)
+pub first_stops : (P Q : Process) (stop : Stop) (p a : Stage) (h k : Option (List ℕ)) → EndsAt P (Some stop) p a h k → EndsAt (ThenProcess P Q) (Some stop) p a h k
+first_stops P Q stop p a h k e = ends_as P (ThenProcess P Q) (Some stop) p a h k e (inl e.ended)
 
 -- an error that is handed on
 pub writing_on : {A : Type 0} (process : Process) (why : Stop) (r : Result A Stop) (p a : Stage) (h k : Option (List ℕ)) → IsErrAnd r (λ e. e ≡ why) → EndsAt process (Some why) p a h k → EndsWriting process r p a h k
@@ -140,9 +140,9 @@ still_writes process (Ok x) p a h same done = still_done process p a h same done
 still_writes process (Err stop) p a h same stopped = still_stopped process stop p a h stopped
 
 -- and nothing follows it
-pub still_then : {A : Type 0} (P Q : Process) (r : Result A Stop) (p a : Stage) (h : Option (List ℕ)) → a.text ≡ p.text → ((q : Stage) → Q None q q) → Ended P r p a → EndsWriting (Then P Q) r p a h h
-still_then P Q (Ok x) p a h same nothing done = still_done (Then P Q) p a h same (a, done, nothing a)
-still_then P Q (Err stop) p a h same nothing stopped = still_stopped (Then P Q) stop p a h (stopped_within P (Then P Q) stop p p a (λ at e. inl e) refl stopped)
+pub still_then : {A : Type 0} (P Q : Process) (r : Result A Stop) (p a : Stage) (h : Option (List ℕ)) → a.text ≡ p.text → ((q : Stage) → Q None q q) → Ended P r p a → EndsWriting (ThenProcess P Q) r p a h h
+still_then P Q (Ok x) p a h same nothing done = still_done (ThenProcess P Q) p a h same (a, done, nothing a)
+still_then P Q (Err stop) p a h same nothing stopped = still_stopped (ThenProcess P Q) stop p a h (stopped_within P (ThenProcess P Q) stop p p a (λ at e. inl e) refl stopped)
 
 -- nothing was written in it
 pub uncut : {A : Type 0} (process : Process) (r : Result A Stop) (p a : Stage) → Ended process r p a → r ≢ Err (Cut Failed)

@@ -10,7 +10,7 @@ use Rattle.std.proofs.lemmas.List.Sorted.{IsNonDecreasingBy-insert, IsPartitione
 use Rattle.hn_base.proofs.FrontOfList.{filter-front, filter-back}
 use Rattle.hn_lab.specs.declared.senders.Sending.{Sending}
 use Rattle.hn_lab.specs.declared.senders.Shape.{Shape}
-use Rattle.hn_lab.specs.Senders.{number, AreInOrder, placed}
+use Rattle.hn_lab.specs.Senders.{sender_number, AreInOrder, placed}
 
 -- shapes with equal fields are equal
 pub same_shape : (a b : Shape) → a.managed ≡ b.managed → a.other ≡ b.other → a.lifetime ≡ b.lifetime → a.prefixes ≡ b.prefixes → a ≡ b
@@ -36,27 +36,27 @@ pub order-none : AreInOrder []
 order-none i j d le within = absurd (omega arith)
 
 pub order-filter : (p : Sending → Bool) (senders : List Sending) → AreInOrder senders → AreInOrder (filter p senders)
-order-filter p senders are = IsNonDecreasingBy-filter number p senders are
+order-filter p senders are = IsNonDecreasingBy-filter sender_number p senders are
 
 -- the place at which the higher endpoints begin
 abbrev pub IsPlaceFor : Sending → List Sending → ℕ → Type 0
-IsPlaceFor s senders i = IsPartitionPoint (λ (t : Sending). nat_le (number t) (number s) ≡ true) (λ (t : Sending). nat_le (number t) (number s) ≡ false) senders i
+IsPlaceFor s senders i = IsPartitionPoint (λ (t : Sending). nat_le (sender_number t) (sender_number s) ≡ true) (λ (t : Sending). nat_le (sender_number t) (sender_number s) ≡ false) senders i
 
-pub order-partitioned : (at : ℕ) (senders : List Sending) → AreInOrder senders → IsPartitionedBy (λ t. nat_le (number t) at) senders
-order-partitioned at senders are = IsPartitionedBy-leb number senders at are
+pub order-partitioned : (at : ℕ) (senders : List Sending) → AreInOrder senders → IsPartitionedBy (λ t. nat_le (sender_number t) at) senders
+order-partitioned at senders are = IsPartitionedBy-leb sender_number senders at are
 
 pub order-insert : (s : Sending) (senders : List Sending) (i : ℕ) → AreInOrder senders → i ≤ length senders → IsPlaceFor s senders i → AreInOrder (insert senders i s)
 order-insert s senders i are within parts =
-    IsNonDecreasingBy-insert number senders i s are within
+    IsNonDecreasingBy-insert sender_number senders i s are within
     (λ k d less. leb-true _ _ (parts.0 k d (omega arith) less))
     (λ k d past less. let lower = leb-false _ _ (parts.1 k d past less) in omega arith)
 
 pub placed-insert : (s : Sending) (senders : List Sending) (i : ℕ) → i ≤ length senders → IsPlaceFor s senders i → insert senders i s ≡ placed s senders
 placed-insert s senders i within parts =
-    let front : take i senders ≡ filter (λ t. nat_le (number t) (number s)) senders =
-    sym (filter-front (λ (t : Sending). nat_le (number t) (number s)) senders i (λ k d less within'. parts.0 k d (omega arith) less) (λ k d past less. parts.1 k d past less))
+    let front : take i senders ≡ filter (λ t. nat_le (sender_number t) (sender_number s)) senders =
+    sym (filter-front (λ (t : Sending). nat_le (sender_number t) (sender_number s)) senders i (λ k d less within'. parts.0 k d (omega arith) less) (λ k d past less. parts.1 k d past less))
     in
-    let back : drop i senders ≡ filter (λ t. nat_lt (number s) (number t)) senders =
-    sym (filter-back (λ (t : Sending). nat_lt (number s) (number t)) senders i (λ k d less within'. let low = leb-true _ _ (parts.0 k d (omega arith) less) in le-ltb (number s) (number (get_or senders k d)) low) (λ k d past less. let high = leb-false _ _ (parts.1 k d past less) in lt-ltb (number s) (number (get_or senders k d)) high))
+    let back : drop i senders ≡ filter (λ t. nat_lt (sender_number s) (sender_number t)) senders =
+    sym (filter-back (λ (t : Sending). nat_lt (sender_number s) (sender_number t)) senders i (λ k d less within'. let low = leb-true _ _ (parts.0 k d (omega arith) less) in le-ltb (sender_number s) (sender_number (get_or senders k d)) low) (λ k d past less. let high = leb-false _ _ (parts.1 k d past less) in lt-ltb (sender_number s) (sender_number (get_or senders k d)) high))
     in
     cc

@@ -15,7 +15,7 @@ use Rattle.hn_world.specs.Names.{member_named}
 use Rattle.hn_world.specs.Refusal.{unless_runs}
 use Rattle.hn_lab.specs.declared.end.Stop.{Stop}
 use Rattle.hn_lab.specs.Delivery.{EventEnds}
-use Rattle.hn_lab.specs.Process.{Process, Nothing, Unless, Then}
+use Rattle.hn_lab.specs.Process.{Process, Nothing, Unless, ThenProcess}
 use Rattle.hn_lab.specs.Stage.{Stage}
 use Rattle.hn_lab.specs.Tells.{TellsLines}
 
@@ -48,9 +48,9 @@ pub record MakesChoice {A : Type 0} (name : Name) (IsMadeBy : State → A → Li
   pub is_made : IsMadeBy member.router made words
   pub between : Stage
   pub takes : TakesWords words before between
-  pub ends : Then (MayHappen (event_for made)) (TellsLines (told_of made)) stop between after
+  pub ends : ThenProcess (MayHappen (event_for made)) (TellsLines (told_of made)) stop between after
 
 -- a running router chooses
 abbrev pub Chooses : {A : Type 0} → Name → (State → A → List ℕ → Type 0) → (A → Option WEvent) → (A → List (List ℕ)) → Process
 Chooses name IsMadeBy event_for told_of stop before after =
-    Then (Unless (unless_runs name before.world)) (MakesChoice name IsMadeBy event_for told_of) stop before after
+    ThenProcess (Unless (unless_runs name before.world)) (MakesChoice name IsMadeBy event_for told_of) stop before after

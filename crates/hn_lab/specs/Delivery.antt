@@ -15,7 +15,7 @@ use Rattle.hn_lab.specs.declared.end.Stop.{Stop}
 use Rattle.hn_lab.specs.declared.end.Stop.TheVariants.{Refused, WireFailed, Cut}
 use Rattle.hn_lab.specs.Carrying.{Carries, Breaks}
 use Rattle.hn_lab.specs.Stage.{Stage, Route}
-use Rattle.hn_lab.specs.Process.{Process, Unless, Then}
+use Rattle.hn_lab.specs.Process.{Process, Unless, ThenProcess}
 
 -- an event happens: it takes the next of the words that are to come
 pub record Happens (event : WEvent) (notes : List Note) (before after : Stage) : Type 0 where
@@ -44,7 +44,7 @@ injection_for w c bytes =
 -- event.
 abbrev pub Replaces : ℕ → Option WEvent → List Note → Process
 Replaces copy None notes stop before after = ⊥
-Replaces copy (Some other) notes stop before after = Then (EventEnds (event.Drop copy)) (EventNotes other notes) stop before after
+Replaces copy (Some other) notes stop before after = ThenProcess (EventEnds (event.Drop copy)) (EventNotes other notes) stop before after
 
 abbrev pub IsReplaced : ℕ → Option WEvent → Process
 IsReplaced copy other stop before after = (notes : List Note) × Replaces copy other notes stop before after
@@ -77,7 +77,7 @@ Conveys copy notes stop before after = IsBroken stop before after ⊎ IsConveyed
 -- a delivery ends: it is refused before a wire is used, or the copy is conveyed
 abbrev pub DeliveryEnds : ℕ → List Note → Process
 DeliveryEnds copy notes stop before after =
-    Then (Unless (refusal before.world (event.Deliver copy))) (Conveys copy notes) stop before after
+    ThenProcess (Unless (refusal before.world (event.Deliver copy))) (Conveys copy notes) stop before after
 
 -- a copy is delivered, whatever routers note
 abbrev pub Delivers : ℕ → Process

@@ -8,7 +8,7 @@ use Rattle.hn_world.specs.Waiting.{first_waiting}
 use Rattle.hn_lab.specs.declared.end.Stop.{Stop}
 use Rattle.hn_lab.specs.declared.end.Stop.TheVariants.{Refused}
 use Rattle.hn_lab.specs.Stage.{Stage}
-use Rattle.hn_lab.specs.Process.{Process, Then, Each, Until}
+use Rattle.hn_lab.specs.Process.{Process, ThenProcess, EachProcess, Until}
 use Rattle.hn_lab.specs.Sending.{TickEnds}
 use Rattle.hn_lab.specs.Delivery.{EventEnds, Delivers}
 
@@ -42,7 +42,7 @@ Flow stop before after = Until HasWaiting CopyEnds stop before after
 
 -- the routers that run tick, in order of definition, and send their Router Advertisements
 abbrev pub Ticks : Process
-Ticks stop before after = Each TickEnds (running_names before.world) stop before after
+Ticks stop before after = EachProcess TickEnds (running_names before.world) stop before after
 
 -- time passes by a step, but not past the end
 abbrev pub Passes : ℕ → ℕ → Process
@@ -50,7 +50,7 @@ Passes end step stop before after = EventEnds (event.Time (min (before.world.mom
 
 -- a round of `run`: time passes, the routers that run tick, and the mail flows
 abbrev pub Round : ℕ → ℕ → Process
-Round end step stop before after = Then (Passes end step) (Then Ticks Flow) stop before after
+Round end step stop before after = ThenProcess (Passes end step) (ThenProcess Ticks Flow) stop before after
 
 -- `run`: rounds until a moment, which may not lie before the present one
 abbrev pub Runs : ℕ → ℕ → Process

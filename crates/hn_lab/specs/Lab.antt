@@ -11,7 +11,7 @@ use Rattle.hn_world.specs.declared.parts.Parts.{Parts}
 use Rattle.hn_lab.specs.declared.end.End.{End}
 use Rattle.hn_lab.specs.declared.end.End.TheVariants.{Done, Refused, WireFailed}
 use Rattle.hn_lab.specs.Laws.{IsTold}
-use Rattle.hn_lab.specs.Output.{IsPart, IsFront, IsCutText}
+use Rattle.hn_lab.specs.Output.{IsPart, IsFrontOf, IsCutText}
 use Rattle.hn_lab.specs.Play.{begun, IsPlay, IsCut, IsCutPlay}
 use Rattle.hn_lab.specs.Reports.{refused_line}
 use Rattle.hn_lab.specs.Stage.{Stage, Route}
@@ -67,7 +67,7 @@ pub record IsStarvedPlay (first : Route) (script : Script) (status : ℕ) (world
   pub play : IsCut NoMemory script.lines (begun first script.version) after
   pub status_is : status ≡ 6
   pub world_is : world ≡ None
-  pub written_is : IsFront written (bytes_of after.text)
+  pub written_is : IsFrontOf written (bytes_of after.text)
 
 -- what `play` comes to
 abbrev pub Plays : Route → Route → Script → ℕ → Option Parts → List ℕ → Type 0
@@ -78,7 +78,7 @@ Plays first last script status world written =
 -- what is written of a line, by the status: the whole line, a proper part of it, or a front
 abbrev pub IsLineWritten : List ℕ → ℕ → List ℕ → Type 0
 IsLineWritten line status written =
-    ((status ≡ 2) × (written ≡ line)) ⊎ (((status ≡ 4) × IsPart written line) ⊎ ((status ≡ 6) × IsFront written line))
+    ((status ≡ 2) × (written ≡ line)) ⊎ (((status ≡ 4) × IsPart written line) ⊎ ((status ≡ 6) × IsFrontOf written line))
 
 -- bytes that are no script: the line of their first fault is written
 pub record IsNoPlay (bytes : List ℕ) (status : ℕ) (world : Option Parts) (written : List ℕ) : Type 0 where

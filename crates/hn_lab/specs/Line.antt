@@ -21,7 +21,7 @@ use Rattle.hn_world.specs.declared.parts.Parts.{Parts}
 use Rattle.hn_world.specs.Names.{member_named}
 use Rattle.hn_world.specs.Refusal.{of_router, unless_running, unless_attached, unless_known, unless_runs, unless_both_run, copy_at}
 use Rattle.hn_lab.specs.Stage.{Stage}
-use Rattle.hn_lab.specs.Process.{Process, Nothing, Unless, Then}
+use Rattle.hn_lab.specs.Process.{Process, Nothing, Unless, ThenProcess}
 use Rattle.hn_addr.specs.Addresses.{IsChoice}
 use Rattle.hn_ula.specs.Ula.{Decides}
 use Rattle.hn_lab.specs.AddressReports.{addresses_lines, IsAddressedLine}
@@ -40,12 +40,12 @@ use Rattle.hn_lab.specs.UlaReports.{ula_line, IsUlasLine}
 -- an event, and a line for each of its notes
 abbrev pub Noted : WEvent → Option Name → Process
 Noted event name stop before after =
-    (notes : List Note) × Then (EventNotes event notes) (TellsLines (note_lines name notes)) stop before after
+    (notes : List Note) × ThenProcess (EventNotes event notes) (TellsLines (note_lines name notes)) stop before after
 
 -- a delivery, and a line for each of its notes
 abbrev pub Delivered : ℕ → Option Name → Process
 Delivered copy name stop before after =
-    (notes : List Note) × Then (DeliveryEnds copy notes) (TellsLines (note_lines name notes)) stop before after
+    (notes : List Note) × ThenProcess (DeliveryEnds copy notes) (TellsLines (note_lines name notes)) stop before after
 
 -- something else than the world is set
 abbrev pub Sets : (Stage → Stage) → Process
@@ -131,8 +131,8 @@ OtherEnds (line.Addressed name) stop before after = Reports (unless_runs name be
 OtherEnds (line.Ula name) stop before after = Chooses name Decides (decided_event name) (λ made. ula_line name made ∷ []) stop before after
 OtherEnds (line.Ulas name) stop before after = Reports (unless_runs name before.world) (Tells name before.world (IsUlasLine name before.world)) stop before after
 OtherEnds (line.Sync left right) stop before after = SyncEnds left right stop before after
-OtherEnds (line.Radv name e) stop before after = Then (Unless (unless_elects name e before.world)) (Sets (starting name e)) stop before after
-OtherEnds (line.Solicit name e) stop before after = Then (Unless (unless_elects name e before.world)) (Solicits name e) stop before after
+OtherEnds (line.Radv name e) stop before after = ThenProcess (Unless (unless_elects name e before.world)) (Sets (starting name e)) stop before after
+OtherEnds (line.Solicit name e) stop before after = ThenProcess (Unless (unless_elects name e before.world)) (Solicits name e) stop before after
 OtherEnds _ stop before after = ⊥
 
 -- what follows an event that is a line: after a tick of a router its Router Advertisements, and no sender outlives a detach
@@ -145,7 +145,7 @@ Follows (event.Start name) stop before after = Sets (ending_all name) stop befor
 Follows _ stop before after = Nothing stop before after
 
 abbrev pub EndsBy : Line → Option WEvent → Process
-EndsBy line (Some event) stop before after = Then (EventEnds event) (Follows event) stop before after
+EndsBy line (Some event) stop before after = ThenProcess (EventEnds event) (Follows event) stop before after
 EndsBy line None stop before after = OtherEnds line stop before after
 
 -- how a line ends

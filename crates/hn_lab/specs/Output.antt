@@ -11,12 +11,12 @@ pub record IsPart (part whole : List ℕ) : Type 0 where
   pub whole_is : whole ≡ part ++ missing
 
 -- a front
-abbrev pub IsFront : List ℕ → List ℕ → Type 0
-IsFront front whole = (back : List ℕ) × (whole ≡ front ++ back)
+abbrev pub IsFrontOf : List ℕ → List ℕ → Type 0
+IsFrontOf front whole = (back : List ℕ) × (whole ≡ front ++ back)
 
 -- a sink grew by a front of this text
 abbrev pub AppendsFront : Option (List ℕ) → Option (List ℕ) → List ℕ → Type 0
-AppendsFront before after text = (front : List ℕ) × IsFront front text × Appends before after front
+AppendsFront before after text = (front : List ℕ) × IsFrontOf front text × Appends before after front
 
 -- a sink grew by a proper front of this piece
 abbrev pub AppendsPart : Option (List ℕ) → Option (List ℕ) → List ℕ → Type 0

@@ -23,15 +23,15 @@ Unless unless (Some WireFailed) before after = ⊥
 Unless unless (Some (Cut fault)) before after = after ≡ before
 
 -- one, and then another unless the first is stopped
-abbrev pub Then : Process → Process → Process
-Then first second None before after = (between : Stage) × first None before between × second None between after
-Then first second (Some stop) before after =
+abbrev pub ThenProcess : Process → Process → Process
+ThenProcess first second None before after = (between : Stage) × first None before between × second None between after
+ThenProcess first second (Some stop) before after =
     first (Some stop) before after ⊎ ((between : Stage) × first None before between × second (Some stop) between after)
 
 -- one for each of these, one after another
-abbrev pub Each : {A : Type 0} → (A → Process) → List A → Process
-Each each [] stop before after = Nothing stop before after
-Each each (x ∷ xs) stop before after = Then (each x) (Each each xs) stop before after
+abbrev pub EachProcess : {A : Type 0} → (A → Process) → List A → Process
+EachProcess each [] stop before after = Nothing stop before after
+EachProcess each (x ∷ xs) stop before after = ThenProcess (each x) (EachProcess each xs) stop before after
 
 -- so many times, each time where there is more to do
 abbrev pub Times : (Stage → Type 0) → Process → ℕ → Stage → Stage → Type 0

@@ -15,12 +15,12 @@ abbrev pub shape_of : Advert → Shape
 shape_of a = record { managed = a.managed; other = a.other; lifetime = a.lifetime; prefixes = map (λ i. i.prefix) a.infos }
 
 -- the number of its endpoint
-abbrev pub number : Sending → ℕ
-number s = s.endpoint.0
+abbrev pub sender_number : Sending → ℕ
+sender_number s = s.endpoint.0
 
 -- they are in ascending order of their endpoints
 abbrev pub AreInOrder : List Sending → Type 0
-AreInOrder senders = IsNonDecreasingBy number senders
+AreInOrder senders = IsNonDecreasingBy sender_number senders
 
 -- whether it is one of the router of a name; and that of an endpoint of this router
 abbrev pub is_sender_of : Name → Sending → Bool
@@ -30,11 +30,11 @@ abbrev pub sends_at : Name → EpId → Sending → Bool
 sends_at name e s = is_sender_of name s && (s.endpoint.0 == e.0)
 
 -- the endpoints of the router of a name that send
-abbrev pub endpoints_of : Name → List Sending → List EpId
-endpoints_of name senders = map (λ s. s.endpoint) (filter (is_sender_of name) senders)
+abbrev pub sender_endpoints : Name → List Sending → List EpId
+sender_endpoints name senders = map (λ s. s.endpoint) (filter (is_sender_of name) senders)
 
 -- that of an endpoint, and its place
-pub record IsAt (name : Name) (e : EpId) (senders : List Sending) (place : ℕ) (sending : Sending) : Type 0 where
+pub record IsSenderAt (name : Name) (e : EpId) (senders : List Sending) (place : ℕ) (sending : Sending) : Type 0 where
   pub is_first : position (sends_at name e) senders ≡ Some place
   pub is_there : slice_get senders place ≡ Some sending
 
@@ -47,7 +47,7 @@ without_senders name senders = filter (λ s. not (is_sender_of name s)) senders
 
 -- a new one, between those of lower and those of higher endpoints
 abbrev pub placed : Sending → List Sending → List Sending
-placed s senders = filter (λ t. nat_le (number t) (number s)) senders ++ s ∷ filter (λ t. nat_lt (number s) (number t)) senders
+placed s senders = filter (λ t. nat_le (sender_number t) (sender_number s)) senders ++ s ∷ filter (λ t. nat_lt (sender_number s) (sender_number t)) senders
 
 -- with this one, in place of that of its endpoint
 abbrev pub with_sender : Sending → List Sending → List Sending

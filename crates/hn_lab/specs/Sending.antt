@@ -17,8 +17,8 @@ use Rattle.hn_lab.specs.declared.end.Stop.{Stop}
 use Rattle.hn_lab.specs.declared.senders.Sending.{Sending}
 use Rattle.hn_lab.specs.declared.senders.Shape.{Shape}
 use Rattle.hn_lab.specs.Delivery.{EventEnds}
-use Rattle.hn_lab.specs.Process.{Process, Nothing, Then, Each}
-use Rattle.hn_lab.specs.Senders.{shape_of, sends_at, endpoints_of, IsAt, with_sender, without_sender, without_senders}
+use Rattle.hn_lab.specs.Process.{Process, Nothing, ThenProcess, EachProcess}
+use Rattle.hn_lab.specs.Senders.{shape_of, sends_at, sender_endpoints, IsSenderAt, with_sender, without_sender, without_senders}
 use Rattle.hn_lab.specs.Stage.{Stage}
 use Rattle.hn_lab.specs.Tells.{TellsLines}
 
@@ -66,7 +66,7 @@ pub record IsTurn (name : Name) (e : EpId) (stop : Option Stop) (before after : 
   pub is_member : member_named (name_text name) before.world ≡ Some member
   pub place : ℕ
   pub sending : Sending
-  pub is_at : IsAt name e before.senders place sending
+  pub is_at : IsSenderAt name e before.senders place sending
   pub advert : Advert
   pub is_advert : IsAdvertAt member.router e advert
   pub is_read : IsAdvert (advert_bytes advert) advert
@@ -87,15 +87,15 @@ MayTurn name e stop before after =
 
 -- the turn of an endpoint, before which all may be cut
 abbrev pub TurnEnds : Name → EpId → Process
-TurnEnds name e stop before after = Then Nothing (MayTurn name e) stop before after
+TurnEnds name e stop before after = ThenProcess Nothing (MayTurn name e) stop before after
 
 -- the endpoints of a router that send have their turns, in ascending order
 abbrev pub Turns : Name → Process
-Turns name stop before after = Each (TurnEnds name) (endpoints_of name before.senders) stop before after
+Turns name stop before after = EachProcess (TurnEnds name) (sender_endpoints name before.senders) stop before after
 
 -- a router ticks, and then its endpoints that send have their turns
 abbrev pub TickEnds : Name → Process
-TickEnds name stop before after = Then (EventEnds (event.Tick name)) (Turns name) stop before after
+TickEnds name stop before after = ThenProcess (EventEnds (event.Tick name)) (Turns name) stop before after
 
 -- ---- senders begin, are solicited, and end
 
@@ -115,7 +115,7 @@ ending_all name p = record p { senders = without_senders name p.senders }
 pub record IsSolicited (name : Name) (e : EpId) (before after : Stage) : Type 0 where
   pub place : ℕ
   pub sending : Sending
-  pub is_at : IsAt name e before.senders place sending
+  pub is_at : IsSenderAt name e before.senders place sending
   pub after_is : after ≡ drawing true (with_this place (record sending { sender = solicited before.world.moment (before.words 0) sending.sender }) before)
 
 -- a solicitation comes; where the endpoint does not send, nothing happens, and no word is taken

@@ -4,7 +4,7 @@ use Rattle.hn_base.specs.declared.name.Name.{Name}
 use Rattle.hn_sync.specs.Exchange.{ExchangeEnds, unless_exchange}
 use Rattle.hn_sync.specs.Repairs.{Repairs}
 use Rattle.hn_lab.specs.declared.end.Stop.TheVariants.{Refused, WireFailed, Cut}
-use Rattle.hn_lab.specs.Process.{Process, Unless, Then}
+use Rattle.hn_lab.specs.Process.{Process, Unless, ThenProcess}
 use Rattle.hn_lab.specs.Stage.{Stage}
 
 -- An exchange goes on to its end, or to an event that is refused with this code. It takes the next of the words that are to
@@ -25,4 +25,4 @@ Exchanges a b (Some (Cut fault)) before after = after ≡ before
 
 -- b asks a for the network state, and all datagrams of this are delivered at one moment, unless it is refused
 abbrev pub SyncEnds : Name → Name → Process
-SyncEnds a b stop before after = Then (Unless (unless_exchange a b before.world)) (Exchanges a b) stop before after
+SyncEnds a b stop before after = ThenProcess (Unless (unless_exchange a b before.world)) (Exchanges a b) stop before after

@@ -6,7 +6,7 @@ use Rattle.hn_rules.specs.declared.done.Note.{Note}
 use Rattle.hn_lab.specs.declared.end.Stop.TheVariants.{Refused, WireFailed, Cut}
 use Rattle.hn_lab.specs.Reports.{note_line}
 use Rattle.hn_lab.specs.Stage.{telling}
-use Rattle.hn_lab.specs.Process.{Process, Unless, Then}
+use Rattle.hn_lab.specs.Process.{Process, Unless, ThenProcess}
 
 -- these lines come up, one after another; all may be cut right after one of them
 abbrev pub TellsLines : List (List ℕ) → Process
@@ -23,7 +23,7 @@ TellsSome AreReport stop before after = (lines : List (List ℕ)) × AreReport l
 
 -- the lines of a report, unless it is refused; one line
 abbrev pub ReportsLines : Option ℕ → (List (List ℕ) → Type 0) → Process
-ReportsLines unless AreReport stop before after = Then (Unless unless) (TellsSome AreReport) stop before after
+ReportsLines unless AreReport stop before after = ThenProcess (Unless unless) (TellsSome AreReport) stop before after
 
 abbrev pub IsOneLine : (List ℕ → Type 0) → List (List ℕ) → Type 0
 IsOneLine IsReport lines = (line : List ℕ) × IsReport line × (lines ≡ line ∷ [])

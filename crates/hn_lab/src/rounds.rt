@@ -6,7 +6,7 @@ ghost use Rattle.hn_wire.specs.declared.datagram.Datagram.{Datagram};
 ghost use Rattle.hn_lab.specs.declared.end.Stop.{Stop};
 ghost use Rattle.hn_lab.specs.Ended.{Ended};
 ghost use Rattle.hn_lab.specs.Writing.{EndsWriting};
-ghost use Rattle.hn_lab.specs.Process.{Each};
+ghost use Rattle.hn_lab.specs.Process.{EachProcess};
 ghost use Rattle.hn_lab.specs.Sending.{TickEnds};
 ghost use Rattle.hn_lab.specs.Events.{Ticks, Passes, Round, Runs};
 ghost use Rattle.hn_lab.specs.Stage.{stage_of};
@@ -23,7 +23,7 @@ use std::alloc::Global;
 impl Playing {
     /// Routers tick, one after another.
     fn ticks_of<K: Sink>(&mut self, alloc: Global, out: &mut K, names: &[Name]) -> Result<(), Stop>
-        ensures ends { (waiting : Option (List Datagram)) (text : List Told) → EndsWriting (Each TickEnds names.now) result (stage_of self.old waiting text) (stage_of self.new waiting text) (K.held out.old) (K.held out.new) }
+        ensures ends { (waiting : Option (List Datagram)) (text : List Told) → EndsWriting (EachProcess TickEnds names.now) result (stage_of self.old waiting text) (stage_of self.new waiting text) (K.held out.old) (K.held out.new) }
         ensures unbroken { result ≢ Err Stop.WireFailed }
         ensures base { self.new.base ≡ self.old.base }
         ensures entered { OnOk result (length self.old.world.trace ≤ length self.new.world.trace) }

@@ -3,7 +3,7 @@
 ghost use Rattle.std.specs.Prelude.{◌≡◌, ◌≢◌, ◌↔◌, ◌<◌, ◌≤◌, ◌^◌, [], length, position, IsTrue, IfOk, OnOk, Some};
 ghost use Rattle.std.specs.List.{slice_get, slice_set};
 ghost use Rattle.hn_lab.specs.declared.senders.Sending.{Sending as ASending};
-ghost use Rattle.hn_lab.specs.Senders.{shape_of, is_sender_of, sends_at, endpoints_of, with_sender, without_sender, without_senders};
+ghost use Rattle.hn_lab.specs.Senders.{shape_of, is_sender_of, sends_at, sender_endpoints, with_sender, without_sender, without_senders};
 ghost use Rattle.hn_radv.specs.Sender.{started};
 
 use hn_advert::Advert;
@@ -116,7 +116,7 @@ impl Senders {
 
     /// The endpoints of the router of a name that send, in ascending order.
     pub(crate) fn endpoints_of(&self, alloc: Global, name: &Name) -> Result<Vec<EpId>, NoMemory>
-        ensures { IfOk result (λ endpoints. endpoints.items ≡ endpoints_of name.now self.now) }
+        ensures { IfOk result (λ endpoints. endpoints.items ≡ sender_endpoints name.now self.now) }
     {
         let mut endpoints = Vec::new(alloc);
         for sending in &self.items {

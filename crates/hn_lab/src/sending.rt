@@ -12,7 +12,7 @@ ghost use Rattle.hn_lab.specs.declared.senders.Sending.{Sending};
 ghost use Rattle.hn_lab.specs.Delivery.{EventEnds};
 ghost use Rattle.hn_lab.specs.Ended.{Ended, EndsLeaving};
 ghost use Rattle.hn_lab.specs.Line.{OtherEnds, Follows, Sets};
-ghost use Rattle.hn_lab.specs.Process.{Then, Each};
+ghost use Rattle.hn_lab.specs.Process.{ThenProcess, EachProcess};
 ghost use Rattle.hn_lab.specs.Sending.{ra_line, IsAsked, IsDue, TurnEnds, TickEnds, ending, ending_all};
 ghost use Rattle.hn_lab.specs.Stage.{stage_of};
 ghost use Rattle.hn_lab.specs.Told.{Told};
@@ -116,7 +116,7 @@ impl Playing {
         name: &Name,
         endpoints: &[EpId],
     ) -> Result<(), Stop>
-        ensures ends { (waiting : Option (List Datagram)) (text : List Told) → EndsWriting (Each (TurnEnds name.now) endpoints.now) result (stage_of self.old waiting text) (stage_of self.new waiting text) (K.held out.old) (K.held out.new) }
+        ensures ends { (waiting : Option (List Datagram)) (text : List Told) → EndsWriting (EachProcess (TurnEnds name.now) endpoints.now) result (stage_of self.old waiting text) (stage_of self.new waiting text) (K.held out.old) (K.held out.new) }
         ensures unbroken { result ≢ Err Stop.WireFailed }
         ensures base { self.new.base ≡ self.old.base }
         ensures world { self.new.world ≡ self.old.world }
@@ -150,7 +150,7 @@ impl Playing {
 
     /// An endpoint is detached, and sends no more.
     fn detach(&mut self, alloc: Global, name: Name, endpoint: EpId) -> Result<(), Stop>
-        ensures ends { (waiting : Option (List Datagram)) (text : List Told) → Ended (Then (EventEnds (an_event.Detach name endpoint)) (Sets (ending name endpoint))) result (stage_of self.old waiting text) (stage_of self.new waiting text) }
+        ensures ends { (waiting : Option (List Datagram)) (text : List Told) → Ended (ThenProcess (EventEnds (an_event.Detach name endpoint)) (Sets (ending name endpoint))) result (stage_of self.old waiting text) (stage_of self.new waiting text) }
         ensures unbroken { result ≢ Err Stop.WireFailed }
         ensures unwritten { result ≢ Err (Stop.Cut IoFault.Failed) }
         ensures base { self.new.base ≡ self.old.base }
@@ -163,7 +163,7 @@ impl Playing {
     /// An event of a router, after which it sends no more.
     fn silence(&mut self, alloc: Global, event: WEvent, name: Name) -> Result<(), Stop>
         requires { IsInRange event }
-        ensures ends { (waiting : Option (List Datagram)) (text : List Told) → Ended (Then (EventEnds event) (Sets (ending_all name))) result (stage_of self.old waiting text) (stage_of self.new waiting text) }
+        ensures ends { (waiting : Option (List Datagram)) (text : List Told) → Ended (ThenProcess (EventEnds event) (Sets (ending_all name))) result (stage_of self.old waiting text) (stage_of self.new waiting text) }
         ensures unbroken { result ≢ Err Stop.WireFailed }
         ensures unwritten { result ≢ Err (Stop.Cut IoFault.Failed) }
         ensures base { self.new.base ≡ self.old.base }
@@ -181,7 +181,7 @@ impl Playing {
         event: WEvent,
     ) -> Result<(), Stop>
         requires { IsInRange event }
-        ensures ends { (waiting : Option (List Datagram)) (text : List Told) → EndsWriting (Then (EventEnds event) (Follows event)) result (stage_of self.old waiting text) (stage_of self.new waiting text) (K.held out.old) (K.held out.new) }
+        ensures ends { (waiting : Option (List Datagram)) (text : List Told) → EndsWriting (ThenProcess (EventEnds event) (Follows event)) result (stage_of self.old waiting text) (stage_of self.new waiting text) (K.held out.old) (K.held out.new) }
         ensures unbroken { result ≢ Err Stop.WireFailed }
         ensures base { self.new.base ≡ self.old.base }
         ensures sink_caused { IsCaused (result ≡ Err (Stop.Cut IoFault.Failed)) (K.faults out.old) (K.faults out.new)

@@ -13,8 +13,8 @@ use Rattle.hn_base.proofs.PartsAtPlaces.{contains_at}
 use Rattle.hn_typed.specs.Item.{PlainCaps}
 use Rattle.hn_data.specs.View.{PlainView}
 use Rattle.hn_link.specs.declared.rank.Rank.{Rank}
-use Rattle.hn_link.specs.Election.{IsServing, rank_of, rank_cmp, IsCandidate, IsElected, HasNoCandidate}
-use Rattle.hn_link.specs.Standing.{HasRank, IsGreatest, IsBest}
+use Rattle.hn_link.specs.Election.{IsServing, rank_of, rank_cmp, IsElectionCandidate, IsElected, HasNoCandidate}
+use Rattle.hn_link.specs.Standing.{HasRank, IsGreatestRank, IsBestRank}
 use Rattle.hn_link.proofs.Elections.{rank_total, exact_rank}
 
 -- ---- the greatest of some ranks, and one more
@@ -23,8 +23,8 @@ not_below : (x r : Rank) → x ≡ r → ¬ (rank_cmp r x ≡ Less)
 not_below x r is = not_below_itself rank_cmp rank_total r x (sym is)
 
 -- the greater of the greatest and the next one, by how these compare
-greater_of : (P P' : Rank → Type 0) (b r : Rank) (o : Ordering) → rank_cmp r b ≡ o → IsGreatest P b → ((x : Rank) → P x → P' x) → P' r → ((x : Rank) → P' x → P x ⊎ (x ≡ r))
-    → IsGreatest P' (cond (is_lt o) b r)
+greater_of : (P P' : Rank → Type 0) (b r : Rank) (o : Ordering) → rank_cmp r b ≡ o → IsGreatestRank P b → ((x : Rank) → P x → P' x) → P' r → ((x : Rank) → P' x → P x ⊎ (x ≡ r))
+    → IsGreatestRank P' (cond (is_lt o) b r)
 greater_of P P' b r Less e g wider here only = record {
   among = wider b g.among;
   greatest = λ x p h. ⊎_elim (λ (old : P x). g.greatest x old h)
@@ -44,8 +44,8 @@ greater_of P P' b r Greater e g wider here only = record {
       (only x p);
 }
 
-pub best_more : (P P' : Rank → Type 0) (best : Option Rank) (r : Rank) → IsBest P best → ((x : Rank) → P x → P' x) → P' r → ((x : Rank) → P' x → P x ⊎ (x ≡ r))
-    → IsBest P' (Some (option_map_or (λ b. ord_max rank_cmp b r) best r))
+pub best_more : (P P' : Rank → Type 0) (best : Option Rank) (r : Rank) → IsBestRank P best → ((x : Rank) → P x → P' x) → P' r → ((x : Rank) → P' x → P x ⊎ (x ≡ r))
+    → IsBestRank P' (Some (option_map_or (λ b. ord_max rank_cmp b r) best r))
 best_more P P' None r were wider here only = record {
   among = here;
   greatest = λ x p. ⊎_elim (λ (old : P x). absurd (were x old)) (not_below x r) (only x p);
@@ -53,7 +53,7 @@ best_more P P' None r were wider here only = record {
 best_more P P' (Some b) r were wider here only = greater_of P P' b r (rank_cmp r b) refl were wider here only
 
 -- the same ranks
-pub best_same : (P P' : Rank → Type 0) (best : Option Rank) → IsBest P best → ((x : Rank) → P x → P' x) → ((x : Rank) → P' x → P x) → IsBest P' best
+pub best_same : (P P' : Rank → Type 0) (best : Option Rank) → IsBestRank P best → ((x : Rank) → P x → P' x) → ((x : Rank) → P' x → P x) → IsBestRank P' best
 best_same P P' None were to from = λ x p. were x (from x p)
 best_same P P' (Some b) were to from = record { among = to b were.among; greatest = λ x p. were.greatest x (from x p) }
 
@@ -64,9 +64,9 @@ RanksBefore view letter common n rank = IsOfFirst (λ _ at. HasRank view letter 
 
 -- the node of the next endpoint serves
 pub candidate_more : (view : PlainView) (letter : Letter) (common : List (NodeId × EpId)) (n : ℕ) (at : NodeId × EpId) (best : Option Rank) (r : Rank)
-    → IsBest (RanksBefore view letter common n) best → slice_get common n ≡ Some at → HasRank view letter at.0 r
+    → IsBestRank (RanksBefore view letter common n) best → slice_get common n ≡ Some at → HasRank view letter at.0 r
     → ((caps : PlainCaps) → IsServing view letter at.0 caps → r ≡ rank_of letter caps at.0)
-    → IsBest (RanksBefore view letter common (n + 1)) (Some (option_map_or (λ b. ord_max rank_cmp b r) best r))
+    → IsBestRank (RanksBefore view letter common (n + 1)) (Some (option_map_or (λ b. ord_max rank_cmp b r) best r))
 candidate_more view letter common n at best r were stands has each =
     best_more (RanksBefore view letter common n) (RanksBefore view letter common (n + 1)) best r were (λ x. first_further (λ _ a. HasRank view letter a.0 x) common n)
     (first_last (λ _ a. HasRank view letter a.0 r) common n at stands has)
@@ -76,8 +76,8 @@ candidate_more view letter common n at best r were stands has each =
 
 -- the node of the next endpoint does not serve
 pub candidate_same : (view : PlainView) (letter : Letter) (common : List (NodeId × EpId)) (n : ℕ) (at : NodeId × EpId) (best : Option Rank)
-    → IsBest (RanksBefore view letter common n) best → slice_get common n ≡ Some at → ((caps : PlainCaps) → ¬ (IsServing view letter at.0 caps))
-    → IsBest (RanksBefore view letter common (n + 1)) best
+    → IsBestRank (RanksBefore view letter common n) best → slice_get common n ≡ Some at → ((caps : PlainCaps) → ¬ (IsServing view letter at.0 caps))
+    → IsBestRank (RanksBefore view letter common (n + 1)) best
 candidate_same view letter common n at best were stands none =
     best_same (RanksBefore view letter common n) (RanksBefore view letter common (n + 1)) best were (λ x. first_further (λ _ a. HasRank view letter a.0 x) common n)
     (λ x h. ⊎_elim (λ (old : RanksBefore view letter common n x). old)
@@ -88,14 +88,14 @@ candidate_same view letter common n at best were stands none =
 
 -- a candidate has a rank among all
 candidate_rank : (view : PlainView) (letter : Letter) (common : List (NodeId × EpId)) (n : ℕ) (id : NodeId) (caps : PlainCaps) → length common ≤ n
-    → IsCandidate view common letter id caps → RanksBefore view letter common n (rank_of letter caps id)
+    → IsElectionCandidate view common letter id caps → RanksBefore view letter common n (rank_of letter caps id)
 candidate_rank view letter common n id caps all candidate =
     let there = candidate.on_link in
     let stands = slice_get_read common (length common) there.0 (id, candidate.endpoint) refl there.1 (sym there.2) in
     first_of_all (λ _ a. HasRank view letter a.0 (rank_of letter caps id)) common n there.0 (id, candidate.endpoint) all stands (record { caps = caps; serves = candidate.serves; is_it = refl })
 
 pub elected_from_best : (view : PlainView) (letter : Letter) (common : List (NodeId × EpId)) (n : ℕ) (best : Rank) → length common ≤ n
-    → IsBest (RanksBefore view letter common n) (Some best) → IsElected view common letter best.node
+    → IsBestRank (RanksBefore view letter common n) (Some best) → IsElected view common letter best.node
 elected_from_best view letter common n best all is =
     let among = is.among in
     let has = among.fact in
@@ -108,12 +108,12 @@ elected_from_best view letter common n best all is =
     })
 
 pub none_from_best : (view : PlainView) (letter : Letter) (common : List (NodeId × EpId)) (n : ℕ) → length common ≤ n
-    → IsBest (RanksBefore view letter common n) None → HasNoCandidate view common letter
+    → IsBestRank (RanksBefore view letter common n) None → HasNoCandidate view common letter
 none_from_best view letter common n all is id caps candidate = is (rank_of letter caps id) (candidate_rank view letter common n id caps all candidate)
 
 -- the node of the best rank is who is elected
 pub outcome : (view : PlainView) (letter : Letter) (common : List (NodeId × EpId)) (n : ℕ) (best : Option Rank) (who : Option NodeId) → length common ≤ n
-    → IsBest (RanksBefore view letter common n) best → who ≡ option_map (λ r. r.node) best
+    → IsBestRank (RanksBefore view letter common n) best → who ≡ option_map (λ r. r.node) best
     → IfSome who (IsElected view common letter) × IfNone who (HasNoCandidate view common letter)
 outcome view letter common n None who all is node = rw node (tt, none_from_best view letter common n all is)
 outcome view letter common n (Some best) who all is node = rw node (elected_from_best view letter common n best all is, tt)

@@ -38,7 +38,7 @@ pub record IsServing (view : PlainView) (letter : Letter) (id : NodeId) (caps : 
   pub offers : 0 < priority_of letter caps
 
 -- the node serves, and has an endpoint on the link
-pub record IsCandidate (view : PlainView) (common : List (NodeId × EpId)) (letter : Letter) (id : NodeId) (caps : PlainCaps) : Type 0 where
+pub record IsElectionCandidate (view : PlainView) (common : List (NodeId × EpId)) (letter : Letter) (id : NodeId) (caps : PlainCaps) : Type 0 where
   pub endpoint : EpId
   pub on_link : Contains common (id, endpoint)
   pub serves : IsServing view letter id caps
@@ -46,12 +46,12 @@ pub record IsCandidate (view : PlainView) (common : List (NodeId × EpId)) (lett
 -- a candidate is elected where no other is greater
 pub record IsElected (view : PlainView) (common : List (NodeId × EpId)) (letter : Letter) (id : NodeId) : Type 0 where
   pub caps : PlainCaps
-  pub candidate : IsCandidate view common letter id caps
-  pub greatest : (other : NodeId) (others : PlainCaps) → IsCandidate view common letter other others → ¬ (rank_cmp (rank_of letter caps id) (rank_of letter others other) ≡ Less)
+  pub candidate : IsElectionCandidate view common letter id caps
+  pub greatest : (other : NodeId) (others : PlainCaps) → IsElectionCandidate view common letter other others → ¬ (rank_cmp (rank_of letter caps id) (rank_of letter others other) ≡ Less)
 
 -- nobody stands for election
 abbrev pub HasNoCandidate : PlainView → List (NodeId × EpId) → Letter → Type 0
-HasNoCandidate view common letter = (id : NodeId) (caps : PlainCaps) → ¬ (IsCandidate view common letter id caps)
+HasNoCandidate view common letter = (id : NodeId) (caps : PlainCaps) → ¬ (IsElectionCandidate view common letter id caps)
 
 -- who is elected, or that nobody stands for election, has one answer over one view, Common Link and capability
 abbrev pub HasOneAnswer : Type 0

@@ -15,10 +15,10 @@ pub record HasRank (view : PlainView) (letter : Letter) (id : NodeId) (rank : Ra
   pub is_it : rank ≡ rank_of letter caps id
 
 -- no rank of these is greater than this one, which is among them
-pub record IsGreatest (ranks : Rank → Type 0) (rank : Rank) : Type 0 where
+pub record IsGreatestRank (ranks : Rank → Type 0) (rank : Rank) : Type 0 where
   pub among : ranks rank
   pub greatest : (other : Rank) → ranks other → ¬ (rank_cmp rank other ≡ Less)
 
 -- the greatest of these ranks, if there is one
-abbrev pub IsBest : (Rank → Type 0) → Option Rank → Type 0
-IsBest ranks best = MatchOption best ((rank : Rank) → ¬ (ranks rank)) (IsGreatest ranks)
+abbrev pub IsBestRank : (Rank → Type 0) → Option Rank → Type 0
+IsBestRank ranks best = MatchOption best ((rank : Rank) → ¬ (ranks rank)) (IsGreatestRank ranks)

@@ -7,7 +7,7 @@ use Rattle.hn_io.specs.declared.fault.IoFault.{IoFault}
 use Rattle.hn_io.specs.declared.fault.IoFault.TheVariants.{Failed, NoMemory}
 use Rattle.hn_lab.specs.Laws.{PiecesAppend}
 use Rattle.hn_lab.specs.Output.{AppendsPart}
-use Rattle.hn_table.specs.Table.{IsTable}
+use Rattle.hn_table.specs.Table.{IsTableText}
 use Rattle.hn_why.specs.Why.{IsWhy}
 use Rattle.hn_world.specs.Names.{member_named}
 use Rattle.hn_world.specs.Refusal.{of_router, unless_running}
@@ -59,10 +59,10 @@ module _ (Starving : Type 0) (sees : Parts → ℕ → List ℕ → Type 0) (wor
 
 -- ---- texts that are written at once
 
-pub table_said : (name : List ℕ) (w : Parts) (m : Member) (text more : List ℕ) (status : ℕ) → member_named name w ≡ Some m → IsTable name m text → Says text status more
+pub table_said : (name : List ℕ) (w : Parts) (m : Member) (text more : List ℕ) (status : ℕ) → member_named name w ≡ Some m → IsTableText name m text → Says text status more
     → SeesTable name w status more
 table_said name w m text more status is holds said =
-    subst (λ (o : Option Member). TableOf name o status more) (sym is) (said.0, subst (IsTable name m) (sym said.1) holds)
+    subst (λ (o : Option Member). TableOf name o status more) (sym is) (said.0, subst (IsTableText name m) (sym said.1) holds)
 
 pub why_said : (name : List ℕ) (w : Parts) (text more : List ℕ) (status : ℕ) → of_router unless_running (member_named name w) ≡ None → IsWhy name w text → Says text status more
     → SeesWhy name w status more

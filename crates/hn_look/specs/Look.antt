@@ -7,7 +7,7 @@ use Rattle.hn_lab.specs.Lab.{IsLabRun}
 use Rattle.hn_lab.specs.Reports.{refused_line}
 use Rattle.hn_lab.specs.Stage.{Mail}
 use Rattle.hn_base.specs.Name.{name_text}
-use Rattle.hn_table.specs.Table.{IsTable}
+use Rattle.hn_table.specs.Table.{IsTableText}
 use Rattle.hn_why.specs.Why.{IsWhy}
 use Rattle.hn_world.specs.Names.{member_named}
 use Rattle.hn_world.specs.Refusal.{of_router, unless_running}
@@ -33,7 +33,7 @@ Says text status more = (status ≡ 0) × (more ≡ text)
 -- `table`: what the router of the name holds; 7 is the code where there is none
 abbrev pub TableOf : List ℕ → Option Member → ℕ → List ℕ → Type 0
 TableOf name None status text = Refuses 7 status text
-TableOf name (Some m) status text = (status ≡ 0) × IsTable name m text
+TableOf name (Some m) status text = (status ≡ 0) × IsTableText name m text
 
 abbrev pub SeesTable : List ℕ → Parts → ℕ → List ℕ → Type 0
 SeesTable name w status text = TableOf name (member_named name w) status text

@@ -2,7 +2,7 @@
 use Rattle.std.proofs.Common.{◌≤◌, ℕ, inl, inr, sym, subst}
 use Rattle.hn_assign.specs.Fixed.{AreAssignmentsUnchanged}
 use Rattle.hn_assign.specs.declared.held.Ran.{Ran}
-use Rattle.hn_rules.specs.Assigning.{IsAssigned}
+use Rattle.hn_rules.specs.Assigning.{IsRunAssigned}
 use Rattle.hn_rules.specs.Rested.{IsRested, RestfulTick}
 use Rattle.hn_rules.specs.Router.{IsRouter}
 use Rattle.hn_rules.specs.Rules.{begun_at}
@@ -31,7 +31,7 @@ but_due s then due r = record {
 }
 
 pub restful : RestfulTick → (now : ℕ) (s next : State) (done : Done) → IsRouter s → s.moment ≤ now → IsUneventful now s
-    → ((ran : Ran) → IsAssigned (at_moment now s) ran → AreAssignmentsUnchanged s.held.assigned ran.held.assigned) → Happened now Tick s next done → IsRested s next
+    → ((ran : Ran) → IsRunAssigned (at_moment now s) ran → AreAssignmentsUnchanged s.held.assigned ran.held.assigned) → Happened now Tick s next done → IsRested s next
 unfolding Happened
 restful law now s next done router past calm same (after, ran, (due, is_due, gives), is) =
     subst (IsRested s) (sym gives) (but_due s after.state due (law now s after router past calm same (ticks now s after ran)))

@@ -17,7 +17,7 @@ use Rattle.hn_router.specs.Act.{PlainEvent, Arrive, Tick, Attach, Detach, is_ref
 use Rattle.hn_rules.specs.Genuine.{IsGenuine, TextsCollide, BytesSayPublished}
 use Rattle.hn_rules.specs.Lengths.{most_datagram}
 use Rattle.hn_rules.specs.Router.{IsRouter}
-use Rattle.hn_rules.specs.Assigning.{IsAssigned}
+use Rattle.hn_rules.specs.Assigning.{IsRunAssigned}
 use Rattle.hn_rules.specs.Rested.{IsRested}
 use Rattle.hn_rules.specs.Still.{at_moment, IsUneventful}
 use Rattle.hn_assign.specs.Fixed.{AreAssignmentsUnchanged}
@@ -98,7 +98,7 @@ pub record RefusedInputStays : Type 0 where
 abbrev pub RestfulTickStays : Type 0
 RestfulTickStays =
     (now : ℕ) (s next : State) (done : Done) → IsRouter s → s.moment ≤ now → IsUneventful now s
-    → ((ran : Ran) → IsAssigned (at_moment now s) ran → AreAssignmentsUnchanged s.held.assigned ran.held.assigned)
+    → ((ran : Ran) → IsRunAssigned (at_moment now s) ran → AreAssignmentsUnchanged s.held.assigned ran.held.assigned)
     → Happened now Tick s next done → IsRested s next
 
 -- ---- what was published

@@ -46,7 +46,7 @@ pub record IsWritten (bytes : List ℕ) (count : ℕ) (room room_after : List �
   pub written : room_after ≡ bytes ++ drop (length bytes) room
 
 -- so many bytes are more than a room has
-pub record HasNoRoom (bytes : List ℕ) (count : ℕ) (room : List ℕ) : Type 0 where
+pub record ExceedsRoom (bytes : List ℕ) (count : ℕ) (room : List ℕ) : Type 0 where
   pub count_is : count ≡ length bytes
   pub longer : length room < count
 
@@ -61,7 +61,7 @@ pub record IsSent (sends : List Outgoing) (place : ℕ) (sent : Sent) (count : �
 abbrev pub IsUnsent : List Outgoing → ℕ → Sent → ℕ → List ℕ → Type 0
 IsUnsent sends place sent count room =
     (length sends ≤ place)
-    ⊎ ((outgoing : Outgoing) × (slice_get sends place ≡ Some outgoing) × (sent ≡ sent_of outgoing) × HasNoRoom outgoing.bytes count room)
+    ⊎ ((outgoing : Outgoing) × (slice_get sends place ≡ Some outgoing) × (sent ≡ sent_of outgoing) × ExceedsRoom outgoing.bytes count room)
 
 -- what was noted at a place
 pub record IsNoted (notes : List noted.Note) (place : ℕ) (out : Note) : Type 0 where
@@ -104,7 +104,7 @@ pub record IsElectedFor (s : State) (at : EpId) (number : ℕ) (elected : Electe
   pub is : elected ≡ elected_of who
 
 -- the bytes of the advertisement on an endpoint
-pub record IsAdvertised (s : State) (at : EpId) (count : ℕ) (room room_after : List ℕ) : Type 0 where
+pub record IsAdvertisementWritten (s : State) (at : EpId) (count : ℕ) (room room_after : List ℕ) : Type 0 where
   pub bytes : List ℕ
   pub are : IsAdvertBytes s at bytes
   pub written : IsWritten bytes count room room_after
@@ -113,7 +113,7 @@ pub record IsAdvertised (s : State) (at : EpId) (count : ℕ) (room room_after :
 pub record IsUnadvertised (s : State) (at : EpId) (count : ℕ) (room : List ℕ) : Type 0 where
   pub bytes : List ℕ
   pub are : IsAdvertBytes s at bytes
-  pub no_room : HasNoRoom bytes count room
+  pub no_room : ExceedsRoom bytes count room
 
 -- the bytes of the advertisement that is to be sent on an endpoint now are written, and what was advertised is kept
 pub record Advertises (at : EpId) (before after : Kept) (count : ℕ) (room room_after : List ℕ) : Type 0 where
@@ -128,7 +128,7 @@ pub record HasNoRoomFor (k : Kept) (at : EpId) (count : ℕ) (room : List ℕ) :
   pub bytes : List ℕ
   pub told : List (EpId × Told)
   pub is_next : IsNextAdvert k at bytes told
-  pub no_room : HasNoRoom bytes count room
+  pub no_room : ExceedsRoom bytes count room
 
 -- the handle had a router and has one: with status 0 it advertises, with 2 there was no room, and without 0 it is as it was
 pub record Advertised (at : EpId) (held held_after : Option Kept) (count : ℕ) (room room_after : List ℕ) (status : ℕ) : Type 0 where

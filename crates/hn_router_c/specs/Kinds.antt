@@ -74,7 +74,7 @@ abbrev pub own_address : Address → OwnAddress
 own_address a = (record { 0 = a.endpoint }, from_be_bytes w128 a.address)
 
 -- capabilities, each of which is 0 to 15 (RFC 7788, section 10.1)
-pub record AreCaps (m p h l : ℕ) : Type 0 where
+pub record AreCapsInRange (m p h l : ℕ) : Type 0 where
   pub m_in_range : m ≤ 15
   pub p_in_range : p ≤ 15
   pub h_in_range : h ≤ 15

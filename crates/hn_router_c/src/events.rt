@@ -2,7 +2,7 @@ ghost use Rattle.std.specs.Prelude.{◌≡◌, ◌≢◌, ◌↔◌, ◌≤◌, 
 ghost use Rattle.std.specs.Int.{w128, from_be_bytes};
 ghost use Rattle.hn_router.specs.Act.{Arrive, Tick, Attach, Detach, External, Withdraw, SetCaps, Private, Addresses, Restart};
 ghost use Rattle.hn_router_c.specs.Calls.{Acted, Has, is_outside};
-ghost use Rattle.hn_router_c.specs.Kinds.{AreCaps, own_address, private_length};
+ghost use Rattle.hn_router_c.specs.Kinds.{AreCapsInRange, own_address, private_length};
 ghost use Rattle.hn_base.specs.Caps.{plain_caps};
 ghost use Rattle.hn_base.specs.Prefix.{IsPrefix};
 ghost use Rattle.hn_base.specs.declared.caps.Caps.{Caps};
@@ -171,8 +171,8 @@ pub extern "C" fn hn_router_caps(
     ensures live { IsSome router.new.held }
     ensures acted { result ≡ 0 → (caps : Caps) × (plain_caps caps ≡ record { m = m; p = p; h = h; l = l }) × Acted now (SetCaps caps) router.old.held router.new.held result }
     ensures as_before { result ≢ 0 → router.new.held ≡ router.old.held }
-    ensures ranged { AreCaps m p h l → Has router.old.held (λ kept. result ≡ 2 ↔ IsTrue (is_outside now kept.router)) }
-    ensures values { result ≢ 2 → AreCaps m p h l }
+    ensures ranged { AreCapsInRange m p h l → Has router.old.held (λ kept. result ≡ 2 ↔ IsTrue (is_outside now kept.router)) }
+    ensures values { result ≢ 2 → AreCapsInRange m p h l }
     ensures status { result ≤ 2 }
 {
     let _place = no_place();

@@ -1,5 +1,5 @@
 ghost use Rattle.std.specs.Prelude.{◌≡◌, ◌≢◌, ◌↔◌, ◌<◌, ◌≤◌, None, IsSome, IsTrue, false, length};
-ghost use Rattle.hn_router_c.specs.Calls.{Has, HasNoRoom, IsWritten, IsSent, IsUnsent, IsNoted, IsAssignedAt, IsNodeAt, IsUsedAt, UsesFewer, IsElectedFor, IsAdvertised, IsUnadvertised, Advertises, HasNoRoomFor, Advertised};
+ghost use Rattle.hn_router_c.specs.Calls.{Has, ExceedsRoom, IsWritten, IsSent, IsUnsent, IsNoted, IsAssignedAt, IsNodeAt, IsUsedAt, UsesFewer, IsElectedFor, IsAdvertisementWritten, IsUnadvertised, Advertises, HasNoRoomFor, Advertised};
 ghost use Rattle.hn_router_c.specs.Kinds.{letter_of};
 
 use crate::happening::{DONE, NO_MEMORY, OUT_OF_RANGE};
@@ -18,7 +18,7 @@ use std::alloc::Global;
 fn write(bytes: &[u8], count: &mut usize, room: &mut [u8]) -> bool
     ensures fits { IsTrue result ↔ (length bytes.now ≤ length room.old) }
     ensures written { IsTrue result → IsWritten bytes.now count.new room.old room.new }
-    ensures no_room { result ≡ false → HasNoRoom bytes.now count.new room.old }
+    ensures no_room { result ≡ false → ExceedsRoom bytes.now count.new room.old }
     ensures as_before { result ≡ false → room.new ≡ room.old }
 {
     *count = bytes.len();
@@ -121,7 +121,7 @@ fn elected_for(alloc: Global, router: &Router, at: EpId, number: u8, out: &mut E
 
 /// The bytes of the advertisement on an endpoint.
 fn advert(alloc: Global, router: &Router, at: EpId, count: &mut usize, room: &mut [u8]) -> u8
-    ensures advert { result ≡ 0 → IsAdvertised router.now at count.new room.old room.new }
+    ensures advert { result ≡ 0 → IsAdvertisementWritten router.now at count.new room.old room.new }
     ensures no_room { result ≡ 2 → IsUnadvertised router.now at count.new room.old }
     ensures status { result ≤ 2 }
     ensures as_before { result ≢ 0 → room.new ≡ room.old }
@@ -272,7 +272,7 @@ pub extern "C" fn hn_router_advert(
 ) -> u8
     requires { IsSome router.old.held }
     ensures kept { router.new.held ≡ router.old.held }
-    ensures advert { result ≡ 0 → Has router.old.held (λ kept. IsAdvertised kept.router (record { 0 = endpoint }) count.new room.old room.new) }
+    ensures advert { result ≡ 0 → Has router.old.held (λ kept. IsAdvertisementWritten kept.router (record { 0 = endpoint }) count.new room.old room.new) }
     ensures no_room { result ≡ 2 → Has router.old.held (λ kept. IsUnadvertised kept.router (record { 0 = endpoint }) count.new room.old) }
     ensures status { result ≤ 2 }
     ensures as_before { result ≢ 0 → room.new ≡ room.old }

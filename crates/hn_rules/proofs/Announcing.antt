@@ -19,7 +19,7 @@ use Rattle.hn_data.specs.declared.said.Delegation.{Delegation}
 use Rattle.hn_data.specs.declared.said.PeerLink.{PeerLink}
 use Rattle.hn_data.specs.declared.view.Entry.{Entry}
 use Rattle.hn_deleg.specs.Candidates.{IsPreferred}
-use Rattle.hn_deleg.specs.Live.{remaining, IsAnnounced, IsCandidate}
+use Rattle.hn_deleg.specs.Live.{remaining, IsAnnounced, IsAnnouncedPrefix}
 use Rattle.hn_graph.specs.Following.{SaysAsMuch, SayAsMuch, ReachabilityFollows}
 use Rattle.hn_graph.specs.Path.{IsReachable}
 use Rattle.hn_own.specs.Lifetimes.{seconds_left}
@@ -201,7 +201,7 @@ module _ (laws : AnnouncingLaws) (a b : State) (twins : AreTwins a b) where
             }
       ]
 
-  pub candidate_too : Lives (λ own. own.valid_until) a b → (p : PlainPrefix) → IsCandidate (seen_by a) p → IsCandidate (seen_by b) p
+  pub candidate_too : Lives (λ own. own.valid_until) a b → (p : PlainPrefix) → IsAnnouncedPrefix (seen_by a) p → IsAnnouncedPrefix (seen_by b) p
   candidate_too lives p c =
       let too = announced_too lives c.node c.delegation c.announced in
       record { short = c.short; node = too.other; delegation = too.delegation; announced = too.announced; is_it = too.prefix ∙ c.is_it }

@@ -21,7 +21,7 @@ use Rattle.hn_rules.specs.declared.running.Origin.{Origin}
 use Rattle.hn_rules.specs.Answers.{with_answer}
 use Rattle.hn_rules.specs.Requests.{state_item, with_some_answer, with_state, IsNetworkRequest}
 use Rattle.hn_rules.specs.declared.done.Note.TheVariants.{Ignored}
-use Rattle.hn_rules.specs.Claim.{IsFirstFree, IsSecondClaim}
+use Rattle.hn_rules.specs.Claim.{IsFirstFreeId, IsSecondClaim}
 use Rattle.hn_base.specs.Rules.{Then}
 use Rattle.hn_rules.specs.Rules.{AtPort, Ran, noted, with_port, with_words, words_of}
 use Rattle.hn_rules.specs.NodeEndpoint.{met, greeting_port, named, node_endpoint}
@@ -71,7 +71,7 @@ ran_node_endpoint from node endpoint told before after holds =
 
 -- the second claim takes one word
 pub ran_second_claim : (word id : ℕ) (told told_after : Option (ℕ → ℕ)) (before between after : Running) → before.state.claimed ≡ true
-    → between ≡ with_words (word ∷ []) before → Drew told before.done.words told_after between.done.words → IsFirstFree between.state word id
+    → between ≡ with_words (word ∷ []) before → Drew told before.done.words told_after between.done.words → IsFirstFreeId between.state word id
     → Publishes 1 (record between { state = record between.state { id = record { 0 = id }; claimed = false } }) after
     → Ran IsSecondClaim told told_after before after
 ran_second_claim word id told told_after before between after claimed took drew first publishes = record {
@@ -79,7 +79,7 @@ ran_second_claim word id told told_after before between after claimed took drew 
     one_before = claimed;
     word = word;
     id = id;
-    first = subst (λ (r : Running). IsFirstFree r.state word id) took first;
+    first = subst (λ (r : Running). IsFirstFreeId r.state word id) took first;
     publishes = subst (λ (r : Running). Publishes 1 (record r { state = record r.state { id = record { 0 = id }; claimed = false } }) after) took publishes;
   };
   drew = subst (λ (ws : List ℕ). Drew told before.done.words told_after ws) (ap (λ (r : Running). r.done.words) (sym publishes.gives)) drew;

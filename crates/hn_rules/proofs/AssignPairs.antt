@@ -22,7 +22,7 @@ use Rattle.hn_own.specs.Ports.{ArePorts}
 use Rattle.hn_own.specs.Posts.{posts_of}
 use Rattle.hn_rules.specs.declared.state.State.{State}
 use Rattle.hn_rules.specs.Seen.{seen_by}
-use Rattle.hn_rules.specs.Assigning.{IsWishAt, AreAsked, IsAssigned}
+use Rattle.hn_rules.specs.Assigning.{IsWishAt, AreAsked, IsRunAssigned}
 use Rattle.hn_rules.proofs.LawPairs.{wished_few}
 
 -- ---- what is asked
@@ -48,7 +48,7 @@ are_asked s view usable posts wishes are same_view same exact = record {
 -- ---- what the subroutine makes
 
 pub assigned_of : (s : State) (view : PlainView) (usable : List Delegated) (wishes : List Wish) (held : Held) (r : Result Ran NoMemory) → view ≡ seen_by s → held ≡ s.held
-    → AreUsable (seen_by s) usable → AreAsked s usable wishes → IfOk r (IsSubroutine view wishes held) → IfOk r (IsAssigned s)
+    → AreUsable (seen_by s) usable → AreAsked s usable wishes → IfOk r (IsSubroutine view wishes held) → IfOk r (IsRunAssigned s)
 assigned_of s view usable wishes held (Err e) same_view same_held are asked run = tt
 assigned_of s view usable wishes held (Ok ran) same_view same_held are asked run = record {
   usable = usable;
@@ -58,7 +58,7 @@ assigned_of s view usable wishes held (Ok ran) same_view same_held are asked run
   is_subroutine = subst (λ (h : Held). IsSubroutine (seen_by s) wishes h ran) same_held (subst (λ (v : PlainView). IsSubroutine v wishes held ran) same_view run);
 }
 
-pub kept_of : FewPosts → IsTotalOrder pair_cmp → IsExact pair_cmp → AssignedAreWished → (s : State) (r : Result Ran NoMemory) → ArePorts s.ports → IfOk r (IsAssigned s)
+pub kept_of : FewPosts → IsTotalOrder pair_cmp → IsExact pair_cmp → AssignedAreWished → (s : State) (r : Result Ran NoMemory) → ArePorts s.ports → IfOk r (IsRunAssigned s)
     → IfOk r (λ ran. IsAscending assigned_pair ran.held.assigned × IsAscending backoff_pair ran.held.backoffs)
     → IfOk r (λ ran. All IsInDelegated ran.held.assigned) → IfOk r (λ ran. All HasOwnPriority ran.held.assigned) → IfOk r (λ ran. AreHeldPairs ran.held)
 kept_of posts total exact leaves s (Err e) ports is up inside priority = tt

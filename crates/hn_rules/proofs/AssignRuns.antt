@@ -15,7 +15,7 @@ use Rattle.hn_assign.specs.declared.held.Held.{Held}
 use Rattle.hn_assign.specs.declared.held.Ran.{Ran as Left}
 use Rattle.hn_rules.specs.declared.running.Running.{Running}
 use Rattle.hn_rules.specs.declared.state.State.{State}
-use Rattle.hn_rules.specs.Assigning.{IsAssigned, IsAssigning}
+use Rattle.hn_rules.specs.Assigning.{IsRunAssigned, IsAssigning}
 use Rattle.hn_rules.specs.Rules.{Ran, with_words}
 use Rattle.hn_rules.specs.Router.{IsRefreshed}
 use Rattle.hn_base.proofs.Prefixes.{is_one_prefix, prefix_decided}
@@ -68,7 +68,7 @@ same_assigned xs ys answer is none = by_test (pointwise same_test xs ys) refl (s
 -- ---- an assignment
 
 -- the words that it takes
-pub ran_assigning : (left : Left) (words : List ℕ) (held : Held) (told told_after : Option (ℕ → ℕ)) (before took after : Running) → IsAssigned before.state left → Took told left.words told_after
+pub ran_assigning : (left : Left) (words : List ℕ) (held : Held) (told told_after : Option (ℕ → ℕ)) (before took after : Running) → IsRunAssigned before.state left → Took told left.words told_after
     → took ≡ with_words words before → words ≡ left.words → held ≡ left.held → after ≡ record took { state = record took.state { held = held } } → Ran IsAssigning told told_after before after
 ran_assigning left words held told told_after before took after assigned drew gives same_words same_held is =
     let all : took ≡ with_words left.words before = gives ∙ ap (λ (ws : List ℕ). with_words ws before) same_words in

@@ -27,7 +27,7 @@ use Rattle.hn_store.specs.declared.stored.HeldNode.{HeldNode}
 use Rattle.hn_store.specs.declared.stored.Stored.{Stored}
 use Rattle.hn_rules.specs.declared.running.Running.{Running}
 use Rattle.hn_rules.specs.declared.state.State.{State}
-use Rattle.hn_rules.specs.Assigning.{IsWishAt, IsAssigned}
+use Rattle.hn_rules.specs.Assigning.{IsWishAt, IsRunAssigned}
 use Rattle.hn_rules.specs.Delegating.{ending}
 use Rattle.hn_rules.specs.Nodes.{held_entry, own_entry, entry_of}
 use Rattle.hn_rules.specs.Refresh.{own_items, IsRefresh}
@@ -130,7 +130,7 @@ module _ (laws : CalmLaws) (s : State) (now : ℕ) (router : IsRouter s) (begun 
       (filter_map-same (entry_of forgot) (entry_of then) s.reach (All-weaker (Contains s.reach) (λ id. entry_of forgot id ≡ entry_of then id) seen_forgot s.reach (All-contains_itself s.reach)))
 
   -- and prefixes are assigned as then
-  pub assigned_then : (ran : Ran) → IsAssigned forgot ran → IsAssigned then ran
+  pub assigned_then : (ran : Ran) → IsRunAssigned forgot ran → IsRunAssigned then ran
   assigned_then ran is = record {
     usable = is.usable;
     are_usable = subst (λ (view : PlainView). AreUsable view is.usable) same_view is.are_usable;
@@ -146,7 +146,7 @@ module _ (laws : CalmLaws) (s : State) (now : ℕ) (router : IsRouter s) (begun 
     is_subroutine = subst (λ (view : PlainView). IsSubroutine view is.wishes s.held ran) same_view is.is_subroutine;
   }
 
-  module _ (changes_none : (ran : Ran) → IsAssigned then ran → AreAssignmentsUnchanged s.held.assigned ran.held.assigned) where
+  module _ (changes_none : (ran : Ran) → IsRunAssigned then ran → AreAssignmentsUnchanged s.held.assigned ran.held.assigned) where
     -- prefixes are assigned as they were, and nothing is published
     record IsSettled (settled : Running) : Type 0 where
       pub holds : Held

@@ -10,7 +10,7 @@ use Rattle.std.proofs.lemmas.List.Elements.{All-contains, All-map}
 use Rattle.std.proofs.lemmas.List.FromFn.{length-range_with_len, get_or-range_with_len, length-map-range_with_len, get_or-map-range_with_len}
 use Rattle.std.proofs.lemmas.Map.Keys.{IsDistinct-from_apart}
 use Rattle.hn_base.proofs.AscendingLists.{Contains-tail}
-use Rattle.hn_store.specs.Nodes.{held, ids_of}
+use Rattle.hn_store.specs.Nodes.{held, ids_of_held}
 use Rattle.hn_store.specs.declared.stored.HeldNode.{HeldNode}
 use Rattle.hn_base.proofs.Pigeonhole.{length-le_from_Contains}
 
@@ -25,25 +25,25 @@ abbrev taken : ℕ → ℕ → List HeldNode → Bool
 taken id own entries = id == 0 || (id == own || is_some (held entries id))
 
 abbrev taken_ids : ℕ → List HeldNode → List ℕ
-taken_ids own entries = 0 ∷ own ∷ ids_of entries
+taken_ids own entries = 0 ∷ own ∷ ids_of_held entries
 
-id_is_held : (id : ℕ) (entries : List HeldNode) → is_some (held entries id) ≡ true → Contains (ids_of entries) id
+id_is_held : (id : ℕ) (entries : List HeldNode) → is_some (held entries id) ≡ true → Contains (ids_of_held entries) id
 id_is_held id [] is = absurd cc
 id_is_held id (node ∷ entries) is =
     ⊎_elim
     (λ (here : (node.id.0 == id) ≡ true). (0, omega arith, eqb-true _ _ here))
     (λ (other : (node.id.0 == id) ≡ false).
     let later : is_some (held entries id) ≡ true = rw other at is in
-    Contains-tail node.id.0 (ids_of entries) id (id_is_held id entries later))
+    Contains-tail node.id.0 (ids_of_held entries) id (id_is_held id entries later))
     (cases_Bool (node.id.0 == id))
 
 id_is_taken : (id own : ℕ) (entries : List HeldNode) → taken id own entries ≡ true → Contains (taken_ids own entries) id
 id_is_taken id own entries is =
     ⊎_elim
     (λ (none : (id == 0) ≡ true). (0, omega arith, sym (eqb-true _ _ none)))
-    (λ (others : (id == own || is_some (held entries id)) ≡ true). Contains-tail 0 (own ∷ ids_of entries) id (⊎_elim
+    (λ (others : (id == own || is_some (held entries id)) ≡ true). Contains-tail 0 (own ∷ ids_of_held entries) id (⊎_elim
     (λ (same : (id == own) ≡ true). (0, omega arith, sym (eqb-true _ _ same)))
-    (λ (known : is_some (held entries id) ≡ true). Contains-tail own (ids_of entries) id (id_is_held id entries known))
+    (λ (known : is_some (held entries id) ≡ true). Contains-tail own (ids_of_held entries) id (id_is_held id entries known))
     (or_cases _ _ others)))
     (or_cases _ _ is)
 

@@ -27,13 +27,13 @@ use Rattle.hn_own.specs.Ports.{ArePorts, is_port, port_at, put_port, endpoints_o
 use Rattle.hn_own.specs.declared.own.OwnItems.{OwnItems}
 use Rattle.hn_own.specs.declared.own_prefixes.OwnPrefix.{OwnPrefix}
 use Rattle.hn_store.specs.Laws.{NoneIsForgotten}
-use Rattle.hn_store.specs.Loss.{is_among, is_forgotten, lost_after, marked, marked_node, remembered}
+use Rattle.hn_store.specs.Loss.{is_among, is_forgotten, lost_after, loss_marked, marked_node, remembered}
 use Rattle.hn_store.specs.Nodes.{Nodes}
 use Rattle.hn_store.specs.declared.stored.HeldNode.{HeldNode}
 use Rattle.hn_rules.specs.declared.done.Done.{Done}
 use Rattle.hn_rules.specs.declared.running.Running.{Running}
 use Rattle.hn_rules.specs.declared.state.State.{State}
-use Rattle.hn_rules.specs.Assigning.{IsAssigned, IsAssigning}
+use Rattle.hn_rules.specs.Assigning.{IsRunAssigned, IsAssigning}
 use Rattle.hn_rules.specs.Delegating.{ending}
 use Rattle.hn_rules.specs.Done.{nothing}
 use Rattle.hn_rules.specs.Idle.{IsIdleTick, IsLeft}
@@ -166,7 +166,7 @@ module _ (laws : IdleLaws) (s : State) (now : ℕ) (router : IsRouter s) (begun 
   lost reach net = seen_again reach net (at_moment now s)
 
   abbrev forgot : List NodeId → List ℕ → State
-  forgot reach net = record (lost reach net) { table = remembered now (marked reach now s.table) }
+  forgot reach net = record (lost reach net) { table = remembered now (loss_marked reach now s.table) }
 
   abbrev assigned : List NodeId → List ℕ → Held → State
   assigned reach net held = record (forgot reach net) { held = held }
@@ -204,11 +204,11 @@ module _ (laws : IdleLaws) (s : State) (now : ℕ) (router : IsRouter s) (begun 
         ∙ ap (λ (nodes : List HeldNode). let x : State = record (at_moment now s) { reach = reach; net = net; table = record s.table { entries = nodes } } in x) remains
         ∙ ap (λ (ids : List NodeId). let x : State = record (at_moment now s) { reach = ids; net = net } in x) reach_is
 
-    rests : filter (stays now) s.table.entries ≡ s.table.entries → (ran : Assigned) → IsAssigned (forgot reach net) ran → ran.held ≡ s.held → ran.words ≡ []
-        → IsAssigned (at_moment now s) (record { held = s.held; words = [] })
+    rests : filter (stays now) s.table.entries ≡ s.table.entries → (ran : Assigned) → IsRunAssigned (forgot reach net) ran → ran.held ≡ s.held → ran.words ≡ []
+        → IsRunAssigned (at_moment now s) (record { held = s.held; words = [] })
     rests remains ran was held_is words_are =
-        let there : IsAssigned (record (at_moment now s) { net = net }) ran = subst (λ (x : State). IsAssigned x ran) (forgot_is remains) was in
-        let here : IsAssigned (at_moment now s) ran = record {
+        let there : IsRunAssigned (record (at_moment now s) { net = net }) ran = subst (λ (x : State). IsRunAssigned x ran) (forgot_is remains) was in
+        let here : IsRunAssigned (at_moment now s) ran = record {
           usable = there.usable;
           are_usable = there.are_usable;
           wishes = there.wishes;
@@ -222,7 +222,7 @@ module _ (laws : IdleLaws) (s : State) (now : ℕ) (router : IsRouter s) (begun 
           is_subroutine = there.is_subroutine;
         } in
         let same : ran ≡ record { held = s.held; words = [] } = λ i. record { held = held_is i; words = words_are i } in
-        subst (IsAssigned (at_moment now s)) same here
+        subst (IsRunAssigned (at_moment now s)) same here
 
   -- ---- a tick of which nothing came
 
@@ -235,7 +235,7 @@ module _ (laws : IdleLaws) (s : State) (now : ℕ) (router : IsRouter s) (begun 
     net : List ℕ
     first : IsReach (at_moment now s) reach
     ran : Assigned
-    is_assigned : IsAssigned (forgot reach net) ran
+    is_assigned : IsRunAssigned (forgot reach net) ran
     untaken : ran.words ≡ []
     again : List NodeId
     net_again : List ℕ
@@ -267,7 +267,7 @@ module _ (laws : IdleLaws) (s : State) (now : ℕ) (router : IsRouter s) (begun 
         net = first.net;
         first = subst (λ (x : Running). IsReach x.state first.reach) kept.same first.is_reach;
         ran = ran;
-        is_assigned = subst (λ (x : State). IsAssigned x ran) state_forgot assigns.is_assigned;
+        is_assigned = subst (λ (x : State). IsRunAssigned x ran) state_forgot assigns.is_assigned;
         untaken = none_after forgetful.done.words ran.words (sym (ap (λ (x : Running). x.done.words) assigns.gives) ∙ ap (λ (d : Done). d.words) settling_silent);
         again = last.reach;
         net_again = last.net;
@@ -336,7 +336,7 @@ module _ (laws : IdleLaws) (s : State) (now : ℕ) (router : IsRouter s) (begun 
       let holds : after.state.held ≡ parts.ran.held = ap (λ (x : State). x.held) whole in
       let again_is : parts.again ≡ s.reach = sym found ∙ same_reach in
       let held_is : parts.ran.held ≡ s.held = sym holds ∙ same_held in
-      let table : Nodes = marked parts.reach now s.table in
+      let table : Nodes = loss_marked parts.reach now s.table in
       let remain : remembered now table ≡ table = (laws.forgetting now table).1 (none_marked parts.reach s.table.entries none) in
       let seen : map (held_entry now) (left parts.reach) ≡ map (held_entry now) s.table.entries =
       ap (λ (nodes : Nodes). map (held_entry now) nodes.entries) remain ∙ seen_marked parts.reach now now s.table.entries in

@@ -8,7 +8,7 @@ use Rattle.hn_assign.specs.Laws.{SubroutineKeepsInside, SubroutineKeepsPast, Sub
 use Rattle.hn_own.specs.Laws.{FewPosts}
 use Rattle.hn_own.specs.Ports.{ArePorts}
 use Rattle.hn_rules.specs.declared.state.State.{State}
-use Rattle.hn_rules.specs.Assigning.{IsAssigned}
+use Rattle.hn_rules.specs.Assigning.{IsRunAssigned}
 use Rattle.hn_rules.specs.Seen.{seen_by}
 use Rattle.hn_rules.proofs.LawPairs.{wished_few}
 use Rattle.hn_rules.proofs.Parts.{AreHeldWell}
@@ -26,7 +26,7 @@ pub record AssignLaws : Type 0 where
   pub posts : FewPosts
 
 module _ (laws : AssignLaws) where
-  pub held-assigned : (s : State) (ran : Assigned) → IsAssigned s ran → ArePorts s.ports → AreHeldWell s.moment s.held → AreHeldWell s.moment ran.held
+  pub held-assigned : (s : State) (ran : Assigned) → IsRunAssigned s ran → ArePorts s.ports → AreHeldWell s.moment s.held → AreHeldWell s.moment ran.held
   held-assigned s ran is ports well =
       let view = seen_by s in
       let wishes = is.wishes in

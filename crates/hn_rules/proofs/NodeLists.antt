@@ -26,15 +26,15 @@ use Rattle.hn_rules.specs.Nodes.{held_entry, own_entry, held_entries, nodes_of, 
 own_stored : State → Stored
 own_stored s = record { number = s.number; hash = s.own.hash; age = 0; at = 0; body = s.own.body; lost = None }
 
-ids_of_held : (now : ℕ) (p : ℕ → Bool) (held : List HeldNode) → ids_of (filter (λ n. p n.id.0) (map (held_entry now) held)) ≡ table.ids_of (filter (λ n. p n.id.0) held)
+ids_of_held : (now : ℕ) (p : ℕ → Bool) (held : List HeldNode) → ids_of (filter (λ n. p n.id.0) (map (held_entry now) held)) ≡ table.ids_of_held (filter (λ n. p n.id.0) held)
 ids_of_held now p [] = refl
 ids_of_held now p (x ∷ xs) =
-    elim (p x.id.0) as (λ b. ids_of (cond b (held_entry now x ∷ filter (λ n. p n.id.0) (map (held_entry now) xs)) (filter (λ n. p n.id.0) (map (held_entry now) xs))) ≡ table.ids_of (cond b (x ∷ filter (λ n. p n.id.0) xs) (filter (λ n. p n.id.0) xs))) [
+    elim (p x.id.0) as (λ b. ids_of (cond b (held_entry now x ∷ filter (λ n. p n.id.0) (map (held_entry now) xs)) (filter (λ n. p n.id.0) (map (held_entry now) xs))) ≡ table.ids_of_held (cond b (x ∷ filter (λ n. p n.id.0) xs) (filter (λ n. p n.id.0) xs))) [
       | true ↦ ap (λ ids. x.id.0 ∷ ids) (ids_of_held now p xs)
       | false ↦ ids_of_held now p xs
     ]
 
-ids_of_nodes : (s : State) → ids_of (nodes_of s) ≡ table.ids_of (table.put s.id.0 (own_stored s) s.table.entries)
+ids_of_nodes : (s : State) → ids_of (nodes_of s) ≡ table.ids_of_held (table.put s.id.0 (own_stored s) s.table.entries)
 ids_of_nodes s =
     let below = filter (λ (n : HeldNode). nat_lt n.id.0 s.id.0) s.table.entries in
     let above = filter (λ (n : HeldNode). nat_lt s.id.0 n.id.0) s.table.entries in

@@ -35,7 +35,7 @@ use Rattle.hn_dncp.specs.Hash.{asks_for_state}
 use Rattle.hn_dncp.specs.Tick.{ticked, tick_sends}
 use Rattle.hn_dncp.specs.Laws.{PackingIsUnique}
 use Rattle.hn_store.specs.Nodes.{Nodes}
-use Rattle.hn_store.specs.Loss.{marked}
+use Rattle.hn_store.specs.Loss.{loss_marked}
 use Rattle.hn_store.specs.Laws.{AcceptanceIsUnique}
 use Rattle.hn_store.specs.Acceptance.{PlainState}
 use Rattle.hn_store.specs.declared.state.Took.{Took}
@@ -53,13 +53,13 @@ use Rattle.hn_base.specs.Rules.{Then, Each}
 use Rattle.hn_rules.specs.Rules.{Rule, AtPort, with_words, with_port, noted, IsSole, words_of}
 use Rattle.hn_rules.specs.Refresh.{Publishes, IsPublished, next_number, IsPublishing, IsReaching, IsHashing, IsPortReset, IsReset, IsRefresh, network_state_hash}
 use Rattle.hn_rules.specs.Answers.{with_answer}
-use Rattle.hn_rules.specs.Assigning.{AreAsked, IsAssigned, IsAssigning}
+use Rattle.hn_rules.specs.Assigning.{AreAsked, IsRunAssigned, IsAssigning}
 use Rattle.hn_rules.specs.Seen.{seen_by}
 use Rattle.hn_rules.specs.NodeEndpoint.{node_endpoint}
 use Rattle.hn_rules.specs.NetworkState.{network_state}
 use Rattle.hn_base.proofs.DecidingTests.{not_both}
 use Rattle.hn_rules.specs.Requests.{state_item, is_reached, with_state, IsNetworkRequest, request_node}
-use Rattle.hn_rules.specs.Claim.{IsFirstFree, IsFirstClaim, IsSecondClaim, IsClaim, is_taken}
+use Rattle.hn_rules.specs.Claim.{IsFirstFreeId, IsFirstClaim, IsSecondClaim, IsClaim, is_taken}
 use Rattle.hn_rules.specs.NodeState.{took_noted, IsTaken, IsNodeState}
 use Rattle.hn_rules.specs.Arrival.{IsItemRule, IsTlvRule, IsTlvs, IsAnswering, IsArrival}
 use Rattle.hn_rules.specs.Tick.{IsExpired, Without, IsPortExpiry, IsExpiry, IsStateSending, IsPortMoving, IsPortSending, IsPortTick, IsPortsTick, forgetting}
@@ -121,7 +121,7 @@ one_reach laws s xs ys a b = laws.one_order xs ys a.ascending b.ascending (λ id
 sole_reaching : HasLaws → IsSole IsReaching
 sole_reaching laws =
     sole_given words_of IsReaching (λ r a h. ap (λ (x : Running). x.done.words) h.gives)
-    (λ r a b h k. h.gives ∙ ap (λ (reach : List NodeId). record r { state = record r.state { reach = reach; table = marked reach r.state.moment r.state.table } }) (one_reach laws r.state h.reach k.reach h.is_reach k.is_reach) ∙ sym k.gives)
+    (λ r a b h k. h.gives ∙ ap (λ (reach : List NodeId). record r { state = record r.state { reach = reach; table = loss_marked reach r.state.moment r.state.table } }) (one_reach laws r.state h.reach k.reach h.is_reach k.is_reach) ∙ sym k.gives)
 
 sole_port_reset : (port : Port) → IsSole (IsPortReset port)
 sole_port_reset port =
@@ -147,12 +147,12 @@ sole_refresh laws = sole_both words_of IsPublishing (Then IsReaching IsHashing) 
 
 -- ---- a claim
 
-never_before : (s : State) (word i j : ℕ) (h : IsFirstFree s word i) (k : IsFirstFree s word j) → h.steps < k.steps → ⊥
+never_before : (s : State) (word i j : ℕ) (h : IsFirstFreeId s word i) (k : IsFirstFreeId s word j) → h.steps < k.steps → ⊥
 never_before s word i j h k less =
     let clash : false ≡ true = sym h.free ∙ ap (λ (id : ℕ). is_taken id s) h.is_it ∙ k.taken_before h.steps less in
     absurd cc
 
-one_free : (s : State) (word i j : ℕ) → IsFirstFree s word i → IsFirstFree s word j → i ≡ j
+one_free : (s : State) (word i j : ℕ) → IsFirstFreeId s word i → IsFirstFreeId s word j → i ≡ j
 one_free s word i j h k =
     let same : h.steps ≡ k.steps =
     elim (cases_lt h.steps k.steps) [
@@ -168,7 +168,7 @@ one_second_claim : HasLaws → (r a b : Running) (h : IsSecondClaim r a) (k : Is
 unfolding claiming
 one_second_claim laws r a b h k same =
     let word : h.word ≡ k.word = ap (λ (ws : List ℕ). slice_index ws 0) same in
-    let id : h.id ≡ k.id = one_free r.state k.word h.id k.id (subst (λ (w : ℕ). IsFirstFree r.state w h.id) word h.first) k.first in
+    let id : h.id ≡ k.id = one_free r.state k.word h.id k.id (subst (λ (w : ℕ). IsFirstFreeId r.state w h.id) word h.first) k.first in
     let start : claiming r h.word h.id ≡ claiming r k.word k.id = λ i. claiming r (word i) (id i) in
     one_published laws 1 (claiming r k.word k.id) a b (subst (λ (m : Running). Publishes 1 m a) start h.publishes) k.publishes
 
@@ -299,7 +299,7 @@ assigned_words : (r a : Running) (h : IsAssigning r a) → a.done.words ≡ r.do
 assigned_words r a h = ap (λ (x : Running). x.done.words) h.gives
 
 module _ (laws : HasLaws) (s : State) where
-  one_assigned : (a b : Assigned) (stream : ℕ → ℕ) → IsAssigned s a → IsAssigned s b → Begins a.words stream → Begins b.words stream → a ≡ b
+  one_assigned : (a b : Assigned) (stream : ℕ → ℕ) → IsRunAssigned s a → IsRunAssigned s b → Begins a.words stream → Begins b.words stream → a ≡ b
   one_assigned a b stream h k at_a at_b =
       let view = seen_by s in
       let usable : h.usable ≡ k.usable = laws.one_usable view h.usable k.usable h.are_usable k.are_usable in

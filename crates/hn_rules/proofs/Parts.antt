@@ -16,8 +16,8 @@ use Rattle.hn_store.specs.declared.state.OwnLeaf.{OwnLeaf}
 use Rattle.hn_store.specs.declared.state.Took.{Took}
 use Rattle.hn_store.specs.declared.state.Took.TheVariants.{Kept, Renumbered}
 use Rattle.hn_store.specs.Nodes.{Nodes, IsTable, held, entry, put}
-use Rattle.hn_store.specs.Acceptance.{PlainState, Accepts, kept, renumbered, changed, entries_after}
-use Rattle.hn_store.specs.Loss.{is_among, lost_after, marked_node, marked, is_forgotten, remembered}
+use Rattle.hn_store.specs.Acceptance.{PlainState, Accepts, stored_from, stored_renumbered, entries_changed, entries_after}
+use Rattle.hn_store.specs.Loss.{is_among, lost_after, marked_node, loss_marked, is_forgotten, remembered}
 use Rattle.hn_store.specs.Laws.{NoNodesAreTable}
 use Rattle.hn_base.proofs.AscendingNumbers.{ascending-filter, ascending-around, around-few}
 use Rattle.hn_rules.specs.declared.state.State.{State}
@@ -192,14 +192,14 @@ module _ (known : KnownLaws) (now : ℕ) where
       All-append (IsNodeWell now) (filter lower xs) (entry id stored ∷ filter greater xs) (All-filter lower (IsNodeWell now) xs all)
       (All-cons (IsNodeWell now) (entry id stored) (filter greater xs) one (All-filter greater (IsNodeWell now) xs all))
 
-  nodes-changed : (s : PlainState) (h : Option Stored) (xs : List HeldNode) → IsInRange s → held xs s.node ≡ h → All (IsNodeWell now) xs → All (IsNodeWell now) (changed s.node (renumbered s now) h xs)
+  nodes-changed : (s : PlainState) (h : Option Stored) (xs : List HeldNode) → IsInRange s → held xs s.node ≡ h → All (IsNodeWell now) xs → All (IsNodeWell now) (entries_changed s.node (stored_renumbered s now) h xs)
   nodes-changed s None xs fits is all = all
   nodes-changed s (Some stored) xs fits is all =
-      nodes-put s.node (renumbered s now stored) xs (record { id = fits.0; number = fits.1; past = record { arrived = omega arith; lost = lost_held (Some stored) xs s.node is all } }) all
+      nodes-put s.node (stored_renumbered s now stored) xs (record { id = fits.0; number = fits.1; past = record { arrived = omega arith; lost = lost_held (Some stored) xs s.node is all } }) all
 
   nodes-after : (s : PlainState) (took : Took) (xs : List HeldNode) → IsInRange s → All (IsNodeWell now) xs → All (IsNodeWell now) (entries_after xs s now took)
   nodes-after s Kept xs fits all =
-      nodes-put s.node (kept s now (held xs s.node)) xs (record { id = fits.0; number = fits.1; past = record { arrived = omega arith; lost = lost_held (held xs s.node) xs s.node refl all } }) all
+      nodes-put s.node (stored_from s now (held xs s.node)) xs (record { id = fits.0; number = fits.1; past = record { arrived = omega arith; lost = lost_held (held xs s.node) xs s.node refl all } }) all
   nodes-after s Renumbered xs fits all = nodes-changed s (held xs s.node) xs fits refl all
   nodes-after s _ xs fits all = all
 
@@ -236,7 +236,7 @@ module _ (known : KnownLaws) (id : NodeId) (now : ℕ) where
   }
 
   -- nodes were marked
-  pub table-marked : (reach : List NodeId) (nodes : Nodes) → IsTableWell id.0 now nodes → IsTableWell id.0 now (marked reach now nodes)
+  pub table-marked : (reach : List NodeId) (nodes : Nodes) → IsTableWell id.0 now nodes → IsTableWell id.0 now (loss_marked reach now nodes)
   table-marked reach nodes well = record {
     table = known.marks reach now nodes well.table;
     own_id = well.own_id;

@@ -23,7 +23,7 @@ use Rattle.hn_own.specs.Own.{IsOwnData, link_at, links_at, links_of}
 use Rattle.hn_own.specs.Ports.{ArePorts, endpoints_of}
 use Rattle.hn_own.specs.Posts.{private_post, posts_of, length_at}
 use Rattle.hn_rules.specs.declared.state.State.{State}
-use Rattle.hn_rules.specs.Assigning.{IsAssigned}
+use Rattle.hn_rules.specs.Assigning.{IsRunAssigned}
 use Rattle.hn_rules.specs.Laws.{OwnPeersAreOfEndpoints, PrivatePostIsAlone}
 use Rattle.hn_rules.specs.Nodes.{own_entry, entry_of, view_of}
 use Rattle.hn_rules.specs.Seen.{seen_by}
@@ -83,7 +83,7 @@ module _ (laws : ReadLaws) (s : State) (own : IsOwnData s.own) (linked : All (λ
 
   -- ---- assignments keep the private length
 
-  module _ (lengths : SubroutineKeepsLengths) (leaves : AssignedAreWished) (ran : Ran) (is : IsAssigned s ran) where
+  module _ (lengths : SubroutineKeepsLengths) (leaves : AssignedAreWished) (ran : Ran) (is : IsRunAssigned s ran) where
     abbrev IsOfLength : Option ℕ → Assigned → Type 0
     IsOfLength private c = c.endpoint.0 ≡ 0 → Some c.prefix.len ≡ private
 

@@ -32,7 +32,7 @@ use Rattle.hn_rules.specs.declared.running.Running.{Running}
 use Rattle.hn_rules.specs.Answers.{with_answer}
 use Rattle.hn_rules.specs.NetworkState.{compared}
 use Rattle.hn_rules.specs.NodeEndpoint.{greeting_port, met, named}
-use Rattle.hn_rules.specs.NodeState.{Takes}
+use Rattle.hn_rules.specs.NodeState.{TakesState}
 use Rattle.hn_rules.specs.Nodes.{own_leaf}
 use Rattle.hn_rules.specs.Rules.{AtPort, with_port, with_words}
 use Rattle.hn_rules.specs.Still.{AreHeard}
@@ -124,7 +124,7 @@ named_stays from node endpoint port r multicast passes are found =
 
 -- the table does not look into it
 pub refused_state : (carried : PlainState) (how : Took) (table : Nodes) (own : OwnLeaf) (r : Running) → table ≡ r.state.table → own ≡ own_leaf r.state
-    → ((now : ℕ) → Accepts table own carried now table how) → Takes carried how r r
+    → ((now : ℕ) → Accepts table own carried now table how) → TakesState carried how r r
 refused_state carried how table own r same_table same_own accepts = record {
   table = r.state.table;
   accepts = rw (← same_table, ← same_own) (accepts r.state.moment);

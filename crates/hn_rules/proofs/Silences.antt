@@ -7,7 +7,7 @@ use Rattle.hn_base.specs.Rules.{Each, OnSome}
 use Rattle.std.proofs.Common.{Option, None, Some}
 use Rattle.hn_dncp.specs.declared.port.Port.{Port}
 use Rattle.hn_own.specs.Ports.{port_at, endpoints_of}
-use Rattle.hn_store.specs.Loss.{marked}
+use Rattle.hn_store.specs.Loss.{loss_marked}
 use Rattle.hn_rules.specs.declared.done.Done.{Done}
 use Rattle.hn_rules.specs.declared.running.Running.{Running}
 use Rattle.hn_rules.specs.declared.state.State.{State}
@@ -89,7 +89,7 @@ silent_hashing r a (inr (other, resets)) silent =
 
 -- with other reachable nodes and moments of loss, and another network state hash
 abbrev pub seen_again : List NodeId → List ℕ → State → State
-seen_again reach net s = record s { reach = reach; table = marked reach s.moment s.table; net = net }
+seen_again reach net s = record s { reach = reach; table = loss_marked reach s.moment s.table; net = net }
 
 -- nothing was published, and no word was taken
 pub record IsSilentRefresh (r a : Running) : Type 0 where
@@ -106,7 +106,7 @@ silent_published r a (inr (other, is)) silent =
     absurd (some_after r.done.published _ [] (sym (ap (λ (x : Running). x.done.published) is.gives) ∙ ap (λ (d : Done). d.published) silent))
 
 abbrev reaching_to : List NodeId → Running → Running
-reaching_to reach r = record r { state = record r.state { reach = reach; table = marked reach r.state.moment r.state.table } }
+reaching_to reach r = record r { state = record r.state { reach = reach; table = loss_marked reach r.state.moment r.state.table } }
 
 pub silent_refresh : (r a : Running) → IsRefresh r a → Silent a → IsSilentRefresh r a
 silent_refresh r a (published, publishes, (reached, reaches, hashes)) silent =

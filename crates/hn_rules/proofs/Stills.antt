@@ -37,7 +37,7 @@ use Rattle.hn_own.specs.Due.{IsOwnEnd}
 use Rattle.hn_own.specs.Laws.{EndingIsAMoment}
 use Rattle.hn_own.specs.OwnPrefixes.{has_ended_one}
 use Rattle.hn_rules.specs.declared.state.State.{State}
-use Rattle.hn_rules.specs.Assigning.{IsWishAt, AreAsked, IsAssigned}
+use Rattle.hn_rules.specs.Assigning.{IsWishAt, AreAsked, IsRunAssigned}
 use Rattle.hn_rules.specs.Due.{IsDueAt}
 use Rattle.hn_rules.specs.Laws.{UneventfulReaches, StillStays}
 use Rattle.hn_rules.specs.Nodes.{held_entry, entry_of, view_of, IsReach}
@@ -189,7 +189,7 @@ module _ (laws : StillLaws) (s : State) (now later : ℕ) (goes : now ≤ later)
 
     -- ---- the assignment of prefixes
 
-    module _ (begun : s.moment ≤ now) (assigned : IsAssigned (at_moment now s) (record { held = s.held; words = [] })) where
+    module _ (begun : s.moment ≤ now) (assigned : IsRunAssigned (at_moment now s) (record { held = s.held; words = [] })) where
       abbrev before : PlainView
       before = seen_by (at_moment now s)
 
@@ -240,7 +240,7 @@ module _ (laws : StillLaws) (s : State) (now later : ℕ) (goes : now ≤ later)
         );
       }
 
-      rests_stays : IsAssigned (at_moment later s) (record { held = s.held; words = [] })
+      rests_stays : IsRunAssigned (at_moment later s) (record { held = s.held; words = [] })
       rests_stays = record {
         usable = aged;
         are_usable = laws.usable before after passed no_end assigned.usable assigned.are_usable;

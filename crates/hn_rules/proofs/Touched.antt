@@ -29,7 +29,7 @@ use Rattle.hn_rules.specs.Rules.{AtPort, with_port}
 use Rattle.hn_rules.specs.NodeEndpoint.{greeting_port, named}
 use Rattle.hn_rules.specs.NodeEndpoint as rule
 use Rattle.hn_rules.specs.NetworkState.{network_state}
-use Rattle.hn_rules.specs.NodeState.{touches, Takes, IsTaken}
+use Rattle.hn_rules.specs.NodeState.{touches, TakesState, IsTaken}
 use Rattle.hn_rules.specs.declared.state.State.{State}
 use Rattle.hn_store.specs.Nodes.{Nodes}
 use Rattle.hn_store.specs.Acceptance.{PlainState, entries_after}
@@ -169,7 +169,7 @@ same_table carried took.TooLong now nodes next none after = after
 same_table carried took.Full now nodes next none after = after
 
 -- an answer that changes nothing of what is held
-pub node_state_untouched : (carried : PlainState) (how : Took) (r between a : Running) → touches how ≡ false → Takes carried how r between → IsTaken carried how between a → IsUntouched r.state a.state
+pub node_state_untouched : (carried : PlainState) (how : Took) (r between a : Running) → touches how ≡ false → TakesState carried how r between → IsTaken carried how between a → IsUntouched r.state a.state
 node_state_untouched carried how r between a none takes taken =
     let state : a.state ≡ between.state = taken_state carried how between a none taken in
     let table : takes.table ≡ r.state.table = same_table carried how r.state.moment r.state.table takes.table none takes.accepts.after in

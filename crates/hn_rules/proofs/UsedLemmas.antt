@@ -9,7 +9,7 @@ use Rattle.hn_base.specs.Prefix.{PlainPrefix}
 use Rattle.hn_base.specs.declared.ids.NodeId.{NodeId}
 use Rattle.hn_data.specs.View.{PlainView}
 use Rattle.hn_deleg.specs.Candidates.{IsPreferred, SameCandidatesSameUsed, PreferredIsAnnounced, PreferredWasSo}
-use Rattle.hn_deleg.specs.Live.{remaining, IsCandidate}
+use Rattle.hn_deleg.specs.Live.{remaining, IsAnnouncedPrefix}
 use Rattle.hn_deleg.specs.Used.{AreUsable, IsUnwanted, prefixes_of}
 use Rattle.hn_deleg.specs.declared.delegated.Delegated.{Delegated}
 use Rattle.hn_own.specs.Lifetimes.{has_ended, seconds_left}
@@ -262,7 +262,7 @@ module _ (laws : UsedLaws) (s : State) (now : ℕ) (router : IsRouter s) (begun 
           subst (λ (n : ℕ). 0 < n) (sym (new_left (λ (o : OwnPrefix). o.valid_until) born own)) (subst (λ (age : ℕ). 0 < remaining age (seconds_left now own.valid_until)) none now_left)
     ]
 
-    same_candidates : (p : PlainPrefix) → IsCandidate (seen_by before) p ↔ IsCandidate (seen_by after) p
+    same_candidates : (p : PlainPrefix) → IsAnnouncedPrefix (seen_by before) p ↔ IsAnnouncedPrefix (seen_by after) p
     same_candidates p = (candidate_too laws.announcing before after twins lives_on p, candidate_too laws.announcing after before twins_back (lives_back (λ (o : OwnPrefix). o.valid_until)) p)
 
     was_preferred : (p : PlainPrefix) → IsPreferred (seen_by after) p → IsPreferred (seen_by before) p

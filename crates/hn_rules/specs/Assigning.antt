@@ -38,7 +38,7 @@ pub record AreAsked (s : State) (usable : List Delegated) (wishes : List Wish) :
 
 -- The assignment subroutine over all pairs of a usable delegated prefix and a post of the router; assignments that were
 -- kept long enough are marked applied (RFC 7695, sections 4.1 and 4.3).
-pub record IsAssigned (s : State) (ran : Assigned) : Type 0 where
+pub record IsRunAssigned (s : State) (ran : Assigned) : Type 0 where
   pub usable : List Delegated
   pub are_usable : AreUsable (seen_by s) usable
   pub wishes : List Wish
@@ -48,5 +48,5 @@ pub record IsAssigned (s : State) (ran : Assigned) : Type 0 where
 -- the rule
 pub record IsAssigning (before after : Running) : Type 0 where
   pub ran : Assigned
-  pub is_assigned : IsAssigned before.state ran
+  pub is_assigned : IsRunAssigned before.state ran
   pub gives : after ≡ with_words ran.words (record before { state = record before.state { held = ran.held } })

@@ -23,7 +23,7 @@ use Rattle.hn_dncp.specs.Port.{attached_port}
 use Rattle.hn_dncp.specs.Tick.{ticked, tick_words}
 use Rattle.hn_store.specs.Nodes.{Nodes}
 use Rattle.hn_store.specs.Acceptance.{PlainState, Accepts}
-use Rattle.hn_store.specs.Loss.{marked, remembered}
+use Rattle.hn_store.specs.Loss.{loss_marked, remembered}
 use Rattle.hn_store.specs.declared.state.Took.{Took}
 use Rattle.hn_assign.specs.declared.held.Ran.{Ran as Assigned}
 use Rattle.hn_own.specs.Own.{IsOwnData, PlainData}
@@ -39,7 +39,7 @@ use Rattle.hn_rules.specs.declared.done.Outgoing.{Outgoing}
 use Rattle.hn_rules.specs.declared.running.Running.{Running}
 use Rattle.hn_rules.specs.declared.state.State.{State}
 use Rattle.hn_rules.specs.Answers.{with_answer}
-use Rattle.hn_rules.specs.Assigning.{IsAssigned}
+use Rattle.hn_rules.specs.Assigning.{IsRunAssigned}
 use Rattle.hn_rules.specs.Claim.{is_taken}
 use Rattle.hn_rules.specs.Nodes.{own_leaf, IsReach}
 use Rattle.hn_rules.specs.Refresh.{own_items, network_state_hash}
@@ -101,7 +101,7 @@ pub data TableChange : Type 0 where
 -- the table after it: a node state was accepted, moments of loss are marked, nodes lost for long are forgotten, all are
 abbrev pub table_after : TableChange → State → Nodes
 table_after (Accept carried how next) s = next
-table_after Mark s = marked s.reach s.moment s.table
+table_after Mark s = loss_marked s.reach s.moment s.table
 table_after Forget s = remembered s.moment s.table
 table_after Empty s = record s.table { entries = [] }
 
@@ -218,7 +218,7 @@ IsAllowed tlvs (ChangePort port how) r = (port_at port.id r.state.ports ≡ Some
 IsAllowed tlvs (ChangeTable how) r = MayChangeTable tlvs how r.state
 IsAllowed tlvs (ChangePrefixes how) r = MayChangePrefixes how r.state
 IsAllowed tlvs (PutReach reach) r = IsReach r.state reach
-IsAllowed tlvs (PutPairs ran) r = IsAssigned r.state ran
+IsAllowed tlvs (PutPairs ran) r = IsRunAssigned r.state ran
 IsAllowed tlvs (PutAddresses list) r = may_address list r.state.ports ≡ true
 IsAllowed tlvs (PutId id number own) r = (id.0 < 2 ^ 32) × (is_taken id.0 r.state ≡ false) × IsPublishable r.state number own
 IsAllowed tlvs (Publish number own) r = IsPublishable r.state number own

@@ -16,7 +16,7 @@ abbrev pub is_taken : ℕ → State → Bool
 is_taken id s = id == 0 || (id == s.id.0 || is_some (held s.table.entries id))
 
 -- the first identifier of a word and those after it, modulo 2^32, that it may take
-pub record IsFirstFree (s : State) (word id : ℕ) : Type 0 where
+pub record IsFirstFreeId (s : State) (word id : ℕ) : Type 0 where
   pub steps : ℕ
   pub is_it : id ≡ (word + steps) % 2 ^ 32
   pub free : is_taken id s ≡ false
@@ -27,7 +27,7 @@ pub record IsSecondClaim (before after : Running) : Type 0 where
   pub one_before : before.state.claimed ≡ true
   pub word : ℕ
   pub id : ℕ
-  pub first : IsFirstFree before.state word id
+  pub first : IsFirstFreeId before.state word id
   pub publishes : Publishes 1 (with_words (word ∷ []) (record before { state = record before.state { id = record { 0 = id }; claimed = false } })) after
 
 -- the rule

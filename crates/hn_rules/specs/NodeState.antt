@@ -31,7 +31,7 @@ touches took.Own = true
 touches _ = false
 
 -- the table takes it, with this answer
-pub record Takes (carried : PlainState) (how : Took) (before after : Running) : Type 0 where
+pub record TakesState (carried : PlainState) (how : Took) (before after : Running) : Type 0 where
   pub table : Nodes
   pub accepts : Accepts before.state.table (own_leaf before.state) carried before.state.moment table how
   pub gives : after ≡ record before { state = record before.state { table = table } }

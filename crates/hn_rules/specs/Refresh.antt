@@ -6,7 +6,7 @@ use Rattle.hn_hash.specs.Hash.{hash_of}
 use Rattle.hn_hash.specs.Network.{part_text}
 use Rattle.hn_timers.specs.Interval.{interval_from}
 use Rattle.hn_dncp.specs.declared.port.Port.{Port}
-use Rattle.hn_store.specs.Loss.{marked}
+use Rattle.hn_store.specs.Loss.{loss_marked}
 use Rattle.hn_own.specs.declared.own.OwnItems.{OwnItems}
 use Rattle.hn_rules.specs.declared.state.State.{State}
 use Rattle.hn_rules.specs.declared.running.Running.{Running}
@@ -60,7 +60,7 @@ IsPublishing before after =
 pub record IsReaching (before after : Running) : Type 0 where
   pub reach : List NodeId
   pub is_reach : IsReach before.state reach
-  pub gives : after ≡ record before { state = record before.state { reach = reach; table = marked reach before.state.moment before.state.table } }
+  pub gives : after ≡ record before { state = record before.state { reach = reach; table = loss_marked reach before.state.moment before.state.table } }
 
 -- the network state hash of the reachable nodes
 abbrev pub network_state_hash : State → List ℕ

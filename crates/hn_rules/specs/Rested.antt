@@ -10,7 +10,7 @@ use Rattle.hn_own.specs.Ports.{endpoints_of}
 use Rattle.hn_store.specs.Nodes.{held}
 use Rattle.hn_rules.specs.declared.running.Running.{Running}
 use Rattle.hn_rules.specs.declared.state.State.{State}
-use Rattle.hn_rules.specs.Assigning.{IsAssigned}
+use Rattle.hn_rules.specs.Assigning.{IsRunAssigned}
 use Rattle.hn_rules.specs.Router.{IsRouter}
 use Rattle.hn_rules.specs.Rules.{Rule, begun_at}
 use Rattle.hn_rules.specs.Seen.{seen_by}
@@ -34,7 +34,7 @@ pub record IsRested (before after : State) : Type 0 where
 abbrev pub RestfulTick : Type 0
 RestfulTick =
     (now : ℕ) (s : State) (after : Running) → IsRouter s → s.moment ≤ now → IsUneventful now s
-    → ((ran : Ran) → IsAssigned (at_moment now s) ran → AreAssignmentsUnchanged s.held.assigned ran.held.assigned)
+    → ((ran : Ran) → IsRunAssigned (at_moment now s) ran → AreAssignmentsUnchanged s.held.assigned ran.held.assigned)
     → IsTick (begun_at now s) after → IsRested s after.state
 
 -- Where nothing that a router keeps has come to its moment, and it uses and wants after a tick what it did before, it used

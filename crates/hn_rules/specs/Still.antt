@@ -5,7 +5,7 @@ use Rattle.hn_dncp.specs.Due.{IsPortStill}
 use Rattle.hn_store.specs.Loss.{is_forgotten}
 use Rattle.hn_own.specs.OwnPrefixes.{has_ended_one}
 use Rattle.hn_rules.specs.declared.state.State.{State}
-use Rattle.hn_rules.specs.Assigning.{IsAssigned}
+use Rattle.hn_rules.specs.Assigning.{IsRunAssigned}
 use Rattle.hn_rules.specs.Nodes.{age_at, IsReach}
 use Rattle.hn_rules.specs.Tick.{IsExpired}
 
@@ -33,5 +33,5 @@ pub record IsStill (now : ℕ) (s : State) : Type 0 where
   pub young : now - s.own.born < 2 ^ 32 - 2 ^ 16
   pub reached : IsReach (at_moment now s) s.reach
   pub kept : list_any (is_forgotten now) s.table.entries ≡ false
-  pub rests : IsAssigned (at_moment now s) (record { held = s.held; words = [] })
+  pub rests : IsRunAssigned (at_moment now s) (record { held = s.held; words = [] })
   pub silent : All (IsPortStill now) s.ports

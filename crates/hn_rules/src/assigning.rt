@@ -11,7 +11,7 @@ ghost use Rattle.hn_rules.specs.Router.{IsRouter, IsRefreshed};
 ghost use Rattle.hn_rules.specs.Rules.{Ran};
 ghost use Rattle.hn_rules.specs.Seen.{seen_by};
 ghost use Rattle.hn_own.specs.HeldPairs.{AreHeldPairs};
-ghost use Rattle.hn_rules.specs.Assigning.{IsWishAt, AreAsked, IsAssigned, IsAssigning};
+ghost use Rattle.hn_rules.specs.Assigning.{IsWishAt, AreAsked, IsRunAssigned, IsAssigning};
 ghost use Rattle.hn_rules.specs.Posts.{HasCommonLink, endpoints_at};
 
 use crate::laws::view_is_a_network;
@@ -157,7 +157,7 @@ impl State {
     /// What the assignment subroutine makes of the router's assignments and backoffs.
     fn assigned<D: Draw>(&self, alloc: Global, draw: &mut D) -> Result<hn_assign::Ran, NoMemory>
         requires { IsRouter self.now }
-        ensures assigned { IfOk result (IsAssigned self.now) }
+        ensures assigned { IfOk result (IsRunAssigned self.now) }
         ensures kept { IfOk result (λ ran. AreHeldPairs ran.held) }
         ensures drew { IfOk result (λ ran. Took (D.words draw.old) ran.words (D.words draw.new)) }
     {

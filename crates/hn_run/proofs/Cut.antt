@@ -5,7 +5,7 @@ use Rattle.std.specs.Io.KnownBytes.{Appends}
 use Rattle.hn_io.specs.declared.fault.IoFault.{IoFault}
 use Rattle.hn_io.specs.declared.fault.IoFault.TheVariants.{Failed, NoMemory}
 use Rattle.hn_tlv.specs.Grammar.{PlainTlv, IsTlvList}
-use Rattle.hn_decode.specs.Nested.{first_line, IsTextTo, IsDecodeText}
+use Rattle.hn_decode.specs.Nested.{tlvs_line, IsTextTo, IsDecodeText}
 use Rattle.hn_decode.specs.Laws.{LinesGoOn}
 use Rattle.hn_lab.specs.Laws.{PiecesAppend}
 use Rattle.hn_run.specs.Decode.{AppendsCut, written_status}
@@ -15,18 +15,18 @@ use Rattle.hn_run.proofs.Streams.{AppendsCut-more, Appends-none}
 abbrev pub AreSoMany : List ℕ → ℕ → Type 0
 AreSoMany bytes count = (tlvs : List PlainTlv) × IsTlvList tlvs bytes × (length tlvs ≡ count)
 
-goes_on : LinesGoOn → (bytes lines : List ℕ) (at count : ℕ) → AreSoMany bytes count → IsTextTo bytes at lines → (rest : List ℕ) × IsDecodeText bytes (first_line count ++ (lines ++ rest))
+goes_on : LinesGoOn → (bytes lines : List ℕ) (at count : ℕ) → AreSoMany bytes count → IsTextTo bytes at lines → (rest : List ℕ) × IsDecodeText bytes (tlvs_line count ++ (lines ++ rest))
 goes_on law bytes lines at count many so_far =
     let told = law bytes lines at many.0 many.1 so_far in
-    let Told : ℕ → Type 0 = λ n. IsDecodeText bytes (first_line n ++ (lines ++ told.0)) in
+    let Told : ℕ → Type 0 = λ n. IsDecodeText bytes (tlvs_line n ++ (lines ++ told.0)) in
     (told.0, subst Told many.2 told.1)
 
 -- the writing was cut in the lines of the next TLV
-pub cut_among_lines : PiecesAppend → LinesGoOn → (bytes lines : List ℕ) (at count : ℕ) → AreSoMany bytes count → IsTextTo bytes at lines → (fault : IoFault) (a b c : Option (List ℕ)) → Appends a b (first_line count ++ lines)
+pub cut_among_lines : PiecesAppend → LinesGoOn → (bytes lines : List ℕ) (at count : ℕ) → AreSoMany bytes count → IsTextTo bytes at lines → (fault : IoFault) (a b c : Option (List ℕ)) → Appends a b (tlvs_line count ++ lines)
     → (after : ℕ) × (more : List ℕ) × ((lines : List ℕ) → IsTextTo bytes at lines → IsTextTo bytes after (lines ++ more)) × AppendsCut fault b c more
     → (text : List ℕ) × IsDecodeText bytes text × AppendsCut fault a c text
 cut_among_lines append law bytes lines at count many so_far fault a b c written cut =
-    let front = first_line count in
+    let front = tlvs_line count in
     let more = cut.1 in
     let told = goes_on law bytes (lines ++ more) cut.0 count many (cut.2 lines so_far) in
     let rest = told.0 in
@@ -35,11 +35,11 @@ cut_among_lines append law bytes lines at count many so_far fault a b c written 
     (front ++ ((lines ++ more) ++ rest), told.1, AppendsCut-more append fault a b c (front ++ lines) more rest _ written cut.3 parts)
 
 -- the writing was cut in the first line
-pub cut_in_first_line : PiecesAppend → LinesGoOn → (bytes : List ℕ) (count : ℕ) → AreSoMany bytes count → IsTextTo bytes 0 [] → (fault : IoFault) (a b : Option (List ℕ)) → AppendsCut fault a b (first_line count)
+pub cut_in_first_line : PiecesAppend → LinesGoOn → (bytes : List ℕ) (count : ℕ) → AreSoMany bytes count → IsTextTo bytes 0 [] → (fault : IoFault) (a b : Option (List ℕ)) → AppendsCut fault a b (tlvs_line count)
     → (text : List ℕ) × IsDecodeText bytes text × AppendsCut fault a b text
 cut_in_first_line append law bytes count many begins fault a b cut =
     let told = goes_on law bytes [] 0 count many begins in
-    (first_line count ++ told.0, told.1, AppendsCut-more append fault a a b [] (first_line count) told.0 _ (Appends-none a) cut refl)
+    (tlvs_line count ++ told.0, told.1, AppendsCut-more append fault a a b [] (tlvs_line count) told.0 _ (Appends-none a) cut refl)
 
 -- what holds after a fault holds with its status
 pub broken_of_written : (written : Result (Unit {0}) IoFault) (whole : ℕ) (P : IoFault → Type 0) → whole < 3 → IfErr written P → written_status written whole ≡ 4 → P Failed

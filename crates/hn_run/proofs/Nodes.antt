@@ -16,7 +16,7 @@ use Rattle.hn_node.specs.declared.served.Served.{Served}
 use Rattle.hn_script.specs.Field.{IsNumberText}
 use Rattle.hn_wire.specs.declared.datagram.Datagram.{Datagram}
 use Rattle.hn_run.specs.Decode.{written_status}
-use Rattle.hn_run.specs.Form.{ArePeers, IsNodeCall, IsFormOf}
+use Rattle.hn_run.specs.Form.{ArePeerPorts, IsNodeCall, IsFormOf}
 use Rattle.hn_run.specs.declared.words.Form.TheVariants.{Node}
 use Rattle.hn_run.specs.Node.{LineHolds, PlainCall, plain_call, IsCall, Outside, node_line, line_of, site_of, EndsServing, MakesNode, StatusOfNode}
 use Rattle.hn_run.proofs.Streams.{Appends-none}
@@ -50,7 +50,7 @@ take_length (suc n) [] within = absurd (omega arith)
 take_length (suc n) (x ∷ xs) within = ap suc (take_length n xs (omega arith))
 
 -- as many words as ports
-pub as_many : (words : List (List ℕ)) (count : ℕ) (ports : List ℕ) → ArePeers words count ports → length words ≡ count
+pub as_many : (words : List (List ℕ)) (count : ℕ) (ports : List ℕ) → ArePeerPorts words count ports → length words ≡ count
 as_many words count ports are =
     let most = are.most in
     let eight = are.places in

@@ -3,7 +3,7 @@ use Rattle.std.proofs.Common.{◌≡◌, ◌∙◌, ◌<◌, ◌≤◌, ◌+◌,
 use Rattle.std.proofs.lemmas.List.{length-set}
 use Rattle.std.specs.List.{AllZip}
 use Rattle.hn_script.specs.Field.{IsNumberText}
-use Rattle.hn_run.specs.Form.{ArePeers}
+use Rattle.hn_run.specs.Form.{ArePeerPorts}
 
 abbrev IsPort : List ℕ → ℕ → Type 0
 IsPort word port = IsNumberText 1024 65534 word port
@@ -38,14 +38,14 @@ not_all (w ∷ words) [] i within none are = are
 not_all (w ∷ words) (p ∷ ports) zero within none are = none p are.0
 not_all (w ∷ words) (p ∷ ports) (suc i) within none are = not_all words ports i (omega arith) none are.1
 
-pub no_peers : (words : List (List ℕ)) (i : ℕ) (word : List ℕ) → i < length words → get_or words i [] ≡ word → ((n : ℕ) → IsNumberText 1024 65534 word n → ⊥) → (count : ℕ) (ports : List ℕ) → ArePeers words count ports → ⊥
+pub no_peers : (words : List (List ℕ)) (i : ℕ) (word : List ℕ) → i < length words → get_or words i [] ≡ word → ((n : ℕ) → IsNumberText 1024 65534 word n → ⊥) → (count : ℕ) (ports : List ℕ) → ArePeerPorts words count ports → ⊥
 no_peers words i word within at none count ports are = not_all words (take count ports) i within (λ n is. none n (subst (λ (w : List ℕ). IsPort w n) at is)) are.are
 
 whole : (words : List (List ℕ)) → take (length words) words ≡ words
 whole [] = refl
 whole (w ∷ words) = ap (λ (rest : List (List ℕ)). w ∷ rest) (whole words)
 
-pub all_ported : (words : List (List ℕ)) (i n : ℕ) (ports : List ℕ) → i ≡ n → length words ≡ n → 0 < n → n ≤ 8 → ArePorted words i ports → ArePeers words n ports
+pub all_ported : (words : List (List ℕ)) (i n : ℕ) (ports : List ℕ) → i ≡ n → length words ≡ n → 0 < n → n ≤ 8 → ArePorted words i ports → ArePeerPorts words n ports
 all_ported words i n ports end long some most were = record {
   some = some;
   most = most;

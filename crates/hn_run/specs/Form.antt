@@ -28,7 +28,7 @@ AreCountedWords (Soak n seed) word count_word seed_word =
 AreCountedWords _ word count_word seed_word = ⊥
 
 -- these words are ports from 1,024 to 65,534, the first so many of these eight; there are one to eight
-pub record ArePeers (words : List (List ℕ)) (count : ℕ) (ports : List ℕ) : Type 0 where
+pub record ArePeerPorts (words : List (List ℕ)) (count : ℕ) (ports : List ℕ) : Type 0 where
   pub some : 0 < count
   pub most : count ≤ 8
   pub places : length ports ≡ 8
@@ -41,7 +41,7 @@ pub record IsNodeCall (call : NodeCall) (id port turns seed : List ℕ) (peers :
   pub port_is : IsNumberText 1024 65534 port call.port
   pub turns_are : IsNumberText 1 100000 turns call.turns
   pub seed_is : IsNumberText 0 (2 ^ 64 - 1) seed call.seed
-  pub peers_are : ArePeers peers call.count call.peers
+  pub peers_are : ArePeerPorts peers call.count call.peers
 
 -- the words of the command line ask for a form: the program's name, and the words of the form
 abbrev pub IsFormOf : Form → List (List ℕ) → Type 0

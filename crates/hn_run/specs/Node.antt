@@ -9,7 +9,7 @@ use Rattle.hn_base.specs.Input.{IsWhole}
 use Rattle.hn_base.specs.Words.{Begins}
 use Rattle.hn_base.specs.declared.ids.NodeId.{NodeId}
 use Rattle.hn_io.specs.Pcg.{pcg_word}
-use Rattle.hn_lab.specs.Output.{IsPart, IsFront}
+use Rattle.hn_lab.specs.Output.{IsPart, IsFrontOf}
 use Rattle.hn_lab.specs.Reports.{refused_line}
 use Rattle.hn_node.specs.Turns.{PlainSite, Serving, serving, Turns, CutTurns, handed_in, arrivals_in, words_of}
 use Rattle.hn_node.specs.declared.served.ServeEnd.{ServeEnd}
@@ -162,7 +162,7 @@ MakesNode call bytes status served before after text =
 -- what a sink holds of a line, by the status: a proper front where the sink failed, a front where memory ended, else all
 abbrev pub LineHolds : ℕ → List ℕ → List ℕ → Type 0
 LineHolds status line written =
-    ((status ≡ 4) × IsPart written line) ⊎ (((status ≡ 6) × IsFront written line) ⊎ ((status ≢ 4) × (status ≢ 6) × (written ≡ line)))
+    ((status ≡ 4) × IsPart written line) ⊎ (((status ≡ 6) × IsFrontOf written line) ⊎ ((status ≢ 4) × (status ≢ 6) × (written ≡ line)))
 
 -- what excludes a status
 pub record StatusOfNode (call : PlainCall) (bytes : List ℕ) (status : ℕ) : Type 0 where

@@ -1,5 +1,5 @@
 ghost use Rattle.std.specs.Prelude.{ℕ, List, map, IfSome, IfNone, string_bytes};
-ghost use Rattle.hn_run.specs.Form.{ArePeers};
+ghost use Rattle.hn_run.specs.Form.{ArePeerPorts};
 
 use hn_base::NodeId;
 use hn_script::number_in;
@@ -43,8 +43,8 @@ pub enum Form {
 
 /// The ports that words are, one to eight, and how many.
 fn ports_of(words: &[String]) -> Option<(u8, [u16; MOST_PEERS])>
-    ensures found { IfSome result (λ found. ArePeers (map string_bytes words.now) found.0 found.1) }
-    ensures none { IfNone result ((count : ℕ) → (ports : List ℕ) → ArePeers (map string_bytes words.now) count ports → ⊥) }
+    ensures found { IfSome result (λ found. ArePeerPorts (map string_bytes words.now) found.0 found.1) }
+    ensures none { IfNone result ((count : ℕ) → (ports : List ℕ) → ArePeerPorts (map string_bytes words.now) count ports → ⊥) }
 {
     if words.is_empty() {
         return None;

@@ -6,12 +6,12 @@ use Rattle.hn_script.specs.Laws.{IsLimited, ScriptIsLimited, LinesAreOfVersion}
 use Rattle.hn_base.specs.declared.version.Version.{Version}
 use Rattle.hn_script.specs.Entries.{IsEntry, numbered}
 use Rattle.hn_script.specs.Language.{Gives}
-use Rattle.hn_script.specs.Line.{spelling, IsOfVersion, of_version}
+use Rattle.hn_script.specs.Line.{line_spelling, IsOfVersion, of_version}
 use Rattle.hn_script.specs.Texts.{words_of}
 use Rattle.hn_script.specs.declared.line.Line.{Line}
 use Rattle.hn_script.specs.declared.line.Line.TheVariants.{Attach, Time, Run}
 
-limited_fields : (line : Line) (words : List (List ℕ)) → AllZip IsField (spelling line).fields words → IsLimited line
+limited_fields : (line : Line) (words : List (List ℕ)) → AllZip IsField (line_spelling line).fields words → IsLimited line
 limited_fields (Attach name e link) [] zip = absurd zip
 limited_fields (Attach name e link) (a ∷ []) zip = absurd zip.1
 limited_fields (Attach name e link) (a ∷ b ∷ words) zip = zip.1.0.low

@@ -11,7 +11,7 @@ use Rattle.hn_base.specs.Prefix.{PlainPrefix}
 use Rattle.hn_script.specs.Fault.{IsUnknown, FirstWordFault}
 use Rattle.hn_script.specs.Field.{Field, Named, Node, Endpoint, Number, Prefixed, Capability, Way, Hex, Length}
 use Rattle.hn_script.specs.FirstWords.{IsOneOf, IsNoneOf, shared_words, router_words, prefix_words, range_words}
-use Rattle.hn_script.specs.Line.{spelling, every_line, any_number, time_from, priority, lifetime}
+use Rattle.hn_script.specs.Line.{line_spelling, every_line, any_number, time_from, priority, lifetime}
 use Rattle.hn_script.specs.Reading.{ReadsFields}
 use Rattle.hn_script.specs.declared.line.How.{How}
 use Rattle.hn_script.specs.declared.line.How.TheVariants.{Uni}
@@ -70,16 +70,16 @@ none_of firsts first word one none e = absurd (lacks firsts word none (subst (λ
 
 -- the first words of lines
 abbrev pub firsts : List Line → List (List ℕ)
-firsts lines = map (λ line. (spelling line).first) lines
+firsts lines = map (λ line. (line_spelling line).first) lines
 
-some_of : (lines : List Line) (word : List ℕ) → IsOneOf (firsts lines) word → (line : Line) × ((spelling line).first ≡ word)
+some_of : (lines : List Line) (word : List ℕ) → IsOneOf (firsts lines) word → (line : Line) × ((line_spelling line).first ≡ word)
 some_of [] word h = absurd h
 some_of (line ∷ lines) word (inl e) = (line, sym e)
 some_of (line ∷ lines) word (inr h) = some_of lines word h
 
 -- what follows the first words of some lines, in all lines that begin with one of them
 abbrev pub Follows : {A : Type 0} → List Line → (A → List Field) → Type 0
-Follows {A} lines fields_of = (line : Line) → is_one_of (firsts lines) (spelling line).first ≡ true → (a : A) × ((spelling line).fields ≡ fields_of a)
+Follows {A} lines fields_of = (line : Line) → is_one_of (firsts lines) (line_spelling line).first ≡ true → (a : A) × ((line_spelling line).fields ≡ fields_of a)
 
 -- what is wrong with the words after such a first word
 pub word_fault : {A : Type 0} (lines : List Line) (count : ℕ) (fields_of : A → List Field) → ((a : A) → length (fields_of a) ≡ count) → Follows lines fields_of
@@ -253,23 +253,23 @@ inject_follows _ h = absurd (false≢true h)
 abbrev pub known_words : List (List ℕ)
 known_words = range_words ++ prefix_words ++ router_words ++ shared_words
 
-known_first : (line : Line) → is_one_of known_words (spelling line).first ≡ true
+known_first : (line : Line) → is_one_of known_words (line_spelling line).first ≡ true
 known_first (Router a b) = refl
 known_first _ = refl
 
 -- a word that is none of these begins no line
 pub unknown_word : (word : List ℕ) → IsNoneOf known_words word → IsUnknown every_line word
-unknown_word word none line has e = none_of known_words (spelling line).first word (known_first line) none e
+unknown_word word none line has e = none_of known_words (line_spelling line).first word (known_first line) none e
 
 -- the first word of a line is of letters
-pub first_letters : (line : Line) → is_letters (spelling line).first ≡ true
+pub first_letters : (line : Line) → is_letters (line_spelling line).first ≡ true
 first_letters (Router a b) = refl
 first_letters _ = refl
 
 -- ---- the lines that are of no other group
 
 -- a line of the words of routers is one of these
-pub no_other_of_router : (line : Line) → IsOneOf router_words (spelling line).first
+pub no_other_of_router : (line : Line) → IsOneOf router_words (line_spelling line).first
     → ((name : Name) (id : NodeId) → line ≢ Router name id) → ((name : Name) (e : EpId) (link : Name) → line ≢ Attach name e link)
     → ((name : Name) (caps : PriorityCaps) → line ≢ Caps name caps) → ((name : Name) (e : EpId) (letter : Letter) → line ≢ Elect name e letter)
     → ((name : Name) (e : EpId) (how : How) (bytes : List ℕ) → line ≢ Inject name e how bytes) → ⊥
@@ -278,13 +278,13 @@ no_other_of_router (Attach name e link) one router attach caps elect inject = at
 no_other_of_router (Caps name c) one router attach caps elect inject = caps name c refl
 no_other_of_router (Elect name e letter) one router attach caps elect inject = elect name e letter refl
 no_other_of_router (Inject name e how bytes) one router attach caps elect inject = inject name e how bytes refl
-no_other_of_router line one router attach caps elect inject = false≢true (one_of router_words (spelling line).first one)
+no_other_of_router line one router attach caps elect inject = false≢true (one_of router_words (line_spelling line).first one)
 
 -- a line of the words of prefixes is one of these
-pub no_other_of_prefix : (line : Line) → IsOneOf prefix_words (spelling line).first
+pub no_other_of_prefix : (line : Line) → IsOneOf prefix_words (line_spelling line).first
     → ((name : Name) (prefix : PlainPrefix) (valid preferred : ℕ) → line ≢ External name prefix valid preferred)
     → ((name : Name) (prefix : PlainPrefix) → line ≢ Withdraw name prefix) → ((name : Name) (bits : Option ℕ) → line ≢ Private name bits) → ⊥
 no_other_of_prefix (External name prefix valid preferred) one external withdraw private = external name prefix valid preferred refl
 no_other_of_prefix (Withdraw name prefix) one external withdraw private = withdraw name prefix refl
 no_other_of_prefix (Private name bits) one external withdraw private = private name bits refl
-no_other_of_prefix line one external withdraw private = false≢true (one_of prefix_words (spelling line).first one)
+no_other_of_prefix line one external withdraw private = false≢true (one_of prefix_words (line_spelling line).first one)

@@ -23,7 +23,7 @@ use Rattle.hn_script.specs.Fault.{IsPlain}
 use Rattle.hn_script.specs.Field.{Field, Named, Node, Endpoint, Number, Prefixed, Capability, Way, Hex, Length, IsField, IsInRange, IsNumberText, field_text, letter_text, way_text}
 use Rattle.hn_script.specs.Laws.{IsPrintable, renumbered, PrintedIsRead}
 use Rattle.hn_script.specs.Entries.{IsEntry, numbered}
-use Rattle.hn_script.specs.Line.{spelling, IsOfVersion, of_version, values_text, line_text}
+use Rattle.hn_script.specs.Line.{line_spelling, IsOfVersion, of_version, values_text, line_text}
 use Rattle.hn_script.specs.Script.{ended, first_line}
 use Rattle.hn_script.specs.Texts.{words_of, lines_of}
 use Rattle.hn_script.specs.declared.line.How.{How}
@@ -137,18 +137,18 @@ joined_plain word (next ∷ words) h =
 
 -- ---- lines
 
-line_words : PrefixTextIsRead → (line : Line) → IsPrintable line → AreWords ((spelling line).first ∷ map field_text (spelling line).fields)
+line_words : PrefixTextIsRead → (line : Line) → IsPrintable line → AreWords ((line_spelling line).first ∷ map field_text (line_spelling line).fields)
 unfolding AreWords
 line_words print line h =
     let letters = first_letters line in
-    ((IsWord-from_letters (spelling line).first letters, letters_some (spelling line).first letters), printed_words print (spelling line).fields h.in_range)
+    ((IsWord-from_letters (line_spelling line).first letters, letters_some (line_spelling line).first letters), printed_words print (line_spelling line).fields h.in_range)
 
 printed_entry : PrefixTextIsRead → (version : Version) (line : Line) → IsOfVersion version line → IsPrintable line → IsEntry (of_version version) (Some line) (line_text line)
 printed_entry print version line of h = record {
   short = h.short;
-  plain = joined_plain (spelling line).first (map field_text (spelling line).fields) (line_words print line h);
-  gives = rw (joined_words (spelling line).first (map field_text (spelling line).fields) (line_words print line h))
-      ((of, refl, printed_fields print (spelling line).fields h.in_range), letters_no_hash (spelling line).first (first_letters line));
+  plain = joined_plain (line_spelling line).first (map field_text (line_spelling line).fields) (line_words print line h);
+  gives = rw (joined_words (line_spelling line).first (map field_text (line_spelling line).fields) (line_words print line h))
+      ((of, refl, printed_fields print (line_spelling line).fields h.in_range), letters_no_hash (line_spelling line).first (first_letters line));
 }
 
 plain_lacks : (text : List ℕ) → IsPlain text → Lacks 10 text
@@ -215,5 +215,5 @@ printed_more first lines i line lt is =
     ∙ ended-push (first ∷ texts_of (take i lines)) (line_text line.1)
 
 -- the values of a line stand after its first word
-pub line_is : (line : Line) → line_text line ≡ (spelling line).first ++ values_text (spelling line).fields
-line_is line = words_are (spelling line).first (spelling line).fields
+pub line_is : (line : Line) → line_text line ≡ (line_spelling line).first ++ values_text (line_spelling line).fields
+line_is line = words_are (line_spelling line).first (line_spelling line).fields

@@ -9,7 +9,7 @@ use Rattle.hn_base.specs.declared.letter.Letter.{Letter}
 use Rattle.hn_base.specs.declared.letter.Letter.TheVariants.{M, P, H, L}
 use Rattle.hn_prefix.specs.Laws.{PrefixTextIsOfOne}
 use Rattle.hn_script.specs.Field.{Field, Named, Node, Endpoint, Number, Prefixed, Capability, Way, Hex, Length, IsField, IsHexWord, IsNumberText, letter_text, way_text}
-use Rattle.hn_script.specs.Line.{spelling, of_version}
+use Rattle.hn_script.specs.Line.{line_spelling, of_version}
 use Rattle.hn_base.specs.declared.caps.Caps.{Caps as PriorityCaps}
 use Rattle.hn_base.specs.declared.name.Name.{Name}
 use Rattle.hn_base.specs.declared.version.Version.{Version}
@@ -113,7 +113,7 @@ same_fields one (f ∷ fs) (g ∷ gs) (word ∷ words) kinds h k =
 
 -- capabilities that four priorities of a line give
 same_caps_lines : (a : Name) (b : PriorityCaps) (c : Name) (d : PriorityCaps)
-    → map without_range (spelling (Caps a b)).fields ≡ map without_range (spelling (Caps c d)).fields → Caps a b ≡ Caps c d
+    → map without_range (line_spelling (Caps a b)).fields ≡ map without_range (line_spelling (Caps c d)).fields → Caps a b ≡ Caps c d
 same_caps_lines a b c d e =
     let name : a ≡ c = cc in
     let m : b.m ≡ d.m = cc in
@@ -124,15 +124,15 @@ same_caps_lines a b c d e =
 
 -- the values of a line
 abbrev values_of : Line → List Field
-values_of line = map without_range (spelling line).fields
+values_of line = map without_range (line_spelling line).fields
 
-same_values : PrefixTextIsOfOne → (line other : Line) (words : List (List ℕ)) → AllZip SameKind (spelling line).fields (spelling other).fields
-    → AllZip IsField (spelling line).fields words → AllZip IsField (spelling other).fields words → values_of line ≡ values_of other
-same_values one line other = same_fields one (spelling line).fields (spelling other).fields
+same_values : PrefixTextIsOfOne → (line other : Line) (words : List (List ℕ)) → AllZip SameKind (line_spelling line).fields (line_spelling other).fields
+    → AllZip IsField (line_spelling line).fields words → AllZip IsField (line_spelling other).fields words → values_of line ≡ values_of other
+same_values one line other = same_fields one (line_spelling line).fields (line_spelling other).fields
 
 -- words spell one line of a first word
-same_row : PrefixTextIsOfOne → (line other : Line) (words : List (List ℕ)) → same_text (spelling line).first (spelling other).first ≡ true
-    → AllZip IsField (spelling line).fields words → AllZip IsField (spelling other).fields words → line ≡ other
+same_row : PrefixTextIsOfOne → (line other : Line) (words : List (List ℕ)) → same_text (line_spelling line).first (line_spelling other).first ≡ true
+    → AllZip IsField (line_spelling line).fields words → AllZip IsField (line_spelling other).fields words → line ≡ other
 same_row one (Router a b) (Router g h) words e p q = let values = same_values one (Router a b) (Router g h) words (tt, (tt, tt)) p q in cc
 same_row one (Link a) (Link g) words e p q = let values = same_values one (Link a) (Link g) words (tt, tt) p q in cc
 same_row one (Attach a b c) (Attach g h i) words e p q = let values = same_values one (Attach a b c) (Attach g h i) words (tt, (tt, (tt, tt))) p q in cc
@@ -174,4 +174,4 @@ same_row one _ _ words e p q = absurd (false≢true e)
 -- words spell one line
 pub same_line : PrefixTextIsOfOne → (version : Version) → IsTold (of_version version)
 same_line one version line other word words h k =
-    same_row one line other words (subst (λ w. same_text (spelling line).first w ≡ true) (h.1 ∙ sym k.1) (same_text-refl (spelling line).first)) h.2 k.2
+    same_row one line other words (subst (λ w. same_text (line_spelling line).first w ≡ true) (h.1 ∙ sym k.1) (same_text-refl (line_spelling line).first)) h.2 k.2

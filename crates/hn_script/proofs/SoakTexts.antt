@@ -19,7 +19,7 @@ use Rattle.hn_base.specs.Prefix.{PlainPrefix, IsPrefix}
 use Rattle.hn_prefix.specs.PrefixText.{prefix_text_of}
 use Rattle.hn_script.specs.Field.{Field, Named, Node, Endpoint, Number, Prefixed, IsInRange, IsNameWord, field_text}
 use Rattle.hn_base.specs.declared.version.Version.TheVariants.{One}
-use Rattle.hn_script.specs.Line.{spelling, IsOfVersion, line_text}
+use Rattle.hn_script.specs.Line.{line_spelling, IsOfVersion, line_text}
 use Rattle.hn_script.specs.Soak.{router_name, link_name, up_to, upward_texts}
 use Rattle.hn_script.specs.SoakLines.{IsLineOf, Adds}
 use Rattle.hn_script.specs.declared.line.Line.{Line}
@@ -88,10 +88,10 @@ short_words first (field ∷ fields) h =
     let short = h.0.short in
     omega (arith, length-append first (32 ∷ join_with_byte 32 (field_text field ∷ map field_text fields)))
 
-line_so : (line : Line) (text : List ℕ) → IsOfVersion One line → AllByRecursion IsShort (spelling line).fields → length (spelling line).first + 65 * length (spelling line).fields ≤ 16384 → line_text line ≡ text → IsLineOf line text
+line_so : (line : Line) (text : List ℕ) → IsOfVersion One line → AllByRecursion IsShort (line_spelling line).fields → length (line_spelling line).first + 65 * length (line_spelling line).fields ≤ 16384 → line_text line ≡ text → IsLineOf line text
 line_so line text of h few is =
-    let short = short_words (spelling line).first (spelling line).fields h in
-    record { of_one = of; printable = record { in_range = in_range_of (spelling line).fields h; short = omega arith }; text_is = is }
+    let short = short_words (line_spelling line).first (line_spelling line).fields h in
+    record { of_one = of; printable = record { in_range = in_range_of (line_spelling line).fields h; short = omega arith }; text_is = is }
 
 -- ---- each line
 

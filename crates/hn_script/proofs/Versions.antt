@@ -5,7 +5,7 @@ use Rattle.hn_base.specs.declared.version.Version.{Version}
 use Rattle.hn_base.specs.declared.version.Version.TheVariants.{One}
 use Rattle.hn_script.specs.Fault.{IsUnknown, FirstWordFault}
 use Rattle.hn_script.specs.FirstWords.{IsOneOf, IsNoneOf, later_words}
-use Rattle.hn_script.specs.Line.{spelling, IsOfVersion, every_line, of_version}
+use Rattle.hn_script.specs.Line.{line_spelling, IsOfVersion, every_line, of_version}
 use Rattle.hn_script.specs.Reading.{ReadsDraft, AreOfVersion}
 use Rattle.hn_script.specs.declared.draft.Draft.{Draft}
 use Rattle.hn_script.specs.declared.line.Line.{Line}
@@ -40,7 +40,7 @@ draft_of_version version word words are (Err code) reads = fault_of_version vers
 -- ---- the words of version 2 alone
 
 -- a line is of version 1, or begins with a word of version 2 alone
-either : (line : Line) → (is_one_of later_words (spelling line).first ≡ true) ⊎ IsOfVersion One line
+either : (line : Line) → (is_one_of later_words (line_spelling line).first ≡ true) ⊎ IsOfVersion One line
 either (Private name bits) = inl refl
 either (Address name) = inl refl
 either (Addresses name) = inl refl
@@ -53,7 +53,7 @@ either (Solicit name e) = inl refl
 either _ = inr tt
 
 -- and never both
-not_both : (line : Line) → is_one_of later_words (spelling line).first ≡ true → IsOfVersion One line → ⊥
+not_both : (line : Line) → is_one_of later_words (line_spelling line).first ≡ true → IsOfVersion One line → ⊥
 not_both (Private name bits) later of = of
 not_both (Address name) later of = of
 not_both (Addresses name) later of = of
@@ -70,6 +70,6 @@ pub of_one : (word : List ℕ) (later : Bool) → MatchBool later (IsOneOf later
     → MatchBool (not later) (AreOfVersion One word) (IsUnknown (of_version One) word)
 of_one word true one = λ line of e. not_both line (subst (λ first. is_one_of later_words first ≡ true) (sym e) (one_of later_words word one)) of
 of_one word false none = λ line e. elim (either line) [
-  | inl later ↦ absurd (none_of later_words (spelling line).first word later none e)
+  | inl later ↦ absurd (none_of later_words (line_spelling line).first word later none e)
   | inr of ↦ of
 ]

@@ -7,7 +7,7 @@ use Rattle.hn_script.specs.Entries.{IsEntry}
 use Rattle.hn_script.specs.Fault.{FirstWordFault, LineFault}
 use Rattle.hn_script.specs.Field.{Field, IsField}
 use Rattle.hn_script.specs.Language.{Language, SpellsLine}
-use Rattle.hn_script.specs.Line.{spelling, IsOfVersion, of_version}
+use Rattle.hn_script.specs.Line.{line_spelling, IsOfVersion, of_version}
 use Rattle.hn_base.specs.declared.version.Version.{Version}
 use Rattle.hn_script.specs.NodeFile.{of_node}
 use Rattle.hn_script.specs.declared.node_file.NodeLine.{NodeLine}
@@ -51,4 +51,4 @@ ReadsNodeText text (Err code) = LineFault of_node text code
 
 -- the lines that begin with a word are all of a version
 abbrev pub AreOfVersion : Version → List ℕ → Type 0
-AreOfVersion version word = (line : Line) → (spelling line).first ≡ word → IsOfVersion version line
+AreOfVersion version word = (line : Line) → (line_spelling line).first ≡ word → IsOfVersion version line

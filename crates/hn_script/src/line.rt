@@ -2,7 +2,7 @@ ghost use Rattle.std.specs.Prelude.{◌≡◌};
 ghost use Rattle.std.specs.Fmt.{WritesOnOk};
 ghost use Rattle.hn_script.specs.Field.{letter_text};
 ghost use Rattle.hn_script.specs.FirstWords.{IsOneOf, router_words, prefix_words};
-ghost use Rattle.hn_script.specs.Line.{spelling, values_text};
+ghost use Rattle.hn_script.specs.Line.{line_spelling, values_text};
 
 use hn_base::{Bytes, Caps, EpId, Hex, Letter, LinkLength, Moment, Name, NodeId};
 use hn_prefix::Prefix;
@@ -129,7 +129,7 @@ pub enum Line {
 impl Line {
     /// The first word.
     fn word(&self) -> &'static str
-        ensures { result.now ≡ (spelling self.now).first }
+        ensures { result.now ≡ (line_spelling self.now).first }
     {
         match self {
             Line::Router(..) => "router",
@@ -173,7 +173,7 @@ impl Line {
 
     /// Writes the values, each after a space.
     fn write_values<W: fmt::Write>(&self, f: &mut fmt::Formatter<W>) -> fmt::Result
-        ensures { WritesOnOk W.Write.write_str_gives f.old result (values_text (spelling self.now).fields) f.new }
+        ensures { WritesOnOk W.Write.write_str_gives f.old result (values_text (line_spelling self.now).fields) f.new }
     {
         match self {
             Line::Flow | Line::Mail => Ok(()),
@@ -210,8 +210,8 @@ impl Line {
 
     /// The same, of a line with a node, an endpoint and more, or capabilities.
     fn write_of_router<W: fmt::Write>(&self, f: &mut fmt::Formatter<W>) -> fmt::Result
-        requires { IsOneOf router_words (spelling self.now).first }
-        ensures { WritesOnOk W.Write.write_str_gives f.old result (values_text (spelling self.now).fields) f.new }
+        requires { IsOneOf router_words (line_spelling self.now).first }
+        ensures { WritesOnOk W.Write.write_str_gives f.old result (values_text (line_spelling self.now).fields) f.new }
     {
         match self {
             Line::Router(name, id) => write!(f, " {name} {id}"),
@@ -231,8 +231,8 @@ impl Line {
 
     /// The same, of a line with a prefix or the length of one.
     fn write_of_prefix<W: fmt::Write>(&self, f: &mut fmt::Formatter<W>) -> fmt::Result
-        requires { IsOneOf prefix_words (spelling self.now).first }
-        ensures { WritesOnOk W.Write.write_str_gives f.old result (values_text (spelling self.now).fields) f.new }
+        requires { IsOneOf prefix_words (line_spelling self.now).first }
+        ensures { WritesOnOk W.Write.write_str_gives f.old result (values_text (line_spelling self.now).fields) f.new }
     {
         match self {
             Line::External(name, prefix, valid, preferred) => {

@@ -16,7 +16,7 @@ use Rattle.hn_base.proofs.Keys.{same_node, key_total, exact_key}
 use Rattle.hn_base.specs.Prefix.{PlainPrefix, IsWithin, Overlaps, prefix_cmp}
 use Rattle.hn_assign.specs.declared.assigned.Advertised.{Advertised}
 use Rattle.hn_assign.specs.declared.assigned.Assigned.{Assigned}
-use Rattle.hn_assign.specs.Advertised.{key_of, IsOnLink, advertised_cmp}
+use Rattle.hn_assign.specs.Advertised.{key_of, IsAdvertisedOnLink, advertised_cmp}
 use Rattle.hn_assign.specs.Best.{IsCandidatePrefix, IsBest}
 use Rattle.hn_sound.specs.Home.{Home, Endpoint, Held, EndpointHasAssignment, HasPublished, advertised, common_link, key_at}
 use Rattle.hn_sound.specs.Premises.{Meets, IsHome}
@@ -60,7 +60,7 @@ module _ (home : Home) where
         prefix = refl;
       })
 
-  on_some_link : (f : Endpoint) (a : Advertised) → Contains (advertised home) a → IsOnLink (common_link home f) a → (d : PlainPrefix) × OnLink home f d a
+  on_some_link : (f : Endpoint) (a : Advertised) → Contains (advertised home) a → IsAdvertisedOnLink (common_link home f) a → (d : PlainPrefix) × OnLink home f d a
   on_some_link f a advertised on =
       let from = from_advertised home a advertised in
       let at = from_common_link home f a.key.node a.key.endpoint on in

@@ -11,7 +11,7 @@ use Rattle.hn_base.specs.Key.{key_cmp, IsAbove}
 use Rattle.hn_base.proofs.Keys.{key_total}
 use Rattle.hn_base.specs.Prefix.{PlainPrefix, IsWithin, Overlaps}
 use Rattle.hn_assign.specs.declared.assigned.Assigned.{Assigned}
-use Rattle.hn_assign.specs.Advertised.{key_of, IsOnLink}
+use Rattle.hn_assign.specs.Advertised.{key_of, IsAdvertisedOnLink}
 use Rattle.hn_assign.specs.Best.{IsValid}
 use Rattle.hn_assign.specs.Rest.{IsAtRest}
 use Rattle.hn_sound.specs.AtRest.{IsHomeAtRest}
@@ -64,7 +64,7 @@ module _ (home : Home) (is_home : IsHome home) (at_rest : IsHomeAtRest home) whe
       go (inr (inr following)) = absurd (let both : Some x.priority ≡ None = sym x.fact.published ∙ following.unpublished in cc)
 
   -- what is published on another link is not on the Common Link of the endpoint
-  of_other_link : (e : Endpoint) (d : PlainPrefix) (x : Published home d) → e.link ≢ x.endpoint.link → ¬ (IsOnLink (common_link home e) (advert x))
+  of_other_link : (e : Endpoint) (d : PlainPrefix) (x : Published home d) → e.link ≢ x.endpoint.link → ¬ (IsAdvertisedOnLink (common_link home e) (advert x))
   of_other_link e d x differ on =
       let at = from_common_link home e x.endpoint.node x.endpoint.id on in
       differ (sym at.on_link ∙ is_home OneLink at.endpoint x.endpoint at.there x.fact.has.there at.of_node at.of_id)

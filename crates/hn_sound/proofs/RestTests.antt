@@ -14,7 +14,7 @@ use Rattle.hn_base.specs.Prefix.{PlainPrefix}
 use Rattle.hn_assign.specs.declared.assigned.Advertised.{Advertised}
 use Rattle.hn_assign.specs.declared.assigned.Assigned.{Assigned}
 use Rattle.hn_assign.specs.declared.assigned.Wish.{Wish}
-use Rattle.hn_assign.specs.Advertised.{LinkEndpoints, key_of, IsOnLink, advertised_cmp}
+use Rattle.hn_assign.specs.Advertised.{LinkEndpoints, key_of, IsAdvertisedOnLink, advertised_cmp}
 use Rattle.hn_assign.specs.Best.{IsCandidatePrefix, IsBest, HasNoBest, IsValid, HasNoFree}
 use Rattle.hn_assign.specs.Rest.{IsAtRest, IsIdle, IsAlone, IsAheadOfBest, IsFollowing}
 use Rattle.hn_sound.specs.Conditions.{Condition, MeetsRest, IsAtRestBut}
@@ -37,7 +37,7 @@ from_is_lt Greater h = absurd (cc)
 abbrev pub is_on_link : LinkEndpoints → Advertised → Bool
 is_on_link common a = list_any (λ (m : NodeId × EpId). (m.0.0 == a.key.node.0) && (m.1.0 == a.key.endpoint.0)) common
 
-from_is_on_link : (common : LinkEndpoints) (a : Advertised) → is_on_link common a ≡ true → IsOnLink common a
+from_is_on_link : (common : LinkEndpoints) (a : Advertised) → is_on_link common a ≡ true → IsAdvertisedOnLink common a
 from_is_on_link common a h =
     let found = any_of (λ (m : NodeId × EpId). (m.0.0 == a.key.node.0) && (m.1.0 == a.key.endpoint.0)) common h in
     let parts = and_parts (found.0.0.0 == a.key.node.0) (found.0.1.0 == a.key.endpoint.0) found.2 in
@@ -46,7 +46,7 @@ from_is_on_link common a h =
     let pair : found.0 ≡ (a.key.node, a.key.endpoint) = λ i. (node i, id i) in
     subst (Contains common) pair found.1
 
-to_is_on_link : (common : LinkEndpoints) (a : Advertised) → IsOnLink common a → is_on_link common a ≡ true
+to_is_on_link : (common : LinkEndpoints) (a : Advertised) → IsAdvertisedOnLink common a → is_on_link common a ≡ true
 to_is_on_link common a h =
     any_from (λ (m : NodeId × EpId). (m.0.0 == a.key.node.0) && (m.1.0 == a.key.endpoint.0)) common (a.key.node, a.key.endpoint) h
     (and_from (a.key.node.0 == a.key.node.0) (a.key.endpoint.0 == a.key.endpoint.0) (eq-eqb a.key.node.0 a.key.node.0 refl) (eq-eqb a.key.endpoint.0 a.key.endpoint.0 refl))
@@ -64,7 +64,8 @@ to_may_be_candidate adv own common d a c =
 abbrev pub is_candidate : ℕ → LinkEndpoints → PlainPrefix → Advertised → Bool
 is_candidate own common d a = not (a.key.node.0 == own) && (is_on_link common a && is_within a.prefix d)
 
-from_is_candidate : (adv : List Advertised) (own : ℕ) (common : LinkEndpoints) (d : PlainPrefix) (a : Advertised) → Contains adv a → is_candidate own common d a ≡ true → IsCandidatePrefix adv own common d a
+from_is_candidate : (adv : List Advertised) (own : ℕ) (common : LinkEndpoints) (d : PlainPrefix) (a : Advertised) → Contains adv a
+    → is_candidate own common d a ≡ true → IsCandidatePrefix adv own common d a
 from_is_candidate adv own common d a there h =
     let parts = and_parts (not (a.key.node.0 == own)) (is_on_link common a && is_within a.prefix d) h in
     let rest = and_parts (is_on_link common a) (is_within a.prefix d) parts.1 in

@@ -10,7 +10,7 @@ use Rattle.hn_store.specs.declared.stored.Stored.{Stored}
 use Rattle.hn_store.specs.declared.stored.HeldNode.{HeldNode}
 use Rattle.hn_store.specs.Nodes.{IsTable, IsIntact, held, entry, put}
 use Rattle.hn_store.specs.Place.{IsPlaceOf, IsGapFor}
-use Rattle.hn_store.specs.Acceptance.{PlainState, held_part, kept, renumbered, changed, entries_after}
+use Rattle.hn_store.specs.Acceptance.{PlainState, held_part, stored_from, stored_renumbered, entries_changed, entries_after}
 use Rattle.hn_store.specs.AcceptanceParts.{IsOfNumber}
 use Rattle.hn_store.proofs.NodePlaces.{held-at, held-none, put-at, put-in}
 use Rattle.hn_store.proofs.TableStays.{IsTable-set}
@@ -65,17 +65,17 @@ renumber_same xs id i x s p is same =
     subst (λ (known : Option Part). IsOfNumber known s Renumbered) (sym (part_there xs id i x p is)) (inr (λ other. other same, refl))
 
 pub after_renumbered : (xs : List HeldNode) (i : ℕ) (x : HeldNode) (s : PlainState) (now : ℕ) → IsPlaceOf xs s.node i → x ≡ get_or xs i x
-    → set xs i (record { id = x.id; stored = renumbered s now x.stored }) ≡ entries_after xs s now Renumbered
+    → set xs i (record { id = x.id; stored = stored_renumbered s now x.stored }) ≡ entries_after xs s now Renumbered
 after_renumbered xs i x s now p is =
-    put_there xs s.node i x (renumbered s now x.stored) p is ∙ sym (ap (λ (before : Option Stored). changed s.node (renumbered s now) before xs) (held_there xs s.node i x p is))
+    put_there xs s.node i x (stored_renumbered s now x.stored) p is ∙ sym (ap (λ (before : Option Stored). entries_changed s.node (stored_renumbered s now) before xs) (held_there xs s.node i x p is))
 
-pub intact_renumbered : (s : PlainState) (now : ℕ) (stored : Stored) → IsIntact stored → IsIntact (renumbered s now stored)
+pub intact_renumbered : (s : PlainState) (now : ℕ) (stored : Stored) → IsIntact stored → IsIntact (stored_renumbered s now stored)
 intact_renumbered s now stored one = record { short = one.short; listed = one.listed; hashed = one.hashed }
 
 -- ---- a state with data
 
 pub intact_kept : (s : PlainState) (now : ℕ) (before : Option Stored) (body : List ℕ) → body ≡ s.body → length body ≤ 60000 → HasTlvs body → s.hash ≡ hash_of body
-    → IsIntact (kept s now before)
+    → IsIntact (stored_from s now before)
 intact_kept s now before body same short listed hashed = record {
   short = subst (λ (bytes : List ℕ). length bytes ≤ 60000) same short;
   listed = subst HasTlvs same listed;
@@ -83,11 +83,11 @@ intact_kept s now before body same short listed hashed = record {
 }
 
 pub after_replaced : (xs : List HeldNode) (i : ℕ) (x : HeldNode) (s : PlainState) (now : ℕ) → IsPlaceOf xs s.node i → x ≡ get_or xs i x
-    → set xs i (record { id = x.id; stored = kept s now (Some x.stored) }) ≡ put s.node (kept s now (held xs s.node)) xs
+    → set xs i (record { id = x.id; stored = stored_from s now (Some x.stored) }) ≡ put s.node (stored_from s now (held xs s.node)) xs
 after_replaced xs i x s now p is =
-    put_there xs s.node i x (kept s now (Some x.stored)) p is ∙ sym (ap (λ (before : Option Stored). put s.node (kept s now before) xs) (held_there xs s.node i x p is))
+    put_there xs s.node i x (stored_from s now (Some x.stored)) p is ∙ sym (ap (λ (before : Option Stored). put s.node (stored_from s now before) xs) (held_there xs s.node i x p is))
 
 pub after_inserted : (xs : List HeldNode) (i : ℕ) (s : PlainState) (now : ℕ) → IsGapFor xs s.node i
-    → insert xs i (entry s.node (kept s now None)) ≡ put s.node (kept s now (held xs s.node)) xs
+    → insert xs i (entry s.node (stored_from s now None)) ≡ put s.node (stored_from s now (held xs s.node)) xs
 after_inserted xs i s now g =
-    put-in xs s.node i (kept s now None) g ∙ sym (ap (λ (before : Option Stored). put s.node (kept s now before) xs) (held-none xs s.node i g))
+    put-in xs s.node i (stored_from s now None) g ∙ sym (ap (λ (before : Option Stored). put s.node (stored_from s now before) xs) (held-none xs s.node i g))

@@ -18,7 +18,7 @@ use Rattle.std.proofs.lemmas.List.{length-map}
 use Rattle.std.proofs.lemmas.List.Elements.{All-map, All-weaker}
 use Rattle.std.proofs.lemmas.List.Filters.{length-filter_both}
 use Rattle.std.proofs.lemmas.List.Sums.{length-filter}
-use Rattle.hn_store.specs.Nodes.{IsTable, IsIntact, ids_of}
+use Rattle.hn_store.specs.Nodes.{IsTable, IsIntact, ids_of_held}
 use Rattle.hn_store.proofs.NodePlaces.{order_rises}
 use Rattle.hn_store.specs.Loss.{is_among, lost_after, marked_node, is_to_mark, is_forgotten}
 
@@ -73,7 +73,7 @@ remembered-unneeded now (node ∷ nodes) unneeded =
     rw (both.0) (ap (λ others. node ∷ others) (remembered-unneeded now nodes both.1))
 
 -- a mark changes nothing but the moment of loss
-ids-marked : (reach : List NodeId) (now : ℕ) (nodes : List HeldNode) → ids_of (map (marked_node reach now) nodes) ≡ ids_of nodes
+ids-marked : (reach : List NodeId) (now : ℕ) (nodes : List HeldNode) → ids_of_held (map (marked_node reach now) nodes) ≡ ids_of_held nodes
 ids-marked reach now [] = refl
 ids-marked reach now (node ∷ nodes) = ap (λ ids. node.id.0 ∷ ids) (ids-marked reach now nodes)
 

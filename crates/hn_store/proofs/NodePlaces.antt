@@ -15,7 +15,7 @@ use Rattle.std.proofs.lemmas.Map.Keys.{below_from_sorted}
 use Rattle.hn_base.proofs.FrontOfList.{filter-front, filter-back, find-at, find-none}
 use Rattle.hn_store.specs.declared.stored.Stored.{Stored}
 use Rattle.hn_store.specs.declared.stored.HeldNode.{HeldNode}
-use Rattle.hn_store.specs.Nodes.{ids_of, held, entry, put}
+use Rattle.hn_store.specs.Nodes.{ids_of_held, held, entry, put}
 use Rattle.hn_store.specs.Place.{IsPlaceOf, IsGapFor}
 
 -- ---- binary search
@@ -25,15 +25,15 @@ pub order_rises : (a b id : ℕ) → a ≤ b → ordering_index (nat_cmp a id) �
 order_rises a b id le = grind (arith, nat_tests)
 
 -- nodes in ascending order rise from place to place
-pub rises : (xs : List HeldNode) → IsStrictlySortedBy nat_cmp (ids_of xs) → (i j : ℕ) (d : HeldNode) → i < j → j < length xs → (get_or xs i d).id.0 < (get_or xs j d).id.0
+pub rises : (xs : List HeldNode) → IsStrictlySortedBy nat_cmp (ids_of_held xs) → (i j : ℕ) (d : HeldNode) → i < j → j < length xs → (get_or xs i d).id.0 < (get_or xs j d).id.0
 rises xs up i j d lt within =
     let n = length-map xs (λ (x : HeldNode). x.id.0) in
-    let below = below_from_sorted (ids_of xs) i j d.id.0 up lt (omega arith) in
+    let below = below_from_sorted (ids_of_held xs) i j d.id.0 up lt (omega arith) in
     let at_i = get_or-map (λ (x : HeldNode). x.id.0) xs i d d.id.0 (omega arith) in
     let at_j = get_or-map (λ (x : HeldNode). x.id.0) xs j d d.id.0 within in
     rw (← at_i, ← at_j) below
 
-searchable : (xs : List HeldNode) (id : ℕ) → IsStrictlySortedBy nat_cmp (ids_of xs) → IsNonDecreasingBy (λ y. ordering_index (nat_cmp y.id.0 id)) xs
+searchable : (xs : List HeldNode) (id : ℕ) → IsStrictlySortedBy nat_cmp (ids_of_held xs) → IsNonDecreasingBy (λ y. ordering_index (nat_cmp y.id.0 id)) xs
 searchable xs id up i j d le within =
     elim (cases_lt i j) [
       | inl lt ↦ order_rises (get_or xs i d).id.0 (get_or xs j d).id.0 id (let less = rises xs up i j d lt within in omega arith)
@@ -41,7 +41,7 @@ searchable xs id up i j d le within =
     ]
 
 -- a node that stands in a place stands alone there
-pub stands-at : (xs : List HeldNode) (id i : ℕ) (x : HeldNode) → IsStrictlySortedBy nat_cmp (ids_of xs) → i < length xs → (get_or xs i x).id.0 ≡ id → IsPlaceOf xs id i
+pub stands-at : (xs : List HeldNode) (id i : ℕ) (x : HeldNode) → IsStrictlySortedBy nat_cmp (ids_of_held xs) → i < length xs → (get_or xs i x).id.0 ≡ id → IsPlaceOf xs id i
 stands-at xs id i x up within same = record {
   within = within;
   here = here;
@@ -52,7 +52,7 @@ stands-at xs id i x up within same = record {
     here : HoldsAt (λ (node : HeldNode). node.id.0 ≡ id) xs i
     here d = ap (λ (node : HeldNode). node.id.0) (get_or_default xs i d x within) ∙ same
 
-pub searched : (xs : List HeldNode) (id : ℕ) (r : Result ℕ ℕ) → IsStrictlySortedBy nat_cmp (ids_of xs) → IsSearchInRange r (length xs)
+pub searched : (xs : List HeldNode) (id : ℕ) (r : Result ℕ ℕ) → IsStrictlySortedBy nat_cmp (ids_of_held xs) → IsSearchInRange r (length xs)
     → IsBinarySearchResult (λ y. nat_cmp y.id.0 id) xs r → IfOk r (IsPlaceOf xs id) × IfErr r (IsGapFor xs id)
 searched xs id (Ok i) up within at =
     let here : HoldsAt (λ (node : HeldNode). node.id.0 ≡ id) xs i = λ d. ranked (get_or xs i d).id.0 id Equal (sym (at d)) in (

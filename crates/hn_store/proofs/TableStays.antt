@@ -12,14 +12,14 @@ use Rattle.std.proofs.lemmas.List.Sums.{length-filter, count_by-le-length}
 use Rattle.hn_base.specs.NodeIds.{node_cmp}
 use Rattle.hn_store.specs.declared.stored.Stored.{Stored}
 use Rattle.hn_store.specs.declared.stored.HeldNode.{HeldNode}
-use Rattle.hn_store.specs.Nodes.{IsTable, IsIntact, ids_of, entry, put}
+use Rattle.hn_store.specs.Nodes.{IsTable, IsIntact, ids_of_held, entry, put}
 use Rattle.hn_store.specs.Place.{IsPlaceOf, IsGapFor}
 use Rattle.hn_store.proofs.NodePlaces.{put-at, put-in}
 use Rattle.hn_base.proofs.AscendingNumbers.{ascending-filter, ascending-around}
 
 -- ---- nodes in the order of their identifiers
 
-pub ascending-put : (id : ℕ) (stored : Stored) (xs : List HeldNode) → IsStrictlySortedBy nat_cmp (ids_of xs) → IsStrictlySortedBy nat_cmp (ids_of (put id stored xs))
+pub ascending-put : (id : ℕ) (stored : Stored) (xs : List HeldNode) → IsStrictlySortedBy nat_cmp (ids_of_held xs) → IsStrictlySortedBy nat_cmp (ids_of_held (put id stored xs))
 ascending-put id stored xs up = ascending-around (λ (node : HeldNode). node.id.0) (entry id stored) xs up
 
 -- ---- the facts of a table
@@ -38,7 +38,7 @@ pub are_put : (limit id : ℕ) (stored : Stored) (xs ys : List HeldNode) → IsT
 are_put limit id stored xs ys are one is within = record {
   limit_is = are.limit_is;
   within = within;
-  ascending = subst (λ (zs : List HeldNode). IsStrictlySortedBy nat_cmp (ids_of zs)) (sym is) (ascending-put id stored xs are.ascending);
+  ascending = subst (λ (zs : List HeldNode). IsStrictlySortedBy nat_cmp (ids_of_held zs)) (sym is) (ascending-put id stored xs are.ascending);
   intact = subst (All IntactNode) (sym is) (intact-put id stored xs one are.intact);
 }
 
@@ -71,11 +71,11 @@ IsTable-filter limit p xs are = record {
 
 -- ---- the identifiers as they are
 
-above_ids : (x : HeldNode) (xs : List HeldNode) → AllByRecursion (λ id. nat_cmp x.id.0 id ≡ Less) (ids_of xs) → AllByRecursion (λ id. node_cmp x.id id ≡ Less) (map (λ node. node.id) xs)
+above_ids : (x : HeldNode) (xs : List HeldNode) → AllByRecursion (λ id. nat_cmp x.id.0 id ≡ Less) (ids_of_held xs) → AllByRecursion (λ id. node_cmp x.id id ≡ Less) (map (λ node. node.id) xs)
 above_ids x [] above = tt
 above_ids x (y ∷ ys) above = (above.0, above_ids x ys above.1)
 
-pub ascending-ids : (xs : List HeldNode) → IsStrictlySortedBy nat_cmp (ids_of xs) → IsStrictlySortedBy node_cmp (map (λ node. node.id) xs)
+pub ascending-ids : (xs : List HeldNode) → IsStrictlySortedBy nat_cmp (ids_of_held xs) → IsStrictlySortedBy node_cmp (map (λ node. node.id) xs)
 unfolding IsStrictlySortedBy
 ascending-ids [] up = tt
 ascending-ids (x ∷ xs) up = (above_ids x xs up.0, ascending-ids xs up.1)

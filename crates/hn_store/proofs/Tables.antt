@@ -14,7 +14,7 @@ use Rattle.hn_store.specs.declared.state.OwnLeaf.{OwnLeaf}
 use Rattle.hn_store.specs.declared.state.Took.{Took}
 use Rattle.hn_store.specs.declared.state.Took.TheVariants.{Kept, Renumbered, Ask, Stale, BadHash, BadBody, TooLong, Full, Own}
 use Rattle.hn_store.specs.Nodes.{Nodes, IsTable, IsIntact, held, entry, put, stored_part}
-use Rattle.hn_store.specs.Acceptance.{PlainState, known_of, CarriesData, HasWrongHash, HasNoRoom, IsAnswer, kept, renumbered, changed, entries_after}
+use Rattle.hn_store.specs.Acceptance.{PlainState, known_of, CarriesData, HasWrongHash, HasNoRoom, IsAnswer, stored_from, stored_renumbered, entries_changed, entries_after}
 use Rattle.hn_store.specs.Laws.{HeldIsOfAnEntry, AcceptanceKeepsTable}
 use Rattle.hn_store.proofs.Answering.{known_of-other}
 use Rattle.hn_base.proofs.AscendingNumbers.{around-few, around-fewer}
@@ -81,17 +81,17 @@ kept_table nodes own s now reading are room short right other listed carries =
     let hash_is : hash_of s.body ≡ s.hash = not_not (hash_of s.body ≡ s.hash) (texts_cases (hash_of s.body) s.hash) (λ wrong. right (carries, wrong)) in
     let list : HasTlvs s.body = not_not (HasTlvs s.body) reading (λ none. listed (carries, none)) in
     let few : length s.body ≤ 60000 = elim (cases_lt 60000 (length s.body)) [ inl long ↦ absurd (short long) | inr le ↦ le ] in
-    let one : IsIntact (kept s now (held nodes.entries s.node)) = record { short = few; listed = list; hashed = sym hash_is } in
-    put_table nodes s.node (kept s now (held nodes.entries s.node)) are one (has_room nodes own s room other)
+    let one : IsIntact (stored_from s now (held nodes.entries s.node)) = record { short = few; listed = list; hashed = sym hash_is } in
+    put_table nodes s.node (stored_from s now (held nodes.entries s.node)) are one (has_room nodes own s room other)
 
 renumbered_table : (nodes : Nodes) (s : PlainState) (now : ℕ) → IsTable nodes → After nodes s now Renumbered
 renumbered_table nodes s now are = by_held (held nodes.entries s.node) refl
   where
-    by_held : (h : Option Stored) → held nodes.entries s.node ≡ h → IsTable (record nodes { entries = changed s.node (renumbered s now) h nodes.entries })
+    by_held : (h : Option Stored) → held nodes.entries s.node ≡ h → IsTable (record nodes { entries = entries_changed s.node (stored_renumbered s now) h nodes.entries })
     by_held None is = are
     by_held (Some stored) is =
         let one = held_intact nodes.entries s.node stored are.intact is in
-        put_table nodes s.node (renumbered s now stored) are (record { short = one.short; listed = one.listed; hashed = one.hashed }) (λ none. absurd (let clash = sym none ∙ is in cc))
+        put_table nodes s.node (stored_renumbered s now stored) are (record { short = one.short; listed = one.listed; hashed = one.hashed }) (λ none. absurd (let clash = sym none ∙ is in cc))
 
 same_table : (nodes : Nodes) (s : PlainState) (now : ℕ) (took line : Took) → After nodes s now line → took ≡ line → After nodes s now took
 same_table nodes s now took line are is = subst (After nodes s now) (sym is) are

@@ -10,7 +10,7 @@ use Rattle.hn_store.specs.declared.state.OwnLeaf.{OwnLeaf}
 use Rattle.hn_store.specs.declared.state.Took.{Took}
 use Rattle.hn_store.specs.declared.state.Took.TheVariants.{Kept, Renumbered, Ask, Stale, BadHash, BadBody, TooLong, Full, Own}
 use Rattle.hn_store.specs.Nodes.{Nodes, held, entry, put}
-use Rattle.hn_store.specs.Acceptance.{PlainState, IsAnswer, kept, renumbered, changed, entries_after}
+use Rattle.hn_store.specs.Acceptance.{PlainState, IsAnswer, stored_from, stored_renumbered, entries_changed, entries_after}
 use Rattle.hn_store.specs.Laws.{PutChangesOneNode, AcceptanceIsUnique, OthersStay, OwnStays}
 use Rattle.hn_base.proofs.FirstCause.{both_lines}
 use Rattle.hn_base.proofs.FrontOfList.{find-none}
@@ -106,12 +106,12 @@ put_changes_one entries id other stored =
 -- ---- what a node state does not change
 
 others_changed : (entries : List HeldNode) (s : PlainState) (now id : ℕ) (before : Option Stored) → id ≢ s.node
-    → held (changed s.node (renumbered s now) before entries) id ≡ held entries id
+    → held (entries_changed s.node (stored_renumbered s now) before entries) id ≡ held entries id
 others_changed entries s now id None apart = refl
-others_changed entries s now id (Some stored) apart = held-put_other entries s.node id (renumbered s now stored) apart
+others_changed entries s now id (Some stored) apart = held-put_other entries s.node id (stored_renumbered s now stored) apart
 
 others_after : (entries : List HeldNode) (s : PlainState) (now id : ℕ) (took : Took) → id ≢ s.node → held (entries_after entries s now took) id ≡ held entries id
-others_after entries s now id Kept apart = held-put_other entries s.node id (kept s now (held entries s.node)) apart
+others_after entries s now id Kept apart = held-put_other entries s.node id (stored_from s now (held entries s.node)) apart
 others_after entries s now id Renumbered apart = others_changed entries s now id (held entries s.node) apart
 others_after entries s now id Ask apart = refl
 others_after entries s now id Stale apart = refl

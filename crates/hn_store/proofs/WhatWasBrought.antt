@@ -18,7 +18,7 @@ use Rattle.hn_store.specs.declared.state.OwnLeaf.{OwnLeaf}
 use Rattle.hn_store.specs.declared.state.Took.{Took}
 use Rattle.hn_store.specs.declared.state.Took.TheVariants.{Kept, Renumbered, Ask, Stale, BadHash, BadBody, TooLong, Full, Own}
 use Rattle.hn_store.specs.Nodes.{Nodes, held, put, stored_part, IsTable}
-use Rattle.hn_store.specs.Acceptance.{PlainState, held_part, known_of, CarriesData, HasWrongHash, IsStale, IsNews, IsAnswer, kept, renumbered, changed, entries_after}
+use Rattle.hn_store.specs.Acceptance.{PlainState, held_part, known_of, CarriesData, HasWrongHash, IsStale, IsNews, IsAnswer, stored_from, stored_renumbered, entries_changed, entries_after}
 use Rattle.hn_store.specs.Loss.{marked_node, is_forgotten}
 use Rattle.hn_store.specs.Brought.{WasHeld, BroughtData, BroughtNumber}
 use Rattle.hn_store.specs.Laws.{HeldWasBrought, MarkedWasHeld, RememberedWasHeld, TrueDataAreKept}
@@ -71,10 +71,10 @@ renumbered_comes : (nodes : Nodes) (own : OwnLeaf) (s : PlainState) (now : ℕ) 
     → Comes nodes s (entries_after nodes.entries s now Renumbered)
 renumbered_comes nodes own s now other none old = by_held (held nodes.entries s.node) refl
   where
-    by_held : (h : Option Stored) → held nodes.entries s.node ≡ h → Comes nodes s (changed s.node (renumbered s now) h nodes.entries)
+    by_held : (h : Option Stored) → held nodes.entries s.node ≡ h → Comes nodes s (entries_changed s.node (stored_renumbered s now) h nodes.entries)
     by_held None is = as_before nodes s
     by_held (Some before) is =
-        put_comes nodes s (renumbered s now before) refl
+        put_comes nodes s (stored_renumbered s now before) refl
         (inr (record { before = before; was = is; no_data = no_body s none; hash_is = same_hash nodes own s before other is old; body_is = refl }))
 
 same_comes : (nodes : Nodes) (s : PlainState) (now : ℕ) (took line : Took) → took ≡ line → Comes nodes s (entries_after nodes.entries s now line)
@@ -91,7 +91,7 @@ comes_after nodes own s now took (inr (_, inr (_, inr (_, inr (_, inl x))))) = s
 comes_after nodes own s now took (inr (_, inr (_, inr (_, inr (_, inr (_, inl x)))))) = same_comes nodes s now took BadBody x.1 (as_before nodes s)
 comes_after nodes own s now took (inr (_, inr (_, inr (_, inr (right, inr (_, inr (_, inl x))))))) =
     same_comes nodes s now took Kept x.1
-    (put_comes nodes s (kept s now (held nodes.entries s.node)) refl (inl (record { carries = x.0; hash_is = right_hash s right x.0; body_is = refl })))
+    (put_comes nodes s (stored_from s now (held nodes.entries s.node)) refl (inl (record { carries = x.0; hash_is = right_hash s right x.0; body_is = refl })))
 comes_after nodes own s now took (inr (_, inr (_, inr (_, inr (_, inr (_, inr (_, inr (_, inl x)))))))) = same_comes nodes s now took Ask x.1 (as_before nodes s)
 comes_after nodes own s now took (inr (_, inr (_, inr (_, inr (_, inr (other, inr (_, inr (none, inr (old, x))))))))) =
     same_comes nodes s now took Renumbered x (renumbered_comes nodes own s now other none old)

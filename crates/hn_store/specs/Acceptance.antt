@@ -71,23 +71,23 @@ IsAnswer nodes own s took =
     (took ≡ Renumbered))))))))
 
 -- what a state with data puts in place of what was held of its node; a moment of loss stays
-abbrev pub kept : PlainState → ℕ → Option Stored → Stored
-kept s now before =
+abbrev pub stored_from : PlainState → ℕ → Option Stored → Stored
+stored_from s now before =
     record { number = s.number; hash = s.hash; age = s.age; at = now; body = s.body; lost = option_and_then (λ stored. stored.lost) before }
 
 -- the same data with the number and the age of the state
-abbrev pub renumbered : PlainState → ℕ → Stored → Stored
-renumbered s now stored = record stored { number = s.number; age = s.age; at = now }
+abbrev pub stored_renumbered : PlainState → ℕ → Stored → Stored
+stored_renumbered s now stored = record stored { number = s.number; age = s.age; at = now }
 
 -- the entries with what is held of a node changed so
-abbrev pub changed : ℕ → (Stored → Stored) → Option Stored → List HeldNode → List HeldNode
-changed id change None entries = entries
-changed id change (Some stored) entries = put id (change stored) entries
+abbrev pub entries_changed : ℕ → (Stored → Stored) → Option Stored → List HeldNode → List HeldNode
+entries_changed id change None entries = entries
+entries_changed id change (Some stored) entries = put id (change stored) entries
 
 -- the entries after an answer: only data that are kept and a new number change them
 abbrev pub entries_after : List HeldNode → PlainState → ℕ → Took → List HeldNode
-entries_after entries s now Kept = put s.node (kept s now (held entries s.node)) entries
-entries_after entries s now Renumbered = changed s.node (renumbered s now) (held entries s.node) entries
+entries_after entries s now Kept = put s.node (stored_from s now (held entries s.node)) entries
+entries_after entries s now Renumbered = entries_changed s.node (stored_renumbered s now) (held entries s.node) entries
 entries_after entries s now _ = entries
 
 -- A node state arrives at a moment: the answer, and what is held after it.

@@ -9,7 +9,7 @@ use Rattle.hn_store.specs.declared.state.Took.TheVariants.{Kept}
 use Rattle.hn_base.specs.declared.ids.NodeId.{NodeId}
 use Rattle.hn_store.specs.Nodes.{Nodes, held, put, IsTable}
 use Rattle.hn_store.specs.Acceptance.{PlainState, entries_after, Accepts}
-use Rattle.hn_store.specs.Loss.{marked, is_forgotten, remembered}
+use Rattle.hn_store.specs.Loss.{loss_marked, is_forgotten, remembered}
 use Rattle.hn_store.specs.Due.{IsForgetting}
 use Rattle.hn_store.specs.Brought.{WasHeld, BroughtData, BroughtNumber, IsTrueData}
 
@@ -60,7 +60,7 @@ AcceptanceKeepsTable =
 
 -- A table stays one when its nodes are marked, and when some are forgotten.
 abbrev pub MarksKeepTable : Type 0
-MarksKeepTable = (reach : List NodeId) (now : ℕ) (nodes : Nodes) → IsTable nodes → IsTable (marked reach now nodes)
+MarksKeepTable = (reach : List NodeId) (now : ℕ) (nodes : Nodes) → IsTable nodes → IsTable (loss_marked reach now nodes)
 
 abbrev pub ForgettingKeepsTable : Type 0
 ForgettingKeepsTable = (now : ℕ) (nodes : Nodes) → IsTable nodes → IsTable (remembered now nodes)
@@ -77,7 +77,7 @@ HeldWasBrought =
 abbrev pub MarkedWasHeld : Type 0
 MarkedWasHeld =
     (reach : List NodeId) (now : ℕ) (nodes : Nodes) (id : ℕ) (stored : Stored)
-    → held (marked reach now nodes).entries id ≡ Some stored → WasHeld nodes id stored
+    → held (loss_marked reach now nodes).entries id ≡ Some stored → WasHeld nodes id stored
 
 abbrev pub RememberedWasHeld : Type 0
 RememberedWasHeld =

@@ -19,8 +19,8 @@ abbrev pub marked_node : List NodeId → ℕ → HeldNode → HeldNode
 marked_node reach now node = record node { stored = record node.stored { lost = lost_after (is_among reach node.id.0) now node.stored.lost } }
 
 -- the nodes with their moments of loss as they are then
-abbrev pub marked : List NodeId → ℕ → Nodes → Nodes
-marked reach now nodes = record nodes { entries = map (marked_node reach now) nodes.entries }
+abbrev pub loss_marked : List NodeId → ℕ → Nodes → Nodes
+loss_marked reach now nodes = record nodes { entries = map (marked_node reach now) nodes.entries }
 
 -- its moment of loss changes then: it is reachable and has one, or is not and has none
 abbrev pub is_to_mark : List NodeId → HeldNode → Bool

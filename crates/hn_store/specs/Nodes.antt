@@ -15,8 +15,8 @@ pub record Nodes : Type 0 where
   pub entries : List HeldNode
 
 -- the identifiers of the nodes, in their order
-abbrev pub ids_of : List HeldNode → List ℕ
-ids_of entries = map (λ node. node.id.0) entries
+abbrev pub ids_of_held : List HeldNode → List ℕ
+ids_of_held entries = map (λ node. node.id.0) entries
 
 -- what is held of the node with this identifier, if it is held
 abbrev pub held : List HeldNode → ℕ → Option Stored
@@ -45,5 +45,5 @@ pub record IsIntact (stored : Stored) : Type 0 where
 pub record IsTable (nodes : Nodes) : Type 0 where
   pub limit_is : (nodes.limit ≡ 256) ⊎ (nodes.limit ≡ 1024)
   pub within : length nodes.entries ≤ nodes.limit
-  pub ascending : IsStrictlySortedBy nat_cmp (ids_of nodes.entries)
+  pub ascending : IsStrictlySortedBy nat_cmp (ids_of_held nodes.entries)
   pub intact : All (λ node. IsIntact node.stored) nodes.entries

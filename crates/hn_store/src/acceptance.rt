@@ -3,7 +3,7 @@ ghost use Rattle.std.specs.Bool.{OnTrue, OnFalse};
 ghost use Rattle.hn_tlv.specs.Grammar.{HasTlvs};
 ghost use Rattle.hn_hash.specs.Hash.{hash_of};
 ghost use Rattle.hn_store.specs.Nodes.{held, put};
-ghost use Rattle.hn_store.specs.Acceptance.{plain_state, held_part, known_of, CarriesData, HasWrongHash, IsStale, HasNoRoom, kept, entries_after, Accepts};
+ghost use Rattle.hn_store.specs.Acceptance.{plain_state, held_part, known_of, CarriesData, HasWrongHash, IsStale, HasNoRoom, stored_from, entries_after, Accepts};
 ghost use Rattle.hn_store.specs.AcceptanceParts.{HasRightHash, IsPassed, IsOfData, IsOfNumber};
 
 use crate::place::place_of;
@@ -101,7 +101,7 @@ impl Table {
         requires listed { HasTlvs body }
         requires hashed { state.now.hash ≡ hash_of body }
         requires room { held self.old.entries state.now.node.0 ≡ None → length self.old.entries ≢ self.old.limit }
-        ensures ok { OnOk result (self.new ≡ record self.old { entries = put state.now.node.0 (kept (plain_state state.now) now (held self.old.entries state.now.node.0)) self.old.entries }) }
+        ensures ok { OnOk result (self.new ≡ record self.old { entries = put state.now.node.0 (stored_from (plain_state state.now) now (held self.old.entries state.now.node.0)) self.old.entries }) }
         ensures err { OnErr result (self.new ≡ self.old) }
     {
         let mut stored = Stored {

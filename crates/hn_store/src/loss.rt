@@ -3,7 +3,7 @@ ghost use Rattle.std.specs.List.{list_any};
 ghost use Rattle.std.specs.List.Sorted.{IsNonDecreasingBy};
 ghost use Rattle.hn_base.specs.Sooner.{IsSooner};
 ghost use Rattle.hn_store.specs.Due.{IsForgottenFrom, IsForgetting};
-ghost use Rattle.hn_store.specs.Loss.{is_among, lost_after, is_to_mark, marked_node, marked, is_forgotten, remembered};
+ghost use Rattle.hn_store.specs.Loss.{is_among, lost_after, is_to_mark, marked_node, loss_marked, is_forgotten, remembered};
 
 use crate::stored::HeldNode;
 use crate::table::Table;
@@ -104,7 +104,7 @@ impl Table {
     /// and each keeps the first moment at which it was (RFC 7787, section 4.6). Fastest where the identifiers are in
     /// ascending order. Never allocates.
     pub fn mark(&mut self, reach: &[NodeId], now: Moment)
-        ensures { self.new ≡ marked reach.now now self.old }
+        ensures { self.new ≡ loss_marked reach.now now self.old }
     {
         mark_each(&mut self.nodes, reach, now);
     }
@@ -112,7 +112,7 @@ impl Table {
     /// Whether `mark` would change something. Never allocates.
     pub fn needs_mark(&self, reach: &[NodeId]) -> bool
         ensures needed { result ≡ list_any (is_to_mark reach.now) self.now.entries }
-        ensures unneeded { result ≡ false → (now : ℕ) → marked reach.now now self.now ≡ self.now }
+        ensures unneeded { result ≡ false → (now : ℕ) → loss_marked reach.now now self.now ≡ self.now }
     {
         has_to_mark(&self.nodes, reach)
     }

@@ -1,6 +1,6 @@
 ghost use Rattle.std.specs.Prelude.{◌≡◌};
 ghost use Rattle.hn_store.specs.Nodes.{stored_part};
-ghost use Rattle.hn_store.specs.Acceptance.{plain_state, renumbered};
+ghost use Rattle.hn_store.specs.Acceptance.{plain_state, stored_renumbered};
 
 use crate::state::State;
 use hn_base::{Moment, NodeId};
@@ -45,7 +45,7 @@ impl Stored {
 
     /// Gives it the number and the age of a state.
     pub(crate) fn renumber(&mut self, state: &State<'_>, now: Moment)
-        ensures { self.new ≡ renumbered (plain_state state.now) now self.old }
+        ensures { self.new ≡ stored_renumbered (plain_state state.now) now self.old }
     {
         self.number = state.number;
         self.age = state.age;

@@ -11,9 +11,9 @@ use Rattle.hn_hash.specs.Hash.{hash_of}
 use Rattle.hn_hash.specs.declared.part.Part.{Part}
 use Rattle.hn_rules.specs.declared.state.State.{State}
 use Rattle.hn_rules.specs.Requests.{sent_age, sent_data}
-use Rattle.hn_store.specs.Acceptance.{PlainState, known_of, held_part, CarriesData, HasWrongHash, IsStale, IsNews, IsAnswer, kept, renumbered, changed, entries_after, Accepts}
+use Rattle.hn_store.specs.Acceptance.{PlainState, known_of, held_part, CarriesData, HasWrongHash, IsStale, IsNews, IsAnswer, stored_from, stored_renumbered, entries_changed, entries_after, Accepts}
 use Rattle.hn_store.specs.Laws.{PutChangesOneNode, HeldIsOfAnEntry}
-use Rattle.hn_store.specs.Loss.{is_among, lost_after, marked_node, marked}
+use Rattle.hn_store.specs.Loss.{is_among, lost_after, marked_node, loss_marked}
 use Rattle.hn_store.specs.Nodes.{Nodes, held, put, stored_part, IsTable, IsIntact}
 use Rattle.hn_store.specs.declared.state.OwnLeaf.{OwnLeaf}
 use Rattle.hn_store.specs.declared.state.Took.{Took}
@@ -95,14 +95,14 @@ module _ (before : State) where
   settled_same s t n same (inr (inl h)) = inr (inl (record { stored = h.stored; was_held = h.was_held; stale = h.stale; lost = h.lost; is_held = same ∙ h.is_held }))
   settled_same s t n same (inr (inr h)) = inr (inr h)
 
-  pub before_marked : (reach : List NodeId) (s t : State) (n : Entry) → t.table ≡ marked reach s.moment s.table → AsBefore s n → AsBefore t n
+  pub before_marked : (reach : List NodeId) (s t : State) (n : Entry) → t.table ≡ loss_marked reach s.moment s.table → AsBefore s n → AsBefore t n
   before_marked reach s t n table (NoneHeld was is) =
       NoneHeld was (ap (λ (x : Nodes). held x.entries n.id.0) table ∙ (held_marked reach s.moment s.table.entries n.id.0 ∙ ap (option_map (held_after reach s.moment n.id.0)) is))
   before_marked reach s t n table (SomeHeld stored was lost is) =
       SomeHeld stored was (lost_after (is_among reach n.id.0) s.moment lost)
       (ap (λ (x : Nodes). held x.entries n.id.0) table ∙ (held_marked reach s.moment s.table.entries n.id.0 ∙ ap (option_map (held_after reach s.moment n.id.0)) is))
 
-  pub settled_marked : (reach : List NodeId) (s t : State) (n : Entry) → t.table ≡ marked reach s.moment s.table → IsRepaired before s n → IsRepaired before t n
+  pub settled_marked : (reach : List NodeId) (s t : State) (n : Entry) → t.table ≡ loss_marked reach s.moment s.table → IsRepaired before s n → IsRepaired before t n
   settled_marked reach s t n table (inl h) = inl (record {
     stored = held_after reach s.moment n.id.0 h.stored;
     is_held = ap (λ (x : Nodes). held x.entries n.id.0) table ∙ (held_marked reach s.moment s.table.entries n.id.0 ∙ ap (option_map (held_after reach s.moment n.id.0)) h.is_held);
@@ -186,7 +186,7 @@ module _ (before : State) where
     keeps_data carries is = by_data with_data refl carries
       where
         stored : Stored
-        stored = kept (state_said with_data n) now (held s.table.entries n.id.0)
+        stored = stored_from (state_said with_data n) now (held s.table.entries n.id.0)
 
         holds : held t.table.entries n.id.0 ≡ Some stored
         holds = held_next ∙ (ap (λ (h : Took). held (entries_after s.table.entries (state_said with_data n) now h) n.id.0) is ∙ is_put stored)
@@ -241,17 +241,17 @@ module _ (before : State) where
             let node = of_entry before.table.entries n.id.0 stored was in
             (subst IsIntact node.3 (All-contains (λ (x : HeldNode). IsIntact x.stored) before.table.entries node.0 table.intact node.1)).hashed
 
-        again : how ≡ took.Renumbered → held t.table.entries n.id.0 ≡ Some (renumbered (state_said with_data n) now (record stored { lost = lost }))
+        again : how ≡ took.Renumbered → held t.table.entries n.id.0 ≡ Some (stored_renumbered (state_said with_data n) now (record stored { lost = lost }))
         again how_is =
             held_next ∙ (ap (λ (h : Took). held (entries_after s.table.entries (state_said with_data n) now h) n.id.0) how_is
-            ∙ (ap (λ (o : Option Stored). held (changed n.id.0 (renumbered (state_said with_data n) now) o s.table.entries) n.id.0) is ∙ is_put (renumbered (state_said with_data n) now (record stored { lost = lost }))))
+            ∙ (ap (λ (o : Option Stored). held (entries_changed n.id.0 (stored_renumbered (state_said with_data n) now) o s.table.entries) n.id.0) is ∙ is_put (stored_renumbered (state_said with_data n) now (record stored { lost = lost }))))
 
         one_hash : ¬ (stored.hash ≢ hash_of n.body) → hash_of n.body ≡ hash_of stored.body
         one_hash twice = elim (one_or_not stored.hash (hash_of n.body)) [ inl same ↦ sym same ∙ hashed | inr differ ↦ absurd (twice differ) ]
 
         numbered : ¬ (stored.hash ≢ hash_of n.body) → how ≡ took.Renumbered → IsRepaired before t n
         numbered twice how_is = elim (one_or_not stored.body n.body) [
-          | inl same ↦ inl (record { stored = renumbered (state_said with_data n) now (record stored { lost = lost }); is_held = again how_is; number = refl; body = same })
+          | inl same ↦ inl (record { stored = stored_renumbered (state_said with_data n) now (record stored { lost = lost }); is_held = again how_is; number = refl; body = same })
           | inr differ ↦ inr (inr (record { other = stored.body; was_held = inl (stored, was, refl); collide = record { differ = (λ e. differ (sym e)); one_hash = one_hash twice } }))
         ]
 

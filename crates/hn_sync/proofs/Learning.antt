@@ -14,7 +14,7 @@ use Rattle.hn_rules.specs.Answers.{with_answer}
 use Rattle.hn_rules.specs.Refresh.{IsPublished, IsRefresh}
 use Rattle.hn_store.specs.Acceptance.{IsStale}
 use Rattle.hn_store.specs.Laws.{HeldIsOfAnEntry, MarksKeepTable}
-use Rattle.hn_store.specs.Loss.{marked}
+use Rattle.hn_store.specs.Loss.{loss_marked}
 use Rattle.hn_store.specs.Nodes.{Nodes, held, IsTable}
 use Rattle.hn_store.specs.declared.stored.Stored.{Stored}
 use Rattle.hn_typed.specs.Item.{PlainItem}
@@ -76,7 +76,7 @@ module _ (of_entry : HeldIsOfAnEntry) (marks : MarksKeepTable) (start before : S
 
   -- ---- a refresh
 
-  marked_both : (reach : List NodeId) (s t : State) → t.table ≡ marked reach s.moment s.table → AreOfBoth of_entry before start.reach s → AreOfBoth of_entry before start.reach t
+  marked_both : (reach : List NodeId) (s t : State) → t.table ≡ loss_marked reach s.moment s.table → AreOfBoth of_entry before start.reach s → AreOfBoth of_entry before start.reach t
   marked_both reach s t table both id stored is = by_held (held s.table.entries id) refl
     where
       there : option_map (held_after reach s.moment id) (held s.table.entries id) ≡ Some stored
@@ -109,7 +109,7 @@ module _ (of_entry : HeldIsOfAnEntry) (marks : MarksKeepTable) (start before : S
       k : IsRefreshing b c
       k = refresh_leaves b c (ascend_from_signs b.state.ports ports h.signed up) refresh
 
-      table : c.state.table ≡ marked k.reach b.state.moment b.state.table
+      table : c.state.table ≡ loss_marked k.reach b.state.moment b.state.table
       table = ap (λ (x : Running). x.state.table) k.gives
 
       owned : IsOwned b.state rest → IsOwned c.state rest

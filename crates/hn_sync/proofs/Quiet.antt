@@ -16,7 +16,7 @@ use Rattle.hn_rules.specs.Laws.{RefreshRests}
 use Rattle.hn_rules.specs.Nodes.{IsReach}
 use Rattle.hn_rules.specs.Refresh.{own_items, IsPublished, IsPublishing, IsReaching, network_state_hash, IsPortReset, IsHashing, IsRefresh}
 use Rattle.hn_rules.specs.Rules.{AtPort, IsSole}
-use Rattle.hn_store.specs.Loss.{marked}
+use Rattle.hn_store.specs.Loss.{loss_marked}
 use Rattle.hn_sync.proofs.Signs.{signs, Ascend, signs_put, ascend_from_signs, links_from_signs}
 
 -- ---- the network state hash is made anew
@@ -89,7 +89,7 @@ pub record IsRefreshing (before after : Running) : Type 0 where
       number = number;
       own = own;
       reach = reach;
-      table = marked reach before.state.moment before.state.table;
+      table = loss_marked reach before.state.moment before.state.table;
       net = after.state.net;
       ports = after.state.ports;
     };
@@ -118,11 +118,11 @@ refresh_by r b c a reaching rehashed number own done is sends items young kept =
   kept = kept;
 }
   where
-    put : b ≡ record r { state = record r.state { number = number; own = own }; done = done } → ◌≡◌ {A = Running} (record b { state = record b.state { reach = reaching.reach; table = marked reaching.reach b.state.moment b.state.table } })
-        (record r { state = record r.state { number = number; own = own; reach = reaching.reach; table = marked reaching.reach r.state.moment r.state.table }; done = done })
-    put e = ap (λ (x : Running). let y : Running = record x { state = record x.state { reach = reaching.reach; table = marked reaching.reach x.state.moment x.state.table } } in y) e
+    put : b ≡ record r { state = record r.state { number = number; own = own }; done = done } → ◌≡◌ {A = Running} (record b { state = record b.state { reach = reaching.reach; table = loss_marked reaching.reach b.state.moment b.state.table } })
+        (record r { state = record r.state { number = number; own = own; reach = reaching.reach; table = loss_marked reaching.reach r.state.moment r.state.table }; done = done })
+    put e = ap (λ (x : Running). let y : Running = record x { state = record x.state { reach = reaching.reach; table = loss_marked reaching.reach x.state.moment x.state.table } } in y) e
 
-    gives : a ≡ record r { state = record r.state { number = number; own = own; reach = reaching.reach; table = marked reaching.reach r.state.moment r.state.table; net = a.state.net; ports = a.state.ports }; done = rehashed.done }
+    gives : a ≡ record r { state = record r.state { number = number; own = own; reach = reaching.reach; table = loss_marked reaching.reach r.state.moment r.state.table; net = a.state.net; ports = a.state.ports }; done = rehashed.done }
     gives = rehashed.gives ∙ ap (λ (x : Running). let y : Running = record x { state = record x.state { net = a.state.net; ports = a.state.ports }; done = rehashed.done } in y) (reaching.gives ∙ put is)
 
     same_links : links_of a.state.ports ≡ links_of r.state.ports
@@ -154,7 +154,7 @@ pub record IsQuiet (s : State) : Type 0 where
   pub reach : List NodeId
   pub is_reach : IsReach s reach
   pub same_reach : s.reach ≡ reach
-  pub same_table : s.table ≡ marked reach s.moment s.table
+  pub same_table : s.table ≡ loss_marked reach s.moment s.table
   pub same_hash : network_state_hash s ≡ s.net
 
 pub quiet_refresh : (r : Running) → IsQuiet r.state → IsRefresh r r
@@ -180,10 +180,10 @@ quiet_by a b c (inl h) reaching (inr k) up =
     let to : a.state.net ≡ network_state_hash c.state = resets_net (endpoints_of c.state.ports) _ a k.1 in
     absurd (k.0 (sym (from ∙ to)))
 quiet_by a b c (inl h) reaching (inl k) up =
-    let is : a ≡ record b { state = record b.state { reach = reaching.reach; table = marked reaching.reach b.state.moment b.state.table } } = k.1 ∙ reaching.gives in
-    let with_a : ◌≡◌ {A = Running} (record b { state = record b.state { reach = reaching.reach; table = marked reaching.reach b.state.moment b.state.table } })
-    (record a { state = record a.state { reach = reaching.reach; table = marked reaching.reach a.state.moment a.state.table } })
-    = ap (λ (x : Running). let y : Running = record x { state = record x.state { reach = reaching.reach; table = marked reaching.reach x.state.moment x.state.table } } in y) h.1 in
+    let is : a ≡ record b { state = record b.state { reach = reaching.reach; table = loss_marked reaching.reach b.state.moment b.state.table } } = k.1 ∙ reaching.gives in
+    let with_a : ◌≡◌ {A = Running} (record b { state = record b.state { reach = reaching.reach; table = loss_marked reaching.reach b.state.moment b.state.table } })
+    (record a { state = record a.state { reach = reaching.reach; table = loss_marked reaching.reach a.state.moment a.state.table } })
+    = ap (λ (x : Running). let y : Running = record x { state = record x.state { reach = reaching.reach; table = loss_marked reaching.reach x.state.moment x.state.table } } in y) h.1 in
     record {
       published = h.0;
       reach = reaching.reach;

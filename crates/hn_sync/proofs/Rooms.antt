@@ -13,7 +13,7 @@ use Rattle.hn_base.specs.declared.ids.NodeId.{NodeId}
 use Rattle.hn_data.specs.declared.view.Entry.{Entry}
 use Rattle.hn_rules.specs.declared.state.State.{State}
 use Rattle.hn_store.specs.Laws.{HeldIsOfAnEntry}
-use Rattle.hn_store.specs.Nodes.{held, ids_of, IsTable}
+use Rattle.hn_store.specs.Nodes.{held, ids_of_held, IsTable}
 use Rattle.hn_store.specs.declared.stored.HeldNode.{HeldNode}
 use Rattle.hn_store.specs.declared.stored.Stored.{Stored}
 use Rattle.hn_sync.proofs.Holding.{AsBefore, NoneHeld, SomeHeld}
@@ -58,46 +58,46 @@ module _ (of_entry : HeldIsOfAnEntry) (before : State) (reach : List NodeId) whe
       (id : ℕ) (stored : Stored) → held s.table.entries id ≡ Some stored
       → ((old : Stored) × (held before.table.entries id ≡ Some old)) ⊎ ((x : NodeId) × Contains reach x × (x.0 ≡ id) × (is_news before x ≡ true))
 
-  some_held : (entries : List HeldNode) (id : ℕ) → Contains (ids_of entries) id → (stored : Stored) × (held entries id ≡ Some stored)
+  some_held : (entries : List HeldNode) (id : ℕ) → Contains (ids_of_held entries) id → (stored : Stored) × (held entries id ≡ Some stored)
   some_held entries id there =
       let node = Contains-from_map (λ (n : HeldNode). n.id.0) entries id there in
       let found = passing_found (λ (n : HeldNode). n.id.0 == id) entries node.0 node.1 (eq-eqb node.0.id.0 id node.2) in
       (found.0.stored, ap (option_map (λ (n : HeldNode). n.stored)) found.1)
 
-  id_held : (entries : List HeldNode) (id : ℕ) (stored : Stored) → held entries id ≡ Some stored → Contains (ids_of entries) id
+  id_held : (entries : List HeldNode) (id : ℕ) (stored : Stored) → held entries id ≡ Some stored → Contains (ids_of_held entries) id
   id_held entries id stored is =
       let node = of_entry entries id stored is in
-      subst (Contains (ids_of entries)) node.2 (Contains-map (λ (n : HeldNode). n.id.0) entries node.0 node.1)
+      subst (Contains (ids_of_held entries)) node.2 (Contains-map (λ (n : HeldNode). n.id.0) entries node.0 node.1)
 
   -- where a node that is reached is not held, there is room for it
   has_room : (s : State) (x : NodeId) → IsTable s.table → s.table.limit ≡ before.table.limit → HasRoomFor before reach → AreOfBoth s → Contains reach x → is_news before x ≡ true
       → held s.table.entries x.0 ≡ None → length s.table.entries ≢ s.table.limit
   has_room s x table limit room both there news none full =
-      let longest = no_longer nat_cmp nat_cmp_total exact_nat (ids_of s.table.entries) whole table.ascending each in
-      let first : length (ids_of s.table.entries) ≡ length s.table.entries = length-map s.table.entries (λ (n : HeldNode). n.id.0) in
+      let longest = no_longer nat_cmp nat_cmp_total exact_nat (ids_of_held s.table.entries) whole table.ascending each in
+      let first : length (ids_of_held s.table.entries) ≡ length s.table.entries = length-map s.table.entries (λ (n : HeldNode). n.id.0) in
       let second : length whole ≡ length before.table.entries + length (filter (λ (y : NodeId). is_news before y && not (y.0 == x.0)) reach)
-      = length-append (ids_of before.table.entries) _ ∙ (λ i. length-map before.table.entries (λ (n : HeldNode). n.id.0) i + length-map (filter (λ (y : NodeId). is_news before y && not (y.0 == x.0)) reach) (λ (y : NodeId). y.0) i) in
+      = length-append (ids_of_held before.table.entries) _ ∙ (λ i. length-map before.table.entries (λ (n : HeldNode). n.id.0) i + length-map (filter (λ (y : NodeId). is_news before y && not (y.0 == x.0)) reach) (λ (y : NodeId). y.0) i) in
       let less = fewer (is_news before) (λ (y : NodeId). not (y.0 == x.0)) reach x there news (ap not (eq-eqb x.0 x.0 refl)) in
       omega (arith, longest, first, second, less, room, limit, full)
     where
       whole : List ℕ
-      whole = ids_of before.table.entries ++ map (λ (y : NodeId). y.0) (filter (λ (y : NodeId). is_news before y && not (y.0 == x.0)) reach)
+      whole = ids_of_held before.table.entries ++ map (λ (y : NodeId). y.0) (filter (λ (y : NodeId). is_news before y && not (y.0 == x.0)) reach)
 
       not_x : (id : ℕ) (stored : Stored) → held s.table.entries id ≡ Some stored → id ≢ x.0
       not_x id stored is same = let clash : None ≡ Some stored = sym none ∙ (ap (held s.table.entries) (sym same) ∙ is) in absurd (cc)
 
       by_both : (id : ℕ) (stored : Stored) → held s.table.entries id ≡ Some stored
           → ((old : Stored) × (held before.table.entries id ≡ Some old)) ⊎ ((y : NodeId) × Contains reach y × (y.0 ≡ id) × (is_news before y ≡ true)) → Contains whole id
-      by_both id stored is (inl old) = Contains-append_left (ids_of before.table.entries) _ id (id_held before.table.entries id old.0 old.1)
+      by_both id stored is (inl old) = Contains-append_left (ids_of_held before.table.entries) _ id (id_held before.table.entries id old.0 old.1)
       by_both id stored is (inr new) =
           let apart : (new.0.0 == x.0) ≡ false = ne_eqb new.0.0 x.0 (λ same. not_x id stored is (sym new.2 ∙ same)) in
           let passes = both_true (is_news before new.0) (not (new.0.0 == x.0)) new.3 (ap not apart) in
           let kept = in_filter (λ (y : NodeId). is_news before y && not (y.0 == x.0)) reach new.0 new.1 passes in
-          Contains-append_right (ids_of before.table.entries) (map (λ (y : NodeId). y.0) (filter (λ (y : NodeId). is_news before y && not (y.0 == x.0)) reach)) id
+          Contains-append_right (ids_of_held before.table.entries) (map (λ (y : NodeId). y.0) (filter (λ (y : NodeId). is_news before y && not (y.0 == x.0)) reach)) id
           (subst (Contains (map (λ (y : NodeId). y.0) (filter (λ (y : NodeId). is_news before y && not (y.0 == x.0)) reach))) new.2
           (Contains-map (λ (y : NodeId). y.0) (filter (λ (y : NodeId). is_news before y && not (y.0 == x.0)) reach) new.0 kept))
 
-      each : (id : ℕ) → Contains (ids_of s.table.entries) id → Contains whole id
+      each : (id : ℕ) → Contains (ids_of_held s.table.entries) id → Contains whole id
       each id in_ids = let some = some_held s.table.entries id in_ids in by_both id some.0 some.1 (both id some.0 some.1)
 
   -- so it is for a node of which nothing changed

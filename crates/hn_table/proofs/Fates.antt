@@ -8,7 +8,7 @@ use Rattle.hn_data.specs.Said.{HasVersion}
 use Rattle.hn_data.specs.View.{PlainView}
 use Rattle.hn_data.specs.declared.said.Delegation.{Delegation}
 use Rattle.hn_data.specs.declared.view.Entry.{Entry}
-use Rattle.hn_deleg.specs.Live.{remaining, IsCandidate}
+use Rattle.hn_deleg.specs.Live.{remaining, IsAnnouncedPrefix}
 use Rattle.hn_deleg.specs.Used.{AreUsable, IsOutermost, prefixes_of}
 use Rattle.hn_deleg.specs.declared.delegated.Delegated.{Delegated}
 use Rattle.hn_table.specs.Fate.{IsPast}
@@ -38,7 +38,7 @@ some_left n left is some = omega arith
 
 -- a delegation of a node of the view that is live and of at most 64 bits is a candidate
 pub candidate_of : (view : PlainView) (node : Entry) (d : Delegation) → Contains view.nodes node → HasVersion node.body → HasDelegation node.body d → 0 < remaining node.age d.valid → d.prefix.len ≤ 64
-    → IsCandidate view d.prefix
+    → IsAnnouncedPrefix view d.prefix
 candidate_of view node d seen version said live short = record {
   short = short;
   node = node;

@@ -9,7 +9,7 @@ use Rattle.hn_data.specs.Said.{HasVersion}
 use Rattle.hn_data.specs.View.{PlainView}
 use Rattle.hn_data.specs.declared.said.Delegation.{Delegation}
 use Rattle.hn_data.specs.declared.view.Entry.{Entry}
-use Rattle.hn_deleg.specs.Live.{IsCandidate}
+use Rattle.hn_deleg.specs.Live.{IsAnnouncedPrefix}
 use Rattle.hn_table.specs.Outer.{IsNoOuter, IsOuterAmong, IsOuterAt, HasNoOuter, IsOuterCandidate}
 
 -- the elements of a list, as a `for` goes over a slice
@@ -40,7 +40,7 @@ outer_candidate view node p q seen at =
     }
 
 -- where no node of the view has one, the prefix is inside no other candidate
-pub no_outer_candidate : (view : PlainView) (p : PlainPrefix) → All (HasNoOuter p) view.nodes → (q : PlainPrefix) → IsCandidate view q → IsWithin p q → q ≡ p
+pub no_outer_candidate : (view : PlainView) (p : PlainPrefix) → All (HasNoOuter p) view.nodes → (q : PlainPrefix) → IsAnnouncedPrefix view q → IsWithin p q → q ≡ p
 no_outer_candidate view p none q candidate inside =
     let a = candidate.announced in
     let is = sym candidate.is_it in

@@ -6,7 +6,7 @@ use Rattle.hn_data.specs.Said.{HasVersion}
 use Rattle.hn_data.specs.View.{PlainView}
 use Rattle.hn_data.specs.declared.said.Delegation.{Delegation}
 use Rattle.hn_data.specs.declared.view.Entry.{Entry}
-use Rattle.hn_deleg.specs.Live.{remaining, IsCandidate}
+use Rattle.hn_deleg.specs.Live.{remaining, IsAnnouncedPrefix}
 use Rattle.hn_deleg.specs.Used.{IsOutermost, prefixes_of}
 use Rattle.hn_deleg.specs.declared.delegated.Delegated.{Delegated}
 use Rattle.hn_table.specs.declared.fate.Fate.{Fate}
@@ -14,7 +14,7 @@ use Rattle.hn_table.specs.declared.fate.Fate.TheVariants.{Used, NoVersion, Ended
 
 -- it is a candidate, and among the prefixes that are used
 pub record IsUsed (view : PlainView) (used : List Delegated) (d : Delegation) : Type 0 where
-  pub candidate : IsCandidate view d.prefix
+  pub candidate : IsAnnouncedPrefix view d.prefix
   pub among : Contains (prefixes_of used) d.prefix
 
 -- nothing is left of its valid lifetime
@@ -30,8 +30,8 @@ pub record IsLong (node : Entry) (d : Delegation) : Type 0 where
 
 -- it is a candidate, and another candidate has it inside
 pub record IsInsideOther (view : PlainView) (d : Delegation) (outer : PlainPrefix) : Type 0 where
-  pub candidate : IsCandidate view d.prefix
-  pub other : IsCandidate view outer
+  pub candidate : IsAnnouncedPrefix view d.prefix
+  pub other : IsAnnouncedPrefix view outer
   pub inside : IsWithin d.prefix outer
   pub different : outer ≢ d.prefix
 

@@ -6,7 +6,7 @@ use Rattle.hn_data.specs.Said.{HasVersion}
 use Rattle.hn_data.specs.View.{PlainView}
 use Rattle.hn_data.specs.declared.said.Delegation.{Delegation}
 use Rattle.hn_data.specs.declared.view.Entry.{Entry}
-use Rattle.hn_deleg.specs.Live.{remaining, IsCandidate}
+use Rattle.hn_deleg.specs.Live.{remaining, IsAnnouncedPrefix}
 
 -- at this age of the data, the delegation is live, of at most 64 bits, and has the prefix inside
 pub record HasInside (age : ℕ) (p : PlainPrefix) (d : Delegation) : Type 0 where
@@ -44,6 +44,6 @@ HasNoOuter p node = HasVersion node.body → (d : Delegation) → HasDelegation 
 
 -- another candidate that has the prefix inside
 pub record IsOuterCandidate (view : PlainView) (p q : PlainPrefix) : Type 0 where
-  pub candidate : IsCandidate view q
+  pub candidate : IsAnnouncedPrefix view q
   pub inside : IsWithin p q
   pub different : q ≢ p

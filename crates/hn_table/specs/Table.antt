@@ -35,7 +35,7 @@ pub record AreDataTexts (s : State) (text : List ℕ) : Type 0 where
   pub text_is : text ≡ own ++ others
 
 -- what the router m of this name holds
-pub record IsTable (name : List ℕ) (m : Member) (text : List ℕ) : Type 0 where
+pub record IsTableText (name : List ℕ) (m : Member) (text : List ℕ) : Type 0 where
   pub delegated : List ℕ
   pub are_delegated : AreDelegatedLines m.router delegated
   pub nodes : List ℕ

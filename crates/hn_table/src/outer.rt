@@ -4,7 +4,7 @@ ghost use Rattle.std.specs.Prelude.{◌≡◌, true, false, Contains, IfNone, If
 ghost use Rattle.hn_base.specs.Prefix.{PlainPrefix, IsWithin};
 ghost use Rattle.hn_data.specs.View.{plain_view};
 ghost use Rattle.hn_data.specs.declared.said.Delegation.{Delegation as ADelegation};
-ghost use Rattle.hn_deleg.specs.Live.{remaining, IsCandidate};
+ghost use Rattle.hn_deleg.specs.Live.{remaining, IsAnnouncedPrefix};
 ghost use Rattle.hn_table.specs.Outer.{IsOuter, IsNoOuter, IsOuterAmong, IsOuterAt, HasNoOuter, IsOuterCandidate};
 
 use hn_data::{Delegation, Entry, View, version};
@@ -59,7 +59,7 @@ fn outer_at(node: &Entry, prefix: &Prefix) -> Option<Prefix>
 /// Another candidate that has the prefix inside, of the first node that has one. Never allocates.
 pub(crate) fn outer_of(view: &View<'_>, prefix: &Prefix) -> Option<Prefix>
     ensures found { IfSome result (IsOuterCandidate (plain_view view.entry.now) prefix.now) }
-    ensures none { IfNone result ((q : PlainPrefix) → IsCandidate (plain_view view.entry.now) q → IsWithin prefix.now q → q ≡ prefix.now) }
+    ensures none { IfNone result ((q : PlainPrefix) → IsAnnouncedPrefix (plain_view view.entry.now) q → IsWithin prefix.now q → q ≡ prefix.now) }
 {
     for node in view.nodes {
         if let Some(outer) = outer_at(node, prefix) {

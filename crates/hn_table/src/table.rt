@@ -6,7 +6,7 @@ ghost use Rattle.hn_data.specs.View.{plain_view};
 ghost use Rattle.hn_deleg.specs.Used.{AreUsable};
 ghost use Rattle.hn_rules.specs.Seen.{seen_by};
 ghost use Rattle.hn_table.specs.InOrder.{Adds};
-ghost use Rattle.hn_table.specs.Table.{held_lines, IsTable, AreDelegatedLines, AreDataTexts};
+ghost use Rattle.hn_table.specs.Table.{held_lines, IsTableText, AreDelegatedLines, AreDataTexts};
 
 use crate::assignment_lines::{push_assignments, push_backoffs};
 use crate::data_lines::{push_all_data, push_data};
@@ -63,7 +63,7 @@ fn push_all_nodes_data(alloc: Global, text: &mut String, router: &Router) -> Res
 ///
 /// Out of memory.
 pub fn table_text(alloc: Global, name: &Name, member: &Member) -> Result<String, NoMemory>
-    ensures { IfOk result (λ text. IsTable (name_text name.now) member.now (string_bytes text)) }
+    ensures { IfOk result (λ text. IsTableText (name_text name.now) member.now (string_bytes text)) }
 {
     let router = &member.router;
     let nodes = router.nodes(alloc)?;

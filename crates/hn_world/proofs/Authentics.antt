@@ -23,7 +23,7 @@ use Rattle.hn_world.specs.declared.parts.Parts.{Parts}
 use Rattle.hn_world.specs.Authentic.{IsFromWithin, IsAuthentic, AuthenticUnlessInjected}
 use Rattle.hn_world.specs.Mail.{copies_of}
 use Rattle.hn_world.specs.Replay.{Replays, IsSoundMember, IsSound}
-use Rattle.hn_world.specs.Step.{ActsAt, Begins, Delivers, Drops, Stops, Does, IsInRange, acted, beside, stopped, taken}
+use Rattle.hn_world.specs.Step.{ActsAt, RouterBegins, Delivers, Drops, Stops, Does, IsInRange, acted, beside, stopped, taken}
 use Rattle.hn_world.proofs.Copied.{copied, still_copied}
 use Rattle.hn_world.proofs.Onces.{Any, trace_of_step}
 use Rattle.hn_world.proofs.Sounds.{StayLaws, KeepsRouters, beside_keeps, sound_step, replay_keeps, all_at}
@@ -93,7 +93,7 @@ module _ (laws : AuthenticLaws) where
           })
 
   -- a new router holds nothing, and its own node data are published
-  genuine_new : (name : Name) (id : NodeId) (words : List ℕ) (notes : List Note) (before after : Parts) → Begins name id words notes before after → IsGenuineOr before → IsGenuineOr after
+  genuine_new : (name : Name) (id : NodeId) (words : List ℕ) (notes : List Note) (before after : Parts) → RouterBegins name id words notes before after → IsGenuineOr before → IsGenuineOr after
   genuine_new name id words notes before after h (inr collide) =
       let p : Publication = record { id = id; number = 1; body = h.router.own.body } in
       subst IsGenuineOr (sym h.quietly.gives) (inr (collide_more before.published (before.published ++ p ∷ []) (includes_front before.published (p ∷ [])) collide))

@@ -19,7 +19,7 @@ use Rattle.hn_world.specs.declared.member.Member.{Member}
 use Rattle.hn_world.specs.declared.parts.Parts.{Parts}
 use Rattle.hn_world.specs.Limits.{table_limit}
 use Rattle.hn_world.specs.Routed.{routed}
-use Rattle.hn_world.specs.Step.{ActsAt, Acts, Begins, Quietly, Stops, DoesElse, DoesAt, Step, IsStep, acted, beside, entered, with_member, stopped, taken}
+use Rattle.hn_world.specs.Step.{ActsAt, Acts, RouterBegins, Quietly, Stops, DoesElse, DoesAt, Step, IsStep, acted, beside, entered, with_member, stopped, taken}
 use Rattle.hn_world.specs.Replay.{empty_world, Goes, Replays}
 
 -- an event, whatever was noted
@@ -65,7 +65,7 @@ module _ (laws : HasLaws) (stream : ℕ → ℕ) where
       let place : h.place ≡ k.place = same_Some h.place k.place (sym h.is_place ∙ k.is_place) in
       one_acts_at change h.place event v w m n before a b begins begun h.acts (subst (λ (at : ℕ). ActsAt change at event w n before b) (sym place) k.acts)
 
-  one_begun : (name : Name) (id : NodeId) (v w : List ℕ) (m n : List Note) (before a b : Parts) → Begins name id v m before a → Begins name id w n before b → AreOne v w m n a b
+  one_begun : (name : Name) (id : NodeId) (v w : List ℕ) (m n : List Note) (before a b : Parts) → RouterBegins name id v m before a → RouterBegins name id w n before b → AreOne v w m n a b
   one_begun name id v w m n before a b h k =
       let router : h.router ≡ k.router = laws.one_new id (table_limit before.version) before.moment h.router k.router h.is_new k.is_new in
       let made = ap (λ (s : State). record before {

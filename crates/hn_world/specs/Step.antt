@@ -61,7 +61,7 @@ pub record Quietly (given : Parts) (words : List ℕ) (notes : List Note) (after
   pub gives : after ≡ given
 
 -- a new running router, which holds as many other nodes as the version says; what it publishes first is a publication
-pub record Begins (name : Name) (id : NodeId) (words : List ℕ) (notes : List Note) (before after : Parts) : Type 0 where
+pub record RouterBegins (name : Name) (id : NodeId) (words : List ℕ) (notes : List Note) (before after : Parts) : Type 0 where
   pub router : State
   pub is_new : IsNew id (table_limit before.version) before.moment router
   pub quietly : Quietly (record before {
@@ -118,7 +118,7 @@ pub record Drops (copy : ℕ) (words : List ℕ) (notes : List Note) (before aft
 
 -- what an event does that happens at no router by its name
 abbrev pub DoesElse : WEvent → List ℕ → List Note → Parts → Parts → Type 0
-DoesElse (event.Router name id) words notes before after = Begins name id words notes before after
+DoesElse (event.Router name id) words notes before after = RouterBegins name id words notes before after
 DoesElse (event.Link name) words notes before after = Quietly (record before { links = before.links ++ name ∷ [] }) words notes after
 DoesElse (event.Stop name) words notes before after = Stops name words notes before after
 DoesElse (event.Time moment) words notes before after = Quietly (record before { moment = moment }) words notes after

@@ -1,6 +1,6 @@
 ghost use Rattle.std.specs.Prelude.{◌≡◌, true, false, OnOk};
 ghost use Rattle.hn_rules.specs.Rules.{Ran};
-ghost use Rattle.hn_rules.specs.Claim.{is_taken, IsFirstFree, IsFirstClaim, IsSecondClaim, IsClaim};
+ghost use Rattle.hn_rules.specs.Claim.{is_taken, IsFirstFreeId, IsFirstClaim, IsSecondClaim, IsClaim};
 
 use crate::running::Running;
 use crate::state::State;
@@ -21,7 +21,7 @@ impl State {
 
     /// The first identifier of a word and those after it that the router may take.
     fn first_free(&self, word: u32) -> u32
-        ensures { IsFirstFree self.now word result }
+        ensures { IsFirstFreeId self.now word result }
     {
         let table = self.table.get();
         let _kept = table.entries();

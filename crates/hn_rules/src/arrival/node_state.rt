@@ -5,7 +5,7 @@ ghost use Rattle.hn_rules.specs.declared.answers.Subject.TheVariants.{NodeReques
 ghost use Rattle.hn_rules.specs.Answers.{with_answer};
 ghost use Rattle.hn_rules.specs.Rules.{Ran};
 ghost use Rattle.hn_rules.specs.Router.{IsUntouched};
-ghost use Rattle.hn_rules.specs.NodeState.{touches, Takes, IsTaken, IsNodeState};
+ghost use Rattle.hn_rules.specs.NodeState.{touches, TakesState, IsTaken, IsNodeState};
 
 use crate::answers::Subject;
 use crate::done::Note;
@@ -61,7 +61,7 @@ impl Running {
 
     /// A node state is taken by the table: its answer. A state that the table does not look into leaves it uncopied.
     fn take_state(&mut self, alloc: Global, carried: &CarriedState<'_>) -> Result<Took, NoMemory>
-        ensures { IfOk result (λ how. Takes (plain_state carried.now) how self.old self.new) }
+        ensures { IfOk result (λ how. TakesState (plain_state carried.now) how self.old self.new) }
     {
         let own = self.state.own_leaf();
         if let Some(how) = self.state.table.get().refusal(&own, carried) {

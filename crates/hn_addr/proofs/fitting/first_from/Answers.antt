@@ -1,6 +1,6 @@
 use Rattle.std.proofs.Common.{ℕ, ◌≤◌, refl, sym, subst, arith}
 use Rattle.std.proofs.lemmas.Bool.{false≢true}
-use Rattle.hn_addr.specs.Numbers.{IsFree}
+use Rattle.hn_addr.specs.Numbers.{IsFreeAddress}
 use Rattle.hn_addr.proofs.Numbers.{none_at_first, one_further, first_found, none_found}
 use Rattle.hn_addr.proofs.fitting.first_from.Goals as goal
 
@@ -22,13 +22,13 @@ returns-then-is_free c =
       low = low;
       high = bounds.0;
       inside = bounds.1;
-      free = subst (λ (x : ℕ). IsFree c.args.others.now c.args.list.now x) c.address_of.ensures (c.if-is_free.ensures.0 refl);
+      free = subst (λ (x : ℕ). IsFreeAddress c.args.others.now c.args.list.now x) c.address_of.ensures (c.if-is_free.ensures.0 refl);
     })
 
 pub loop-k-preserved : goal.loop-k-preserved
 loop-k-preserved c =
     one_further c.args.others.now c.args.list.now c.args.prefix.now c.args.from c.loop-k.k c.loop-k.invariant
-    (λ fits. false≢true (c.if-is_free.ensures.1 (subst (λ (x : ℕ). IsFree c.args.others.now c.args.list.now x) (sym c.address_of.ensures) fits.free)))
+    (λ fits. false≢true (c.if-is_free.ensures.1 (subst (λ (x : ℕ). IsFreeAddress c.args.others.now c.args.list.now x) (sym c.address_of.ensures) fits.free)))
 
 pub returns : goal.returns
 returns c = none_found c.args.others.now c.args.list.now c.args.prefix.now c.args.from c.loop-k.k c.count-k-end.result c.loop-k.invariant c.loop-k-test.false c.count-k-end.ensures

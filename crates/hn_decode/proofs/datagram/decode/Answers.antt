@@ -4,7 +4,7 @@ use Rattle.hn_base.proofs.Results.{tells_passed, tells_unfound}
 use Rattle.hn_tlv.specs.declared.fault.TlvFault.{TlvFault}
 use Rattle.hn_tlv.specs.declared.list_fault.ListFault.TheVariants.{Malformed}
 use Rattle.hn_tlv.specs.Grammar.{FirstFault}
-use Rattle.hn_decode.specs.Nested.{first_line}
+use Rattle.hn_decode.specs.Nested.{tlvs_line}
 use Rattle.hn_decode.proofs.datagram.decode.Goals as goal
 
 pub returns-in_err-count-clause-malformed : goal.returns-in_err-count-clause-malformed
@@ -30,7 +30,7 @@ pub loop-at-preserved : goal.loop-at-preserved
 loop-at-preserved c =
     let so_far = c.loop-at.invariant in
     let more = c.in_ok-at.ensures.lines in
-    let first : List ℕ = first_line c.in_ok-count.count in (
+    let first : List ℕ = tlvs_line c.in_ok-count.count in (
       so_far.0 ++ more.0,
       more.1 so_far.0 so_far.1,
       more.2 ∙ ap (λ (z : List ℕ). z ++ more.0) so_far.2 ∙ append_assoc first so_far.0 more.0,

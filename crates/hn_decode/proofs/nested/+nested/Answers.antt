@@ -3,7 +3,7 @@ use Rattle.hn_tlv.specs.Grammar.{HasTlvs}
 use Rattle.hn_tlv.specs.View.{plain}
 use Rattle.hn_typed.specs.Item.{PlainItem}
 use Rattle.hn_decode.specs.Line.{within, IsLineAbove, IsLineAlone}
-use Rattle.hn_decode.specs.Nested.{Shows, Adds}
+use Rattle.hn_decode.specs.Nested.{Shows, GrowsByText}
 use Rattle.hn_decode.proofs.Within.{length-within-le}
 use Rattle.hn_decode.proofs.TextSoFar.{shown_more, shown_all, shows_line, added_within}
 use Rattle.hn_decode.proofs.nested.+nested.Goals as goal
@@ -26,21 +26,21 @@ push_list-returns t c =
 
 pub push_tlv-returns-in_default : goal.push_tlv-returns-in_default
 push_tlv-returns-in_default t c =
-    let alone : Adds (IsLineAlone c.args.below c.args.place (plain c.args.tlv.now)) (string_bytes c.args.out.now) (string_bytes c.push_line.new.out) =
+    let alone : GrowsByText (IsLineAlone c.args.below c.args.place (plain c.args.tlv.now)) (string_bytes c.args.out.now) (string_bytes c.push_line.new.out) =
     rw c.in_default.is at c.in_ok-inner.ensures.alone in
     (alone.0, shows_line c.args.below c.args.place (plain c.args.tlv.now) alone.0 alone.1, alone.2)
 
 pub push_tlv-overflow_sub-inner_place : goal.push_tlv-overflow_sub-inner_place
 push_tlv-overflow_sub-inner_place t c =
     let above : (item : PlainItem) × (c.in-Some.inner.now ≡ within item)
-    × Adds (IsLineAbove c.args.below c.args.place (plain c.args.tlv.now) item) (string_bytes c.args.out.now) (string_bytes c.push_line.new.out) =
+    × GrowsByText (IsLineAbove c.args.below c.args.place (plain c.args.tlv.now) item) (string_bytes c.args.out.now) (string_bytes c.push_line.new.out) =
     rw c.in-Some.is at c.in_ok-inner.ensures.above in
     rw above.1 (length-within-le (plain c.args.tlv.now) above.0 above.2.1.is_item)
 
 pub push_tlv-push_list-requires : goal.push_tlv-push_list-requires
 push_tlv-push_list-requires t c =
     let above : (item : PlainItem) × (c.in-Some.inner.now ≡ within item)
-    × Adds (IsLineAbove c.args.below c.args.place (plain c.args.tlv.now) item) (string_bytes c.args.out.now) (string_bytes c.push_line.new.out) =
+    × GrowsByText (IsLineAbove c.args.below c.args.place (plain c.args.tlv.now) item) (string_bytes c.args.out.now) (string_bytes c.push_line.new.out) =
     rw c.in-Some.is at c.in_ok-inner.ensures.above in
     let levels : 0 < c.args.below = above.2.1.has_lines.0 in
     let list : HasTlvs c.in-Some.inner.now = rw above.1 above.2.1.has_lines.1 in
@@ -50,7 +50,7 @@ push_tlv-push_list-requires t c =
 pub push_tlv-returns : goal.push_tlv-returns
 push_tlv-returns t c =
     let above : (item : PlainItem) × (c.in-Some.inner.now ≡ within item)
-    × Adds (IsLineAbove c.args.below c.args.place (plain c.args.tlv.now) item) (string_bytes c.args.out.now) (string_bytes c.push_line.new.out) =
+    × GrowsByText (IsLineAbove c.args.below c.args.place (plain c.args.tlv.now) item) (string_bytes c.args.out.now) (string_bytes c.push_line.new.out) =
     rw c.in-Some.is at c.in_ok-inner.ensures.above in
     added_within c.args.below c.args.place (plain c.args.tlv.now) c.in-Some.inner.now (string_bytes c.args.out.now) (string_bytes c.push_line.new.out)
     (string_bytes c.push_list.new.out) c.push_list.result above c.push_list.ensures

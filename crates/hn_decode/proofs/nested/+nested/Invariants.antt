@@ -1,5 +1,5 @@
 use Rattle.std.proofs.Common.{◌+◌, ◌-◌, ◌*◌, length, string_bytes}
-use Rattle.hn_decode.specs.Nested.{Shows, IsShownTo, Adds}
+use Rattle.hn_decode.specs.Nested.{Shows, IsShownTo, GrowsByText}
 use Rattle.hn_decode.proofs.nested.+nested.Given as goal
 
 abbrev pub decreases-push_list : goal.decreases-push_list
@@ -9,7 +9,7 @@ abbrev pub decreases-push_tlv : goal.decreases-push_tlv
 decreases-push_tlv l = 2 * l.below
 
 abbrev pub invariant-push_list-loop-at : goal.invariant-push_list-loop-at
-invariant-push_list-loop-at l = Adds (IsShownTo (Shows l.below) l.place l.bytes l.at) (string_bytes l.initial.out) (string_bytes l.out)
+invariant-push_list-loop-at l = GrowsByText (IsShownTo (Shows l.below) l.place l.bytes l.at) (string_bytes l.initial.out) (string_bytes l.out)
 
 abbrev pub decreases-push_list-loop-at : goal.decreases-push_list-loop-at
 decreases-push_list-loop-at l = length l.bytes - l.at

@@ -2,7 +2,7 @@ use Rattle.std.proofs.Common.{ℕ, ◌↔◌, ◌∙◌, sym}
 use Rattle.std.proofs.lemmas.Bool.{false≢true}
 use Rattle.hn_base.specs.Sooner.{IsOfElement}
 use Rattle.hn_base.proofs.NextDue.{sooner_none, sooner_same}
-use Rattle.hn_deleg.specs.Due.{IsEndOf, IsEndIn}
+use Rattle.hn_deleg.specs.Due.{IsDelegationEnd, IsEndIn}
 use Rattle.hn_deleg.proofs.ends.next_of_node.Goals as goal
 
 pub returns-then-is_none : goal.returns-then-is_none
@@ -12,8 +12,8 @@ pub returns : goal.returns
 returns c =
     let node = c.args.node.now in
     let said = c.delegations.result.now in
-    let same : (m : ℕ) → IsOfElement (IsEndOf c.args.now node.age) said m ↔ IsEndIn c.args.now node m = λ m. (
+    let same : (m : ℕ) → IsOfElement (IsDelegationEnd c.args.now node.age) said m ↔ IsEndIn c.args.now node m = λ m. (
       λ h. record { version = c.version.ensures.found.0 c.if-is_none.ensures; delegation = h.0; said = (c.delegations.ensures h.0).0 h.1; ends = h.2 },
       λ h. (h.delegation, (c.delegations.ensures h.delegation).1 h.said, h.ends),
     ) in
-    sooner_same (IsOfElement (IsEndOf c.args.now node.age) said) (IsEndIn c.args.now node) c.args.now c.args.best c.next_of_delegations.result same c.next_of_delegations.ensures
+    sooner_same (IsOfElement (IsDelegationEnd c.args.now node.age) said) (IsEndIn c.args.now node) c.args.now c.args.best c.next_of_delegations.result same c.next_of_delegations.ensures

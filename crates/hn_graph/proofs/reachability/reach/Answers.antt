@@ -3,7 +3,7 @@ use Rattle.std.proofs.lemmas.List.Elements.{Contains-push, Contains-get_or}
 use Rattle.std.proofs.lemmas.List.{nil_from_length}
 use Rattle.std.proofs.lemmas.Result.{IfOk-weaker}
 use Rattle.std.proofs.lemmas.Option.{slice_get_read, slice_get_within}
-use Rattle.hn_graph.specs.Search.{AreNext, HasMarked, HasFound}
+use Rattle.hn_graph.specs.Search.{ArePlacesNext, HasMarked, HasFound}
 use Rattle.hn_graph.proofs.Progress.{IsUnderway, begin, visit, finish}
 use Rattle.hn_graph.proofs.reachability.reach.Goals as goal
 
@@ -44,7 +44,7 @@ loop-place-preserved c =
     let u : IsUnderway c.args.own.0 nodes c.loop-place.found.items (c.pop.new.self.items ++ place ∷ []) = rw (← popped) c.loop-place.invariant in
     let m : HasMarked c.next_places.new.places.items c.loop-place.found.items c.pop.new.self.items c.mark-in-Some-pop.new.found.items c.mark-in-Some-pop.new.visits.items =
     rw (← c.deref-in-Some-pop.ensures.value) c.in_ok-mark-2.ensures in
-    let next : AreNext nodes x c.loop-place.found.items c.next_places.new.places.items = rw (← c.deref.ensures.value) c.in_ok-next_places.ensures in
+    let next : ArePlacesNext nodes x c.loop-place.found.items c.next_places.new.places.items = rw (← c.deref.ensures.value) c.in_ok-next_places.ensures in
     visit c.args.own.0 nodes x place c.next_places.new.places.items c.loop-place.found.items c.pop.new.self.items c.mark-in-Some-pop.new.found.items c.mark-in-Some-pop.new.visits.items u at next m
 
 pub returns-clause-exact : goal.returns-clause-exact

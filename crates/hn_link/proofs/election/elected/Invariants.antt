@@ -1,7 +1,7 @@
 use Rattle.hn_data.specs.View.{plain_view}
-use Rattle.hn_link.specs.Standing.{IsBest}
+use Rattle.hn_link.specs.Standing.{IsBestRank}
 use Rattle.hn_link.proofs.Candidates.{RanksBefore}
 use Rattle.hn_link.proofs.election.elected.Given as goal
 
 abbrev pub invariant-loop-node : goal.invariant-loop-node
-invariant-loop-node l = IsBest (RanksBefore (plain_view l.view) l.letter l.common l.node-index) l.best
+invariant-loop-node l = IsBestRank (RanksBefore (plain_view l.view) l.letter l.common l.node-index) l.best

@@ -2,7 +2,7 @@ use Rattle.std.proofs.Common.{◌∙◌, ◌++◌, ℕ, List, append_assoc, subs
 use Rattle.std.specs.Io.KnownBytes.{Appends}
 use Rattle.std.proofs.lemmas.Result.{err_from_is_err_and}
 use Rattle.hn_io.specs.declared.fault.IoFault.TheVariants.{NoMemory}
-use Rattle.hn_decode.specs.Nested.{first_line}
+use Rattle.hn_decode.specs.Nested.{tlvs_line}
 use Rattle.hn_run.proofs.Streams.{AppendsFront-none, part_is_cut}
 use Rattle.hn_run.proofs.Cut.{cut_in_first_line, cut_among_lines}
 use Rattle.hn_run.proofs.decode.write_tlvs.Goals as goal
@@ -10,7 +10,7 @@ use Rattle.hn_run.proofs.decode.write_tlvs.Goals as goal
 pub loop-at-preserved : goal.loop-at-preserved
 loop-at-preserved g c =
     let before = c.loop-at.invariant in
-    let front = first_line c.args.count in
+    let front = tlvs_line c.args.count in
     let lines = before.written.0 in
     let next = c.in_ok-at.ensures.written in
     let sink = g.K.Sink in
@@ -26,7 +26,7 @@ pub returns-in_default-clause-cut : goal.returns-in_default-clause-cut
 returns-in_default-clause-cut g c =
     let octets = c.args.octets.now in
     let begins = c.lines_make_the_text.ensures.begins octets (c.requires.0, c.requires.1) in
-    cut_in_first_line c.pieces_append.ensures c.lines_go_on.ensures octets c.args.count c.requires begins NoMemory _ _ (AppendsFront-none (g.K.Sink.held c.args.out.now) (first_line c.args.count))
+    cut_in_first_line c.pieces_append.ensures c.lines_go_on.ensures octets c.args.count c.requires begins NoMemory _ _ (AppendsFront-none (g.K.Sink.held c.args.out.now) (tlvs_line c.args.count))
 
 pub returns-in_err-write_piece-clause-cut : goal.returns-in_err-write_piece-clause-cut
 returns-in_err-write_piece-clause-cut g c =
@@ -34,7 +34,7 @@ returns-in_err-write_piece-clause-cut g c =
     let begins = c.lines_make_the_text.ensures.begins octets (c.requires.0, c.requires.1) in
     let fault = c.in_err-write_piece.field-0.0 in
     let first = c.as_bytes.ensures.value ∙ c.in-Ok.ensures in
-    let cut = part_is_cut fault _ _ (first_line c.args.count) (rw first at c.in_err-write_piece.ensures.cut) in
+    let cut = part_is_cut fault _ _ (tlvs_line c.args.count) (rw first at c.in_err-write_piece.ensures.cut) in
     let passed = err_from_is_err_and c.from_residual.result c.from_residual.ensures.1 in
     rw (passed.1, passed.2) (cut_in_first_line c.pieces_append.ensures c.lines_go_on.ensures octets c.args.count c.requires begins fault _ _ cut)
 

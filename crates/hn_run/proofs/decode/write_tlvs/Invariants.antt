@@ -1,6 +1,6 @@
 use Rattle.std.proofs.Common.{◌≡◌, ◌-◌, ◌++◌, List, ℕ, length}
 use Rattle.std.specs.Io.KnownBytes.{Appends}
-use Rattle.hn_decode.specs.Nested.{first_line, IsTextTo}
+use Rattle.hn_decode.specs.Nested.{tlvs_line, IsTextTo}
 use Rattle.hn_run.proofs.decode.write_tlvs.Given as goal
 
 -- the first line and the lines of the TLVs so far were written
@@ -8,7 +8,7 @@ abbrev pub invariant-loop-at : goal.invariant-loop-at
 invariant-loop-at g l =
     let sink = g.K.Sink in
     record {
-      written : (lines : List ℕ) × IsTextTo l.octets l.at lines × Appends (sink.held l.fn.out) (sink.held l.out) (first_line l.count ++ lines);
+      written : (lines : List ℕ) × IsTextTo l.octets l.at lines × Appends (sink.held l.fn.out) (sink.held l.out) (tlvs_line l.count ++ lines);
       no_fault : sink.faults l.out ≡ sink.faults l.fn.out;
       reliable : sink.never_fails l.fn.out → sink.never_fails l.out;
     }

@@ -2,7 +2,7 @@
 -- else its lines are all of the version.
 use Rattle.std.proofs.Common.{inl, refl, subst}
 use Rattle.std.specs.Str.{IsUtf8}
-use Rattle.hn_script.specs.Line.{spelling}
+use Rattle.hn_script.specs.Line.{line_spelling}
 use Rattle.hn_script.proofs.LineWords.{first_letters}
 use Rattle.hn_script.proofs.Versions.{draft_of_version}
 use Rattle.hn_script.proofs.WordBytes.{IsWord-from_letters, IsUtf8-word}
@@ -12,7 +12,7 @@ pub returns-in_default : goal.returns-in_default
 returns-in_default c =
     inl (
       λ line _ e. c.in_default.ensures.cases.0
-          (subst IsUtf8 e (IsUtf8-word (spelling line).first (IsWord-from_letters (spelling line).first (first_letters line)))),
+          (subst IsUtf8 e (IsUtf8-word (line_spelling line).first (IsWord-from_letters (line_spelling line).first (first_letters line)))),
       refl,
     )
 

@@ -6,7 +6,7 @@ use Rattle.hn_base.specs.declared.ids.EpId.{EpId}
 use Rattle.hn_base.specs.declared.name.Name.{Name}
 use Rattle.hn_script.specs.declared.line.How.{How}
 use Rattle.hn_script.specs.Fault.{FirstWordFault}
-use Rattle.hn_script.specs.Line.{spelling, every_line}
+use Rattle.hn_script.specs.Line.{line_spelling, every_line}
 use Rattle.hn_script.specs.declared.line.Line.TheVariants.{Inject}
 use Rattle.hn_script.specs.Field.{IsField}
 use Rattle.hn_script.proofs.LineWords.{word_fault, inject_lines, inject_follows}
@@ -15,7 +15,7 @@ use Rattle.hn_script.proofs.reader.read_injected.Goals as goal
 
 -- four words that spell no such line
 bad_word : (words : List (List ℕ)) (code : ℕ) → length words ≡ 4
-    → ((v : Name × EpId × How × List ℕ) → ¬ AllZip IsField (spelling (Inject v.0 v.1 v.2 v.3)).fields words) → code ≡ 4
+    → ((v : Name × EpId × How × List ℕ) → ¬ AllZip IsField (line_spelling (Inject v.0 v.1 v.2 v.3)).fields words) → code ≡ 4
     → FirstWordFault every_line (codes "inject") words code
 bad_word words code counted none is =
     word_fault inject_lines 4 _ (λ _. refl) inject_follows (codes "inject") (inl refl) words code (inr (λ differ. differ counted, inl (none, is)))

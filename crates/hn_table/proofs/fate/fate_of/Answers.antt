@@ -1,7 +1,7 @@
 use Rattle.std.proofs.Common.{rules, ◌≡◌, ◌≤◌, ◌∙◌, IsTrue, false, sym, arith}
 use Rattle.std.proofs.lemmas.Bool.{false≢true}
 use Rattle.hn_data.specs.View.{plain_view}
-use Rattle.hn_deleg.specs.Live.{IsCandidate}
+use Rattle.hn_deleg.specs.Live.{IsAnnouncedPrefix}
 use Rattle.hn_table.proofs.Fates.{among_prefixes, from_prefixes, candidate_of, past_of, some_left}
 use Rattle.hn_table.proofs.fate.fate_of.Goals as goal
 
@@ -38,7 +38,7 @@ returns-in-None c =
     let d = c.args.d.now in
     let short : d.prefix.len ≤ 64 = omega (arith, c.len.ensures.value, c.if-len-gt64.false) in
     let no : c.is_used.result ≡ false = search rules in
-    let candidate : IsCandidate view d.prefix =
+    let candidate : IsAnnouncedPrefix view d.prefix =
     candidate_of view node d c.requires.seen (c.version.ensures.found.0 c.if-is_none.ensures) c.requires.said
     (some_left c.remaining.result _ c.remaining.ensures c.if-remaining-eq0.false) short
     in

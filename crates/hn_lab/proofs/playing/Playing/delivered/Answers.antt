@@ -8,7 +8,7 @@ use Rattle.hn_world.specs.Refusal.{copy_at}
 use Rattle.hn_lab.specs.declared.end.Stop.TheVariants.{Cut}
 use Rattle.hn_lab.specs.Delivery.{DeliveryEnds, Delivers}
 use Rattle.hn_lab.specs.Line.{OtherEnds, receiver}
-use Rattle.hn_lab.specs.Process.{Then}
+use Rattle.hn_lab.specs.Process.{ThenProcess}
 use Rattle.hn_lab.specs.Stage.{stage_of}
 use Rattle.hn_lab.specs.Tells.{note_lines, TellsLines}
 use Rattle.hn_lab.proofs.RunDeliveries.{receiver_is}
@@ -40,4 +40,4 @@ returns-clause-ends g c text =
     let same : c.map-name.result ≡ receiver p.world copy = name_is ∙ ap (option_map (λ (i : CopyInfo). i.to)) c.copy_info.ensures.info ∙ receiver_is p.world (copy_at p.world copy) in
     let lines_are = c.in_ok-note_lines.ensures ∙ ap (note_lines c.map-name.result) c.as_slice.ensures ∙ ap (λ (name : Option Name). note_lines name notes) same in
     lines_left (DeliveryEnds copy notes) (OtherEnds (line.Deliver copy)) c.in_ok-note_lines.field-0 p a
-    (λ stop at h. (notes, subst (λ (lines : List (List ℕ)). Then (DeliveryEnds copy notes) (TellsLines lines) stop p at) lines_are h)) (c.in_ok-notes.ensures.ends text)
+    (λ stop at h. (notes, subst (λ (lines : List (List ℕ)). ThenProcess (DeliveryEnds copy notes) (TellsLines lines) stop p at) lines_are h)) (c.in_ok-notes.ensures.ends text)

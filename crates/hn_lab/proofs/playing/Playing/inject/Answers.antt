@@ -5,7 +5,7 @@ use Rattle.hn_world.specs.declared.event.WEvent.{WEvent}
 use Rattle.hn_lab.specs.declared.end.Stop.TheVariants.{Cut}
 use Rattle.hn_lab.specs.Delivery.{EventNotes, EventEnds}
 use Rattle.hn_lab.specs.Line.{OtherEnds, injection}
-use Rattle.hn_lab.specs.Process.{Then}
+use Rattle.hn_lab.specs.Process.{ThenProcess}
 use Rattle.hn_lab.specs.Stage.{stage_of}
 use Rattle.hn_lab.specs.Tells.{note_lines, TellsLines}
 use Rattle.hn_lab.proofs.RunStops.{leaving_on, starved, stopped_within, lines_left}
@@ -37,4 +37,4 @@ returns-clause-ends c waiting text =
     let happened = subst (λ (e : WEvent). EventNotes e notes None p a) c.injection-event.ensures (c.in_ok-notes.ensures.ends waiting text) in
     let lines_are = c.in_ok-note_lines.ensures ∙ ap (note_lines (Some c.args.name)) c.as_slice.ensures in
     lines_left (EventNotes event notes) (OtherEnds (line.Inject c.args.name c.args.endpoint c.args.how c.args.bytes)) c.in_ok-note_lines.field-0 p a
-    (λ stop at h. (notes, subst (λ (lines : List (List ℕ)). Then (EventNotes event notes) (TellsLines lines) stop p at) lines_are h)) happened
+    (λ stop at h. (notes, subst (λ (lines : List (List ℕ)). ThenProcess (EventNotes event notes) (TellsLines lines) stop p at) lines_are h)) happened

@@ -5,7 +5,7 @@ use Rattle.hn_lab.specs.declared.end.Stop.{Stop}
 use Rattle.hn_lab.specs.Delivery.{EventEnds}
 use Rattle.hn_lab.specs.Events.{Runs}
 use Rattle.hn_lab.specs.Line.{LineEnds, OtherEnds, EndsBy, Follows, event_of}
-use Rattle.hn_lab.specs.Process.{Then}
+use Rattle.hn_lab.specs.Process.{ThenProcess}
 use Rattle.hn_lab.specs.Stage.{Stage, stage_of}
 use Rattle.hn_lab.proofs.RunWrites.{writing_as}
 use Rattle.hn_lab.proofs.playing.Playing.line.Goals as goal
@@ -19,7 +19,7 @@ returns-in-Ok-clause-ends g c text =
     let v = g.W.Wire.waiting c.args.wire.now in
     let p = stage_of c.args.self.now v text in
     let ev = c.in-Ok.event in
-    writing_as (Then (EventEnds ev) (Follows ev)) (LineEnds c.args.line) c.happen.result p (stage_of c.happen.new.self v text) _ _
+    writing_as (ThenProcess (EventEnds ev) (Follows ev)) (LineEnds c.args.line) c.happen.result p (stage_of c.happen.new.self v text) _ _
     (λ stop at h. subst (λ (o : Option WEvent). EndsBy c.args.line o stop p at) (sym c.in-Ok.ensures.event) h) (c.happen.ensures.ends v text)
 
 pub returns-in-Err-Run-clause-ends : goal.returns-in-Err-Run-clause-ends

@@ -1,6 +1,6 @@
 use Rattle.std.proofs.Common.{None, Some, inl, inr, refl}
 use Rattle.hn_lab.specs.Events.{Passes, Ticks, Flow, Round}
-use Rattle.hn_lab.specs.Process.{Then}
+use Rattle.hn_lab.specs.Process.{ThenProcess}
 use Rattle.hn_lab.specs.Stage.{stage_of}
 use Rattle.hn_lab.proofs.RunTimes.{then_assoc}
 use Rattle.hn_lab.proofs.RunWrites.{still_done, still_stopped, still_writes, first_stops, goes_on, then_writes, writing_as, writing_on}
@@ -14,7 +14,7 @@ returns-in_err-pass-clause-ends g c text =
     let why = c.in_err-pass.field-0.0 in
     let pass = Passes c.args.end c.args.step in
     writing_on (Round c.args.end c.args.step) why c.from_residual.result p a _ _ c.from_residual.ensures.1
-    (first_stops pass (Then Ticks Flow) why p a _ _ (still_stopped pass why p a _ (c.in_err-pass.ensures.ends v text)))
+    (first_stops pass (ThenProcess Ticks Flow) why p a _ _ (still_stopped pass why p a _ (c.in_err-pass.ensures.ends v text)))
 
 pub returns-in_err-ticks-clause-ends : goal.returns-in_err-ticks-clause-ends
 returns-in_err-ticks-clause-ends g c text =
@@ -37,7 +37,7 @@ returns-clause-ends g c text =
     let a = stage_of c.flow.new.self (g.W.Wire.waiting c.flow.new.wire) text in
     let pass = Passes c.args.end c.args.step in
     let first = still_done pass p m (g.K.Sink.held c.args.out.now) refl (c.in_ok-pass.ensures.ends v text) in
-    let two = goes_on pass Ticks (Then pass Ticks) None p m b _ _ _ first (λ at h. (first.at, first.ended, h)) (c.in_ok-ticks.ensures.ends v first.at.text) in
-    writing_as (Then (Then pass Ticks) Flow) (Round c.args.end c.args.step) c.flow.result p a _ _ (λ stop at h. then_assoc pass Ticks Flow stop p at h)
-    (then_writes (Then pass Ticks) Flow c.flow.result p b a _ _ _ two
+    let two = goes_on pass Ticks (ThenProcess pass Ticks) None p m b _ _ _ first (λ at h. (first.at, first.ended, h)) (c.in_ok-ticks.ensures.ends v first.at.text) in
+    writing_as (ThenProcess (ThenProcess pass Ticks) Flow) (Round c.args.end c.args.step) c.flow.result p a _ _ (λ stop at h. then_assoc pass Ticks Flow stop p at h)
+    (then_writes (ThenProcess pass Ticks) Flow c.flow.result p b a _ _ _ two
     (still_writes Flow c.flow.result (record b { text = two.at.text }) (record a { text = two.at.text }) _ refl (c.flow.ensures.ends two.at.text)))

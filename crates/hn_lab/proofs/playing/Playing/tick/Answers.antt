@@ -4,7 +4,7 @@ use Rattle.hn_io.specs.declared.fault.IoFault.TheVariants.{NoMemory}
 use Rattle.hn_world.specs.declared.event.WEvent.TheVariants as event
 use Rattle.hn_lab.specs.declared.end.Stop.TheVariants.{Cut}
 use Rattle.hn_lab.specs.Delivery.{EventEnds}
-use Rattle.hn_lab.specs.Process.{Each}
+use Rattle.hn_lab.specs.Process.{EachProcess}
 use Rattle.hn_lab.specs.Sending.{TurnEnds, Turns, TickEnds}
 use Rattle.hn_lab.specs.Stage.{stage_of}
 use Rattle.hn_lab.proofs.RunWrites.{starves, still_done, still_stopped, first_stops, then_writes, writing_as, writing_on}
@@ -32,5 +32,5 @@ returns-clause-ends g c waiting text =
     let name = c.args.name in
     let first = still_done (EventEnds (event.Tick name)) p m (g.K.Sink.held c.args.out.now) refl (c.in_ok-event.ensures.ends waiting text) in
     then_writes (EventEnds (event.Tick name)) (Turns name) c.turns.result p m a _ _ _ first
-    (writing_as (Each (TurnEnds name) c.deref.result.now) (Turns name) c.turns.result (record m { text = first.at.text }) (record a { text = first.at.text }) _ _
-    (λ stop at h. subst (λ (es : List EpId). Each (TurnEnds name) es stop (record m { text = first.at.text }) at) (c.deref.ensures.value ∙ c.in_ok-endpoints.ensures) h) (c.turns.ensures.ends waiting first.at.text))
+    (writing_as (EachProcess (TurnEnds name) c.deref.result.now) (Turns name) c.turns.result (record m { text = first.at.text }) (record a { text = first.at.text }) _ _
+    (λ stop at h. subst (λ (es : List EpId). EachProcess (TurnEnds name) es stop (record m { text = first.at.text }) at) (c.deref.ensures.value ∙ c.in_ok-endpoints.ensures) h) (c.turns.ensures.ends waiting first.at.text))

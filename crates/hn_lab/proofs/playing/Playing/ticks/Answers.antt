@@ -4,7 +4,7 @@ use Rattle.hn_io.specs.declared.fault.IoFault.TheVariants.{NoMemory}
 use Rattle.hn_world.specs.Receivers.{running_names}
 use Rattle.hn_lab.specs.declared.end.Stop.TheVariants.{Cut}
 use Rattle.hn_lab.specs.Events.{Ticks}
-use Rattle.hn_lab.specs.Process.{Each}
+use Rattle.hn_lab.specs.Process.{EachProcess}
 use Rattle.hn_lab.specs.Sending.{TickEnds}
 use Rattle.hn_lab.specs.Stage.{stage_of}
 use Rattle.hn_lab.proofs.RunEach.{each_starved}
@@ -21,5 +21,5 @@ pub returns-clause-ends : goal.returns-clause-ends
 returns-clause-ends g c waiting text =
     let p = stage_of c.args.self.now waiting text in
     let a = stage_of c.ticks_of.new.self waiting text in
-    writing_as (Each TickEnds c.as_slice.result.now) Ticks c.ticks_of.result p a _ _
-    (λ stop at h. subst (λ (names : List Name). Each TickEnds names stop p at) (c.as_slice.ensures.value ∙ c.in_ok-names.ensures) h) (c.ticks_of.ensures.ends waiting text)
+    writing_as (EachProcess TickEnds c.as_slice.result.now) Ticks c.ticks_of.result p a _ _
+    (λ stop at h. subst (λ (names : List Name). EachProcess TickEnds names stop p at) (c.as_slice.ensures.value ∙ c.in_ok-names.ensures) h) (c.ticks_of.ensures.ends waiting text)

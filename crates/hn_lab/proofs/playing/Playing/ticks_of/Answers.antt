@@ -1,6 +1,6 @@
 use Rattle.std.proofs.Common.{◌∙◌, None, Some, subst, arith}
 use Rattle.hn_base.specs.declared.name.Name.{Name}
-use Rattle.hn_lab.specs.Process.{Each}
+use Rattle.hn_lab.specs.Process.{EachProcess}
 use Rattle.hn_lab.specs.Sending.{TickEnds}
 use Rattle.hn_lab.specs.Stage.{stage_of}
 use Rattle.hn_lab.specs.Writing.{EndsAt}
@@ -17,7 +17,7 @@ returns-in_err-tick-clause-ends g c waiting text =
     let a = stage_of c.tick.new.self waiting text in
     let done = c.loop-name.invariant.ticked waiting text in
     let why = c.in_err-tick.field-0.0 in
-    writing_on (Each TickEnds xs) why c.from_residual.result p a _ _ c.from_residual.ensures.1
+    writing_on (EachProcess TickEnds xs) why c.from_residual.result p a _ _ c.from_residual.ensures.1
     (each_stopped TickEnds xs p b _ _ c.loop-name.name-index c.name-item.result c.loop-name-test.true done a _ why
     (subst (λ (name : Name). EndsAt (TickEnds name) (Some why) (record b { text = done.at.text }) (record a { text = done.at.text }) (sink.held c.loop-name.out) (sink.held c.tick.new.out)) c.name-item.is (c.in_err-tick.ensures.ends waiting done.at.text)))
 

@@ -1,6 +1,6 @@
 use Rattle.std.proofs.Common.{◌∙◌}
 use Rattle.hn_base.specs.declared.ids.EpId.{EpId}
-use Rattle.hn_lab.specs.Process.{Each}
+use Rattle.hn_lab.specs.Process.{EachProcess}
 use Rattle.hn_lab.specs.Sending.{TurnEnds}
 use Rattle.hn_lab.specs.Stage.{stage_of}
 use Rattle.hn_lab.proofs.RunEach.{each_further, each_stopped, each_done}
@@ -17,7 +17,7 @@ returns-in_err-turn-clause-ends g c waiting text =
     let done = c.loop-endpoint.invariant.turned waiting text in
     let why = c.in_err-turn.field-0.0 in
     let d : EpId = record { 0 = 0 } in
-    writing_on (Each (TurnEnds name) xs) why c.from_residual.result p a _ _ c.from_residual.ensures.1
+    writing_on (EachProcess (TurnEnds name) xs) why c.from_residual.result p a _ _ c.from_residual.ensures.1
     (each_stopped (TurnEnds name) xs p b _ _ c.loop-endpoint.endpoint-index d c.loop-endpoint-test.true done a _ why (c.in_err-turn.ensures.ends waiting done.at.text))
 
 pub loop-endpoint-preserved : goal.loop-endpoint-preserved

@@ -1,6 +1,6 @@
 use Rattle.std.proofs.Common.{◌≡◌, List, Option, None, take}
 use Rattle.hn_wire.specs.declared.datagram.Datagram.{Datagram}
-use Rattle.hn_lab.specs.Process.{Each}
+use Rattle.hn_lab.specs.Process.{EachProcess}
 use Rattle.hn_lab.specs.Sending.{TurnEnds}
 use Rattle.hn_lab.specs.Stage.{stage_of}
 use Rattle.hn_lab.specs.Told.{Told}
@@ -12,7 +12,7 @@ abbrev pub invariant-loop-endpoint : goal.invariant-loop-endpoint
 invariant-loop-endpoint g l =
     let sink = g.K.Sink in
     record {
-      turned : (waiting : Option (List Datagram)) (text : List Told) → EndsAt (Each (TurnEnds l.name) (take l.endpoint-index l.endpoints)) None (stage_of l.fn.self waiting text) (stage_of l.self waiting text) (sink.held l.fn.out) (sink.held l.out);
+      turned : (waiting : Option (List Datagram)) (text : List Told) → EndsAt (EachProcess (TurnEnds l.name) (take l.endpoint-index l.endpoints)) None (stage_of l.fn.self waiting text) (stage_of l.self waiting text) (sink.held l.fn.out) (sink.held l.out);
       world : l.self.world ≡ l.fn.self.world;
       base : l.self.base ≡ l.fn.self.base;
       no_fault : sink.faults l.out ≡ sink.faults l.fn.out;

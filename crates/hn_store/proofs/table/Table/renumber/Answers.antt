@@ -4,7 +4,7 @@ use Rattle.hn_store.specs.declared.stored.Stored.{Stored}
 use Rattle.hn_store.specs.declared.stored.HeldNode.{HeldNode}
 use Rattle.hn_store.specs.Nodes.{Nodes, IsTable}
 use Rattle.hn_store.specs.Place.{IsPlaceOf}
-use Rattle.hn_store.specs.Acceptance.{plain_state, held_part, renumbered, entries_after}
+use Rattle.hn_store.specs.Acceptance.{plain_state, held_part, stored_renumbered, entries_after}
 use Rattle.hn_store.specs.AcceptanceParts.{IsOfNumber}
 use Rattle.hn_store.specs.Young.{AreYoungBefore}
 use Rattle.hn_store.proofs.YoungNodes.{young_set}
@@ -40,9 +40,9 @@ invariant_of-self-2 c =
     let Q = λ (stored : Stored). AreYoungBefore sooner (set c.self.inside.nodes.items c.in-Ok.place (record { id = x.id; stored = stored })) in
     let young = subst Q (sym c.renumber.ensures)
     (young_set c.self.inside.young sooner until c.self.inside.nodes.items c.in-Ok.place
-    (record { id = x.id; stored = renumbered s c.args.now x.stored }) before early c.self.invariant.1 c.young_until.ensures) in
+    (record { id = x.id; stored = stored_renumbered s c.args.now x.stored }) before early c.self.invariant.1 c.young_until.ensures) in
     let table = subst P (sym c.renumber.ensures)
-    (IsTable-there c.self.inside.limit c.self.inside.nodes.items s.node c.in-Ok.place x (renumbered s c.args.now x.stored) c.self.invariant.0 place c.index_mut-node.ensures.value
+    (IsTable-there c.self.inside.limit c.self.inside.nodes.items s.node c.in-Ok.place x (stored_renumbered s c.args.now x.stored) c.self.invariant.0 place c.index_mut-node.ensures.value
     (intact_renumbered s c.args.now x.stored one)) in
     (table, young)
 

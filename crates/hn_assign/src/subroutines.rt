@@ -14,8 +14,8 @@ use hn_data::View;
 use hn_io::{Draw, words_join};
 use std::alloc::Global;
 
-/// The assignment subroutine for all pairs of a used delegated prefix and an attached endpoint, one wish for each
-/// (RFC 7695, section 4.1), at the moment of the view.
+/// The assignment subroutine for all pairs of a used delegated prefix and a post, which is an attached endpoint or the
+/// private link (RFC 7695, section 4.1), one wish for each, at the moment of the view.
 ///
 /// First the assignments and backoffs of other pairs are destroyed. Then each pair has its turn, in ascending order by
 /// delegated prefix and endpoint, and sees what those before it changed. Last, assignments that were kept for 10,000 ms

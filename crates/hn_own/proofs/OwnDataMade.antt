@@ -43,7 +43,10 @@ agent_is_ascii (suc (suc (suc (suc i)))) = lit≤ tt
 
 version_writable : (caps : Caps) → IsWritable (version_item caps)
 version_writable caps = record {
-  in_range = record { m = omega (arith, caps.m_in_range); p = omega (arith, caps.p_in_range); h = omega (arith, caps.h_in_range); l = omega (arith, caps.l_in_range) };
+  in_range = (
+    tt,
+    (tt, ((omega (arith, caps.m_in_range), omega (arith, caps.p_in_range)), (omega (arith, caps.h_in_range), omega (arith, caps.l_in_range)))),
+  );
   text = IsUtf8-from_ascii (codes "hncp") agent_is_ascii;
   other_kind = tt;
   tlvs_after = tt;
@@ -51,7 +54,7 @@ version_writable caps = record {
 }
 
 peer_writable : (link : PeerLink) → IsRangedLink link → IsWritable (peer_item link)
-peer_writable link is = record { in_range = (is.peer, is.peer_endpoint, is.endpoint); text = tt; other_kind = tt; tlvs_after = no_tlvs; short = lit≤ tt }
+peer_writable link is = record { in_range = (is.peer, (is.peer_endpoint, is.endpoint)); text = tt; other_kind = tt; tlvs_after = no_tlvs; short = lit≤ tt }
 
 -- seconds that are left have 4 bytes
 seconds_fit : (now : ℕ) (end : Option ℕ) → seconds_left now end < 2 ^ 32
@@ -60,7 +63,7 @@ seconds_fit now (Some end) = omega arith
 
 delegated_writable : (now : ℕ) (own : OwnPrefix) → IsPrefix own.prefix → IsWritable (delegated_item now own)
 delegated_writable now own is = record {
-  in_range = (seconds_fit now own.valid_until, seconds_fit now own.preferred_until, is);
+  in_range = (seconds_fit now own.valid_until, (seconds_fit now own.preferred_until, is));
   text = tt;
   other_kind = tt;
   tlvs_after = no_tlvs;
@@ -85,7 +88,7 @@ external_writable now (own ∷ list) few are =
 
 assigned_writable : (a : AssignedPrefix) → a.priority ≡ 2 → IsRangedAssigned a → IsWritable (assigned_item a)
 assigned_writable a two is = record {
-  in_range = (is.endpoint, omega (arith, two), is.prefix);
+  in_range = (is.endpoint, (omega (arith, two), is.prefix));
   text = tt;
   other_kind = tt;
   tlvs_after = no_tlvs;

@@ -13,7 +13,7 @@ use Rattle.hn_base.specs.Prefix.{PlainPrefix}
 use Rattle.hn_tlv.specs.Grammar.{PlainTlv, IsTlv, IsTlvList, header, padding, spelling, unpadded}
 use Rattle.hn_tlv.specs.Laws.{ListIsUnique}
 use Rattle.hn_typed.specs.Fields.{word, bytes_for, prefix_field}
-use Rattle.hn_typed.specs.Item.{PlainItem, Delegated}
+use Rattle.hn_typed.specs.Item.{PlainItem, Delegated, External}
 use Rattle.hn_typed.specs.Table.{IsItem}
 use Rattle.hn_typed.specs.Laws.{ItemIsUnique, ItemHasNoFault, ItemOrFault}
 use Rattle.hn_typed.specs.Written.{tlv_of, IsWritable}

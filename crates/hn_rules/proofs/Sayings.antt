@@ -93,11 +93,11 @@ module _ (published : List Publication) where
           kind_fits = omega arith;
           length_fits = let short = size in omega arith;
           bytes =
-              All-append IsByte ((((word node ++ word number) ++ word age) ++ hash) ++ []) body
-              (All-append IsByte (((word node ++ word number) ++ word age) ++ hash) []
-              (All-append IsByte ((word node ++ word number) ++ word age) hash
-              (All-append IsByte (word node ++ word number) (word age) (All-append IsByte (word node) (word number) (number_bytes 4 node) (number_bytes 4 number)) (number_bytes 4 age))
-              fits.1.1.1.1) (All-nil IsByte)) bytes;
+              All-append IsByte ((word node ++ (word number ++ (word age ++ hash))) ++ []) body
+              (All-append IsByte (word node ++ (word number ++ (word age ++ hash))) []
+              (All-append IsByte (word node) (word number ++ (word age ++ hash)) (number_bytes 4 node)
+              (All-append IsByte (word number) (word age ++ hash) (number_bytes 4 number) (All-append IsByte (word age) hash (number_bytes 4 age) fits.1.1.1.1)))
+              (All-nil IsByte)) bytes;
         }
 
         writable : IsWritable i
@@ -125,7 +125,7 @@ module _ (published : List Publication) where
     own_genuine with_data s well genuine =
         let hash : IsHash s.own.hash = subst IsHash (sym well.own.hashed) (laws.eight s.own.body) in
         state_genuine s.id.0 s.number (sent_age (s.moment - s.own.born)) s.own.hash (sent_data with_data s.own.body)
-        (well.numbered.own_id, well.numbered.own, age_fits (s.moment - s.own.born), hash)
+        (well.numbered.own_id, (well.numbered.own, (age_fits (s.moment - s.own.born), hash)))
         (sent_short with_data s.own.body (let short = well.own.short in omega arith)) (sent_bytes with_data s.own.body (own_bytes laws.read s.own well.own))
         (record { data_of = s.own.body; is_published = genuine.own; hash_is = well.own.hashed; body_is = sent_is with_data s.own.body })
 
@@ -139,7 +139,7 @@ module _ (published : List Publication) where
         let node : id.0 < 2 ^ 32 = subst (λ (n : ℕ). n < 2 ^ 32) of_entry.2 entry_id in
         let hash : IsHash stored.hash = subst IsHash (sym intact.hashed) (laws.eight stored.body) in
         state_genuine id.0 stored.number (sent_age (age_at s.moment stored)) stored.hash (sent_data with_data stored.body)
-        (node, number, age_fits (age_at s.moment stored), hash)
+        (node, (number, (age_fits (age_at s.moment stored), hash)))
         (sent_short with_data stored.body intact.short) (sent_bytes with_data stored.body (laws.read.of_bytes intact.listed.0 stored.body intact.listed.1))
         (record { data_of = stored.body; is_published = holds id.0 stored found; hash_is = intact.hashed; body_is = sent_is with_data stored.body })
 

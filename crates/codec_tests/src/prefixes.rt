@@ -82,14 +82,22 @@ fn prefixes_are_read_and_written(rt: HostRuntime) -> Result<(), Fail> {
     Ok(())
 }
 
+/// The first free prefix of 64 bits inside another.
+fn free(outer: &Prefix, start: u128, taken: &[Prefix]) -> Result<Option<Prefix>, Fail> {
+    if outer.len() > 64 {
+        return Err("a prefix of more than 64 bits".into());
+    }
+    Ok(first_free(outer, start, taken, 64))
+}
+
 #[test]
 fn the_first_free_prefix(rt: HostRuntime) -> Result<(), Fail> {
     let outer = Prefix::parse(b"2001:db8::/62")?;
     let first = Prefix::parse(b"2001:db8::/64")?;
     let second = Prefix::parse(b"2001:db8:0:1::/64")?;
     let upper = Prefix::parse(b"2001:db8:0:2::/63")?;
-    assert!(rt; first_free(&outer, 0, &[first, upper], 64) == Some(second));
-    assert!(rt; first_free(&outer, 2, &[first, upper], 64) == Some(second));
-    assert!(rt; first_free(&outer, 2, &[first, second, upper], 64).is_none());
+    assert!(rt; free(&outer, 0, &[first, upper])? == Some(second));
+    assert!(rt; free(&outer, 2, &[first, upper])? == Some(second));
+    assert!(rt; free(&outer, 2, &[first, second, upper])?.is_none());
     Ok(())
 }

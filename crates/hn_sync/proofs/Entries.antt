@@ -156,7 +156,7 @@ age_fits age = omega arith
 
 pub can_say_entry : EntryLaws → (with_data : Bool) (n : Entry) → IsEntry n → CanBeSaid (item_of with_data n)
 can_say_entry laws with_data n fits =
-    can_say_state n.id.0 n.number (sent_age n.age) (hash_of n.body) (sent_data with_data n.body) (fits.id_fits, fits.number_fits, age_fits n.age, laws.eight n.body)
+    can_say_state n.id.0 n.number (sent_age n.age) (hash_of n.body) (sent_data with_data n.body) (fits.id_fits, (fits.number_fits, (age_fits n.age, laws.eight n.body)))
     (sent_short with_data n fits) (sent_bytes laws with_data n fits)
 
 pub can_say : EntryLaws → (s : State) → IsHash s.net → (about : Subject) (i : PlainItem) → IsSaidOf s about i → CanBeSaid i

@@ -76,11 +76,11 @@ can_say_state node number age hash body fits short bytes = record {
     kind_fits = omega arith;
     length_fits = let short = size in omega arith;
     bytes =
-        All-append IsByte ((((word node ++ word number) ++ word age) ++ hash) ++ []) body
-        (All-append IsByte (((word node ++ word number) ++ word age) ++ hash) []
-        (All-append IsByte ((word node ++ word number) ++ word age) hash
-        (All-append IsByte (word node ++ word number) (word age) (All-append IsByte (word node) (word number) (number_bytes 4 node) (number_bytes 4 number)) (number_bytes 4 age))
-        fits.1.1.1.1) (All-nil IsByte)) bytes;
+        All-append IsByte ((word node ++ (word number ++ (word age ++ hash))) ++ []) body
+        (All-append IsByte (word node ++ (word number ++ (word age ++ hash))) []
+        (All-append IsByte (word node) (word number ++ (word age ++ hash)) (number_bytes 4 node)
+        (All-append IsByte (word number) (word age ++ hash) (number_bytes 4 number) (All-append IsByte (word age) hash (number_bytes 4 age) fits.1.1.1.1)))
+        (All-nil IsByte)) bytes;
   };
   writable = record { in_range = fits; text = tt; other_kind = tt; tlvs_after = tt; short = let short = size in omega arith };
 }

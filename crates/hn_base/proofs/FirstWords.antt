@@ -1,8 +1,8 @@
 -- The first words of a stream, and words taken from one place of it.
-use Rattle.std.proofs.Common.{◌≡◌, ◌∙◌, ◌+◌, ℕ, List, [], ◌∷◌, ◌++◌, length, get_or, drop, refl, sym, ap, subst, inl, inr, arith, length-append}
+use Rattle.std.proofs.Common.{◌≡◌, ◌∙◌, ◌+◌, ◌-◌, ◌<◌, ℕ, zero, suc, List, [], ◌∷◌, ◌++◌, length, get_or, drop, refl, sym, ap, subst, inl, inr, arith, length-append}
 use Rattle.std.proofs.lemmas.Bool.{cases_lt}
 use Rattle.std.proofs.lemmas.Grind.{common_steps, same_number_lists}
-use Rattle.std.proofs.lemmas.List.{get_or_append_left}
+use Rattle.std.proofs.lemmas.List.{get_or_append_left, get_or-append_right}
 use Rattle.std.proofs.Math.Seq.{drop-append_seam, get_or-append_seam}
 use Rattle.hn_base.specs.Words.{Begins}
 use Rattle.hn_base.proofs.FrontOfList.{head_is}
@@ -28,6 +28,26 @@ pub begins_back : (xs ys : List ℕ) (stream : ℕ → ℕ) → Begins (xs ++ ys
 begins_back xs ys stream begins i within =
     let h = begins (length xs + i) (omega (arith, length-append xs ys)) in
     grind (arith, common_steps)
+
+-- the words of a stream, and then those of the stream that goes on after them
+pub begins_both : (xs ys : List ℕ) (stream : ℕ → ℕ) → Begins xs stream → Begins ys (λ i. stream (length xs + i)) → Begins (xs ++ ys) stream
+begins_both xs ys stream first rest i within = elim (cases_lt i (length xs)) [
+  | inl below ↦ get_or_append_left xs ys 0 i below ∙ first i below
+  | inr from ↦
+      let long : i < length xs + length ys = subst (λ (n : ℕ). i < n) (length-append xs ys) within in
+      let place : length xs + (i - length xs) ≡ i = omega arith in
+      get_or-append_right xs ys (length xs) i 0 refl from ∙ rest (i - length xs) (omega arith) ∙ ap stream place
+]
+
+-- a stream begins with as many words as one likes
+pub words_first : (n : ℕ) (stream : ℕ → ℕ) → (words : List ℕ) × (length words ≡ n) × Begins words stream
+words_first zero stream = ([], refl, λ i within. absurd (omega (arith, within)))
+words_first (suc n) stream =
+    let (before, many, begins) = words_first n stream in (
+      before ++ stream (length before) ∷ [],
+      omega (arith, many, length-append before (stream (length before) ∷ [])),
+      begins_next before stream begins,
+    )
 
 pub begins_along : (xs ys : List ℕ) (stream : ℕ → ℕ) → xs ≡ ys → Begins xs stream → Begins ys stream
 begins_along xs ys stream same begins = subst (λ (ws : List ℕ). Begins ws stream) same begins

@@ -3,14 +3,22 @@ use Rattle.std.proofs.Common.{◌≡◌, ◌∙◌, ◌↔◌, ℕ, ◌<◌, ◌
 use Rattle.std.proofs.lemmas.Bool.{cases_lt}
 use Rattle.std.proofs.lemmas.List.{take_more}
 use Rattle.std.proofs.lemmas.List.Elements.{Contains-append_cases, Contains-append_left, Contains-append_right}
+use Rattle.hn_base.specs.Exists.{Some! }
 use Rattle.hn_base.specs.Sooner.{IsSooner, IsOfElement}
 use Rattle.hn_base.proofs.AscendingLists.{nothing_in, Contains-head, Contains-one}
+use Rattle.hn_base.proofs.SomeExists.{some_then, some_least}
 
 -- ---- one after another
 
 -- where there is no moment
 pub sooner_none : (P : ℕ → Type 0) (now best : ℕ) → ((m : ℕ) → ¬ P m) → IsSooner P now best best
 sooner_none P now best none = record { at_most = omega arith; least = λ m p after. absurd (none m p); is = inl refl }
+
+-- whichever the moments are, it cannot be that none of them and of `best` is the least
+pub some_sooner : (P : ℕ → Type 0) (now best : ℕ) → Some! (IsSooner P now best)
+some_sooner P now best =
+    let Comes : ℕ → Type 0 = λ n. (n ≡ best) ⊎ (P n × (now < n)) in
+    some_then (some_least Comes best (inl refl)) (λ n least none. none n (record { at_most = least.0; least = λ m p after. least.2 m (inr (p, after)); is = least.1 }))
 
 -- the same moments, said in another way
 pub sooner_same : (P Q : ℕ → Type 0) (now best n : ℕ) → ((m : ℕ) → P m ↔ Q m) → IsSooner P now best n → IsSooner Q now best n

@@ -1,11 +1,11 @@
 -- Rules of which each has some result over one stream of words, where a fact holds before, and how they compose.
-use Rattle.std.proofs.Common.{◌≡◌, ◌∙◌, ◌⊎◌, ℕ, List, [], ◌∷◌, ◌++◌, Option, Some, None, length, Contains, refl, sym, inl, inr}
+use Rattle.std.proofs.Common.{◌≡◌, ◌∙◌, ◌⊎◌, ◌+◌, ℕ, Bool, true, false, List, [], ◌∷◌, ◌++◌, Option, Some, None, length, Contains, refl, sym, inl, inr}
 use Rattle.std.proofs.lemmas.List.{append-nil}
 use Rattle.hn_base.specs.Exists.{Some! }
 use Rattle.hn_base.specs.Rules.{RuleOf, Then, Each, OnSome, KeepsFact, IsTotalBy}
 use Rattle.hn_base.specs.Words.{Begins}
 use Rattle.hn_base.proofs.AscendingLists.{Contains-head, Contains-tail}
-use Rattle.hn_base.proofs.FirstWords.{begins_along, begins_next}
+use Rattle.hn_base.proofs.FirstWords.{begins_along, begins_both, begins_next, words_first}
 
 -- The words that were taken so far are known.
 module _ {S : Type 0} (words : S → List ℕ) where
@@ -32,6 +32,15 @@ module _ {S : Type 0} (words : S → List ℕ) where
         begins_along (words r ++ stream (length (words r)) ∷ []) (words a) stream (sym (takes (stream (length (words r))) r a is))
             (begins_next (words r) stream begins),
       ))
+
+  -- a rule that takes as many words as what is there before says
+  pub total_drawn : (P : S → Type 0) (many : S → ℕ) (rule : List ℕ → RuleOf S)
+      → ((drawn : List ℕ) (r a : S) → rule drawn r a → words a ≡ words r ++ drawn)
+      → ((drawn : List ℕ) (r : S) → P r → length drawn ≡ many r → Some! (rule drawn r)) → IsTotalBy words P (λ r a. (drawn : List ℕ) × rule drawn r a)
+  total_drawn P many rule takes some stream r holds begins none =
+      let (drawn, as_many, next) = words_first (many r) (λ i. stream (length (words r) + i)) in
+      some drawn r holds as_many
+      (λ a is. none a ((drawn, is), begins_along (words r ++ drawn) (words a) stream (sym (takes drawn r a is)) (begins_both (words r) drawn stream begins next)))
 
   -- a rule that another brings with it
   pub total_from : (P : S → Type 0) (rule other : RuleOf S) → ((r a : S) → P r → rule r a → other r a) → IsTotalBy words P rule → IsTotalBy words P other
@@ -87,3 +96,12 @@ module _ {S : Type 0} (words : S → List ℕ) where
       → ((x : A) → IsTotalBy words (λ r. P r × Q x r) (rule x)) → IsTotalBy words P (λ r a. (x : A) × Q x r × rule x r a)
   total_some P Q rule some all stream r holds begins none =
       some r holds (λ x is. all x stream r (holds, is) begins (λ a also. none a ((x, is, also.0), also.1)))
+
+  -- one rule where a test says so, and another where it does not
+  pub total_test : (P : S → Type 0) (test : S → Bool) (first second : RuleOf S) → IsTotalBy words (λ r. P r × (test r ≡ true)) first
+      → IsTotalBy words (λ r. P r × (test r ≡ false)) second → IsTotalBy words P (λ r a. ((test r ≡ true) × first r a) ⊎ ((test r ≡ false) × second r a))
+  total_test P test first second one other stream r holds begins = by_test (test r) refl
+    where
+      by_test : (b : Bool) → test r ≡ b → Some! (λ (a : S). (((test r ≡ true) × first r a) ⊎ ((test r ≡ false) × second r a)) × Begins (words a) stream)
+      by_test true is none = one stream r (holds, is) begins (λ a also. none a (inl (is, also.0), also.1))
+      by_test false is none = other stream r (holds, is) begins (λ a also. none a (inr (is, also.0), also.1))

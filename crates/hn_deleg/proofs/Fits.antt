@@ -3,6 +3,7 @@ use Rattle.std.proofs.Common.{◌≡◌, ◌⊎◌, ℕ, ◌-◌, ◌*◌, ◌/�
 use Rattle.std.proofs.lemmas.Option.{same_Some, none-some}
 use Rattle.std.proofs.lemmas.Bool.{cases_lt}
 use Rattle.std.proofs.lemmas.Bool.Decides.{nat_tests}
+use Rattle.std.proofs.lemmas.List.Elements.{All-weaker}
 use Rattle.hn_base.proofs.AscendingLists.{Contains-cases, nothing_in}
 use Rattle.hn_base.proofs.Elements.{from_filter_map}
 use Rattle.hn_base.specs.Prefix.{PlainPrefix, IsPrefix}
@@ -14,7 +15,8 @@ use Rattle.hn_data.specs.Delegations.{HasDelegation, delegation_of}
 use Rattle.hn_data.specs.declared.said.Delegation.{Delegation}
 use Rattle.hn_data.specs.View.{PlainView}
 use Rattle.hn_deleg.specs.Live.{IsAnnouncedPrefix, IsLongestLeft}
-use Rattle.hn_deleg.specs.Used.{HasLifetimes, whole_seconds}
+use Rattle.hn_deleg.specs.Laws.{UsableArePrefixes}
+use Rattle.hn_deleg.specs.Used.{IsOutermost, HasLifetimes, whole_seconds}
 use Rattle.hn_deleg.specs.declared.delegated.Delegated.{Delegated}
 
 -- each number of the delegation fits its field
@@ -47,6 +49,10 @@ said_in_range bytes d said =
 
 pub candidate_is_prefix : (view : PlainView) (p : PlainPrefix) → IsAnnouncedPrefix view p → IsPrefix p
 candidate_is_prefix view p c = subst IsPrefix c.is_it (said_in_range c.node.body c.delegation c.announced.said).prefix
+
+pub usable_prefixes : UsableArePrefixes
+usable_prefixes view list are =
+    All-weaker (λ (u : Delegated). IsOutermost view u.prefix) (λ (u : Delegated). IsPrefix u.prefix) (λ u is. candidate_is_prefix view u.prefix is.candidate) list are.outermost
 
 -- ---- lifetimes
 

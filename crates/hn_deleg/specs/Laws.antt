@@ -1,5 +1,5 @@
 -- Laws of usable prefixes.
-use Rattle.std.specs.Prelude.{◌≡◌, ◌↔◌, ℕ, ◌<◌, ◌^◌, List, Contains, map}
+use Rattle.std.specs.Prelude.{◌≡◌, ◌↔◌, ℕ, ◌<◌, ◌^◌, List, Contains, map, All}
 use Rattle.std.specs.declared.cmp.Ordering.TheVariants.{Less}
 use Rattle.hn_base.specs.Prefix.{PlainPrefix, IsPrefix, IsWithin, Overlaps, prefix_cmp}
 use Rattle.hn_data.specs.Later.{IsLater}
@@ -22,6 +22,10 @@ UsableIsUnique = (view : PlainView) (a b : List Delegated) → AreUsable view a 
 -- A view has a list of usable prefixes.
 abbrev pub UsableExists : Type 0
 UsableExists = (view : PlainView) → (list : List Delegated) × AreUsable view list
+
+-- The usable prefixes are prefixes.
+abbrev pub UsableArePrefixes : Type 0
+UsableArePrefixes = (view : PlainView) (list : List Delegated) → AreUsable view list → All (λ u. IsPrefix u.prefix) list
 
 -- Prefixes inside two different usable prefixes are in the order of these.
 abbrev pub InsideKeepsTheOrder : Type 0

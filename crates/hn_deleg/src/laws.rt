@@ -1,7 +1,7 @@
 //! Laws of usable prefixes. Each is the contract of a function that does nothing: call it to know its law.
 
 ghost use Rattle.hn_deleg.specs.Candidates.{SameCandidatesSameUsed, PreferredIsAnnounced, PreferredWasSo};
-ghost use Rattle.hn_deleg.specs.Laws.{UsableNeverOverlap, UsableIsUnique, UsableExists, LifetimesFit, InsideKeepsTheOrder, UsableOfLater, AgedAreTheSamePrefixes, UnwantedOfLater, EndsOfLater};
+ghost use Rattle.hn_deleg.specs.Laws.{UsableNeverOverlap, UsableIsUnique, UsableExists, UsableArePrefixes, LifetimesFit, InsideKeepsTheOrder, UsableOfLater, AgedAreTheSamePrefixes, UnwantedOfLater, EndsOfLater};
 
 use hn_data::{items_are_unique, items_or_none};
 use hn_prefix::{overlap_is_nesting, prefixes_are_ranges};
@@ -26,6 +26,11 @@ pub fn usable_exists()
     items_are_unique();
     prefixes_are_ranges();
 }
+
+/// The usable prefixes are prefixes.
+pub fn usable_are_prefixes()
+    ensures { UsableArePrefixes }
+{}
 
 /// The lifetimes of a usable prefix, in whole seconds, fit 32 bits.
 pub fn lifetimes_fit()

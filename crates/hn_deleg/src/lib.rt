@@ -14,7 +14,7 @@ pub use choice::{outside, wanted};
 pub use delegated::{Delegated, whole_seconds};
 pub use ends::next_end;
 pub use laws::{
-    ends_of_later, inside_keeps_the_order, lifetimes_fit, usable_exists, usable_is_unique,
-    usable_never_overlap, usable_of_later, used_by_candidates,
+    ends_of_later, inside_keeps_the_order, lifetimes_fit, usable_are_prefixes, usable_exists,
+    usable_is_unique, usable_never_overlap, usable_of_later, used_by_candidates,
 };
 pub use usable::used;

@@ -3,6 +3,7 @@ mod Moments
 mod NewRouter
 mod OneEvents
 mod OneNew
+mod SomeEvents
 mod Keeping
 mod Planning
 mod Shift

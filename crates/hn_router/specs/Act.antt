@@ -1,8 +1,10 @@
 -- Which rules an event runs, and in which order.
-use Rattle.std.specs.Prelude.{◌≡◌, ℕ, ◌^◌, ◌<◌, ◌==◌, ◌||◌, IsTrue, false, Bool, not, ◌⊎◌, nat_lt, length, List, Option}
+use Rattle.std.specs.Prelude.{◌≡◌, ℕ, ◌^◌, ◌<◌, ◌==◌, ◌||◌, IsTrue, false, Bool, not, ◌⊎◌, nat_lt, length, List, Option, All}
 use Rattle.hn_base.specs.declared.ids.EpId.{EpId}
 use Rattle.hn_base.specs.declared.caps.Caps.{Caps}
 use Rattle.hn_base.specs.Addr.{IsLinkLocal}
+use Rattle.hn_base.specs.Byte.{IsByte}
+use Rattle.hn_base.specs.Exists.{Some! }
 use Rattle.hn_base.specs.Prefix.{PlainPrefix}
 use Rattle.hn_tlv.specs.Grammar.{PlainTlv, IsTlvList, FirstFault}
 use Rattle.hn_router.specs.declared.event.Event.{Event}
@@ -16,6 +18,7 @@ use Rattle.hn_own.specs.Addresses.{OwnAddress, may_address}
 use Rattle.hn_own.specs.Ports.{is_attached}
 use Rattle.hn_own.specs.OwnPrefixes.{may_delegate}
 use Rattle.hn_base.specs.Rules.{Then}
+use Rattle.hn_base.specs.Words.{Begins}
 use Rattle.hn_rules.specs.Rules.{Rule, Ran, begun_at, noted}
 use Rattle.hn_rules.specs.Refresh.{IsRefresh}
 use Rattle.hn_rules.specs.Arrival.{IsArrival}
@@ -54,6 +57,11 @@ plain_event event.Restart = Restart
 abbrev pub IsEventInRange : PlainEvent → Type 0
 IsEventInRange (Attach at) = at.0 < 2 ^ 32
 IsEventInRange _ = Unit {0}
+
+-- a datagram that arrives is of bytes
+abbrev pub IsOfBytes : PlainEvent → Type 0
+IsOfBytes (Arrive from bytes) = All IsByte bytes
+IsOfBytes _ = Unit {0}
 
 -- a datagram from a source that is not link-local, one of bytes that are no list of TLVs, and a list of TLVs
 pub record IsFar (from : Origin) (before after : Running) : Type 0 where
@@ -121,6 +129,11 @@ unfoldable pub Happened : ℕ → PlainEvent → State → State → Done → Ty
 Happened now event s next done =
     (after : Running) × IsEvent event (begun_at now s) after × ((due : ℕ) × IsDueAfter event (begun_at now s) after due
     × (next ≡ record after.state { due = due })) × (done ≡ after.done)
+
+-- over each stream of words an event has a result: it cannot be that there is none
+unfoldable pub HasResults : ℕ → PlainEvent → State → Type 0
+HasResults now event s =
+    (stream : ℕ → ℕ) → Some! (λ (result : State × Done). Happened now event s result.0 result.1 × Begins result.1.words stream)
 
 -- an event ran, and a draw moved by exactly the words that it took
 unfoldable pub HasRun : PlainEvent → Option (ℕ → ℕ) → Option (ℕ → ℕ) → Running → Running → Type 0

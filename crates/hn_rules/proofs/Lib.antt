@@ -23,6 +23,10 @@ mod Leaves
 mod Limits
 mod NodeLists
 mod OneResults
+mod SomeRefreshes
+mod SomeArrivals
+mod SomeWishes
+mod SomeTicks
 mod Parts
 mod PortFacts
 mod Published

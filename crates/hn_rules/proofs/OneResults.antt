@@ -102,7 +102,7 @@ one_published : HasLaws → (number : ℕ) (r a b : Running) → Publishes numbe
 unfolding published_with
 one_published laws number r a b h k = h.gives ∙ ap (published_with number r) (laws.one_own h.own k.own h.data_is k.data_is (h.items_are ∙ sym k.items_are) (h.born_is ∙ sym k.born_is)) ∙ sym k.gives
 
-published_words : (number : ℕ) (r a : Running) → Publishes number r a → a.done.words ≡ r.done.words
+pub published_words : (number : ℕ) (r a : Running) → Publishes number r a → a.done.words ≡ r.done.words
 published_words number r a h = ap (λ (x : Running). x.done.words) h.gives
 
 sole_publishes : HasLaws → (number : ℕ) → IsSole (Publishes number)
@@ -189,10 +189,10 @@ if_words : (b : Bool) (x y r : Running) → x.done.words ≡ r.done.words → y.
 if_words true x y r one other = one
 if_words false x y r one other = other
 
-network_state_words : (hash : List ℕ) (port : Port) (r : Running) → (network_state hash port r).done.words ≡ r.done.words
+pub network_state_words : (hash : List ℕ) (port : Port) (r : Running) → (network_state hash port r).done.words ≡ r.done.words
 network_state_words hash port r = if_words (asks_for_state (bytes_eq hash r.state.net) r.state.moment port) _ _ r refl refl
 
-request_node_words : (id : NodeId) (r : Running) → (request_node id r).done.words ≡ r.done.words
+pub request_node_words : (id : NodeId) (r : Running) → (request_node id r).done.words ≡ r.done.words
 request_node_words id r = if_words (is_reached id r.state.reach) _ _ r (some_answer_words (subject.NodeData id) (state_item true r.state id) r) refl
 
 sole_network_request : IsSole IsNetworkRequest

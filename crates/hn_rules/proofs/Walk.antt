@@ -88,7 +88,7 @@ module _ (tlvs : List PlainTlv) (P : Running → Type 0) (each : EachKeeps tlvs 
   by : (cs : List Change) (r a : Running) → Leads tlvs cs r a → P r → P a
   by = leads_keep tlvs P each
 
-  abbrev AtEach : (Port → Rule) → Type 0
+  abbrev pub AtEach : (Port → Rule) → Type 0
   AtEach rule = (port : Port) (r a : Running) → port_at port.id r.state.ports ≡ Some port → rule port r a → P r → P a
 
   -- the rule of an endpoint
@@ -96,7 +96,7 @@ module _ (tlvs : List PlainTlv) (P : Running → Type 0) (each : EachKeeps tlvs 
   at_port rule one at = keeps_option P at rule (λ port r a found. one port r a (found_own at port r.state.ports found))
 
   -- and of each
-  at_ports : (rule : Port → Rule) → AtEach rule → (ats : List EpId) → Keeps P (Each (λ at. AtPort at rule) ats)
+  pub at_ports : (rule : Port → Rule) → AtEach rule → (ats : List EpId) → Keeps P (Each (λ at. AtPort at rule) ats)
   at_ports rule one = keeps_each P (λ at. AtPort at rule) (at_port rule one)
 
   -- ---- a refresh
@@ -105,7 +105,7 @@ module _ (tlvs : List PlainTlv) (P : Running → Type 0) (each : EachKeeps tlvs 
   publishes number fits r a is =
       by (Publish number is.own ∷ []) r a (record { fits = fits; data_is = is.data_is; items_are = is.items_are; born_is = is.born_is }, is.gives)
 
-  publishing : Keeps P IsPublishing
+  pub publishing : Keeps P IsPublishing
   publishing r a (inl (same, is)) = by [] r a is
   publishing r a (inr (other, is)) = publishes (next_number r.state.number) (omega arith) r a is
 
@@ -285,11 +285,13 @@ module _ (tlvs : List PlainTlv) (P : Running → Type 0) (each : EachKeeps tlvs 
   pub addressing_walk : (list : List OwnAddress) (r : Running) → may_address list r.state.ports ≡ true → P r → P (setting_addresses list r)
   addressing_walk list = each (PutAddresses list)
 
-  beginning : AtEach IsPortRestart
+  pub emptied_walk : (r : Running) → P r → P (emptied r)
+  emptied_walk r = by (ChangeTable Empty ∷ ForgetPairs ∷ PutClaimed false ∷ PutAddresses [] ∷ []) r (emptied r) (tt, (tt, (tt, (refl, refl))))
+
+  pub beginning : AtEach IsPortRestart
   beginning port r a here is = by (ChangePort port (Begin is.word) ∷ TakeWords (is.word ∷ []) ∷ []) r a ((here, tt), (tt, is.gives))
 
   pub restarting_walk : Keeps P IsRestarting
   restarting_walk r a h p =
       keeps_both P (Each (λ at. AtPort at IsPortRestart) (endpoints_of r.state.ports)) (Publishes 1)
-      (at_ports IsPortRestart beginning (endpoints_of r.state.ports)) (publishes 1 (omega arith)) (emptied r) a h
-      (by (ChangeTable Empty ∷ ForgetPairs ∷ PutClaimed false ∷ PutAddresses [] ∷ []) r (emptied r) (tt, (tt, (tt, (refl, refl)))) p)
+      (at_ports IsPortRestart beginning (endpoints_of r.state.ports)) (publishes 1 (omega arith)) (emptied r) a h (emptied_walk r p)

@@ -1,10 +1,10 @@
 -- Laws of the rules, and of what holds of a router.
-use Rattle.std.specs.Prelude.{◌≡◌, ◌↔◌, ℕ, ◌^◌, ◌<◌, ◌≤◌, true, List, [], length, Contains, Some}
+use Rattle.std.specs.Prelude.{◌≡◌, ◌↔◌, ℕ, ◌^◌, ◌<◌, ◌≤◌, true, List, [], length, Contains, Some, All}
 use Rattle.hn_base.specs.declared.ids.EpId.{EpId}
 use Rattle.hn_base.specs.declared.ids.NodeId.{NodeId}
 use Rattle.hn_base.specs.Prefix.{PlainPrefix}
 use Rattle.hn_hash.specs.Network.{network_hash, AreNumbered}
-use Rattle.hn_tlv.specs.Grammar.{PlainTlv}
+use Rattle.hn_tlv.specs.Grammar.{PlainTlv, IsTlv}
 use Rattle.hn_typed.specs.Item.{PlainItem}
 use Rattle.hn_data.specs.Items.{HasItems}
 use Rattle.hn_data.specs.Peers.{HasPeer}
@@ -24,8 +24,10 @@ use Rattle.hn_store.specs.Nodes.{held}
 use Rattle.hn_store.specs.declared.stored.Stored.{Stored}
 use Rattle.hn_rules.specs.declared.done.Done.{Done}
 use Rattle.hn_rules.specs.declared.done.Publication.{Publication}
+use Rattle.hn_rules.specs.declared.running.Origin.{Origin}
 use Rattle.hn_rules.specs.declared.running.Running.{Running}
 use Rattle.hn_rules.specs.declared.state.State.{State}
+use Rattle.hn_rules.specs.Arrival.{IsArrival}
 use Rattle.hn_rules.specs.Assigning.{IsAssigning}
 use Rattle.hn_rules.specs.Changes.{IsOfChanges, EachKeeps}
 use Rattle.hn_rules.specs.Delegating.{delegating}
@@ -38,8 +40,8 @@ use Rattle.hn_rules.specs.Idle.{IsIdleTick, IsLeft}
 use Rattle.hn_rules.specs.Lengths.{AreShort}
 use Rattle.hn_rules.specs.Nodes.{held_entry, own_entry, entry_of, leaves_of, view_of, IsReach}
 use Rattle.hn_rules.specs.Refresh.{IsRefresh}
-use Rattle.hn_rules.specs.Router.{IsWell, IsHashed, IsRouter}
-use Rattle.hn_rules.specs.Rules.{Rule, begun_at}
+use Rattle.hn_rules.specs.Router.{IsWell, IsRangedWell, IsHashed, IsRouter}
+use Rattle.hn_rules.specs.Rules.{Rule, IsTotal, begun_at}
 use Rattle.hn_rules.specs.Seen.{seen_by}
 use Rattle.hn_rules.specs.Still.{at_moment, IsUneventful, IsStill}
 use Rattle.hn_rules.specs.Ticks.{IsTick}
@@ -242,3 +244,21 @@ ChangesKeepShort = (tlvs : List PlainTlv) → EachKeeps tlvs (λ r. IsHashed r.s
 abbrev pub ChangesKeepGenuine : Type 0
 ChangesKeepGenuine =
     (past : List Publication) (tlvs : List PlainTlv) → TlvsSayPublished past tlvs → EachKeeps tlvs (IsGenuineOrCollides past)
+
+-- ---- a rule has a result
+
+-- Each elementary change keeps what holds of a router beside what a refresh makes, the ranges included.
+abbrev pub ChangesKeepRanged : Type 0
+ChangesKeepRanged = (tlvs : List PlainTlv) → EachKeeps tlvs (λ r. IsRangedWell r.state)
+
+-- Over each stream of words a rule has a result: it cannot be that there is none.
+abbrev pub HasAResult : Rule → Type 0
+HasAResult rule = ChangesKeepRanged → IsTotal (λ r. IsRangedWell r.state) rule
+
+-- So it is where the TLVs of a datagram arrive.
+abbrev pub ArrivalHasAResult : Type 0
+ArrivalHasAResult = (from : Origin) (tlvs : List PlainTlv) → All IsTlv tlvs → HasAResult (IsArrival from tlvs)
+
+-- And where a router assigns prefixes.
+abbrev pub AssigningHasAResult : Type 0
+AssigningHasAResult = IsTotal (λ r. IsRouter r.state × IsRangedWell r.state) IsAssigning

@@ -13,6 +13,7 @@ use Rattle.hn_own.specs.Own.{IsOwnData, links_of}
 use Rattle.hn_own.specs.OwnPrefixes.{AreOwnPrefixes}
 use Rattle.hn_own.specs.HeldPairs.{AreHeldPairs}
 use Rattle.hn_own.specs.Ports.{ArePorts, is_attached}
+use Rattle.hn_own.specs.Ranges.{IsRangedOwn}
 use Rattle.hn_rules.specs.Nodes.{IsReach}
 use Rattle.hn_rules.specs.Refresh.{own_items, network_state_hash}
 
@@ -69,6 +70,13 @@ pub record IsWell (s : State) : Type 0 where
   pub posted : IsPosted s
   pub numbered : IsNumbered s
   pub past : IsPast s
+
+-- What each rule keeps, and the numbers of what the router publishes of itself fit their fields; the length of the prefixes
+-- of a private link is from 1 to 64.
+pub record IsRangedWell (s : State) : Type 0 where
+  pub well : IsWell s
+  pub ranged : IsRangedOwn s.ports s.delegated s.held s.addresses
+  pub private : IfThere (λ length. (1 ≤ length) × (length ≤ 64)) s.private
 
 -- What each rule keeps, and the network state hash is one of 8 bytes.
 pub record IsHashed (s : State) : Type 0 where

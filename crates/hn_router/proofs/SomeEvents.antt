@@ -1,0 +1,125 @@
+-- Each event has a result over each stream of words: it cannot be that there is none.
+use Rattle.std.proofs.Common.{◌≡◌, ◌≤◌, ◌^◌, ℕ, false, List, [], ◌∷◌, refl, inl, inr, arith}
+use Rattle.std.specs.Prelude.{All, IsTrue}
+use Rattle.std.proofs.lemmas.List.Elements.{All-nil, All-cons}
+use Rattle.hn_base.specs.Addr.{IsLinkLocal}
+use Rattle.hn_base.specs.Byte.{IsByte}
+use Rattle.hn_base.specs.Exists.{Some! }
+use Rattle.hn_base.specs.Rules.{Then}
+use Rattle.hn_base.specs.Words.{Begins}
+use Rattle.hn_base.specs.declared.ids.EpId.{EpId}
+use Rattle.hn_base.proofs.NextDue.{some_sooner}
+use Rattle.hn_base.proofs.SomeExists.{some_then, some_by}
+use Rattle.hn_base.proofs.SomeResult.{total_plain, total_by, total_both, total_test}
+use Rattle.hn_tlv.specs.Grammar.{PlainTlv, IsTlv, IsTlvList}
+use Rattle.hn_tlv.specs.Laws.{ListOrFirstFault}
+use Rattle.hn_rules.specs.declared.done.Done.{Done}
+use Rattle.hn_rules.specs.declared.done.Note.TheVariants as note
+use Rattle.hn_rules.specs.declared.running.Origin.{Origin}
+use Rattle.hn_rules.specs.declared.running.Running.{Running}
+use Rattle.hn_rules.specs.declared.state.State.{State}
+use Rattle.hn_rules.specs.Delegating.{delegating, withdrawing}
+use Rattle.hn_rules.specs.Due.{IsDueAt}
+use Rattle.hn_rules.specs.Events.{IsAttaching, detaching, setting_caps, setting_private, setting_addresses, IsRestarting}
+use Rattle.hn_rules.specs.Laws.{ChangesKeepRanged, HasAResult, ArrivalHasAResult, RouterStaysLater}
+use Rattle.hn_rules.specs.Refresh.{IsRefresh}
+use Rattle.hn_rules.specs.Router.{IsRangedWell, IsRouter}
+use Rattle.hn_rules.specs.Rules.{Rule, IsTotal, begun_at, noted, words_of}
+use Rattle.hn_rules.specs.Ticks.{IsTick}
+use Rattle.hn_router.specs.Act.{PlainEvent, Arrive, Tick, Attach, Detach, External, Withdraw, SetCaps, Private, Addresses, Restart, is_refused, IsEventInRange, IsOfBytes, IsEventRule, IsEvent, DidNothing, IsDueAfter, Happened, HasResults}
+use Rattle.hn_router.specs.Laws.{IsBeginning, BeginningsKeepRanged, EventHasAResult}
+use Rattle.hn_router.proofs.OneEvents.{private_words}
+
+-- what the laws say of lists of TLVs and of the rules, and that the ranges are kept
+pub record HasLaws : Type 0 where
+  pub list_or_fault : ListOrFirstFault
+  pub later : RouterStaysLater
+  pub refresh : HasAResult IsRefresh
+  pub arrival : ArrivalHasAResult
+  pub tick : HasAResult IsTick
+  pub attaching : (at : EpId) → HasAResult (IsAttaching at)
+  pub restarting : HasAResult IsRestarting
+  pub keeps_ranges : ChangesKeepRanged
+  pub begins_ranged : BeginningsKeepRanged
+
+-- what holds before
+abbrev Ranged : Running → Type 0
+Ranged r = IsRangedWell r.state
+
+-- and the event is not refused
+abbrev IsTaken : PlainEvent → Running → Type 0
+IsTaken event r = Ranged r × (is_refused event r.state ≡ false)
+
+-- ---- a datagram
+
+all_tlvs : (tlvs : List PlainTlv) (bytes : List ℕ) → IsTlvList tlvs bytes → All IsTlv tlvs
+all_tlvs [] bytes list = All-nil IsTlv
+all_tlvs (tlv ∷ tlvs) bytes list = All-cons IsTlv tlv tlvs list.1 (all_tlvs tlvs list.0 list.3)
+
+abbrev HasArrived : Origin → List ℕ → (ℕ → ℕ) → Running → Type 0
+HasArrived from bytes stream r = Some! (λ (a : Running). IsEventRule (Arrive from bytes) r a × Begins (words_of a) stream)
+
+total_arrive : HasLaws → (from : Origin) (bytes : List ℕ) → All IsByte bytes → IsTotal Ranged (IsEventRule (Arrive from bytes))
+total_arrive laws from bytes are stream r is begins = some_by (IsLinkLocal from.from.ip) near far
+  where
+    far : ¬ (IsLinkLocal from.from.ip) → HasArrived from bytes stream r
+    far not none = none (noted note.Far r) (inl (record { far = not; gives = refl }), begins)
+
+    near : IsLinkLocal from.from.ip → HasArrived from bytes stream r
+    near local none = elim (laws.list_or_fault bytes are) [
+      | inl (tlvs, list) ↦ laws.arrival from tlvs (all_tlvs tlvs bytes list) laws.keeps_ranges stream r is begins (λ a arrives.
+          none a (inr (inr (record { near = local; tlvs = tlvs; list = list; arrives = arrives.0 })), arrives.1))
+      | inr (place, why, fault) ↦ none (noted (note.Malformed place why) r) (inr (inl (record { near = local; place = place; why = why; fault = fault; gives = refl })), begins)
+    ]
+
+-- ---- the other events
+
+module _ (laws : HasLaws) where
+  -- the rule of an event, and then a refresh
+  total_then : (event : PlainEvent) → IsEventInRange event → IsTotal (IsTaken event) (IsBeginning event) → IsTotal (IsTaken event) (Then (IsBeginning event) IsRefresh)
+  total_then event fits total =
+      total_both words_of (IsTaken event) Ranged (IsBeginning event) IsRefresh total (λ r a is holds. laws.begins_ranged event r a fits is.1 holds is.0) (laws.refresh laws.keeps_ranges)
+
+  total_taken : (event : PlainEvent) (rule : Rule) → IsTotal Ranged rule → IsTotal (IsTaken event) rule
+  total_taken event rule = total_by words_of (IsTaken event) Ranged rule (λ r is. is.0)
+
+  total_rule : (event : PlainEvent) → IsEventInRange event → IsOfBytes event → IsTotal (IsTaken event) (IsEventRule event)
+  total_rule (Arrive from bytes) fits are = total_taken (Arrive from bytes) (IsEventRule (Arrive from bytes)) (total_arrive laws from bytes are)
+  total_rule Tick fits are = total_taken Tick IsTick (laws.tick laws.keeps_ranges)
+  total_rule (Attach at) fits are = total_then (Attach at) fits (total_taken (Attach at) (IsAttaching at) (laws.attaching at laws.keeps_ranges))
+  total_rule (Detach at) fits are = total_then (Detach at) fits (total_plain words_of (IsTaken (Detach at)) (detaching at) (λ r. refl))
+  total_rule (External prefix valid preferred) fits are =
+      total_then (External prefix valid preferred) fits (total_plain words_of (IsTaken (External prefix valid preferred)) (delegating prefix valid preferred) (λ r. refl))
+  total_rule (Withdraw prefix) fits are = total_then (Withdraw prefix) fits (total_plain words_of (IsTaken (Withdraw prefix)) (withdrawing prefix) (λ r. refl))
+  total_rule (SetCaps caps) fits are = total_then (SetCaps caps) fits (total_plain words_of (IsTaken (SetCaps caps)) (setting_caps caps) (λ r. refl))
+  total_rule (Private length) fits are = total_then (Private length) fits (total_plain words_of (IsTaken (Private length)) (setting_private length) (private_words length))
+  total_rule (Addresses list) fits are = total_then (Addresses list) fits (total_plain words_of (IsTaken (Addresses list)) (setting_addresses list) (λ r. refl))
+  total_rule Restart fits are = total_then Restart fits (total_taken Restart IsRestarting (laws.restarting laws.keeps_ranges))
+
+  total_event : (event : PlainEvent) → IsEventInRange event → IsOfBytes event → IsTotal Ranged (IsEvent event)
+  total_event event fits are =
+      total_test words_of Ranged (λ r. is_refused event r.state) (λ r a. a ≡ noted note.Refused r) (IsEventRule event)
+      (total_plain words_of (λ r. Ranged r × IsTrue (is_refused event r.state)) (noted note.Refused) (λ r. refl)) (total_rule event fits are)
+
+  -- ---- the moment that is kept, and an event that happens
+
+  some_due : (event : PlainEvent) (begun after : Running) → Some! (IsDueAfter event begun after)
+  some_due event begun after =
+      some_by (DidNothing event begun after)
+      (λ idle. some_then (some_sooner (IsDueAt after.state) after.state.moment (2 ^ 49)) (λ due next none. none due (inl (idle, next))))
+      (λ not none. none 0 (inr (not, refl)))
+
+  ranged_begun : (now : ℕ) (s : State) → s.moment ≤ now → IsRouter s → IsRangedWell s → Ranged (begun_at now s)
+  ranged_begun now s rises router is = record {
+    well = (laws.later now s router rises).well;
+    ranged = record { peers = is.ranged.peers; delegated = is.ranged.delegated; assigned = is.ranged.assigned; addresses = is.ranged.addresses };
+    private = is.private;
+  }
+
+pub some_event : (ChangesKeepRanged → BeginningsKeepRanged → HasLaws) → EventHasAResult
+unfolding Happened HasResults
+some_event from changes beginnings now event s router is rises fits are stream =
+    let laws = from changes beginnings in
+    let begun = begun_at now s in
+    some_then (total_event laws event fits are stream begun (ranged_begun laws now s rises router is) (λ i within. absurd (omega (arith, within)))) (λ after ran.
+    some_then (some_due laws event begun after) (λ due is_due none. none (record after.state { due = due }, after.done) ((after, ran.0, (due, is_due, refl), refl), ran.1)))

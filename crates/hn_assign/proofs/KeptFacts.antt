@@ -3,10 +3,17 @@ use Rattle.std.proofs.Common.{◌≡◌, ◌∙◌, ◌⊎◌, ℕ, ◌-◌, Boo
 use Rattle.std.specs.Prelude.{All}
 use Rattle.std.proofs.lemmas.List.Elements.{All-contains, Contains-get_or}
 use Rattle.std.proofs.lemmas.Option.{same_Some, none-some}
+use Rattle.hn_tlv.specs.Grammar.{PlainTlv}
+use Rattle.hn_typed.specs.Item.{PlainItem, Assigned as AssignedItem}
+use Rattle.hn_typed.specs.Table.{InRange}
+use Rattle.hn_data.specs.Items.{IsReading}
+use Rattle.hn_data.specs.Said.{assigned_prefix_of, HasAssigned}
 use Rattle.hn_data.specs.View.{PlainView}
-use Rattle.hn_base.specs.Prefix.{PlainPrefix, IsWithin}
+use Rattle.hn_data.specs.declared.said.AssignedPrefix.{AssignedPrefix}
+use Rattle.hn_base.specs.Prefix.{PlainPrefix, IsPrefix, IsWithin}
 use Rattle.hn_base.specs.declared.ids.EpId.{EpId}
-use Rattle.hn_base.proofs.AscendingLists.{Contains-from_map, Contains-head, Contains-tail}
+use Rattle.hn_base.proofs.AscendingLists.{Contains-cases, Contains-from_map, Contains-head, Contains-tail, nothing_in}
+use Rattle.hn_base.proofs.Elements.{from_filter_map}
 use Rattle.hn_assign.specs.declared.assigned.Advertised.{Advertised}
 use Rattle.hn_assign.specs.declared.assigned.Assigned.{Assigned}
 use Rattle.hn_assign.specs.declared.assigned.Wish.{Wish}
@@ -14,6 +21,7 @@ use Rattle.hn_assign.specs.declared.held.Held.{Held}
 use Rattle.hn_assign.specs.declared.held.Ran.{Ran}
 use Rattle.hn_assign.specs.declared.slot.Slot.{Slot}
 use Rattle.hn_assign.specs.Facts.{IsInDelegated, IsAssignedPast, HasOwnPriority, IsOfLengthAt, IsAloneAt}
+use Rattle.hn_assign.specs.Gathered.{IsAdvertised, AreAdvertised}
 use Rattle.hn_assign.specs.Lines.{IfValid, IsLine, IsPairTurn}
 use Rattle.hn_assign.specs.Marks.{marked_applied}
 use Rattle.hn_base.specs.Ascending.{HasAt}
@@ -43,10 +51,11 @@ given_inside : (at : PlainScene) (prefix : PlainPrefix) (published : Option ℕ)
 given_inside at prefix published (inl (best, is, same, none)) = subst (λ (p : PlainPrefix). IsWithin p at.wish.delegated) (sym same) is.candidate.inside
 given_inside at prefix published (inr (free, two)) = free.inside.within
 
--- a fact that the rules keep: it holds of what they make, and stays when an assignment is published, or no longer, or marked
+-- a fact that the rules keep: it holds of what they make beside assignments of which it holds, and stays when an assignment is published, or no longer, or marked
 pub record IsStable (view : PlainView) (wishes : List Wish) (P : Assigned → Type 0) : Type 0 where
-  pub made : (wish : Wish) (adv : List Advertised) (prefix : PlainPrefix) (published : Option ℕ)
-      → Contains wishes wish → IsGiven (scene_of view wish adv) prefix published → P (new_assigned (scene_of view wish adv) prefix published)
+  pub made : (wish : Wish) (adv : List Advertised) (prefix : PlainPrefix) (published : Option ℕ) (others : List Assigned)
+      → Contains wishes wish → Each P others → AreAdvertised view others adv → IsGiven (scene_of view wish adv) prefix published
+      → P (new_assigned (scene_of view wish adv) prefix published)
   pub unpublished : (c : Assigned) → P c → P (record c { published = None })
   pub published : (c : Assigned) → P c → P (record c { published = Some 2 })
   pub applied : (c : Assigned) → P c → P (record c { applied = true })
@@ -57,7 +66,7 @@ module _ (view : PlainView) (wishes : List Wish) (P : Assigned → Type 0) (stab
   valid_keeps at c valid before after (inl h) holds = subst (λ (s : Slot). IfSome s.assigned P) (sym h.1) holds
   valid_keeps at c valid before after (inr h) holds = subst (λ (s : Slot). IfSome s.assigned P) (sym h.1) tt
 
-  module _ (wish : Wish) (adv : List Advertised) (wished : Contains wishes wish) where
+  module _ (wish : Wish) (adv : List Advertised) (others : List Assigned) (wished : Contains wishes wish) (each : Each P others) (are : AreAdvertised view others adv) where
     abbrev at : PlainScene
     at = scene_of view wish adv
 
@@ -67,16 +76,16 @@ module _ (view : PlainView) (wishes : List Wish) (P : Assigned → Type 0) (stab
     line_keeps None None before after words best (inr (inl postponed)) is holds = subst (λ (o : Option Assigned). IfSome o P) (sym (ap (λ (s : Slot). s.assigned) postponed.gives ∙ is)) tt
     line_keeps None None before after words best (inr (inr (inl waiting))) is holds = subst (λ (o : Option Assigned). IfSome o P) (sym (ap (λ (s : Slot). s.assigned) waiting.gives ∙ is)) tt
     line_keeps None None before after words best (inr (inr (inr made))) is holds =
-        subst (λ (s : Slot). IfSome s.assigned P) (sym made.gives) (stable.made wish adv made.prefix (Some 2) wished (inr (made.free, refl)))
+        subst (λ (s : Slot). IfSome s.assigned P) (sym made.gives) (stable.made wish adv made.prefix (Some 2) others wished each are (inr (made.free, refl)))
     line_keeps (Some b) None before after words best line is holds =
-        subst (λ (s : Slot). IfSome s.assigned P) (sym line.0.gives) (stable.made wish adv b.prefix None wished (inl (b, best, refl, refl)))
+        subst (λ (s : Slot). IfSome s.assigned P) (sym line.0.gives) (stable.made wish adv b.prefix None others wished each are (inl (b, best, refl, refl)))
     line_keeps None (Some c) before after words best (inl kept, _) is holds = valid_keeps at c before before after kept.gives (subst (λ (o : Option Assigned). IfSome o P) (sym is) holds)
     line_keeps None (Some c) before after words best (inr adopted, _) is holds = valid_keeps at c
         (record before { assigned = Some (record c { published = Some 2 }) }) before after adopted.gives (stable.published c holds)
     line_keeps (Some b) (Some c) before after words best (inl ahead, _) is holds = valid_keeps at c before before after ahead.gives (subst (λ (o : Option Assigned). IfSome o P) (sym is) holds)
     line_keeps (Some b) (Some c) before after words best (inr (inl yielded), _) is holds = subst (λ (s : Slot). IfSome s.assigned P) (sym yielded.gives) (stable.unpublished c holds)
     line_keeps (Some b) (Some c) before after words best (inr (inr replaced), _) is holds = subst (λ (s : Slot). IfSome s.assigned P) (sym replaced.gives)
-        (stable.made wish adv b.prefix None wished (inl (b, best, refl, refl)))
+        (stable.made wish adv b.prefix None others wished each are (inl (b, best, refl, refl)))
 
     turn_keeps : (before after : Slot) (words : List ℕ) → IsPairTurn at before words after → IfSome before.assigned P → IfSome after.assigned P
     turn_keeps before after words turn holds = line_keeps turn.best before.assigned before after words turn.is_best turn.line refl holds
@@ -91,7 +100,9 @@ module _ (view : PlainView) (wishes : List Wish) (P : Assigned → Type 0) (stab
 
   step_keeps : (wish : Wish) (words : List ℕ) (before after : Ran) → Contains wishes wish → IsPairStep view wish words before after → Each P before.held.assigned → Each P after.held.assigned
   step_keeps wish words before after wished step each c h =
-      let new : IfSome step.new.assigned P = turn_keeps wish step.advertised wished step.old step.new words step.turn (had_holds wish before.held.assigned step.old.assigned step.had.assigned each) in
+      let had = had_holds wish before.held.assigned step.old.assigned step.had.assigned each in
+      let new : IfSome step.new.assigned P =
+      turn_keeps wish step.advertised before.held.assigned wished each step.are_advertised step.old step.new words step.turn had in
       ⊎_elim
       (λ (here : assigned_pair c ≡ wish_pair wish). some_holds step.new.assigned c
       (is_had assigned_pair (wish_pair wish) after.held.assigned step.new.assigned c step.assigned.ascending step.assigned.here h here) new)
@@ -124,7 +135,7 @@ module _ (view : PlainView) (wishes : List Wish) (P : Assigned → Type 0) (stab
 
 pub inside_stable : (view : PlainView) (wishes : List Wish) → IsStable view wishes IsInDelegated
 inside_stable view wishes = record {
-  made = λ wish adv prefix published wished given. given_inside (scene_of view wish adv) prefix published given;
+  made = λ wish adv prefix published others wished each are given. given_inside (scene_of view wish adv) prefix published given;
   unpublished = λ c h. h;
   published = λ c h. h;
   applied = λ c h. h;
@@ -132,7 +143,7 @@ inside_stable view wishes = record {
 
 pub past_stable : (view : PlainView) (wishes : List Wish) → IsStable view wishes (IsAssignedPast view.now)
 past_stable view wishes = record {
-  made = λ wish adv prefix published wished given. omega arith;
+  made = λ wish adv prefix published others wished each are given. omega arith;
   unpublished = λ c h. h;
   published = λ c h. h;
   applied = λ c h. h;
@@ -140,7 +151,7 @@ past_stable view wishes = record {
 
 pub priority_stable : (view : PlainView) (wishes : List Wish) → IsStable view wishes HasOwnPriority
 priority_stable view wishes = record {
-  made = λ wish adv prefix published wished given p is.
+  made = λ wish adv prefix published others wished each are given p is.
       elim given [ inl (best, is_best, same, none) ↦ absurd (none-some p (sym none ∙ is)) | inr (free, two) ↦ same_Some p 2 (sym is ∙ two) ];
   unpublished = λ c h p is. absurd (cc);
   published = λ c h p is. cc;
@@ -151,11 +162,51 @@ priority_stable view wishes = record {
 pub length_stable : (view : PlainView) (wishes : List Wish) (e : EpId) (length : ℕ)
     → ((wish : Wish) → Contains wishes wish → IsAloneAt view.own e length wish) → IsStable view wishes (IsOfLengthAt e length)
 length_stable view wishes e length alone = record {
-  made = λ wish adv prefix published wished given here.
+  made = λ wish adv prefix published others wished each are given here.
       let of_wish = alone wish wished here in
       elim given [
         | inl (best, is, same, none) ↦ absurd (is.candidate.of_another (of_wish.1 (best.key.node, best.key.endpoint) is.candidate.on_link))
         | inr (free, two) ↦ free.inside.of_len ∙ of_wish.0
+      ];
+  unpublished = λ c h. h;
+  published = λ c h. h;
+  applied = λ c h. h;
+}
+
+-- ---- prefixes are prefixes
+
+-- what is read of TLVs has numbers that fit
+read_fits : (tlvs : List PlainTlv) (items : List PlainItem) (i : PlainItem) → IsReading tlvs items → Contains items i → InRange i
+read_fits [] items i is there = absurd (nothing_in i (subst (λ (xs : List PlainItem). Contains xs i) is there))
+read_fits (tlv ∷ tlvs) items i (inl (first, rest, is, same, read)) there =
+    ⊎_elim (λ (here : first ≡ i). subst InRange here is.in_range) (λ (later : Contains rest i). read_fits tlvs rest i read later)
+    (Contains-cases first rest i (subst (λ (xs : List PlainItem). Contains xs i) same there))
+read_fits (tlv ∷ tlvs) items i (inr (none, read)) there = read_fits tlvs items i read there
+
+item_prefix : (i : PlainItem) (a : AssignedPrefix) → InRange i → assigned_prefix_of i ≡ Some a → IsPrefix a.prefix
+item_prefix (AssignedItem endpoint priority prefix subs) a fits is =
+    let said : AssignedPrefix = record { endpoint = record { 0 = endpoint }; priority = priority; prefix = prefix } in
+    subst (λ (x : AssignedPrefix). IsPrefix x.prefix) (same_Some said a is) fits.1.1
+item_prefix _ a fits is = absurd (none-some a is)
+
+-- so is the prefix of each Assigned-Prefix
+said_prefix : (bytes : List ℕ) (a : AssignedPrefix) → HasAssigned bytes a → IsPrefix a.prefix
+said_prefix bytes a (items, are, there) =
+    let from = from_filter_map assigned_prefix_of items a there in
+    item_prefix from.0 a (read_fits are.tlvs items from.0 are.read from.1) from.2
+
+-- and what is advertised, where the assignments are of prefixes
+advertised_prefix : (view : PlainView) (others : List Assigned) (a : Advertised) → Each (λ c. IsPrefix c.prefix) others → IsAdvertised view others a → IsPrefix a.prefix
+advertised_prefix view others a each (inl (entry, there, of_other)) =
+    said_prefix entry.body (record { endpoint = a.key.endpoint; priority = a.key.priority; prefix = a.prefix }) of_other.says.assigned
+advertised_prefix view others a each (inr (c, there, own)) = subst IsPrefix (sym (ap (λ (x : Advertised). x.prefix) own.is)) (each c there)
+
+pub prefix_stable : (view : PlainView) (wishes : List Wish) → IsStable view wishes (λ c. IsPrefix c.prefix)
+prefix_stable view wishes = record {
+  made = λ wish adv prefix published others wished each are given.
+      elim given [
+        | inl (best, is, same, none) ↦ subst IsPrefix (sym same) (advertised_prefix view others best each ((are best).0 is.candidate.advertised))
+        | inr (free, two) ↦ free.inside.prefix
       ];
   unpublished = λ c h. h;
   published = λ c h. h;

@@ -1,7 +1,8 @@
 pub mod AdvertisedBy
 pub mod AroundPair
 mod AtPair
-pub mod Bests
+pub mod Awaited
+mod Bests
 pub mod Exists
 pub mod FreePrefixes
 pub mod Fronts

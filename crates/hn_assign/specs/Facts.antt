@@ -1,10 +1,11 @@
 -- What holds of a router's wishes and assignments at each moment.
-use Rattle.std.specs.Prelude.{◌≡◌, ℕ, ◌≤◌, List, Some, All, Contains}
+use Rattle.std.specs.Prelude.{◌≡◌, ℕ, ◌+◌, ◌≤◌, List, Some, All, Contains}
 use Rattle.hn_base.specs.declared.ids.EpId.{EpId}
 use Rattle.hn_base.specs.declared.ids.NodeId.{NodeId}
 use Rattle.hn_base.specs.Prefix.{IsWithin}
 use Rattle.hn_assign.specs.declared.assigned.Assigned.{Assigned}
 use Rattle.hn_assign.specs.declared.assigned.Wish.{Wish}
+use Rattle.hn_assign.specs.declared.backoff.Backoff.{Backoff}
 use Rattle.hn_assign.specs.Pair.{IsAscending, wish_pair}
 
 -- a wish is for a delegated prefix of length 64 at most, and for prefixes of a length from 1 to 64
@@ -25,6 +26,10 @@ IsInDelegated c = IsWithin c.prefix c.delegated
 -- an assignment was made at this moment or before
 abbrev pub IsAssignedPast : ℕ → Assigned → Type 0
 IsAssignedPast now c = c.since ≤ now
+
+-- a backoff is due within 4,000 ms of this moment
+abbrev pub IsSoonDue : ℕ → Backoff → Type 0
+IsSoonDue now b = b.due ≤ now + 4000
 
 -- an assignment that is published has priority 2
 abbrev pub HasOwnPriority : Assigned → Type 0

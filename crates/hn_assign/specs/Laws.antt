@@ -16,7 +16,7 @@ use Rattle.hn_base.specs.Exists.{Some! }
 use Rattle.hn_prefix.specs.Free.{IsFirstFree}
 use Rattle.hn_assign.specs.Advertised.{LinkEndpoints}
 use Rattle.hn_assign.specs.Best.{IsBestIfAny, IsValid, HasNoFree}
-use Rattle.hn_assign.specs.Facts.{IsFitting, IsInDelegated, HasOwnPriority, IsAssignedPast, IsOfLengthAt, IsAloneAt}
+use Rattle.hn_assign.specs.Facts.{IsFitting, IsInDelegated, HasOwnPriority, IsAssignedPast, IsSoonDue, IsOfLengthAt, IsAloneAt}
 use Rattle.hn_assign.specs.Fixed.{AreAssignmentsUnchanged, AreDue, AreAtRest, IsDueRun}
 use Rattle.hn_assign.specs.Gathered.{AreAdvertised}
 use Rattle.hn_assign.specs.Marks.{marked_applied}
@@ -37,11 +37,23 @@ SubroutineKeepsInside =
     (view : PlainView) (wishes : List Wish) (held : Held) (ran : Ran) → IsSubroutine view wishes held ran
     → All IsInDelegated held.assigned → All IsInDelegated ran.held.assigned
 
+-- Where each prefix was one, each is afterwards.
+abbrev pub SubroutineKeepsPrefixes : Type 0
+SubroutineKeepsPrefixes =
+    (view : PlainView) (wishes : List Wish) (held : Held) (ran : Ran) → IsSubroutine view wishes held ran
+    → All (λ c. IsPrefix c.prefix) held.assigned → All (λ c. IsPrefix c.prefix) ran.held.assigned
+
 -- Where each assignment was made at the moment of the view or before, each was afterwards.
 abbrev pub SubroutineKeepsPast : Type 0
 SubroutineKeepsPast =
     (view : PlainView) (wishes : List Wish) (held : Held) (ran : Ran) → IsSubroutine view wishes held ran
     → All (IsAssignedPast view.now) held.assigned → All (IsAssignedPast view.now) ran.held.assigned
+
+-- Where each backoff was due within 4,000 ms of the moment of the view, each is afterwards.
+abbrev pub SubroutineKeepsSoon : Type 0
+SubroutineKeepsSoon =
+    (view : PlainView) (wishes : List Wish) (held : Held) (ran : Ran) → IsSubroutine view wishes held ran
+    → All (IsSoonDue view.now) held.backoffs → All (IsSoonDue view.now) ran.held.backoffs
 
 -- Where each published priority was 2, each is afterwards.
 abbrev pub SubroutineKeepsPriority : Type 0

@@ -18,7 +18,7 @@ ghost use Rattle.hn_assign.specs.Laws.{SubroutineHasOneResult, RestIsUnchanged, 
 ghost use Rattle.hn_assign.specs.Laws.{RestChangesNoAssignment, MarksChangeNothing, AdvertisedOfUnchanged, RestStays};
 ghost use Rattle.hn_assign.specs.Laws.{RestStaysUnwanted, AdvertisedOfLater, StillRunStays, SameHaveOneBest};
 ghost use Rattle.hn_assign.specs.Laws.{SameHaveOneFirstFree, SameHaveSameFree, SameHaveSameValid, AdvertisedExists};
-ghost use Rattle.hn_assign.specs.Laws.{SubroutineKeepsLengths, SubroutineHasAResult, SubroutineHasADueRun};
+ghost use Rattle.hn_assign.specs.Laws.{SubroutineKeepsLengths, SubroutineKeepsPrefixes, SubroutineKeepsSoon, SubroutineHasAResult, SubroutineHasADueRun};
 ghost use Rattle.hn_assign.specs.Lines.{IsKeptAlone, IsAdopted, IsKeptAhead, IsYielded, IsReplacedByBest};
 ghost use Rattle.hn_assign.specs.Pair.{IsWished, backoff_pair, pair_cmp};
 ghost use Rattle.hn_assign.specs.Scene.{PlainScene};
@@ -47,12 +47,14 @@ pub fn lines_exclude_each_other()
         → IsYielded at best c before x → ¬ (IsReplacedByBest at best c y) }
 {}
 
-/// What the subroutine keeps of each assignment: its prefix is inside its delegated prefix; it was made at the moment
+/// What the subroutine keeps of each assignment: its prefix is one, inside its delegated prefix; it was made at the moment
 /// of the view or before; where it is published, its priority is 2; where the own node is alone on the Common Link of its
-/// endpoint, its length is the one that is asked for.
+/// endpoint, its length is the one that is asked for. And of each backoff: it is due within 4,000 ms of that moment.
 pub fn subroutine_keeps()
     ensures inside { SubroutineKeepsInside }
+    ensures prefix { SubroutineKeepsPrefixes }
     ensures past { SubroutineKeepsPast }
+    ensures soon { SubroutineKeepsSoon }
     ensures priority { SubroutineKeepsPriority }
     ensures alone { SubroutineKeepsLengths }
 {}

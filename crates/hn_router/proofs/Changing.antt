@@ -1,4 +1,4 @@
--- Each event is a list of elementary changes, but for endpoints that come and go.
+-- Each event is a list of elementary changes, but for endpoints that come and go; what it gives has to fit.
 use Rattle.std.proofs.Common.{◌≡◌, ◌≢◌, ◌<◌, ◌⊎◌, ℕ, true, false, not, List, [], ◌∷◌, Option, inl, inr, refl, sym, subst, arith}
 use Rattle.std.specs.Prelude.{length, nat_lt, ◌==◌, ◌||◌}
 use Rattle.std.proofs.lemmas.Bool.{or_parts, eqb-false, ltb-true, not-false}
@@ -6,7 +6,7 @@ use Rattle.hn_base.specs.declared.caps.Caps.{Caps}
 use Rattle.hn_base.specs.declared.ids.EpId.{EpId}
 use Rattle.hn_base.specs.Prefix.{PlainPrefix}
 use Rattle.hn_tlv.specs.Grammar.{PlainTlv, IsTlvList}
-use Rattle.hn_own.specs.Addresses.{may_address}
+use Rattle.hn_own.specs.Addresses.{OwnAddress, may_address}
 use Rattle.hn_own.specs.OwnPrefixes.{may_delegate}
 use Rattle.hn_own.specs.Ports.{is_attached}
 use Rattle.hn_rules.specs.declared.running.Running.{Running}
@@ -16,12 +16,13 @@ use Rattle.hn_rules.specs.Arrival.{IsArrival}
 use Rattle.hn_rules.specs.Assigning.{IsAssigning}
 use Rattle.hn_rules.specs.Changes.{Change, TakeNote, Leads, EachKeeps, change}
 use Rattle.hn_rules.specs.Delegating.{delegating, withdrawing, ending}
+use Rattle.hn_rules.specs.Given.{IsPrivateLength}
 use Rattle.hn_rules.specs.Events.{IsAttaching, detaching, setting_caps, setting_private, setting_addresses, IsRestarting}
 use Rattle.hn_rules.specs.Laws.{MakesChanges, DelegatingMakesChanges, AddressingMakesChanges}
 use Rattle.hn_rules.specs.Refresh.{IsRefresh}
 use Rattle.hn_rules.specs.Rules.{Rule}
 use Rattle.hn_rules.specs.Tick.{IsExpiry, forgetting, IsPortsTick}
-use Rattle.hn_router.specs.Act.{PlainEvent, Arrive, Tick, Attach, Detach, External, Withdraw, SetCaps, Private, Addresses, Restart, is_refused, IsEventRule, IsEvent}
+use Rattle.hn_router.specs.Act.{PlainEvent, Arrive, Tick, Attach, Detach, External, Withdraw, SetCaps, Private, Addresses, Restart, is_refused, IsEventInRange, IsEventRule, IsEvent}
 use Rattle.hn_rules.specs.Ticks.{IsTick}
 
 -- a rule keeps a fact
@@ -45,7 +46,7 @@ pub record ChangeLaws : Type 0 where
   pub delegating : DelegatingMakesChanges
   pub withdrawing : (prefix : PlainPrefix) → MakesChanges [] (λ b a. a ≡ withdrawing prefix b)
   pub caps : (caps : Caps) → MakesChanges [] (λ b a. a ≡ setting_caps caps b)
-  pub private : (private : Option ℕ) → MakesChanges [] (λ b a. a ≡ setting_private private b)
+  pub private : (private : Option ℕ) → IsPrivateLength private → MakesChanges [] (λ b a. a ≡ setting_private private b)
   pub addressing : AddressingMakesChanges
   pub restarting : MakesChanges [] IsRestarting
 
@@ -58,6 +59,22 @@ IsFrom _ tlvs = tlvs ≡ []
 pub record EndpointsKeep (May : PlainEvent → Type 0) (P : Running → Type 0) : Type 0 where
   pub attaching : (at : EpId) (r a : Running) → May (Attach at) → 0 < at.0 → length r.state.ports < 16 → IsAttaching at r a → P r → P a
   pub detaching : (at : EpId) (r : Running) → P r → P (detaching at r)
+
+-- what delegated prefixes, a private link and own addresses that an event gives keep, where this holds of the event
+pub record GivenKeep (May : PlainEvent → Type 0) (P : Running → Type 0) : Type 0 where
+  pub delegating : (prefix : PlainPrefix) (valid preferred : ℕ) (r : Running) → May (External prefix valid preferred)
+      → may_delegate prefix r.state.delegated ≡ true → P r → P (delegating prefix valid preferred r)
+  pub private : (length : Option ℕ) (r : Running) → May (Private length) → P r → P (setting_private length r)
+  pub addressing : (list : List OwnAddress) (r : Running) → May (Addresses list) → may_address list r.state.ports ≡ true → P r → P (setting_addresses list r)
+
+-- what each change keeps, they keep where they fit
+pub given_keep : ChangeLaws → (P : Running → Type 0) → EachKeeps [] P → GivenKeep IsEventInRange P
+given_keep laws P each = record {
+  delegating = λ prefix valid preferred r fits may.
+      let made = laws.delegating prefix valid preferred r fits may in leads_keep [] P each made.0 r (delegating prefix valid preferred r) made.1;
+  private = λ length r fits. let made = laws.private length fits r (setting_private length r) refl in leads_keep [] P each made.0 r (setting_private length r) made.1;
+  addressing = λ list r fit may. let made = laws.addressing list r fit may in leads_keep [] P each made.0 r (setting_addresses list r) made.1;
+}
 
 module _ (laws : ChangeLaws) (May : PlainEvent → Type 0) (P : Running → Type 0) where
   -- changes that take from these TLVs
@@ -88,37 +105,35 @@ module _ (laws : ChangeLaws) (May : PlainEvent → Type 0) (P : Running → Type
         let not_zero : at.0 ≢ 0 = eqb-false at.0 0 some in
         refreshes between a refreshed (ends.attaching at r between may (omega arith) (ltb-true (length r.state.ports) 16 room) attaches p)
 
-  event_rule_keeps : EndpointsKeep May P → (event : PlainEvent) → May event → ((tlvs : List PlainTlv) → IsFrom event tlvs → EachKeeps tlvs P)
+  event_rule_keeps : EndpointsKeep May P → GivenKeep May P → (event : PlainEvent) → May event → ((tlvs : List PlainTlv) → IsFrom event tlvs → EachKeeps tlvs P)
       → (r a : Running) → is_refused event r.state ≡ false → IsEventRule event r a → P r → P a
-  event_rule_keeps ends (Arrive from bytes) ranged each r a accepted (inl far) p = subst P (sym far.gives) (each [] (inl refl) (TakeNote note.Far) r tt p)
-  event_rule_keeps ends (Arrive from bytes) ranged each r a accepted (inr (inl bad)) p =
+  event_rule_keeps ends given (Arrive from bytes) ranged each r a accepted (inl far) p = subst P (sym far.gives) (each [] (inl refl) (TakeNote note.Far) r tt p)
+  event_rule_keeps ends given (Arrive from bytes) ranged each r a accepted (inr (inl bad)) p =
       subst P (sym bad.gives) (each [] (inl refl) (TakeNote (note.Malformed bad.place bad.why)) r tt p)
-  event_rule_keeps ends (Arrive from bytes) ranged each r a accepted (inr (inr read)) p =
+  event_rule_keeps ends given (Arrive from bytes) ranged each r a accepted (inr (inr read)) p =
       by_changes read.tlvs (each read.tlvs (inr read.list)) (IsArrival from read.tlvs) (laws.arrival from read.tlvs) r a read.arrives p
-  event_rule_keeps ends Tick ranged each r a accepted holds p = tick_keeps (each [] refl) r a holds p
-  event_rule_keeps ends (Attach at) ranged each r a accepted holds p = attach_keeps (each [] refl) ends at r a ranged accepted holds p
-  event_rule_keeps ends (Detach at) ranged each r a accepted (between, is, refreshed) p =
+  event_rule_keeps ends given Tick ranged each r a accepted holds p = tick_keeps (each [] refl) r a holds p
+  event_rule_keeps ends given (Attach at) ranged each r a accepted holds p = attach_keeps (each [] refl) ends at r a ranged accepted holds p
+  event_rule_keeps ends given (Detach at) ranged each r a accepted (between, is, refreshed) p =
       refreshes (each [] refl) between a refreshed (subst P (sym is) (ends.detaching at r p))
-  event_rule_keeps ends (External prefix valid preferred) ranged each r a accepted (between, is, refreshed) p =
+  event_rule_keeps ends given (External prefix valid preferred) ranged each r a accepted (between, is, refreshed) p =
       let may = not-false (may_delegate prefix r.state.delegated) accepted in
-      let made = laws.delegating prefix valid preferred r may in
-      refreshes (each [] refl) between a refreshed (subst P (sym is) (leads_keep [] P (each [] refl) made.0 r (delegating prefix valid preferred r) made.1 p))
-  event_rule_keeps ends (Withdraw prefix) ranged each r a accepted (between, is, refreshed) p =
+      refreshes (each [] refl) between a refreshed (subst P (sym is) (given.delegating prefix valid preferred r ranged may p))
+  event_rule_keeps ends given (Withdraw prefix) ranged each r a accepted (between, is, refreshed) p =
       refreshes (each [] refl) between a refreshed (plain (each [] refl) (λ b a. a ≡ withdrawing prefix b) (laws.withdrawing prefix) r between is p)
-  event_rule_keeps ends (SetCaps caps) ranged each r a accepted (between, is, refreshed) p =
+  event_rule_keeps ends given (SetCaps caps) ranged each r a accepted (between, is, refreshed) p =
       refreshes (each [] refl) between a refreshed (plain (each [] refl) (λ b a. a ≡ setting_caps caps b) (laws.caps caps) r between is p)
-  event_rule_keeps ends (Private private) ranged each r a accepted (between, is, refreshed) p =
-      refreshes (each [] refl) between a refreshed (plain (each [] refl) (λ b a. a ≡ setting_private private b) (laws.private private) r between is p)
-  event_rule_keeps ends (Addresses list) ranged each r a accepted (between, is, refreshed) p =
+  event_rule_keeps ends given (Private private) ranged each r a accepted (between, is, refreshed) p =
+      refreshes (each [] refl) between a refreshed (subst P (sym is) (given.private private r ranged p))
+  event_rule_keeps ends given (Addresses list) ranged each r a accepted (between, is, refreshed) p =
       let may = not-false (may_address list r.state.ports) accepted in
-      let made = laws.addressing list r may in
-      refreshes (each [] refl) between a refreshed (subst P (sym is) (leads_keep [] P (each [] refl) made.0 r (setting_addresses list r) made.1 p))
-  event_rule_keeps ends Restart ranged each r a accepted (between, restarts, refreshed) p =
+      refreshes (each [] refl) between a refreshed (subst P (sym is) (given.addressing list r ranged may p))
+  event_rule_keeps ends given Restart ranged each r a accepted (between, restarts, refreshed) p =
       refreshes (each [] refl) between a refreshed (plain (each [] refl) IsRestarting laws.restarting r between restarts p)
 
   -- what each change keeps, and endpoints that come and go, each event keeps
-  pub event_keeps : EndpointsKeep May P → (event : PlainEvent) → May event → ((tlvs : List PlainTlv) → IsFrom event tlvs → EachKeeps tlvs P) → Keeps P (IsEvent event)
-  event_keeps ends event ranged each r a (inl (refused, is)) p = subst P (sym is) (none event each (TakeNote note.Refused) r tt p)
+  pub event_keeps : EndpointsKeep May P → GivenKeep May P → (event : PlainEvent) → May event → ((tlvs : List PlainTlv) → IsFrom event tlvs → EachKeeps tlvs P) → Keeps P (IsEvent event)
+  event_keeps ends given event ranged each r a (inl (refused, is)) p = subst P (sym is) (none event each (TakeNote note.Refused) r tt p)
     where
       none : (event : PlainEvent) → ((tlvs : List PlainTlv) → IsFrom event tlvs → EachKeeps tlvs P) → EachKeeps [] P
       none (Arrive from bytes) each = each [] (inl refl)
@@ -131,4 +146,4 @@ module _ (laws : ChangeLaws) (May : PlainEvent → Type 0) (P : Running → Type
       none (Private private) each = each [] refl
       none (Addresses list) each = each [] refl
       none Restart each = each [] refl
-  event_keeps ends event ranged each r a (inr (accepted, holds)) p = event_rule_keeps ends event ranged each r a accepted holds p
+  event_keeps ends given event ranged each r a (inr (accepted, holds)) p = event_rule_keeps ends given event ranged each r a accepted holds p

@@ -8,6 +8,7 @@ mod Keeping
 mod Planning
 mod Shift
 mod Stays
+mod Given
 mod InfoLists
 mod OneAdverts
 mod Changing

@@ -4,11 +4,12 @@ use Rattle.std.specs.Prelude.{All, Contains, ◌↔◌, nat_lt, is_none, IsTrue}
 use Rattle.std.specs.List.Sorted.{IsStrictlySortedBy}
 use Rattle.std.proofs.lemmas.List.Elements.{All-nil}
 use Rattle.hn_base.specs.NodeIds.{node_cmp}
+use Rattle.hn_base.specs.Prefix.{IsPrefix}
 use Rattle.hn_base.specs.declared.ids.NodeId.{NodeId}
 use Rattle.hn_assign.specs.declared.assigned.Assigned.{Assigned}
 use Rattle.hn_data.specs.declared.said.PeerLink.{PeerLink}
 use Rattle.hn_assign.specs.declared.held.Held.{Held}
-use Rattle.hn_assign.specs.Facts.{IsInDelegated, HasOwnPriority, IsAssignedPast}
+use Rattle.hn_assign.specs.Facts.{IsInDelegated, HasOwnPriority, IsAssignedPast, IsSoonDue}
 use Rattle.hn_data.specs.View.{IsNetwork}
 use Rattle.hn_data.specs.declared.view.Entry.{Entry}
 use Rattle.hn_graph.specs.Path.{IsReachable}
@@ -25,8 +26,11 @@ use Rattle.hn_own.specs.Own.{links_of}
 use Rattle.hn_own.specs.declared.own.OwnItems.{OwnItems}
 use Rattle.hn_own.specs.Addresses.{OwnAddress, AreAddresses}
 use Rattle.hn_own.specs.Ports.{ArePorts, is_attached}
+use Rattle.hn_own.specs.Ranges.{IsRangedPeer, IsRangedHeld, IsRangedAddress}
+use Rattle.hn_own.specs.declared.own_prefixes.OwnPrefix.{OwnPrefix}
 use Rattle.hn_rules.specs.Nodes.{held_entry, own_entry, nodes_of}
-use Rattle.hn_rules.specs.Router.{IsPortPast, IsNodePast, IsWell, WasReach}
+use Rattle.hn_rules.specs.Given.{IsPrivateLength}
+use Rattle.hn_rules.specs.Router.{IsPortPast, IsNodePast, EndsSoon, IsWell, WasReach}
 use Rattle.hn_router.specs.Laws.{NewIsRouter}
 use Rattle.hn_base.proofs.AscendingLists.{Contains-one}
 
@@ -85,6 +89,17 @@ new_is_one none no_endpoints no_delegated no_address own_is_reachable reachable_
         ports = subst (All (IsPortPast s.moment)) (sym new.ports_are) (All-nil (IsPortPast s.moment));
         nodes = subst (λ (nodes : Nodes). All (IsNodePast s.moment) nodes.entries) (sym new.table_is) (All-nil (IsNodePast s.moment));
         assigned = subst (λ (pairs : Held). All (IsAssignedPast s.moment) pairs.assigned) (sym new.nothing_held) (All-nil (IsAssignedPast s.moment));
+      };
+      ranged = record {
+        peers = subst (λ (ports : List Port). All (λ port. All IsRangedPeer port.peers) ports) (sym new.ports_are) (All-nil (λ (port : Port). All IsRangedPeer port.peers));
+        delegated = subst (All (λ p. IsPrefix p.prefix)) (sym new.no_prefixes) (All-nil (λ (p : OwnPrefix). IsPrefix p.prefix));
+        assigned = subst (λ (pairs : Held). All IsRangedHeld pairs.assigned) (sym new.nothing_held) (All-nil IsRangedHeld);
+        addresses = subst (All IsRangedAddress) (sym new.no_addresses) (All-nil IsRangedAddress);
+      };
+      private = subst IsPrivateLength (sym new.no_private) tt;
+      near = record {
+        backoffs = subst (λ (pairs : Held). All (IsSoonDue s.moment) pairs.backoffs) (sym new.nothing_held) (All-nil (IsSoonDue s.moment));
+        ends = subst (All (EndsSoon s.moment)) (sym new.no_prefixes) (All-nil (EndsSoon s.moment));
       };
     }
 

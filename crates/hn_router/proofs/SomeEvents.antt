@@ -1,5 +1,5 @@
 -- Each event has a result over each stream of words: it cannot be that there is none.
-use Rattle.std.proofs.Common.{◌≡◌, ◌≤◌, ◌^◌, ℕ, false, List, [], ◌∷◌, refl, inl, inr, arith}
+use Rattle.std.proofs.Common.{◌≡◌, ◌^◌, ℕ, false, List, [], ◌∷◌, refl, inl, inr, arith}
 use Rattle.std.specs.Prelude.{All, IsTrue}
 use Rattle.std.proofs.lemmas.List.Elements.{All-nil, All-cons}
 use Rattle.hn_base.specs.Addr.{IsLinkLocal}
@@ -21,34 +21,33 @@ use Rattle.hn_rules.specs.declared.state.State.{State}
 use Rattle.hn_rules.specs.Delegating.{delegating, withdrawing}
 use Rattle.hn_rules.specs.Due.{IsDueAt}
 use Rattle.hn_rules.specs.Events.{IsAttaching, detaching, setting_caps, setting_private, setting_addresses, IsRestarting}
-use Rattle.hn_rules.specs.Laws.{ChangesKeepRanged, HasAResult, ArrivalHasAResult, RouterStaysLater}
+use Rattle.hn_rules.specs.Laws.{HasAResult, ArrivalHasAResult}
 use Rattle.hn_rules.specs.Refresh.{IsRefresh}
-use Rattle.hn_rules.specs.Router.{IsRangedWell, IsRouter}
+use Rattle.hn_rules.specs.Router.{IsWell}
 use Rattle.hn_rules.specs.Rules.{Rule, IsTotal, begun_at, noted, words_of}
 use Rattle.hn_rules.specs.Ticks.{IsTick}
 use Rattle.hn_router.specs.Act.{PlainEvent, Arrive, Tick, Attach, Detach, External, Withdraw, SetCaps, Private, Addresses, Restart, is_refused, IsEventInRange, IsOfBytes, IsEventRule, IsEvent, DidNothing, IsDueAfter, Happened, HasResults}
-use Rattle.hn_router.specs.Laws.{IsBeginning, BeginningsKeepRanged, EventHasAResult}
+use Rattle.hn_router.specs.Laws.{EventHasAResult}
 use Rattle.hn_router.proofs.OneEvents.{private_words}
+use Rattle.hn_router.proofs.Stays.{HasLaws as StayLaws, IsBeginning, keeps_beginning}
 
--- what the laws say of lists of TLVs and of the rules, and that the ranges are kept
+-- what the laws say of lists of TLVs and of the rules
 pub record HasLaws : Type 0 where
   pub list_or_fault : ListOrFirstFault
-  pub later : RouterStaysLater
   pub refresh : HasAResult IsRefresh
   pub arrival : ArrivalHasAResult
   pub tick : HasAResult IsTick
   pub attaching : (at : EpId) → HasAResult (IsAttaching at)
   pub restarting : HasAResult IsRestarting
-  pub keeps_ranges : ChangesKeepRanged
-  pub begins_ranged : BeginningsKeepRanged
+  pub stays : StayLaws
 
 -- what holds before
-abbrev Ranged : Running → Type 0
-Ranged r = IsRangedWell r.state
+abbrev Well : Running → Type 0
+Well r = IsWell r.state
 
 -- and the event is not refused
 abbrev IsTaken : PlainEvent → Running → Type 0
-IsTaken event r = Ranged r × (is_refused event r.state ≡ false)
+IsTaken event r = Well r × (is_refused event r.state ≡ false)
 
 -- ---- a datagram
 
@@ -59,7 +58,7 @@ all_tlvs (tlv ∷ tlvs) bytes list = All-cons IsTlv tlv tlvs list.1 (all_tlvs tl
 abbrev HasArrived : Origin → List ℕ → (ℕ → ℕ) → Running → Type 0
 HasArrived from bytes stream r = Some! (λ (a : Running). IsEventRule (Arrive from bytes) r a × Begins (words_of a) stream)
 
-total_arrive : HasLaws → (from : Origin) (bytes : List ℕ) → All IsByte bytes → IsTotal Ranged (IsEventRule (Arrive from bytes))
+total_arrive : HasLaws → (from : Origin) (bytes : List ℕ) → All IsByte bytes → IsTotal Well (IsEventRule (Arrive from bytes))
 total_arrive laws from bytes are stream r is begins = some_by (IsLinkLocal from.from.ip) near far
   where
     far : ¬ (IsLinkLocal from.from.ip) → HasArrived from bytes stream r
@@ -67,7 +66,7 @@ total_arrive laws from bytes are stream r is begins = some_by (IsLinkLocal from.
 
     near : IsLinkLocal from.from.ip → HasArrived from bytes stream r
     near local none = elim (laws.list_or_fault bytes are) [
-      | inl (tlvs, list) ↦ laws.arrival from tlvs (all_tlvs tlvs bytes list) laws.keeps_ranges stream r is begins (λ a arrives.
+      | inl (tlvs, list) ↦ laws.arrival from tlvs (all_tlvs tlvs bytes list) stream r is begins (λ a arrives.
           none a (inr (inr (record { near = local; tlvs = tlvs; list = list; arrives = arrives.0 })), arrives.1))
       | inr (place, why, fault) ↦ none (noted (note.Malformed place why) r) (inr (inl (record { near = local; place = place; why = why; fault = fault; gives = refl })), begins)
     ]
@@ -78,15 +77,15 @@ module _ (laws : HasLaws) where
   -- the rule of an event, and then a refresh
   total_then : (event : PlainEvent) → IsEventInRange event → IsTotal (IsTaken event) (IsBeginning event) → IsTotal (IsTaken event) (Then (IsBeginning event) IsRefresh)
   total_then event fits total =
-      total_both words_of (IsTaken event) Ranged (IsBeginning event) IsRefresh total (λ r a is holds. laws.begins_ranged event r a fits is.1 holds is.0) (laws.refresh laws.keeps_ranges)
+      total_both words_of (IsTaken event) Well (IsBeginning event) IsRefresh total (λ r a is holds. keeps_beginning laws.stays event r a fits is.1 holds is.0) laws.refresh
 
-  total_taken : (event : PlainEvent) (rule : Rule) → IsTotal Ranged rule → IsTotal (IsTaken event) rule
-  total_taken event rule = total_by words_of (IsTaken event) Ranged rule (λ r is. is.0)
+  total_taken : (event : PlainEvent) (rule : Rule) → IsTotal Well rule → IsTotal (IsTaken event) rule
+  total_taken event rule = total_by words_of (IsTaken event) Well rule (λ r is. is.0)
 
   total_rule : (event : PlainEvent) → IsEventInRange event → IsOfBytes event → IsTotal (IsTaken event) (IsEventRule event)
   total_rule (Arrive from bytes) fits are = total_taken (Arrive from bytes) (IsEventRule (Arrive from bytes)) (total_arrive laws from bytes are)
-  total_rule Tick fits are = total_taken Tick IsTick (laws.tick laws.keeps_ranges)
-  total_rule (Attach at) fits are = total_then (Attach at) fits (total_taken (Attach at) (IsAttaching at) (laws.attaching at laws.keeps_ranges))
+  total_rule Tick fits are = total_taken Tick IsTick laws.tick
+  total_rule (Attach at) fits are = total_then (Attach at) fits (total_taken (Attach at) (IsAttaching at) (laws.attaching at))
   total_rule (Detach at) fits are = total_then (Detach at) fits (total_plain words_of (IsTaken (Detach at)) (detaching at) (λ r. refl))
   total_rule (External prefix valid preferred) fits are =
       total_then (External prefix valid preferred) fits (total_plain words_of (IsTaken (External prefix valid preferred)) (delegating prefix valid preferred) (λ r. refl))
@@ -94,12 +93,12 @@ module _ (laws : HasLaws) where
   total_rule (SetCaps caps) fits are = total_then (SetCaps caps) fits (total_plain words_of (IsTaken (SetCaps caps)) (setting_caps caps) (λ r. refl))
   total_rule (Private length) fits are = total_then (Private length) fits (total_plain words_of (IsTaken (Private length)) (setting_private length) (private_words length))
   total_rule (Addresses list) fits are = total_then (Addresses list) fits (total_plain words_of (IsTaken (Addresses list)) (setting_addresses list) (λ r. refl))
-  total_rule Restart fits are = total_then Restart fits (total_taken Restart IsRestarting (laws.restarting laws.keeps_ranges))
+  total_rule Restart fits are = total_then Restart fits (total_taken Restart IsRestarting laws.restarting)
 
-  total_event : (event : PlainEvent) → IsEventInRange event → IsOfBytes event → IsTotal Ranged (IsEvent event)
+  total_event : (event : PlainEvent) → IsEventInRange event → IsOfBytes event → IsTotal Well (IsEvent event)
   total_event event fits are =
-      total_test words_of Ranged (λ r. is_refused event r.state) (λ r a. a ≡ noted note.Refused r) (IsEventRule event)
-      (total_plain words_of (λ r. Ranged r × IsTrue (is_refused event r.state)) (noted note.Refused) (λ r. refl)) (total_rule event fits are)
+      total_test words_of Well (λ r. is_refused event r.state) (λ r a. a ≡ noted note.Refused r) (IsEventRule event)
+      (total_plain words_of (λ r. Well r × IsTrue (is_refused event r.state)) (noted note.Refused) (λ r. refl)) (total_rule event fits are)
 
   -- ---- the moment that is kept, and an event that happens
 
@@ -109,17 +108,9 @@ module _ (laws : HasLaws) where
       (λ idle. some_then (some_sooner (IsDueAt after.state) after.state.moment (2 ^ 49)) (λ due next none. none due (inl (idle, next))))
       (λ not none. none 0 (inr (not, refl)))
 
-  ranged_begun : (now : ℕ) (s : State) → s.moment ≤ now → IsRouter s → IsRangedWell s → Ranged (begun_at now s)
-  ranged_begun now s rises router is = record {
-    well = (laws.later now s router rises).well;
-    ranged = record { peers = is.ranged.peers; delegated = is.ranged.delegated; assigned = is.ranged.assigned; addresses = is.ranged.addresses };
-    private = is.private;
-  }
-
-pub some_event : (ChangesKeepRanged → BeginningsKeepRanged → HasLaws) → EventHasAResult
+pub some_event : HasLaws → EventHasAResult
 unfolding Happened HasResults
-some_event from changes beginnings now event s router is rises fits are stream =
-    let laws = from changes beginnings in
+some_event laws now event s router rises fits are stream =
     let begun = begun_at now s in
-    some_then (total_event laws event fits are stream begun (ranged_begun laws now s rises router is) (λ i within. absurd (omega (arith, within)))) (λ after ran.
+    some_then (total_event laws event fits are stream begun (laws.stays.later now s router rises).well (λ i within. absurd (omega (arith, within)))) (λ after ran.
     some_then (some_due laws event begun after) (λ due is_due none. none (record after.state { due = due }, after.done) ((after, ran.0, (due, is_due, refl), refl), ran.1)))

@@ -16,6 +16,7 @@ use Rattle.hn_rules.specs.declared.done.Done.{Done}
 use Rattle.hn_rules.specs.declared.done.Note.TheVariants as note
 use Rattle.hn_own.specs.Addresses.{OwnAddress, may_address}
 use Rattle.hn_own.specs.Ports.{is_attached}
+use Rattle.hn_own.specs.Ranges.{IsRangedAddress}
 use Rattle.hn_own.specs.OwnPrefixes.{may_delegate}
 use Rattle.hn_base.specs.Rules.{Then}
 use Rattle.hn_base.specs.Words.{Begins}
@@ -24,6 +25,7 @@ use Rattle.hn_rules.specs.Refresh.{IsRefresh}
 use Rattle.hn_rules.specs.Arrival.{IsArrival}
 use Rattle.hn_rules.specs.Ticks.{IsTick}
 use Rattle.hn_rules.specs.Delegating.{delegating, withdrawing}
+use Rattle.hn_rules.specs.Given.{IsRangedDelegation, IsPrivateLength}
 use Rattle.hn_rules.specs.Done.{nothing}
 use Rattle.hn_rules.specs.Due.{IsNextDue}
 use Rattle.hn_rules.specs.Events.{IsAttaching, detaching, setting_caps, setting_private, setting_addresses, IsRestarting}
@@ -53,9 +55,13 @@ plain_event (event.Private length) = Private length
 plain_event (event.Addresses list) = Addresses list.now
 plain_event event.Restart = Restart
 
--- the number of an endpoint that is attached has 32 bits
+-- What an event gives a router fits: the number of an endpoint that is attached has 32 bits, a delegated prefix is one and
+-- has lifetimes of 32 bits, the prefixes of a private link have from 1 to 64 bits, and own addresses have 128 bits.
 abbrev pub IsEventInRange : PlainEvent → Type 0
 IsEventInRange (Attach at) = at.0 < 2 ^ 32
+IsEventInRange (External prefix valid preferred) = IsRangedDelegation prefix valid preferred
+IsEventInRange (Private length) = IsPrivateLength length
+IsEventInRange (Addresses list) = All IsRangedAddress list
 IsEventInRange _ = Unit {0}
 
 -- a datagram that arrives is of bytes

@@ -1,5 +1,5 @@
 -- Laws of the router.
-use Rattle.std.specs.Prelude.{◌≡◌, ℕ, ◌^◌, ◌<◌, ◌≤◌, ◌⊎◌, ◌==◌, nat_lt, not, if◌then◌else◌, false, IsTrue, List, ◌∷◌, ◌++◌, filter, length, All}
+use Rattle.std.specs.Prelude.{◌≡◌, ℕ, ◌^◌, ◌<◌, ◌≤◌, ◌⊎◌, ◌==◌, nat_lt, not, if◌then◌else◌, IsTrue, List, ◌∷◌, ◌++◌, filter, length, All}
 use Rattle.hn_base.specs.declared.ids.EpId.{EpId}
 use Rattle.hn_base.specs.declared.ids.NodeId.{NodeId}
 use Rattle.hn_base.specs.Addr.{IsLinkLocal}
@@ -13,14 +13,10 @@ use Rattle.hn_rules.specs.declared.running.Running.{Running}
 use Rattle.hn_router.specs.Advertising.{IsAdvertBytes}
 use Rattle.hn_router.specs.New.{IsNew}
 use Rattle.hn_own.specs.Ports.{endpoints_of}
-use Rattle.hn_router.specs.Act.{PlainEvent, Arrive, Tick, Attach, Detach, External, Withdraw, SetCaps, Private, Addresses, Restart, is_refused, IsEventInRange, IsOfBytes, IsEvent, Happened, HasResults}
-use Rattle.hn_rules.specs.Delegating.{delegating, withdrawing}
-use Rattle.hn_rules.specs.Events.{IsAttaching, detaching, setting_caps, setting_private, setting_addresses, IsRestarting}
-use Rattle.hn_rules.specs.Laws.{ChangesKeepRanged}
+use Rattle.hn_router.specs.Act.{PlainEvent, Arrive, Tick, Attach, Detach, is_refused, IsEventInRange, IsOfBytes, IsEvent, Happened, HasResults}
 use Rattle.hn_rules.specs.Genuine.{IsGenuine, TextsCollide, BytesSayPublished}
 use Rattle.hn_rules.specs.Lengths.{most_datagram}
-use Rattle.hn_rules.specs.Router.{IsRangedWell, IsRouter}
-use Rattle.hn_rules.specs.Rules.{Rule}
+use Rattle.hn_rules.specs.Router.{IsRouter}
 use Rattle.hn_rules.specs.Assigning.{IsRunAssigned}
 use Rattle.hn_rules.specs.Rested.{IsRested}
 use Rattle.hn_rules.specs.Still.{at_moment, IsUneventful}
@@ -36,29 +32,10 @@ OneResult =
 
 -- ---- a result
 
--- the rule of an event before its refresh; an arrival and a tick have none
-abbrev pub IsBeginning : PlainEvent → Rule
-IsBeginning (Attach at) before after = IsAttaching at before after
-IsBeginning (Detach at) before after = after ≡ detaching at before
-IsBeginning (External prefix valid preferred) before after = after ≡ delegating prefix valid preferred before
-IsBeginning (Withdraw prefix) before after = after ≡ withdrawing prefix before
-IsBeginning (SetCaps caps) before after = after ≡ setting_caps caps before
-IsBeginning (Private length) before after = after ≡ setting_private length before
-IsBeginning (Addresses list) before after = after ≡ setting_addresses list before
-IsBeginning Restart before after = IsRestarting before after
-IsBeginning _ before after = after ≡ before
-
--- It keeps what holds of a router beside what a refresh makes, the ranges included.
-abbrev pub BeginningsKeepRanged : Type 0
-BeginningsKeepRanged =
-    (event : PlainEvent) (before after : Running) → IsEventInRange event → is_refused event before.state ≡ false → IsBeginning event before after
-    → IsRangedWell before.state → IsRangedWell after.state
-
 -- An event that a router may meet has a result.
 abbrev pub EventHasAResult : Type 0
 EventHasAResult =
-    ChangesKeepRanged → BeginningsKeepRanged → (now : ℕ) (event : PlainEvent) (s : State)
-    → IsRouter s → IsRangedWell s → s.moment ≤ now → IsEventInRange event → IsOfBytes event → HasResults now event s
+    (now : ℕ) (event : PlainEvent) (s : State) → IsRouter s → s.moment ≤ now → IsEventInRange event → IsOfBytes event → HasResults now event s
 
 -- There is at most one new router of an identifier and a limit at a moment.
 abbrev pub NewIsUnique : Type 0

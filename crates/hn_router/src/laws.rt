@@ -30,6 +30,9 @@ pub fn event_has_a_result()
     ensures { EventHasAResult }
 {
     router_stays_later();
+    refresh_makes_a_router();
+    rules_keep_a_router();
+    rules_keep_the_rest();
     rules_have_a_result();
     list_or_first_fault();
 }

@@ -10,6 +10,7 @@ mod events;
 mod laws;
 mod router;
 
+pub use act::event_in_range;
 pub use event::Event;
 pub use laws::{
     endpoints_follow, event_has_a_result, events_keep_the_moment, genuine_stays, limit_stays,

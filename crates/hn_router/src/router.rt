@@ -18,14 +18,14 @@ ghost use Rattle.hn_rules.specs.Router.{IsRouter};
 ghost use Rattle.hn_rules.specs.Idle.{IsIdleTick};
 ghost use Rattle.hn_rules.specs.Router.{IsRouter};
 ghost use Rattle.hn_rules.specs.Still.{at_moment};
-ghost use Rattle.hn_router.specs.Act.{plain_event, Tick, Happened};
+ghost use Rattle.hn_router.specs.Act.{plain_event, Tick, Happened, HasResults};
 ghost use Rattle.hn_router.specs.New.{no_caps, IsNew};
 ghost use Rattle.hn_router.specs.Plan.{changed};
 
-use crate::act::{event_in_range, run};
+use crate::act::{event_in_range, event_of_bytes, run};
 use crate::due::{due_after, is_tick};
 use crate::event::Event;
-use crate::laws::{new_is_router, router_stays};
+use crate::laws::{event_has_a_result, new_is_router, router_stays};
 use hn_assign::{AdvertisedPrefixes, Assigned, Held, Wishes, gather};
 use hn_base::{
     Caps, Endpoints, EpId, Letter, LinkLength, Moment, NoMemory, NodeId, NodeIds, Sequence, Shared,
@@ -188,7 +188,18 @@ impl Router {
         Ok(Router { state })
     }
 
-    /// What an event would do; the router stays as it is.
+    /// It cannot be that an event has no result. Does nothing: call it to know its law.
+    fn has_results(&self, event: &Event<'_>, now: Moment)
+        requires { self.now.moment ≤ now }
+        ensures { HasResults now (plain_event event.now) self.now }
+    {
+        event_has_a_result();
+        event_in_range(event);
+        event_of_bytes(event);
+    }
+
+    /// What an event would do; the router stays as it is. Whether there is memory or not, it cannot be that the event has no
+    /// result over a stream of words; with `one_result` it has exactly one.
     pub fn plan<D: Draw>(
         &self,
         alloc: Global,
@@ -200,7 +211,9 @@ impl Router {
         requires in_range { now ≤ 2 ^ 48 }
         ensures happened { IfOk result (λ plan. Happened now (plain_event event.now) self.now plan.state plan.done) }
         ensures drew { IfOk result (λ plan. Took (D.words draw.old) plan.done.words (D.words draw.new)) }
+        ensures exists { HasResults now (plain_event event.now) self.now }
     {
+        self.has_results(event, now);
         router_stays();
         router_stays_later();
         idle_is_still();
@@ -246,7 +259,8 @@ impl Router {
     }
 
     /// An event happens to the router at a moment. A tick before `due_at` takes no memory, and only the moment changes. After
-    /// a tick that does nothing `due_at` is the moment at which something is next due.
+    /// a tick that does nothing `due_at` is the moment at which something is next due. Whether there is memory or not, it cannot
+    /// be that the event has no result over a stream of words.
     ///
     /// # Errors
     ///
@@ -263,10 +277,12 @@ impl Router {
         ensures happened { IfOk result (λ done. Happened now (plain_event event.now) self.old self.new done) }
         ensures drew { IfOk result (λ done. Took (D.words draw.old) done.words (D.words draw.new)) }
         ensures err { OnErr result (self.new ≡ self.old) }
+        ensures exists { HasResults now (plain_event event.now) self.old }
         ensures undue { plain_event event.now ≡ Tick → now < self.old.due
             → (result ≡ Ok nothing) × (self.new ≡ at_moment now self.old) × (draw.new ≡ draw.old) }
         ensures next { IfOk result (λ done. plain_event event.now ≡ Tick → IsIdleTick now self.old → IsNextDue self.new self.new.due) }
     {
+        self.has_results(event, now);
         rules_have_one_result();
         if is_tick(event) && now < self.due_at() {
             self.pass(now);

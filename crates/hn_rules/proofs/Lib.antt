@@ -41,6 +41,7 @@ mod AtPorts
 mod Calm
 mod PostParts
 mod PrivatePosts
+mod RangedParts
 mod Recent
 mod Refreshes
 mod Refreshing

@@ -37,7 +37,7 @@ use Rattle.hn_rules.specs.Rules.{IsTotal, noted, with_words, words_of}
 use Rattle.hn_rules.proofs.Arriving.{some_answer_words, node_endpoint_words}
 use Rattle.hn_rules.proofs.FreeIds.{free-after}
 use Rattle.hn_rules.proofs.OneResults.{published_words, network_state_words, request_node_words}
-use Rattle.hn_rules.proofs.SomeRefreshes.{RefreshLaws, Ranged, Any, CanPublish, can_publish, some_published, total_at, total_publishes, total_refresh}
+use Rattle.hn_rules.proofs.SomeRefreshes.{RefreshLaws, Well, Any, CanPublish, can_publish, some_published, total_at, total_publishes, total_refresh}
 use Rattle.hn_rules.proofs.Walk.{tlv_walk, refresh_walk}
 
 -- the laws of the crates below on which it rests
@@ -82,24 +82,24 @@ claiming word id r = with_words (word ∷ []) (record r { state = record r.state
 abbrev HasClaimed : ℕ → Running → Running → Type 0
 HasClaimed word r a = (id : ℕ) × IsFirstFreeId r.state word id × Publishes 1 (claiming word id r) a
 
-some_claimed : RefreshLaws → (word : ℕ) (r : Running) → Ranged r → Some! (HasClaimed word r)
+some_claimed : RefreshLaws → (word : ℕ) (r : Running) → Well r → Some! (HasClaimed word r)
 some_claimed laws word r is =
-    some_then (some_free r.state word is.well.table) (λ id first.
+    some_then (some_free r.state word is.table) (λ id first.
     some_then (some_published laws 1 (claiming word id r) (can_publish laws r is)) (λ a publishes none. none a (id, first, publishes)))
 
-total_claim : RefreshLaws → (number : ℕ) → IsTotal Ranged (IsClaim number)
+total_claim : RefreshLaws → (number : ℕ) → IsTotal Well (IsClaim number)
 total_claim laws number =
     let claimed : Running → Running = λ r. record r { state = record r.state { claimed = true } } in
-    let again = total_word words_of Ranged HasClaimed (λ word r a h. published_words 1 (claiming word h.0 r) a h.2) (some_claimed laws) in
-    let first = total_after words_of Ranged CanPublish claimed (Publishes ((number + 1000) % 2 ^ 32)) (λ r. refl) (can_publish laws) (total_publishes laws ((number + 1000) % 2 ^ 32)) in
-    total_from words_of Ranged
+    let again = total_word words_of Well HasClaimed (λ word r a h. published_words 1 (claiming word h.0 r) a h.2) (some_claimed laws) in
+    let first = total_after words_of Well CanPublish claimed (Publishes ((number + 1000) % 2 ^ 32)) (λ r. refl) (can_publish laws) (total_publishes laws ((number + 1000) % 2 ^ 32)) in
+    total_from words_of Well
     (λ r a. ((r.state.claimed ≡ true) × ((word : ℕ) × HasClaimed word r a)) ⊎ ((r.state.claimed ≡ false) × Publishes ((number + 1000) % 2 ^ 32) (claimed r) a))
     (IsClaim number) either
-    (total_test words_of Ranged (λ r. r.state.claimed) (λ r a. (word : ℕ) × HasClaimed word r a) (λ r a. Publishes ((number + 1000) % 2 ^ 32) (claimed r) a)
-    (total_by words_of (λ r. Ranged r × (r.state.claimed ≡ true)) Ranged (λ r a. (word : ℕ) × HasClaimed word r a) (λ r is. is.0) again)
-    (total_by words_of (λ r. Ranged r × (r.state.claimed ≡ false)) Ranged (λ r a. Publishes ((number + 1000) % 2 ^ 32) (claimed r) a) (λ r is. is.0) first))
+    (total_test words_of Well (λ r. r.state.claimed) (λ r a. (word : ℕ) × HasClaimed word r a) (λ r a. Publishes ((number + 1000) % 2 ^ 32) (claimed r) a)
+    (total_by words_of (λ r. Well r × (r.state.claimed ≡ true)) Well (λ r a. (word : ℕ) × HasClaimed word r a) (λ r is. is.0) again)
+    (total_by words_of (λ r. Well r × (r.state.claimed ≡ false)) Well (λ r a. Publishes ((number + 1000) % 2 ^ 32) (claimed r) a) (λ r is. is.0) first))
   where
-    either : (r a : Running) → Ranged r
+    either : (r a : Running) → Well r
         → ((r.state.claimed ≡ true) × ((word : ℕ) × HasClaimed word r a)) ⊎ ((r.state.claimed ≡ false) × Publishes ((number + 1000) % 2 ^ 32) (record r { state = record r.state { claimed = true } }) a)
         → IsClaim number r a
     either r a is (inl (one, (word, has))) = inr (record { one_before = one; word = word; id = has.0; first = has.1; publishes = has.2 })
@@ -107,11 +107,11 @@ total_claim laws number =
 
 -- ---- a Node State
 
-total_taken : RefreshLaws → (carried : PlainState) (how : Took) → IsTotal Ranged (IsTaken carried how)
-total_taken laws carried took.Own = total_after words_of Ranged Ranged (noted (note.Own carried.number)) (IsClaim carried.number) (λ r. refl) (λ r is. is) (total_claim laws carried.number)
+total_taken : RefreshLaws → (carried : PlainState) (how : Took) → IsTotal Well (IsTaken carried how)
+total_taken laws carried took.Own = total_after words_of Well Well (noted (note.Own carried.number)) (IsClaim carried.number) (λ r. refl) (λ r is. is) (total_claim laws carried.number)
 total_taken laws carried took.Ask =
-    total_plain words_of Ranged (λ r. with_answer (subject.NodeRequest (record { 0 = carried.node })) (item.RequestNode carried.node []) (took_noted carried took.Ask r)) (λ r. refl)
-total_taken laws carried how = total_plain words_of Ranged (took_noted carried how) (λ r. refl)
+    total_plain words_of Well (λ r. with_answer (subject.NodeRequest (record { 0 = carried.node })) (item.RequestNode carried.node []) (took_noted carried took.Ask r)) (λ r. refl)
+total_taken laws carried how = total_plain words_of Well (took_noted carried how) (λ r. refl)
 
 abbrev with_table : Nodes → Running → Running
 with_table table r = record r { state = record r.state { table = table } }
@@ -120,14 +120,14 @@ abbrev IsAccepted : PlainState → Nodes × Took → Running → Type 0
 IsAccepted carried x r = Accepts r.state.table (own_leaf r.state) carried r.state.moment x.0 x.1
 
 total_node_state : ArrivalLaws → (tlvs : List PlainTlv) (carried : PlainState) → IsSaid tlvs (item.NodeState carried.node carried.number carried.age carried.hash carried.body)
-    → IsTotal Ranged (IsNodeState carried)
+    → IsTotal Well (IsNodeState carried)
 total_node_state laws tlvs carried said =
-    total_from words_of Ranged (λ r a. (x : Nodes × Took) × IsAccepted carried x r × IsTaken carried x.1 (with_table x.0 r) a) (IsNodeState carried)
+    total_from words_of Well (λ r a. (x : Nodes × Took) × IsAccepted carried x r × IsTaken carried x.1 (with_table x.0 r) a) (IsNodeState carried)
     (λ r a is h. record { table = h.0.0; how = h.0.1; accepts = h.1; taken = h.2 })
-    (total_some words_of Ranged (IsAccepted carried) (λ x r a. IsTaken carried x.1 (with_table x.0 r) a)
+    (total_some words_of Well (IsAccepted carried) (λ x r a. IsTaken carried x.1 (with_table x.0 r) a)
     (λ r is none. let (next, how, accepts) = laws.acceptance r.state.table (own_leaf r.state) carried r.state.moment in none (next, how) accepts)
-    (λ x. total_after words_of (λ r. Ranged r × IsAccepted carried x r) Ranged (with_table x.0) (IsTaken carried x.1) (λ r. refl)
-    (λ r is. laws.refresh.keeps_ranges tlvs (ChangeTable (Accept carried x.1 x.0)) r (said, is.1) is.0) (total_taken laws.refresh carried x.1)))
+    (λ x. total_after words_of (λ r. Well r × IsAccepted carried x r) Well (with_table x.0) (IsTaken carried x.1) (λ r. refl)
+    (λ r is. laws.refresh.keeps tlvs (ChangeTable (Accept carried x.1 x.0)) r (said, is.1) is.0) (total_taken laws.refresh carried x.1)))
 
 -- ---- the items of TLVs
 
@@ -138,36 +138,36 @@ total_network_request =
     (total_each words_of Any (λ id b c. c ≡ with_state id b) s.state.reach (λ id there b a p is. tt)
     (λ id there. total_plain words_of Any (with_state id) (λ r. some_answer_words (subject.NodeState id) (state_item false r.state id) r))))
 
-total_item : ArrivalLaws → (from : Origin) (tlvs : List PlainTlv) (i : PlainItem) → IsSaid tlvs i → IsTotal Ranged (IsItemRule from i)
+total_item : ArrivalLaws → (from : Origin) (tlvs : List PlainTlv) (i : PlainItem) → IsSaid tlvs i → IsTotal Well (IsItemRule from i)
 total_item laws from tlvs (item.NodeEndpoint node endpoint subs) said =
-    total_at Ranged from.endpoint (λ port b a. a ≡ node_endpoint from (record { 0 = node }) (record { 0 = endpoint }) port b)
-    (λ port. total_plain words_of Ranged (node_endpoint from (record { 0 = node }) (record { 0 = endpoint }) port) (node_endpoint_words from (record { 0 = node }) (record { 0 = endpoint }) port))
-total_item laws from tlvs (item.RequestNetwork subs) said = total_by words_of Ranged Any IsNetworkRequest (λ r is. tt) total_network_request
-total_item laws from tlvs (item.RequestNode node subs) said = total_plain words_of Ranged (request_node (record { 0 = node })) (request_node_words (record { 0 = node }))
+    total_at Well from.endpoint (λ port b a. a ≡ node_endpoint from (record { 0 = node }) (record { 0 = endpoint }) port b)
+    (λ port. total_plain words_of Well (node_endpoint from (record { 0 = node }) (record { 0 = endpoint }) port) (node_endpoint_words from (record { 0 = node }) (record { 0 = endpoint }) port))
+total_item laws from tlvs (item.RequestNetwork subs) said = total_by words_of Well Any IsNetworkRequest (λ r is. tt) total_network_request
+total_item laws from tlvs (item.RequestNode node subs) said = total_plain words_of Well (request_node (record { 0 = node })) (request_node_words (record { 0 = node }))
 total_item laws from tlvs (item.NetworkState hash subs) said =
-    total_at Ranged from.endpoint (λ port b a. a ≡ network_state hash port b) (λ port. total_plain words_of Ranged (network_state hash port) (network_state_words hash port))
+    total_at Well from.endpoint (λ port b a. a ≡ network_state hash port b) (λ port. total_plain words_of Well (network_state hash port) (network_state_words hash port))
 total_item laws from tlvs (item.NodeState node number age hash body) said =
     total_node_state laws tlvs (record { node = node; number = number; age = age; hash = hash; body = body }) said
-total_item laws from tlvs _ said = total_plain words_of Ranged (λ r. r) (λ r. refl)
+total_item laws from tlvs _ said = total_plain words_of Well (λ r. r) (λ r. refl)
 
-total_tlv : ArrivalLaws → (from : Origin) (tlv : PlainTlv) → IsTlv tlv → IsTotal Ranged (IsTlvRule from tlv)
+total_tlv : ArrivalLaws → (from : Origin) (tlv : PlainTlv) → IsTlv tlv → IsTotal Well (IsTlvRule from tlv)
 total_tlv laws from tlv valid = elim (laws.item tlv valid) [
-  | inl (i, is) ↦ total_from words_of Ranged (IsItemRule from i) (IsTlvRule from tlv) (λ r a p h. inl (i, is, h)) (total_item laws from (tlv ∷ []) i (tlv, Contains-head tlv [], is))
-  | inr (why, is) ↦ total_from words_of Ranged (λ r a. a ≡ noted (note.Ignored tlv.kind why) r) (IsTlvRule from tlv) (λ r a p h. inr (why, is, h))
-      (total_plain words_of Ranged (noted (note.Ignored tlv.kind why)) (λ r. refl))
+  | inl (i, is) ↦ total_from words_of Well (IsItemRule from i) (IsTlvRule from tlv) (λ r a p h. inl (i, is, h)) (total_item laws from (tlv ∷ []) i (tlv, Contains-head tlv [], is))
+  | inr (why, is) ↦ total_from words_of Well (λ r a. a ≡ noted (note.Ignored tlv.kind why) r) (IsTlvRule from tlv) (λ r a p h. inr (why, is, h))
+      (total_plain words_of Well (noted (note.Ignored tlv.kind why)) (λ r. refl))
 ]
 
 -- ---- a datagram
 
 module _ (laws : ArrivalLaws) (from : Origin) where
-  keeps_tlv : (tlv : PlainTlv) (r a : Running) → Ranged r → IsTlvRule from tlv r a → Ranged a
-  keeps_tlv tlv r a is holds = tlv_walk (tlv ∷ []) Ranged (laws.refresh.keeps_ranges (tlv ∷ [])) from tlv (Contains-head tlv []) r a holds is
+  keeps_tlv : (tlv : PlainTlv) (r a : Running) → Well r → IsTlvRule from tlv r a → Well a
+  keeps_tlv tlv r a is holds = tlv_walk (tlv ∷ []) Well (laws.refresh.keeps (tlv ∷ [])) from tlv (Contains-head tlv []) r a holds is
 
-  total_tlvs : (tlvs : List PlainTlv) → All IsTlv tlvs → IsTotal Ranged (IsTlvs from tlvs)
+  total_tlvs : (tlvs : List PlainTlv) → All IsTlv tlvs → IsTotal Well (IsTlvs from tlvs)
   total_tlvs tlvs valid =
-      total_each words_of Ranged (λ tlv. Then (IsTlvRule from tlv) IsRefresh) tlvs
-      (λ tlv there r a is h. refresh_walk [] Ranged (laws.refresh.keeps_ranges []) h.0 a h.2 (keeps_tlv tlv r h.0 is h.1))
-      (λ tlv there. total_both words_of Ranged Ranged (IsTlvRule from tlv) IsRefresh (total_tlv laws from tlv (All-contains IsTlv tlvs tlv valid there)) (keeps_tlv tlv)
+      total_each words_of Well (λ tlv. Then (IsTlvRule from tlv) IsRefresh) tlvs
+      (λ tlv there r a is h. refresh_walk [] Well (laws.refresh.keeps []) h.0 a h.2 (keeps_tlv tlv r h.0 is h.1))
+      (λ tlv there. total_both words_of Well Well (IsTlvRule from tlv) IsRefresh (total_tlv laws from tlv (All-contains IsTlv tlvs tlv valid there)) (keeps_tlv tlv)
       (total_refresh laws.refresh))
 
   total_answering : IsTotal Any (IsAnswering from)
@@ -177,5 +177,5 @@ module _ (laws : ArrivalLaws) (from : Origin) where
       none (record r { done = record r.done { sends = r.done.sends ++ map (λ bytes. record { endpoint = from.endpoint; to = Some from.from; bytes = bytes }) datagrams } })
       (record { datagrams = datagrams; packed = packed; gives = refl }))
 
-  pub total_arrival : (tlvs : List PlainTlv) → All IsTlv tlvs → IsTotal Ranged (IsArrival from tlvs)
-  total_arrival tlvs valid = total_both words_of Ranged Any (IsTlvs from tlvs) (IsAnswering from) (total_tlvs tlvs valid) (λ r a is h. tt) total_answering
+  pub total_arrival : (tlvs : List PlainTlv) → All IsTlv tlvs → IsTotal Well (IsArrival from tlvs)
+  total_arrival tlvs valid = total_both words_of Well Any (IsTlvs from tlvs) (IsAnswering from) (total_tlvs tlvs valid) (λ r a is h. tt) total_answering

@@ -25,26 +25,26 @@ use Rattle.hn_own.specs.Ports.{endpoints_of, port_at}
 use Rattle.hn_own.specs.Ranges.{AreRanged}
 use Rattle.hn_rules.specs.declared.running.Running.{Running}
 use Rattle.hn_rules.specs.declared.state.State.{State}
-use Rattle.hn_rules.specs.Laws.{ChangesKeepRanged}
+use Rattle.hn_rules.specs.Laws.{ChangesKeepWell}
 use Rattle.hn_rules.specs.Nodes.{nodes_of, IsReach}
 use Rattle.hn_rules.specs.Refresh.{own_items, Publishes, IsPublished, next_number, IsPublishing, IsReaching, IsPortReset, IsReset, IsHashing, IsRefresh, network_state_hash}
-use Rattle.hn_rules.specs.Router.{IsRangedWell}
+use Rattle.hn_rules.specs.Router.{IsWell}
 use Rattle.hn_rules.specs.Rules.{Rule, AtPort, IsTotal, with_port, with_words, words_of}
 use Rattle.hn_rules.proofs.NodeLists.{nodes_are_network}
 use Rattle.hn_rules.proofs.OneResults.{published_words}
 use Rattle.hn_rules.proofs.Walk.{publishing}
 
--- the laws of the crates below on which it rests, and that each change keeps the ranges
+-- the laws of the crates below on which it rests, and what each change keeps
 pub record RefreshLaws : Type 0 where
   pub few : OwnItemsAreFew
   pub ranged : OwnItemsAreRanged
   pub own : OwnDataExists
   pub node : ReachableIsANode
-  pub keeps_ranges : ChangesKeepRanged
+  pub keeps : ChangesKeepWell
 
 -- what holds before
-abbrev pub Ranged : Running → Type 0
-Ranged r = IsRangedWell r.state
+abbrev pub Well : Running → Type 0
+Well r = IsWell r.state
 
 -- nothing need hold before
 abbrev pub Any : Running → Type 0
@@ -79,12 +79,11 @@ total_taking P rule takes =
 abbrev pub CanPublish : Running → Type 0
 CanPublish r = AreFew (own_items r.state) × AreRanged (own_items r.state)
 
-pub can_publish : RefreshLaws → (r : Running) → Ranged r → CanPublish r
+pub can_publish : RefreshLaws → (r : Running) → Well r → CanPublish r
 can_publish laws r is =
-    let s = r.state in
-    let well = is.well in (
-      laws.few s.caps s.ports s.delegated s.held s.addresses well.ports well.peers well.delegated well.pairs well.addresses,
-      laws.ranged s.caps s.ports s.delegated s.held s.addresses well.ports is.ranged,
+    let s = r.state in (
+      laws.few s.caps s.ports s.delegated s.held s.addresses is.ports is.peers is.delegated is.pairs is.addresses,
+      laws.ranged s.caps s.ports s.delegated s.held s.addresses is.ports is.ranged,
     )
 
 pub some_published : RefreshLaws → (number : ℕ) (r : Running) → CanPublish r → Some! (Publishes number r)
@@ -133,10 +132,10 @@ some_reach node s table =
       );
     }))
 
-total_reaching : RefreshLaws → IsTotal Ranged IsReaching
+total_reaching : RefreshLaws → IsTotal Well IsReaching
 total_reaching laws =
-    total_given words_of Ranged IsReaching (λ r a h. ap words_of h.gives)
-    (λ r is. some_then (some_reach laws.node r.state is.well.table) (λ reach is_reach none.
+    total_given words_of Well IsReaching (λ r a h. ap words_of h.gives)
+    (λ r is. some_then (some_reach laws.node r.state is.table) (λ reach is_reach none.
     none (record r { state = record r.state { reach = reach; table = loss_marked reach r.state.moment r.state.table } }) (record { reach = reach; is_reach = is_reach; gives = refl })))
 
 -- ---- the network state hash
@@ -157,9 +156,9 @@ total_hashing =
 
 -- ---- a refresh
 
-pub total_refresh : RefreshLaws → IsTotal Ranged IsRefresh
+pub total_refresh : RefreshLaws → IsTotal Well IsRefresh
 total_refresh laws =
-    total_both words_of Ranged Ranged IsPublishing (Then IsReaching IsHashing)
-    (total_by words_of Ranged CanPublish IsPublishing (can_publish laws) (total_publishing laws))
-    (λ r a is holds. publishing [] Ranged (laws.keeps_ranges []) r a holds is)
-    (total_both words_of Ranged Any IsReaching IsHashing (total_reaching laws) (λ r a is holds. tt) total_hashing)
+    total_both words_of Well Well IsPublishing (Then IsReaching IsHashing)
+    (total_by words_of Well CanPublish IsPublishing (can_publish laws) (total_publishing laws))
+    (λ r a is holds. publishing [] Well (laws.keeps []) r a holds is)
+    (total_both words_of Well Any IsReaching IsHashing (total_reaching laws) (λ r a is holds. tt) total_hashing)

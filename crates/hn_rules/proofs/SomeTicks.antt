@@ -23,9 +23,9 @@ use Rattle.hn_rules.specs.Router.{IsRouter}
 use Rattle.hn_rules.specs.Rules.{Rule, AtPort, IsTotal, with_port, with_words, words_of}
 use Rattle.hn_rules.specs.Tick.{IsExpired, Without, IsPortExpiry, IsExpiry, IsStateSending, IsPortMoving, IsPortSending, IsPortTick, IsPortsTick, forgetting}
 use Rattle.hn_rules.specs.Ticks.{IsLosing, IsSettling, IsTick}
-use Rattle.hn_rules.proofs.SomeRefreshes.{RefreshLaws, Ranged, Any, CanPublish, can_publish, total_attached, total_ports, total_publishes, total_refresh, total_taking}
+use Rattle.hn_rules.proofs.SomeRefreshes.{RefreshLaws, Well, Any, CanPublish, can_publish, total_attached, total_ports, total_publishes, total_refresh, total_taking}
 use Rattle.hn_rules.proofs.SomeWishes.{AssigningLaws, total_assigning}
-use Rattle.hn_rules.proofs.Walk.{at_ports, assigning_walk, beginning, emptied_walk, ending_walk, expiry_walk, forgetting_walk, refresh_walk}
+use Rattle.hn_rules.proofs.Walk.{at_ports, assigning_walk, beginning, emptied_walk, ending_walk, expiry_walk}
 
 -- ---- silent peers go
 
@@ -83,36 +83,36 @@ pub record TickLaws : Type 0 where
   pub makes_router : RefreshMakesRouter
   pub forgets : KeepsRouter (λ b a. a ≡ forgetting b)
 
--- a router, and the ranges
+-- a router
 abbrev Whole : Running → Type 0
-Whole r = IsRouter r.state × Ranged r
+Whole r = IsRouter r.state
 
 module _ (laws : TickLaws) where
-  total_losing : IsTotal Ranged IsLosing
+  total_losing : IsTotal Well IsLosing
   total_losing =
-      let each = laws.refresh.keeps_ranges [] in
-      total_both words_of Ranged Ranged IsExpiry (Then (λ b a. a ≡ ending b) IsRefresh)
-      (total_by words_of Ranged Any IsExpiry (λ r is. tt) total_expiry) (λ r a is h. expiry_walk [] Ranged each r a h is)
-      (total_both words_of Ranged Ranged (λ b a. a ≡ ending b) IsRefresh (total_plain words_of Ranged ending (λ r. refl)) (λ r a is h. ending_walk [] Ranged each r a h is)
+      let each = laws.refresh.keeps [] in
+      total_both words_of Well Well IsExpiry (Then (λ b a. a ≡ ending b) IsRefresh)
+      (total_by words_of Well Any IsExpiry (λ r is. tt) total_expiry) (λ r a is h. expiry_walk [] Well each r a h is)
+      (total_both words_of Well Well (λ b a. a ≡ ending b) IsRefresh (total_plain words_of Well ending (λ r. refl)) (λ r a is h. ending_walk [] Well each r a h is)
       (total_refresh laws.refresh))
 
   -- it ends in a refresh
-  losing_makes : (r a : Running) → Ranged r → IsLosing r a → Whole a
+  losing_makes : (r a : Running) → Well r → IsLosing r a → Whole a
   losing_makes r a is (expired, expiry, (ended, ends, refresh)) =
-      let each = laws.refresh.keeps_ranges [] in
-      let before : Ranged ended = ending_walk [] Ranged each expired ended ends (expiry_walk [] Ranged each r expired expiry is) in
-      (laws.makes_router ended a refresh before.well, refresh_walk [] Ranged each ended a refresh before)
+      let each = laws.refresh.keeps [] in
+      let before : Well ended = ending_walk [] Well each expired ended ends (expiry_walk [] Well each r expired expiry is) in
+      laws.makes_router ended a refresh before
 
   total_settling : IsTotal Whole IsSettling
   total_settling =
-      total_both words_of Whole Ranged IsAssigning IsRefresh (total_assigning laws.assigning) (λ r a is h. assigning_walk [] Ranged (laws.refresh.keeps_ranges []) r a h is.1)
+      total_both words_of Whole Well IsAssigning IsRefresh (total_assigning laws.assigning) (λ r a is h. assigning_walk [] Well (laws.refresh.keeps []) r a h is.well)
       (total_refresh laws.refresh)
 
-  pub total_tick : IsTotal Ranged IsTick
+  pub total_tick : IsTotal Well IsTick
   total_tick =
-      total_both words_of Ranged Whole IsLosing (Then (λ b a. a ≡ forgetting b) (Then IsSettling IsPortsTick)) total_losing losing_makes
+      total_both words_of Well Whole IsLosing (Then (λ b a. a ≡ forgetting b) (Then IsSettling IsPortsTick)) total_losing losing_makes
       (total_both words_of Whole Whole (λ b a. a ≡ forgetting b) (Then IsSettling IsPortsTick) (total_plain words_of Whole forgetting (λ r. refl))
-      (λ r a is h. (laws.forgets r a h is.0, forgetting_walk [] Ranged (laws.refresh.keeps_ranges []) r a h is.1))
+      (λ r a is h. laws.forgets r a h is)
       (total_both words_of Whole Any IsSettling IsPortsTick total_settling (λ r a is h. tt) (total_ports_tick laws.packing)))
 
 -- ---- the other events
@@ -127,13 +127,13 @@ total_port_restart port =
     let rule : ℕ → Running → Running = λ word r. with_words (word ∷ []) (with_port (attached_port port.id r.state.moment word) r) in
     total_from words_of Any (λ r a. (word : ℕ) × (a ≡ rule word r)) (IsPortRestart port) (λ r a p h. record { word = h.0; gives = h.1 }) (total_taking Any rule (λ word r. refl))
 
-pub total_restarting : RefreshLaws → IsTotal Ranged IsRestarting
+pub total_restarting : RefreshLaws → IsTotal Well IsRestarting
 total_restarting laws =
-    let each = laws.keeps_ranges [] in
+    let each = laws.keeps [] in
     let Restart : Running → Rule = λ s. Each (λ at. AtPort at IsPortRestart) (endpoints_of s.state.ports) in
-    total_start words_of Ranged (λ s r a. Then (Restart s) (Publishes 1) (emptied r) a)
-    (λ s p. total_after words_of Ranged Ranged emptied (Then (Restart s) (Publishes 1)) (λ r. refl) (λ r is. emptied_walk [] Ranged each r is)
-    (total_both words_of Ranged CanPublish (Restart s) (Publishes 1)
-    (total_by words_of Ranged Any (Restart s) (λ r is. tt) (total_ports IsPortRestart total_port_restart (endpoints_of s.state.ports)))
-    (λ r a is h. can_publish laws a (at_ports [] Ranged each IsPortRestart (beginning [] Ranged each) (endpoints_of s.state.ports) r a h is))
+    total_start words_of Well (λ s r a. Then (Restart s) (Publishes 1) (emptied r) a)
+    (λ s p. total_after words_of Well Well emptied (Then (Restart s) (Publishes 1)) (λ r. refl) (λ r is. emptied_walk [] Well each r is)
+    (total_both words_of Well CanPublish (Restart s) (Publishes 1)
+    (total_by words_of Well Any (Restart s) (λ r is. tt) (total_ports IsPortRestart total_port_restart (endpoints_of s.state.ports)))
+    (λ r a is h. can_publish laws a (at_ports [] Well each IsPortRestart (beginning [] Well each) (endpoints_of s.state.ports) r a h is))
     (total_publishes laws 1)))

@@ -31,9 +31,10 @@ use Rattle.hn_assign.specs.Pair.{pair_cmp, wish_pair}
 use Rattle.hn_own.specs.Posts.{posts_of, length_at}
 use Rattle.hn_rules.specs.declared.state.State.{State}
 use Rattle.hn_rules.specs.Assigning.{IsWishFor, AreAsked, IsRunAssigned}
+use Rattle.hn_rules.specs.Given.{IsPrivateLength}
 use Rattle.hn_rules.specs.Laws.{ViewIsNetwork, AssigningHasAResult}
 use Rattle.hn_rules.specs.Nodes.{view_of}
-use Rattle.hn_rules.specs.Router.{IfThere, IsRangedWell, IsRouter}
+use Rattle.hn_rules.specs.Router.{IsRouter}
 use Rattle.hn_rules.specs.Rules.{with_words}
 use Rattle.hn_rules.specs.Seen.{seen_by}
 use Rattle.hn_rules.proofs.WishLists.{one_wish}
@@ -153,12 +154,12 @@ module _ (links : CommonLinkExists) (one_link : CommonLinkIsUnique) (s : State) 
 
 -- ---- what is asked fits
 
-fits_length : (private : Option ℕ) (e : EpId) → IfThere (λ length. (1 ≤ length) × (length ≤ 64)) private → (1 ≤ length_at private e) × (length_at private e ≤ 64)
+fits_length : (private : Option ℕ) (e : EpId) → IsPrivateLength private → (1 ≤ length_at private e) × (length_at private e ≤ 64)
 fits_length None e is = (omega arith, omega arith)
 fits_length (Some length) e is = cond_both (e.0 == 0) length 64 (λ (n : ℕ). (1 ≤ n) × (n ≤ 64)) (λ _. is) (λ _. (omega arith, omega arith))
 
 module _ (s : State) (usable : List Delegated) where
-  asked_fits : AreUsable (seen_by s) usable → IfThere (λ length. (1 ≤ length) × (length ≤ 64)) s.private → (wish : Wish) → IsWishFor s usable wish → IsFitting wish
+  asked_fits : AreUsable (seen_by s) usable → IsPrivateLength s.private → (wish : Wish) → IsWishFor s usable wish → IsFitting wish
   asked_fits are private wish is =
       let u = is.asked.delegated in
       let outermost = All-contains (λ (u : Delegated). IsOutermost (seen_by s) u.prefix) usable u are.outermost (contains_at usable is.place u is.asked.at) in
@@ -183,20 +184,20 @@ pub record AssigningLaws : Type 0 where
   pub subroutine : SubroutineHasAResult
   pub network : ViewIsNetwork
 
-some_run : AssigningLaws → (s : State) (stream : ℕ → ℕ) → IsRouter s → IsRangedWell s → Some! (λ (ran : Assigned). IsRunAssigned s ran × Begins ran.words stream)
-some_run laws s stream router is =
+some_run : AssigningLaws → (s : State) (stream : ℕ → ℕ) → IsRouter s → Some! (λ (ran : Assigned). IsRunAssigned s ran × Begins ran.words stream)
+some_run laws s stream router =
     let network = laws.network s router in
     let (usable, are) = laws.usable (seen_by s) in
     some_then (some_asked laws.links laws.one_link s network usable laws.pairs_total laws.pairs_exact are) (λ wishes asked.
-    let fitting = all_of IsFitting wishes (λ wish there. asked_fits s usable are is.private wish ((asked.exact wish).0 there)) in
+    let fitting = all_of IsFitting wishes (λ wish there. asked_fits s usable are router.well.private wish ((asked.exact wish).0 there)) in
     let prefixes = all_of (λ (wish : Wish). IsPrefix wish.delegated) wishes
     (λ wish there. asked_is_prefix s usable (laws.prefixes (seen_by s) usable are) wish ((asked.exact wish).0 there)) in
-    some_then (laws.subroutine (seen_by s) wishes s.held stream is.well.pairs.assigned is.well.pairs.backoffs fitting prefixes) (λ ran runs none.
+    some_then (laws.subroutine (seen_by s) wishes s.held stream router.well.pairs.assigned router.well.pairs.backoffs fitting prefixes) (λ ran runs none.
     none ran (record { usable = usable; are_usable = are; wishes = wishes; are_asked = asked; is_subroutine = runs.0 }, runs.1)))
 
 pub total_assigning : AssigningLaws → AssigningHasAResult
 total_assigning laws stream r is begins none =
-    some_run laws r.state (λ i. stream (length r.done.words + i)) is.0 is.1 (λ ran runs.
+    some_run laws r.state (λ i. stream (length r.done.words + i)) is (λ ran runs.
     none (with_words ran.words (record r { state = record r.state { held = ran.held } })) (
       record { ran = ran; is_assigned = runs.0; gives = refl },
       begins_both r.done.words ran.words stream begins runs.1,

@@ -19,6 +19,7 @@ use Rattle.hn_own.specs.HeldPairs.{published_in}
 use Rattle.hn_own.specs.Own.{items_of}
 use Rattle.hn_own.specs.OwnPrefixes.{may_delegate}
 use Rattle.hn_own.specs.Ports.{ArePorts, endpoints_of}
+use Rattle.hn_own.specs.Ranges.{IsRangedAddress}
 use Rattle.hn_own.specs.Posts.{private_post}
 use Rattle.hn_store.specs.Nodes.{held}
 use Rattle.hn_store.specs.declared.stored.Stored.{Stored}
@@ -35,12 +36,13 @@ use Rattle.hn_rules.specs.Done.{nothing}
 use Rattle.hn_rules.specs.Due.{IsDueAt, IsNextDue}
 use Rattle.hn_rules.specs.Events.{IsAttaching, setting_addresses}
 use Rattle.hn_rules.specs.Genuine.{TlvsSayPublished, IsGenuineOrCollides}
+use Rattle.hn_rules.specs.Given.{IsRangedDelegation}
 use Rattle.hn_rules.specs.Grows.{GrowsFrom}
 use Rattle.hn_rules.specs.Idle.{IsIdleTick, IsLeft}
 use Rattle.hn_rules.specs.Lengths.{AreShort}
 use Rattle.hn_rules.specs.Nodes.{held_entry, own_entry, entry_of, leaves_of, view_of, IsReach}
 use Rattle.hn_rules.specs.Refresh.{IsRefresh}
-use Rattle.hn_rules.specs.Router.{IsWell, IsRangedWell, IsHashed, IsRouter}
+use Rattle.hn_rules.specs.Router.{IsWell, IsHashed, IsRouter}
 use Rattle.hn_rules.specs.Rules.{Rule, IsTotal, begun_at}
 use Rattle.hn_rules.specs.Seen.{seen_by}
 use Rattle.hn_rules.specs.Still.{at_moment, IsUneventful, IsStill}
@@ -180,10 +182,11 @@ RefreshRests = (before after : Running) → ArePorts before.state.ports → IsRe
 abbrev pub AssigningKeeps : Type 0
 AssigningKeeps = (before after : Running) → IsAssigning before after → IsRouter before.state → IsWell after.state
 
--- A delegated prefix may be added where it is there already, or there are fewer than 8.
+-- A delegated prefix that fits may be added where it is there already, or there are fewer than 8.
 abbrev pub DelegatingKeeps : Type 0
 DelegatingKeeps =
-    (prefix : PlainPrefix) (valid preferred : ℕ) (before : Running) → may_delegate prefix before.state.delegated ≡ true
+    (prefix : PlainPrefix) (valid preferred : ℕ) (before : Running) → IsRangedDelegation prefix valid preferred
+    → may_delegate prefix before.state.delegated ≡ true
     → IsWell before.state → IsWell (delegating prefix valid preferred before).state
 
 -- An endpoint of a number of 4 bytes other than 0 may be attached where there are fewer than 16.
@@ -192,10 +195,10 @@ AttachingKeeps =
     (at : EpId) (before after : Running) → 0 < at.0 → at.0 < 2 ^ 32 → length before.state.ports < 16 → IsAttaching at before after
     → IsWell before.state → IsWell after.state
 
--- A list may be set as the own addresses where it may be such.
+-- A list of addresses that fit may be set as the own addresses where it may be such.
 abbrev pub AddressingKeeps : Type 0
 AddressingKeeps =
-    (list : List OwnAddress) (before : Running) → may_address list before.state.ports ≡ true
+    (list : List OwnAddress) (before : Running) → All IsRangedAddress list → may_address list before.state.ports ≡ true
     → IsWell before.state → IsWell (setting_addresses list before).state
 
 -- ---- elementary changes
@@ -204,16 +207,17 @@ AddressingKeeps =
 abbrev pub MakesChanges : List PlainTlv → Rule → Type 0
 MakesChanges tlvs rule = (before after : Running) → rule before after → IsOfChanges tlvs before after
 
--- A delegated prefix is added so, where it may be.
+-- A delegated prefix that fits is added so, where it may be.
 abbrev pub DelegatingMakesChanges : Type 0
 DelegatingMakesChanges =
-    (prefix : PlainPrefix) (valid preferred : ℕ) (before : Running) → may_delegate prefix before.state.delegated ≡ true
+    (prefix : PlainPrefix) (valid preferred : ℕ) (before : Running) → IsRangedDelegation prefix valid preferred
+    → may_delegate prefix before.state.delegated ≡ true
     → IsOfChanges [] before (delegating prefix valid preferred before)
 
--- A list is set as the own addresses so, where it may be such.
+-- A list of addresses that fit is set as the own addresses so, where it may be such.
 abbrev pub AddressingMakesChanges : Type 0
 AddressingMakesChanges =
-    (list : List OwnAddress) (before : Running) → may_address list before.state.ports ≡ true
+    (list : List OwnAddress) (before : Running) → All IsRangedAddress list → may_address list before.state.ports ≡ true
     → IsOfChanges [] before (setting_addresses list before)
 
 -- Each elementary change keeps what holds of a router beside what a refresh makes.
@@ -247,13 +251,9 @@ ChangesKeepGenuine =
 
 -- ---- a rule has a result
 
--- Each elementary change keeps what holds of a router beside what a refresh makes, the ranges included.
-abbrev pub ChangesKeepRanged : Type 0
-ChangesKeepRanged = (tlvs : List PlainTlv) → EachKeeps tlvs (λ r. IsRangedWell r.state)
-
 -- Over each stream of words a rule has a result: it cannot be that there is none.
 abbrev pub HasAResult : Rule → Type 0
-HasAResult rule = ChangesKeepRanged → IsTotal (λ r. IsRangedWell r.state) rule
+HasAResult rule = IsTotal (λ r. IsWell r.state) rule
 
 -- So it is where the TLVs of a datagram arrive.
 abbrev pub ArrivalHasAResult : Type 0
@@ -261,4 +261,4 @@ ArrivalHasAResult = (from : Origin) (tlvs : List PlainTlv) → All IsTlv tlvs �
 
 -- And where a router assigns prefixes.
 abbrev pub AssigningHasAResult : Type 0
-AssigningHasAResult = IsTotal (λ r. IsRouter r.state × IsRangedWell r.state) IsAssigning
+AssigningHasAResult = IsTotal (λ r. IsRouter r.state) IsAssigning

@@ -11,6 +11,7 @@ ghost use Rattle.hn_rules.specs.declared.running.Origin.{Origin};
 ghost use Rattle.hn_rules.specs.Arrival.{IsArrival};
 ghost use Rattle.hn_rules.specs.Assigning.{IsAssigning};
 ghost use Rattle.hn_rules.specs.Delegating.{delegating, withdrawing, ending};
+ghost use Rattle.hn_rules.specs.Given.{IsPrivateLength};
 ghost use Rattle.hn_rules.specs.Events.{IsAttaching, detaching, setting_caps, setting_private, setting_addresses, IsRestarting};
 ghost use Rattle.hn_rules.specs.Laws.{HashIsOfLeaves, AssignedIsPublished, ItemsArePublished, OwnVersionIsSaid, OwnAddressesAreSaid, ViewIsNetwork, OwnPeersAreOfEndpoints, PrivatePostIsAlone, EntriesAreAsKnown, RouterStaysLater, NextDueIsOne, NextDueStays, UneventfulReaches, StillStays, KeepsRouter, KeepsWell, KeepsEndpoints, RefreshMakesRouter, AssigningKeeps, DelegatingKeeps, AttachingKeeps, AddressingKeeps, MakesChanges, DelegatingMakesChanges, AddressingMakesChanges, ChangesKeepWell, ChangesKeepLimit, ChangesOnlyAdd, StillIsIdle, IdleIsStill, IdleUntilDue, RefreshRests, RouterIsHashed, ChangesKeepHashed, ChangesKeepShort, ChangesKeepGenuine, SilentTickIsStill, HasAResult, ArrivalHasAResult, AssigningHasAResult};
 ghost use Rattle.hn_rules.specs.Refresh.{IsRefresh};
@@ -282,7 +283,7 @@ pub fn rules_make_changes()
     ensures delegating { DelegatingMakesChanges }
     ensures withdrawing { (prefix : PlainPrefix) → MakesChanges [] (λ b a. a ≡ withdrawing prefix b) }
     ensures caps { (caps : Caps) → MakesChanges [] (λ b a. a ≡ setting_caps caps b) }
-    ensures private { (private : Option ℕ) → MakesChanges [] (λ b a. a ≡ setting_private private b) }
+    ensures private { (private : Option ℕ) → IsPrivateLength private → MakesChanges [] (λ b a. a ≡ setting_private private b) }
     ensures addressing { AddressingMakesChanges }
     ensures restarting { MakesChanges [] IsRestarting }
 {}
@@ -337,7 +338,7 @@ pub fn rules_keep_the_rest()
     ensures attaching { AttachingKeeps }
     ensures detaching { (at : EpId) → KeepsWell (λ b a. a ≡ detaching at b) }
     ensures caps { (caps : Caps) → KeepsWell (λ b a. a ≡ setting_caps caps b) }
-    ensures private { (private : Option ℕ) → KeepsWell (λ b a. a ≡ setting_private private b) }
+    ensures private { (private : Option ℕ) → IsPrivateLength private → KeepsWell (λ b a. a ≡ setting_private private b) }
     ensures addressing { AddressingKeeps }
     ensures restarting { KeepsWell IsRestarting }
 {
@@ -381,6 +382,7 @@ pub fn rules_have_a_result()
     ensures attaching { (at : EpId) → HasAResult (IsAttaching at) }
     ensures restarting { HasAResult IsRestarting }
 {
+    changes_keep_the_rest();
     own_items_fit();
     own_data_exists();
     reachable_is_a_node();

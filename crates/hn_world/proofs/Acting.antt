@@ -11,7 +11,7 @@ use Rattle.hn_base.specs.Name.{name_text}
 use Rattle.hn_base.specs.declared.ids.NodeId.{NodeId}
 use Rattle.hn_base.specs.declared.name.Name.{Name}
 use Rattle.hn_base.specs.Words.{Drew}
-use Rattle.hn_router.specs.Act.{PlainEvent, Arrive, Tick, Happened}
+use Rattle.hn_router.specs.Act.{PlainEvent, Arrive, Tick, IsEventInRange, Happened}
 use Rattle.hn_rules.specs.Done.{nothing}
 use Rattle.hn_rules.specs.Still.{at_moment}
 use Rattle.hn_router.specs.New.{IsNew}
@@ -33,7 +33,7 @@ use Rattle.hn_world.specs.Replay.{IsSound, IsSoundMember}
 use Rattle.hn_world.proofs.Places.{got_front, within, found_at}
 use Rattle.hn_world.proofs.Sounds.{all_at}
 use Rattle.hn_world.specs.Routed.{routed, named_by, place_by}
-use Rattle.hn_world.specs.Step.{ActsAt, Acts, DoesAt, Step, IsStep, IsInRange, acted, beside, entered, with_member, stopped, taken}
+use Rattle.hn_world.specs.Step.{ActsAt, Acts, DoesAt, Step, IsStep, IsInRange, FitsAt, acted, beside, entered, with_member, stopped, taken}
 
 -- the name in a route
 abbrev name_in : Option (Name × PlainEvent) → Option Name
@@ -111,9 +111,9 @@ module _ (change : Member → Member) (place : ℕ) (event : PlainEvent) (told t
     gives = ap (λ (m : Member). record did { members = slice_set before.members place m }) same;
   }
 
-  pub acted_step : (t : WEvent) (name : Name) (after : Parts) (notes : List Note) → refusal before t ≡ None → IsInRange t → routed t ≡ Some (name, event) → place_by (named_by t) before ≡ Some place
+  pub acted_step : (t : WEvent) (name : Name) (after : Parts) (notes : List Note) → refusal before t ≡ None → IsInRange t → IsEventInRange event → routed t ≡ Some (name, event) → place_by (named_by t) before ≡ Some place
       → change next_member ≡ beside t before next_member → IsFinished t change place before plan after → notes ≡ plan.done.notes → IsStep t notes told told_after before after
-  acted_step t name after notes accepted in_range is found same gives noted =
+  acted_step t name after notes accepted in_range fits is found same gives noted =
       let named : place_by (named_by t) before ≡ router_place (name_text name) before = ap (λ (o : Option Name). place_by o before) (named_routed t (name, event) is) in
       let acts : Acts (beside t before) name event plan.done.words notes before did = record { place = place; is_place = sym named ∙ found; acts = acts_at (beside t before) notes same noted } in
       record {
@@ -121,6 +121,7 @@ module _ (change : Member → Member) (place : ℕ) (event : PlainEvent) (told t
         step = record {
           accepted = accepted;
           in_range = in_range;
+          fits = subst FitsAt (sym is) fits;
           between = did;
           does = subst (λ (own : Option (Name × PlainEvent)). DoesAt t own plan.done.words notes before did) (sym is) acts;
           gives = finished t after gives;
@@ -173,6 +174,7 @@ module _ (copy : ℕ) (c : MailCopy) (told told_after : Option (ℕ → ℕ)) (b
         step = record {
           accepted = accepted;
           in_range = tt;
+          fits = tt;
           between = taken copy c done;
           does = record { mail = c; is_copy = (copy_there copy before c at).1; between = done; acts = acts_at (λ m. m) c.to.place (arrival_of c) told told_after before plan h (λ m. m) notes refl noted; gives = refl };
           gives = ap (λ (cs : List MailCopy). record after { copies = cs }) (takes c stays_there) ∙ ap (λ (w : Parts). record w { copies = slice_set w.copies (copy - 1) (record c { waiting = false }) }) world;
@@ -206,6 +208,7 @@ begun_step name id opened before limit now router m p members published trace t 
     record {
       accepted = accepted;
       in_range = fits;
+      fits = tt;
       between = record before {
         members = before.members ++ record { name = name; running = true; router = router; attachments = [] } ∷ [];
         published = before.published ++ record { id = id; number = 1; body = router.own.body } ∷ [];
@@ -234,6 +237,7 @@ dropped_step copy before copies trace t accepted event entered takes =
     record {
       accepted = accepted;
       in_range = tt;
+      fits = tt;
       between = taken copy c.0 before;
       does = record { mail = c.0; is_copy = at; quietly = record { took = refl; noted = refl; gives = refl } };
       gives = rw (takes c.0 at, entered, event) refl;
@@ -254,6 +258,7 @@ passed_step name place before m members trace t notes told accepted found at hap
     let step : Step entry [] before (record before { members = members; trace = trace }) = record {
       accepted = accepted;
       in_range = tt;
+      fits = tt;
       between = between;
       does = record {
         place = place;
@@ -273,6 +278,7 @@ stopped_step name place before members trace t accepted found event entered stop
     record {
       accepted = accepted;
       in_range = tt;
+      fits = tt;
       between = with_member place (stopped m.0) before;
       does = record {
         place = place;

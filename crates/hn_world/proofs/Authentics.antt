@@ -23,7 +23,8 @@ use Rattle.hn_world.specs.declared.parts.Parts.{Parts}
 use Rattle.hn_world.specs.Authentic.{IsFromWithin, IsAuthentic, AuthenticUnlessInjected}
 use Rattle.hn_world.specs.Mail.{copies_of}
 use Rattle.hn_world.specs.Replay.{Replays, IsSoundMember, IsSound}
-use Rattle.hn_world.specs.Step.{ActsAt, RouterBegins, Delivers, Drops, Stops, Does, IsInRange, acted, beside, stopped, taken}
+use Rattle.hn_world.specs.Routed.{routed}
+use Rattle.hn_world.specs.Step.{ActsAt, RouterBegins, Delivers, Drops, Stops, Does, FitsAt, acted, beside, stopped, taken}
 use Rattle.hn_world.proofs.Copied.{copied, still_copied}
 use Rattle.hn_world.proofs.Onces.{Any, trace_of_step}
 use Rattle.hn_world.proofs.Sounds.{StayLaws, KeepsRouters, beside_keeps, sound_step, replay_keeps, all_at}
@@ -159,24 +160,24 @@ module _ (laws : AuthenticLaws) where
   plainly w links moment trace (inl genuine) = inl (record { routers = genuine.routers; copies = genuine.copies })
   plainly w links moment trace (inr collide) = inr collide
 
-  genuine_by : (event : WEvent) (words : List ℕ) (notes : List Note) (before after : Parts) → IsFromWithin event → IsInRange event → Does event words notes before after → IsSound before → IsGenuineOr before → IsGenuineOr after
+  genuine_by : (event : WEvent) (words : List ℕ) (notes : List Note) (before after : Parts) → IsFromWithin event → FitsAt (routed event) → Does event words notes before after → IsSound before → IsGenuineOr before → IsGenuineOr after
   genuine_by (event.Router name id) words notes before after within fits h sound genuine = genuine_new name id words notes before after h genuine
   genuine_by (event.Link name) words notes before after within fits h sound genuine = subst IsGenuineOr (sym h.gives) (plainly before (before.links ++ name ∷ []) before.moment before.trace genuine)
   genuine_by (event.Attach name endpoint link) words notes before after within fits h sound genuine =
-      genuine_at (beside (event.Attach name endpoint link) before) (beside_keeps (event.Attach name endpoint link) before) h.place (Attach endpoint) words notes before after fits.1 tt h.acts sound genuine
+      genuine_at (beside (event.Attach name endpoint link) before) (beside_keeps (event.Attach name endpoint link) before) h.place (Attach endpoint) words notes before after fits tt h.acts sound genuine
   genuine_by (event.Detach name endpoint) words notes before after within fits h sound genuine =
-      genuine_at (beside (event.Detach name endpoint) before) (beside_keeps (event.Detach name endpoint) before) h.place (Detach endpoint) words notes before after tt tt h.acts sound genuine
+      genuine_at (beside (event.Detach name endpoint) before) (beside_keeps (event.Detach name endpoint) before) h.place (Detach endpoint) words notes before after fits tt h.acts sound genuine
   genuine_by (event.External name prefix valid preferred) words notes before after within fits h sound genuine =
-      genuine_at (beside (event.External name prefix valid preferred) before) (beside_keeps (event.External name prefix valid preferred) before) h.place (External prefix valid preferred) words notes before after tt tt h.acts sound genuine
-  genuine_by (event.Withdraw name prefix) words notes before after within fits h sound genuine = genuine_at (beside (event.Withdraw name prefix) before) (beside_keeps (event.Withdraw name prefix) before) h.place (Withdraw prefix) words notes before after tt tt h.acts sound genuine
-  genuine_by (event.Caps name caps) words notes before after within fits h sound genuine = genuine_at (beside (event.Caps name caps) before) (beside_keeps (event.Caps name caps) before) h.place (SetCaps caps) words notes before after tt tt h.acts sound genuine
-  genuine_by (event.Private name length) words notes before after within fits h sound genuine = genuine_at (beside (event.Private name length) before) (beside_keeps (event.Private name length) before) h.place (Private length) words notes before after tt tt h.acts sound genuine
-  genuine_by (event.Addresses name list) words notes before after within fits h sound genuine = genuine_at (beside (event.Addresses name list) before) (beside_keeps (event.Addresses name list) before) h.place (Addresses list) words notes before after tt tt h.acts sound genuine
+      genuine_at (beside (event.External name prefix valid preferred) before) (beside_keeps (event.External name prefix valid preferred) before) h.place (External prefix valid preferred) words notes before after fits tt h.acts sound genuine
+  genuine_by (event.Withdraw name prefix) words notes before after within fits h sound genuine = genuine_at (beside (event.Withdraw name prefix) before) (beside_keeps (event.Withdraw name prefix) before) h.place (Withdraw prefix) words notes before after fits tt h.acts sound genuine
+  genuine_by (event.Caps name caps) words notes before after within fits h sound genuine = genuine_at (beside (event.Caps name caps) before) (beside_keeps (event.Caps name caps) before) h.place (SetCaps caps) words notes before after fits tt h.acts sound genuine
+  genuine_by (event.Private name length) words notes before after within fits h sound genuine = genuine_at (beside (event.Private name length) before) (beside_keeps (event.Private name length) before) h.place (Private length) words notes before after fits tt h.acts sound genuine
+  genuine_by (event.Addresses name list) words notes before after within fits h sound genuine = genuine_at (beside (event.Addresses name list) before) (beside_keeps (event.Addresses name list) before) h.place (Addresses list) words notes before after fits tt h.acts sound genuine
   genuine_by (event.Stop name) words notes before after within fits h sound genuine = genuine_stopped name words notes before after h genuine
   genuine_by (event.Start name) words notes before after within fits h sound genuine =
-      genuine_at (beside (event.Start name) before) (beside_keeps (event.Start name) before) h.place Restart words notes before after tt tt h.acts sound genuine
+      genuine_at (beside (event.Start name) before) (beside_keeps (event.Start name) before) h.place Restart words notes before after fits tt h.acts sound genuine
   genuine_by (event.Time moment) words notes before after within fits h sound genuine = subst IsGenuineOr (sym h.gives) (plainly before before.links moment before.trace genuine)
-  genuine_by (event.Tick name) words notes before after within fits h sound genuine = genuine_at (beside (event.Tick name) before) (beside_keeps (event.Tick name) before) h.place Tick words notes before after tt tt h.acts sound genuine
+  genuine_by (event.Tick name) words notes before after within fits h sound genuine = genuine_at (beside (event.Tick name) before) (beside_keeps (event.Tick name) before) h.place Tick words notes before after fits tt h.acts sound genuine
   genuine_by (event.Deliver copy) words notes before after within fits h sound genuine = genuine_delivered copy words notes before after h sound genuine
   genuine_by (event.Drop copy) words notes before after within fits h sound genuine = genuine_dropped copy words notes before after h genuine
   genuine_by (event.Inject name endpoint from multicast bytes) words notes before after within fits h sound genuine = absurd within
@@ -198,7 +199,7 @@ module _ (laws : AuthenticLaws) where
           before.trace (All-contains_itself before.trace) in
           let last : IsFromWithin t.event = All-contains (λ (t : Traced). IsFromWithin t.event) (before.trace ++ t ∷ []) t entered_all (Contains-push before.trace t) in
           subst IsGenuineOr (sym step.gives)
-          (plainly step.between step.between.links step.between.moment (step.between.trace ++ t ∷ []) (genuine_by t.event t.words notes before step.between last step.in_range step.does sound (kept front)))
+          (plainly step.between step.between.links step.between.moment (step.between.trace ++ t ∷ []) (genuine_by t.event t.words notes before step.between last step.fits step.does sound (kept front)))
 
   kept_replay : (version : Version) (ts : List Traced) (w : Parts) → Replays version ts w → Kept w
   kept_replay version ts w h =

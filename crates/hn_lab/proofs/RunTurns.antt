@@ -56,7 +56,8 @@ sent_same now v w s same = by_test (draws s) refl
     by_test true is = ap (λ (x : ℕ). sent now x s) (same is)
     by_test false is = rw is refl
 
-module _ (place : ℕ) (s : Sending) (shape : Shape) (asked : PlainSender) (now : ℕ) (r : Bool) (p a : Stage) (is_asked : IsAsked p.world.moment shape s asked) (due_is : r ≡ is_due now asked) (now_is : now ≡ p.world.moment) where
+module _ (place : ℕ) (s : Sending) (shape : Shape) (asked : PlainSender) (now : ℕ) (r : Bool) (p a : Stage)
+    (is_asked : IsAsked p.world.moment shape s asked) (due_is : r ≡ is_due now asked) (now_is : now ≡ p.world.moment) where
   -- it is not
   pub waits : (sender : PlainSender) → r ≡ false → sender ≡ asked → a ≡ with_this place (record s { sender = sender }) p → IsDue place s shape false p a
   waits sender not_due same after_is = record {
@@ -147,7 +148,8 @@ pub solicit_left : (name : Name) (e : EpId) (lines : List (List ℕ)) (p a : Sta
     → Leaves (OtherEnds (line.Solicit name e)) lines p a
 solicit_left name e lines p a none done empty = nothing_left (OtherEnds (line.Solicit name e)) lines p a empty (p, (none, refl), done)
 
-pub is_solicited : (name : Name) (e : EpId) (place : ℕ) (s : Sending) (now word : ℕ) (sender : PlainSender) (next : ℕ → ℕ) (p a : Stage) → IsSenderAt name e p.senders place s → now ≡ p.world.moment → word ≡ p.words 0
+pub is_solicited : (name : Name) (e : EpId) (place : ℕ) (s : Sending) (now word : ℕ) (sender : PlainSender) (next : ℕ → ℕ) (p a : Stage)
+    → IsSenderAt name e p.senders place s → now ≡ p.world.moment → word ≡ p.words 0
     → sender ≡ solicited now word s.sender → Some next ≡ Some (λ at. p.words (suc at)) → a ≡ record (with_this place (record s { sender = sender }) p) { words = next } → IsSolicited name e p a
 is_solicited name e place s now word sender next p a is_at now_is word_is sender_is next_is after_is = record {
   place = place;
@@ -165,7 +167,8 @@ radv_refused name e why p (code, why_is, is) =
     subst (λ (w : Stop). IsStopped (OtherEnds (line.Radv name e)) w p p) (sym why_is)
     (stopped_last (OtherEnds (line.Radv name e)) (Refused code) p p (inl (is, refl)) refl (λ same. absurd cc))
 
-pub solicit_refused : (name : Name) (e : EpId) (why : Stop) (p : Stage) → (code : ℕ) × (why ≡ Refused code) × (unless_elects name e p.world ≡ Some code) → IsStopped (OtherEnds (line.Solicit name e)) why p p
+pub solicit_refused : (name : Name) (e : EpId) (why : Stop) (p : Stage) → (code : ℕ) × (why ≡ Refused code)
+    × (unless_elects name e p.world ≡ Some code) → IsStopped (OtherEnds (line.Solicit name e)) why p p
 solicit_refused name e why p (code, why_is, is) =
     subst (λ (w : Stop). IsStopped (OtherEnds (line.Solicit name e)) w p p) (sym why_is)
     (stopped_last (OtherEnds (line.Solicit name e)) (Refused code) p p (inl (is, refl)) refl (λ same. absurd cc))

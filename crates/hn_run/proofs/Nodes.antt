@@ -1,5 +1,6 @@
 -- What `node` comes to, and what it is asked for.
-use Rattle.std.proofs.Common.{◌≡◌, ◌≢◌, ◌∙◌, ◌⊎◌, ◌<◌, ◌≤◌, ◌^◌, ◌-◌, min, zero-add, ℕ, zero, suc, List, [], ◌∷◌, Option, Some, None, Result, Ok, Err, length, take, inl, inr, refl, sym, ap, subst, arith, lit<}
+use Rattle.std.proofs.Common.{◌≡◌, ◌≢◌, ◌∙◌, ◌⊎◌, ◌<◌, ◌≤◌, ◌^◌, ◌-◌, min, zero-add, ℕ, zero, suc, List, [], ◌∷◌, Option, Some, None, Result, Ok, Err, length, take, inl, inr, refl, sym, ap, subst}
+use Rattle.std.proofs.Common.{arith, lit<}
 use Rattle.std.specs.Prelude.{OnOk, OnErr, Contains, All}
 use Rattle.std.specs.Io.KnownBytes.{Appends}
 use Rattle.std.specs.List.{AllZip}
@@ -112,7 +113,8 @@ as_called P a b words h k holds =
 
 -- ---- the line on a router that was served
 
-pub line_is : (s : Served) (id : NodeId) (number : ℕ) (reach : List NodeId) (line : List ℕ) → id ≡ s.router.id → number ≡ s.router.number → reach ≡ s.router.reach → line ≡ node_line id number (length reach) s.taken s.sent → line ≡ line_of s
+pub line_is : (s : Served) (id : NodeId) (number : ℕ) (reach : List NodeId) (line : List ℕ) → id ≡ s.router.id → number ≡ s.router.number
+    → reach ≡ s.router.reach → line ≡ node_line id number (length reach) s.taken s.sent → line ≡ line_of s
 line_is s id number reach line ids numbers reaches is =
     is
     ∙ ap (λ (x : NodeId). node_line x number (length reach) s.taken s.sent) ids
@@ -120,7 +122,8 @@ line_is s id number reach line ids numbers reaches is =
     ∙ ap (λ (x : List NodeId). node_line s.router.id s.router.number (length x) s.taken s.sent) reaches
 
 -- what is told of it
-pub told_of : (written : Result (Unit {0}) IoFault) (status : ℕ) (a b : Option (List ℕ)) (line : List ℕ) → status ≡ written_status written 0 → OnOk written (Appends a b line) → OnErr written (AppendsPart a b line)
+pub told_of : (written : Result (Unit {0}) IoFault) (status : ℕ) (a b : Option (List ℕ)) (line : List ℕ) → status ≡ written_status written 0
+    → OnOk written (Appends a b line) → OnErr written (AppendsPart a b line)
     → (held : List ℕ) × LineHolds status line held × Appends a b held × Contains (0 ∷ 4 ∷ 6 ∷ []) status
 told_of written status a b line is ok cut =
     let told = line_written written 0 a b line (lit< tt) ok cut in

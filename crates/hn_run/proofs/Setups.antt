@@ -48,7 +48,8 @@ ends_of_line follow l now before after done happened =
 -- ---- lines one after another
 
 -- one more line
-lines_more : (now : ℕ) (lines : List (ℕ × NodeLine)) (l : ℕ × NodeLine) (words : List ℕ) (before between after : State) (done : Done) → LinesHappen now lines words before between → is_too_many between l.1 ≡ false → Happened now (event_of l.1) between after done
+lines_more : (now : ℕ) (lines : List (ℕ × NodeLine)) (l : ℕ × NodeLine) (words : List ℕ) (before between after : State) (done : Done)
+    → LinesHappen now lines words before between → is_too_many between l.1 ≡ false → Happened now (event_of l.1) between after done
     → LinesHappen now (lines ++ l ∷ []) (words ++ done.words) before after
 lines_more now [] l words before between after done h room happened = (
   after,
@@ -83,7 +84,8 @@ set_up_first id now new after done is happened = record {
 }
 
 -- one line more
-pub set_up_more : (id : NodeId) (lines : List (ℕ × NodeLine)) (l : ℕ × NodeLine) (now : ℕ) (words : List ℕ) (router after : State) (done : Done) → IsSetUp id lines now words router → is_too_many router l.1 ≡ false → Happened now (event_of l.1) router after done
+pub set_up_more : (id : NodeId) (lines : List (ℕ × NodeLine)) (l : ℕ × NodeLine) (now : ℕ) (words : List ℕ) (router after : State) (done : Done)
+    → IsSetUp id lines now words router → is_too_many router l.1 ≡ false → Happened now (event_of l.1) router after done
     → IsSetUp id (lines ++ l ∷ []) now (words ++ done.words) after
 set_up_more id lines l now words router after done up room happened = record {
   new = up.new;

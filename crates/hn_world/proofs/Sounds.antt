@@ -84,7 +84,8 @@ sound_acts_at laws change keeps place event words notes before after ranged h al
     let router : IsRouter h.next = laws.stays before.moment event h.member.router h.next h.done here.router here.past ranged h.happened in
     let moment : h.next.moment ≡ before.moment = laws.moment before.moment event h.member.router h.next h.done h.happened in
     let next : Member = record h.member { router = h.next } in
-    subst IsSound (sym h.gives) (All-set (IsSoundMember before.moment) before.members place (change next) (sound_changed before.moment change keeps next (record { router = router; past = omega arith })) all)
+    subst IsSound (sym h.gives) (All-set (IsSoundMember before.moment) before.members place (change next)
+        (sound_changed before.moment change keeps next (record { router = router; past = omega arith })) all)
 
 -- what an event changes beside a router leaves the router
 pub beside_keeps : (event : WEvent) (w : Parts) → KeepsRouters (beside event w)
@@ -122,7 +123,8 @@ limit_is_size : (version : Version) → (table_limit version ≡ 256) ⊎ (table
 limit_is_size One = inl refl
 limit_is_size Two = inr refl
 
-sound_else : StayLaws → (event : WEvent) (words : List ℕ) (notes : List Note) (before after : Parts) → refusal before event ≡ None → IsInRange event → DoesElse event words notes before after → IsSound before → IsSound after
+sound_else : StayLaws → (event : WEvent) (words : List ℕ) (notes : List Note) (before after : Parts) → refusal before event ≡ None → IsInRange event
+    → DoesElse event words notes before after → IsSound before → IsSound after
 sound_else laws (event.Router name id) words notes before after accepted fits h all =
     let moment : h.router.moment ≡ before.moment = h.is_new.moment_is in
     subst IsSound (sym h.quietly.gives) (All-push (IsSoundMember before.moment) before.members (record { name = name; running = true; router = h.router; attachments = [] }) all
@@ -150,7 +152,8 @@ sound_else laws (event.Inject name endpoint from multicast bytes) words notes be
 
 sound_at : StayLaws → (event : WEvent) (own : Option (Name × PlainEvent)) (words : List ℕ) (notes : List Note) (before after : Parts) → refusal before event ≡ None → IsInRange event → FitsAt own
     → DoesAt event own words notes before after → IsSound before → IsSound after
-sound_at laws event (Some own) words notes before after accepted fits ranged h all = sound_acts_at laws (beside event before) (beside_keeps event before) h.place own.1 words notes before after ranged h.acts all
+sound_at laws event (Some own) words notes before after accepted fits ranged h all =
+    sound_acts_at laws (beside event before) (beside_keeps event before) h.place own.1 words notes before after ranged h.acts all
 sound_at laws event None words notes before after accepted fits ranged h all = sound_else laws event words notes before after accepted fits h all
 
 pub sound_step : StayLaws → (t : Traced) (before after : Parts) → Any t before after → IsSound before → IsSound after

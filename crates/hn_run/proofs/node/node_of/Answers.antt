@@ -19,7 +19,8 @@ pub returns-in-Err-Script-clause-only : goal.returns-in-Err-Script-clause-only
 returns-in-Err-Script-clause-only g c =
     record {
       no_file = λ fault is. not_done c.refuse.result.status c.refuse.ensures.statuses;
-      done = λ lines file free. absurd (c.fault_excludes_node_file.ensures c.args.bytes.now c.in-Err-Script.fault lines (c.in-Err-Script.ensures.fault c.in-Err-Script.fault (ap Err c.in-Err-Script.field-0-is)) file);
+      done = λ lines file free. absurd (c.fault_excludes_node_file.ensures c.args.bytes.now c.in-Err-Script.fault lines
+          (c.in-Err-Script.ensures.fault c.in-Err-Script.fault (ap Err c.in-Err-Script.field-0-is)) file);
     }
 
 pub returns-in-Err-NoMemory-clause-node : goal.returns-in-Err-NoMemory-clause-node

@@ -32,7 +32,7 @@ use Rattle.hn_own.specs.Posts.{posts_of, length_at}
 use Rattle.hn_rules.specs.declared.state.State.{State}
 use Rattle.hn_rules.specs.Assigning.{IsWishFor, AreAsked, IsRunAssigned}
 use Rattle.hn_rules.specs.Given.{IsPrivateLength}
-use Rattle.hn_rules.specs.Laws.{ViewIsNetwork, AssigningHasAResult}
+use Rattle.hn_rules.specs.Laws.{ViewIsNetwork, AssigningHasAResult, WishesExist}
 use Rattle.hn_rules.specs.Nodes.{view_of}
 use Rattle.hn_rules.specs.Router.{IsRouter}
 use Rattle.hn_rules.specs.Rules.{with_words}
@@ -173,27 +173,36 @@ module _ (s : State) (usable : List Delegated) where
 
 -- ---- a run of the assignment subroutine
 
--- the laws on which it rests
-pub record AssigningLaws : Type 0 where
+-- the laws on which it rests that something is asked
+pub record AskingLaws : Type 0 where
   pub usable : UsableExists
   pub prefixes : UsableArePrefixes
   pub links : CommonLinkExists
   pub one_link : CommonLinkIsUnique
   pub pairs_total : IsTotalOrder pair_cmp
   pub pairs_exact : IsExact pair_cmp
-  pub subroutine : SubroutineHasAResult
   pub network : ViewIsNetwork
 
-some_run : AssigningLaws → (s : State) (stream : ℕ → ℕ) → IsRouter s → Some! (λ (ran : Assigned). IsRunAssigned s ran × Begins ran.words stream)
-some_run laws s stream router =
+-- and that the subroutine comes to a result
+pub record AssigningLaws : Type 0 where
+  pub asking : AskingLaws
+  pub subroutine : SubroutineHasAResult
+
+pub some_wishes : AskingLaws → WishesExist
+some_wishes laws s router =
     let network = laws.network s router in
     let (usable, are) = laws.usable (seen_by s) in
-    some_then (some_asked laws.links laws.one_link s network usable laws.pairs_total laws.pairs_exact are) (λ wishes asked.
+    some_then (some_asked laws.links laws.one_link s network usable laws.pairs_total laws.pairs_exact are) (λ wishes asked none.
     let fitting = all_of IsFitting wishes (λ wish there. asked_fits s usable are router.well.private wish ((asked.exact wish).0 there)) in
     let prefixes = all_of (λ (wish : Wish). IsPrefix wish.delegated) wishes
     (λ wish there. asked_is_prefix s usable (laws.prefixes (seen_by s) usable are) wish ((asked.exact wish).0 there)) in
-    some_then (laws.subroutine (seen_by s) wishes s.held stream router.well.pairs.assigned router.well.pairs.backoffs fitting prefixes) (λ ran runs none.
-    none ran (record { usable = usable; are_usable = are; wishes = wishes; are_asked = asked; is_subroutine = runs.0 }, runs.1)))
+    none wishes (record { usable = usable; are_usable = are; are_asked = asked; fitting = fitting; prefixes = prefixes }))
+
+some_run : AssigningLaws → (s : State) (stream : ℕ → ℕ) → IsRouter s → Some! (λ (ran : Assigned). IsRunAssigned s ran × Begins ran.words stream)
+some_run laws s stream router =
+    some_then (some_wishes laws.asking s router) (λ wishes w.
+    some_then (laws.subroutine (seen_by s) wishes s.held stream router.well.pairs.assigned router.well.pairs.backoffs w.fitting w.prefixes) (λ ran runs none.
+    none ran (record { usable = w.usable; are_usable = w.are_usable; wishes = wishes; are_asked = w.are_asked; is_subroutine = runs.0 }, runs.1)))
 
 pub total_assigning : AssigningLaws → AssigningHasAResult
 total_assigning laws stream r is begins none =

@@ -2,7 +2,8 @@
 use Rattle.std.specs.Prelude.{◌≡◌, ◌↔◌, ℕ, ◌^◌, ◌<◌, ◌≤◌, true, List, [], length, Contains, Some, All}
 use Rattle.hn_base.specs.declared.ids.EpId.{EpId}
 use Rattle.hn_base.specs.declared.ids.NodeId.{NodeId}
-use Rattle.hn_base.specs.Prefix.{PlainPrefix}
+use Rattle.hn_base.specs.Exists.{Some! }
+use Rattle.hn_base.specs.Prefix.{PlainPrefix, IsPrefix}
 use Rattle.hn_hash.specs.Network.{network_hash, AreNumbered}
 use Rattle.hn_tlv.specs.Grammar.{PlainTlv, IsTlv}
 use Rattle.hn_typed.specs.Item.{PlainItem}
@@ -13,7 +14,11 @@ use Rattle.hn_data.specs.View.{IsNetwork}
 use Rattle.hn_data.specs.declared.said.AssignedPrefix.{AssignedPrefix}
 use Rattle.hn_data.specs.declared.said.PeerLink.{PeerLink}
 use Rattle.hn_data.specs.declared.view.Entry.{Entry}
+use Rattle.hn_deleg.specs.declared.delegated.Delegated.{Delegated}
+use Rattle.hn_deleg.specs.Used.{AreUsable}
 use Rattle.hn_link.specs.CommonLink.{IsOnCommonLink}
+use Rattle.hn_assign.specs.declared.assigned.Wish.{Wish}
+use Rattle.hn_assign.specs.Facts.{IsFitting}
 use Rattle.hn_own.specs.Addresses.{OwnAddress, may_address}
 use Rattle.hn_own.specs.HeldPairs.{published_in}
 use Rattle.hn_own.specs.Own.{items_of}
@@ -29,7 +34,7 @@ use Rattle.hn_rules.specs.declared.running.Origin.{Origin}
 use Rattle.hn_rules.specs.declared.running.Running.{Running}
 use Rattle.hn_rules.specs.declared.state.State.{State}
 use Rattle.hn_rules.specs.Arrival.{IsArrival}
-use Rattle.hn_rules.specs.Assigning.{IsAssigning}
+use Rattle.hn_rules.specs.Assigning.{AreAsked, IsAssigning}
 use Rattle.hn_rules.specs.Changes.{IsOfChanges, EachKeeps}
 use Rattle.hn_rules.specs.Delegating.{delegating}
 use Rattle.hn_rules.specs.Done.{nothing}
@@ -262,3 +267,17 @@ ArrivalHasAResult = (from : Origin) (tlvs : List PlainTlv) → All IsTlv tlvs �
 -- And where a router assigns prefixes.
 abbrev pub AssigningHasAResult : Type 0
 AssigningHasAResult = IsTotal (λ r. IsRouter r.state) IsAssigning
+
+-- ---- what is asked is there
+
+-- what a router asks for: the delegated prefixes that it uses, with a wish for each pair, which fits
+pub record HasWishes (s : State) (wishes : List Wish) : Type 0 where
+  pub usable : List Delegated
+  pub are_usable : AreUsable (seen_by s) usable
+  pub are_asked : AreAsked s usable wishes
+  pub fitting : All IsFitting wishes
+  pub prefixes : All (λ wish. IsPrefix wish.delegated) wishes
+
+-- A list of what a router asks for cannot be missing.
+abbrev pub WishesExist : Type 0
+WishesExist = (s : State) → IsRouter s → Some! (HasWishes s)

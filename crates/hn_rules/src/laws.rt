@@ -13,7 +13,7 @@ ghost use Rattle.hn_rules.specs.Assigning.{IsAssigning};
 ghost use Rattle.hn_rules.specs.Delegating.{delegating, withdrawing, ending};
 ghost use Rattle.hn_rules.specs.Given.{IsPrivateLength};
 ghost use Rattle.hn_rules.specs.Events.{IsAttaching, detaching, setting_caps, setting_private, setting_addresses, IsRestarting};
-ghost use Rattle.hn_rules.specs.Laws.{HashIsOfLeaves, AssignedIsPublished, ItemsArePublished, OwnVersionIsSaid, OwnAddressesAreSaid, ViewIsNetwork, OwnPeersAreOfEndpoints, PrivatePostIsAlone, EntriesAreAsKnown, RouterStaysLater, NextDueIsOne, NextDueStays, UneventfulReaches, StillStays, KeepsRouter, KeepsWell, KeepsEndpoints, RefreshMakesRouter, AssigningKeeps, DelegatingKeeps, AttachingKeeps, AddressingKeeps, MakesChanges, DelegatingMakesChanges, AddressingMakesChanges, ChangesKeepWell, ChangesKeepLimit, ChangesOnlyAdd, StillIsIdle, IdleIsStill, IdleUntilDue, RefreshRests, RouterIsHashed, ChangesKeepHashed, ChangesKeepShort, ChangesKeepGenuine, SilentTickIsStill, HasAResult, ArrivalHasAResult, AssigningHasAResult};
+ghost use Rattle.hn_rules.specs.Laws.{HashIsOfLeaves, AssignedIsPublished, ItemsArePublished, OwnVersionIsSaid, OwnAddressesAreSaid, ViewIsNetwork, OwnPeersAreOfEndpoints, PrivatePostIsAlone, EntriesAreAsKnown, RouterStaysLater, NextDueIsOne, NextDueStays, UneventfulReaches, StillStays, KeepsRouter, KeepsWell, KeepsEndpoints, RefreshMakesRouter, AssigningKeeps, DelegatingKeeps, AttachingKeeps, AddressingKeeps, MakesChanges, DelegatingMakesChanges, AddressingMakesChanges, ChangesKeepWell, ChangesKeepLimit, ChangesOnlyAdd, StillIsIdle, IdleIsStill, IdleUntilDue, RefreshRests, RouterIsHashed, ChangesKeepHashed, ChangesKeepShort, ChangesKeepGenuine, SilentTickIsStill, HasAResult, ArrivalHasAResult, AssigningHasAResult, WishesExist};
 ghost use Rattle.hn_rules.specs.Refresh.{IsRefresh};
 ghost use Rattle.hn_rules.specs.Rested.{KeepsId, RestfulTick, UsedWhereAssigned, ViewOfLater};
 ghost use Rattle.hn_rules.specs.Rules.{IsSole};
@@ -128,6 +128,18 @@ pub fn view_is_a_network()
     ensures { ViewIsNetwork }
 {
     own_is_reachable();
+}
+
+/// A list of what a router asks for cannot be missing: the delegated prefixes that it uses, and a wish for each pair.
+pub fn wishes_exist()
+    ensures { WishesExist }
+{
+    usable_exists();
+    usable_are_prefixes();
+    common_link_exists();
+    common_link_is_unique();
+    pairs_are_ordered();
+    view_is_a_network();
 }
 
 /// Of its own identifier a router knows its own node, and of another that it holds what it holds of it. What it knows

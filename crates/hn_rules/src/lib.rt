@@ -32,7 +32,7 @@ pub use laws::{
     router_stays_later, rules_have_a_result, rules_have_one_result, rules_keep_a_router,
     rules_keep_the_endpoints, rules_keep_the_rest, rules_make_changes, still_is_idle, still_stays,
     tick_keeps_the_identifier, uneventful_reaches, used_where_assigned, view_is_a_network,
-    view_of_later,
+    view_of_later, wishes_exist,
 };
 pub use present::Present;
 pub use running::{Origin, Running};

@@ -4,7 +4,7 @@ use Rattle.hn_rules.specs.Rules.{words_of}
 use Rattle.hn_rules.specs.Tick.{IsExpiry, IsPortsTick}
 use Rattle.hn_rules.proofs.SomeRefreshes.{RefreshLaws, Well, Any, total_refresh}
 use Rattle.hn_rules.proofs.SomeArrivals.{ArrivalLaws, total_arrival}
-use Rattle.hn_rules.proofs.SomeWishes.{AssigningLaws, total_assigning}
+use Rattle.hn_rules.proofs.SomeWishes.{AskingLaws, AssigningLaws, total_assigning}
 use Rattle.hn_rules.proofs.SomeTicks.{TickLaws, total_expiry, total_ports_tick, total_tick, total_attaching, total_restarting}
 use Rattle.hn_rules.proofs.laws.rules_have_a_result.Goals as goal
 
@@ -23,16 +23,16 @@ returns c =
       packing = c.packing_exists.ensures;
       item = c.item_or_fault.ensures;
     } in
-    let assigning : AssigningLaws = record {
+    let asking : AskingLaws = record {
       usable = c.usable_exists.ensures;
       prefixes = c.usable_are_prefixes.ensures;
       links = c.common_link_exists.ensures;
       one_link = c.common_link_is_unique.ensures;
       pairs_total = c.pairs_are_ordered.ensures.total;
       pairs_exact = c.pairs_are_ordered.ensures.exact;
-      subroutine = c.subroutine_has_a_result.ensures.result;
       network = c.view_is_a_network.ensures;
     } in
+    let assigning : AssigningLaws = record { asking = asking; subroutine = c.subroutine_has_a_result.ensures.result } in
     let tick : TickLaws = record {
       refresh = refresh;
       assigning = assigning;

@@ -54,7 +54,7 @@ on_link_is_port : (m : Member) (e : EpId) (link : ℕ) → IsAttachedMember m �
 on_link_is_port m e link attached positive on =
     let by = attached_by m e link on in
     (attached.endpoints e positive).1 (subst (Contains (map (λ (a : Attachment). a.endpoint) m.attachments)) by.1.of_endpoint
-        (Contains-map (λ (a : Attachment). a.endpoint) m.attachments by.0 by.1.there))
+    (Contains-map (λ (a : Attachment). a.endpoint) m.attachments by.0 by.1.there))
 
 pub on_link_is_attached : (m : Member) (e : EpId) (link : ℕ) → IsAttachedMember m → 0 < e.0 → link_of e m ≡ Some link → IsTrue (is_attached e m.router.ports)
 on_link_is_attached m e link attached positive on = id_is_found (λ (p : Port). p.id) m.router.ports e (on_link_is_port m e link attached positive on)

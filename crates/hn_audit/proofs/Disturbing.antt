@@ -142,16 +142,22 @@ module _ (unique : UsableIsUnique) (total : IsTotalOrder pair_cmp) (order : Rest
 
   pub names_restless : WitnessNamesRestless
   names_restless w r (act.Unasked router endpoint delegated prefix) h =
-      let o = h.outlook in
-      (h.one, h.of_set.reached, λ rest.
-      h.unasked (All-contains (λ (c : Assigned). IsWished o.wishes (assigned_pair c)) h.one.router.held.assigned h.assignment
-      (wished_there unique total h.one.router o.usable o.are_usable o.wishes o.are_asked rest) h.has.held))
+      let o = h.outlook in (
+        h.one,
+        h.of_set.reached,
+        λ rest.
+            h.unasked (All-contains (λ (c : Assigned). IsWished o.wishes (assigned_pair c)) h.one.router.held.assigned h.assignment
+            (wished_there unique total h.one.router o.usable o.are_usable o.wishes o.are_asked rest) h.has.held),
+      )
   names_restless w r (act.Makes router endpoint delegated) h =
-      let p = h.pair in
-      (p.one, p.of_set.reached, λ rest. elim (pair_rests p.one.router p.outlook p.wish None rest p.asked p.has).nothing_to_do [
-        | inl unwanted ↦ unwanted h.wanted
-        | inr none ↦ h.some_free none
-      ])
+      let p = h.pair in (
+        p.one,
+        p.of_set.reached,
+        λ rest. elim (pair_rests p.one.router p.outlook p.wish None rest p.asked p.has).nothing_to_do [
+          | inl unwanted ↦ unwanted h.wanted
+          | inr none ↦ h.some_free none
+        ],
+      )
   names_restless w r (act.Takes router endpoint delegated best) h =
       let p = h.pair in
       (p.one, p.of_set.reached, λ rest. (pair_rests p.one.router p.outlook p.wish None rest p.asked p.has).no_best h.advertised h.is_best.candidate)

@@ -192,7 +192,7 @@ module _ (laws : RestLaws) (now : ℕ) (s : State) (router : IsRouter s) (begun 
         λ w.
             let there : IsWishAt s.private at same.other w.place wish =
             subst (λ (private : Option ℕ). IsWishAt private at same.other w.place wish) left.private
-                (subst (λ (view : PlainView). IsWishAt next.private view same.other w.place wish) seen_next w.asked) in
+            (subst (λ (view : PlainView). IsWishAt next.private view same.other w.place wish) seen_next w.asked) in
             (rest.are_asked.exact wish).1 (record {
               place = w.place;
               asked = same_wish s.private at before same.other rest.usable (same_back rest.usable same.other used_next) goes_back w.place wish there;
@@ -204,7 +204,7 @@ module _ (laws : RestLaws) (now : ℕ) (s : State) (router : IsRouter s) (begun 
     wished_next : All (λ c. IsWished rest.wishes (assigned_pair c)) next.held.assigned
     wished_next = all_of (λ c. IsWished rest.wishes (assigned_pair c)) next.held.assigned (λ c there.
         let among : Contains (map unmarked s.held.assigned) (unmarked c) =
-            subst (λ (list : List Assigned). Contains list (unmarked c)) left.assigned (Contains-map unmarked next.held.assigned c there) in
+        subst (λ (list : List Assigned). Contains list (unmarked c)) left.assigned (Contains-map unmarked next.held.assigned c there) in
         let (d, d_in, d_is) = Contains-from_map unmarked s.held.assigned (unmarked c) among in
         let (wish, wish_in, pair) = All-contains (λ (x : Assigned). IsWished rest.wishes (assigned_pair x)) s.held.assigned d rest.wished d_in in
         (wish, wish_in, pair ∙ ap assigned_pair d_is))
@@ -219,7 +219,7 @@ module _ (laws : RestLaws) (now : ℕ) (s : State) (router : IsRouter s) (begun 
       are_advertised =
           subst (λ (view : PlainView). AreAdvertised view next.held.assigned rest.advertised) (sym seen_next)
           ((laws.advertised_same at s.held.assigned next.held.assigned rest.advertised left.assigned).0
-              ((laws.advertised_later before at s.held.assigned rest.advertised later).0 rest.are_advertised));
+          ((laws.advertised_later before at s.held.assigned rest.advertised later).0 rest.are_advertised));
       wished = wished_next;
       at_rest =
           subst (λ (id : NodeId). AreAtRest rest.advertised id.0 rest.wishes next.held.assigned) (sym left.id)

@@ -98,7 +98,7 @@ once one (l ∷ log) (m ∷ other) first a b stream events x y h k =
     let words : l.words ≡ m.words = h.1.words_are ∙ ap (λ (d : Done). d.words) same.1 ∙ sym k.1.words_are in
     let sends : l.sends ≡ m.sends = h.1.sends_are ∙ ap (λ (d : Done). d.sends) same.1 ∙ sym k.1.sends_are in
     let later : Begins (words_of other) (λ i. stream (length l.words + i)) =
-        subst (λ (n : ℕ). Begins (words_of other) (λ i. stream (n + i))) (ap length (sym words)) (begins_back m.words (words_of other) stream y) in
+    subst (λ (n : ℕ). Begins (words_of other) (λ i. stream (n + i))) (ap length (sym words)) (begins_back m.words (words_of other) stream y) in
     let rest = once one log other h.0 a b (λ i. stream (length l.words + i)) tails (begins_back l.words (words_of log) stream x) later h.2 (subst (λ (s : State). Leads other s b) (sym same.0) k.2) in
     (rest.0, λ i. same_logged l m moment event words sends i ∷ rest.1 i)
 

@@ -64,6 +64,9 @@ module _ (at : PlainSite) (now : ℕ) (event : NodeEvent) (of : PlainEvent) (don
       → (l : Logged) × (front : List Datagram) × CutSteps at now event l front (serving before.router waiting) (serving router after)
       × Adds l front told told_after before (record { router = router; log = log; sent = sent })
   cut_step h =
-      let part = subst (λ (os : List Outgoing). HandsPart (handed_of at os) waiting after before.sent sent) are h in
-      (entry_of now event done, part.front, record { entry = entered; sends = part.sends },
-          record { log = pushed; words = drew; sent = part.counts; bounded = record { arrived = arrived; sent = short } })
+      let part = subst (λ (os : List Outgoing). HandsPart (handed_of at os) waiting after before.sent sent) are h in (
+        entry_of now event done,
+        part.front,
+        record { entry = entered; sends = part.sends },
+        record { log = pushed; words = drew; sent = part.counts; bounded = record { arrived = arrived; sent = short } },
+      )

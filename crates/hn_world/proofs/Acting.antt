@@ -147,7 +147,7 @@ pub receiver_within : (asked : MailCopy → Member → Option ℕ) (copy : ℕ) 
     → copy_at w copy ≡ Some c → c.to.place < length w.members
 receiver_within asked copy w c accepted found =
     let accepts : of_router (asked c) (slice_get w.members c.to.place) ≡ None =
-        subst (λ (o : Option MailCopy). of_copy (λ c. of_router (asked c) (slice_get w.members c.to.place)) o ≡ None) found accepted in
+    subst (λ (o : Option MailCopy). of_copy (λ c. of_router (asked c) (slice_get w.members c.to.place)) o ≡ None) found accepted in
     let m = some_there 7 (asked c) (slice_get w.members c.to.place) accepts in
     slice_get_within w.members c.to.place m.0 m.1
 
@@ -181,8 +181,13 @@ module _ (copy : ℕ) (c : MailCopy) (told told_after : Option (ℕ → ℕ)) (b
           in_range = tt;
           fits = tt;
           between = taken copy c done;
-          does = record { mail = c; is_copy = (copy_there copy before c at).1; between = done;
-              acts = acts_at (λ m. m) c.to.place (arrival_of c) told told_after before plan h (λ m. m) notes refl noted; gives = refl };
+          does = record {
+            mail = c;
+            is_copy = (copy_there copy before c at).1;
+            between = done;
+            acts = acts_at (λ m. m) c.to.place (arrival_of c) told told_after before plan h (λ m. m) notes refl noted;
+            gives = refl;
+          };
           gives = ap (λ (cs : List MailCopy). record after { copies = cs }) (takes c stays_there)
               ∙ ap (λ (w : Parts). record w { copies = slice_set w.copies (copy - 1) (record c { waiting = false }) }) world;
         };
@@ -209,7 +214,7 @@ pub begun_step : (name : Name) (id : NodeId) (opened before : Parts) (limit now 
     (members : List Member) (published : List Publication) (trace : List Traced) (t : Traced) → opened ≡ before
     → refusal before (event.Router name id) ≡ None → id.0 < 2 ^ 32 → limit ≡ table_limit opened.version → now ≡ opened.moment → IsNew id limit now router
     → m ≡ record { name = name; running = true; router = router; attachments = [] } → p ≡ record { id = id; number = 1; body = router.own.body }
-        → t ≡ record { event = event.Router name id; words = [] }
+    → t ≡ record { event = event.Router name id; words = [] }
     → members ≡ opened.members ++ m ∷ [] → published ≡ opened.published ++ p ∷ [] → trace ≡ opened.trace ++ t ∷ []
     → Step (record { event = event.Router name id; words = [] }) [] before (record opened { members = members; published = published; trace = trace })
 begun_step name id opened before limit now router m p members published trace t same accepted fits sized at new is_member is_publication is_event joined added is_entered =
@@ -258,7 +263,7 @@ pub passed_step : (name : Name) (place : ℕ) (before : Parts) (m : Member) (mem
     → refusal before (event.Tick name) ≡ None
     → router_place (name_text name) before ≡ Some place → slice_get before.members place ≡ Some m → Happened before.moment Tick m.router (at_moment before.moment m.router) nothing
     → members ≡ slice_set before.members place (record m { router = at_moment before.moment m.router })
-        → t ≡ record { event = event.Tick name; words = [] } → trace ≡ before.trace ++ t ∷ [] → notes ≡ []
+    → t ≡ record { event = event.Tick name; words = [] } → trace ≡ before.trace ++ t ∷ [] → notes ≡ []
     → IsStep (event.Tick name) notes told told before (record before { members = members; trace = trace })
 passed_step name place before m members trace t notes told accepted found at happened moved is_event is_entered none =
     let entry : Traced = record { event = event.Tick name; words = [] } in

@@ -314,7 +314,7 @@ module _ (follow : EndpointsFollow) where
   attached_else (event.Deliver copy) words notes before after h all =
       subst AreAttached (sym h.gives)
       (attached_acts_at (λ m. m) h.mail.to.place (arrival_of h.mail) words notes before h.between h.acts
-          (λ m next at here follows. attached_same (arrival_of h.mail) m next (λ ends. refl) here follows) all)
+      (λ m next at here follows. attached_same (arrival_of h.mail) m next (λ ends. refl) here follows) all)
   attached_else (event.Drop copy) words notes before after h all = subst AreAttached (sym h.quietly.gives) all
   attached_else (event.Attach name endpoint link) words notes before after h all = absurd h
   attached_else (event.Detach name endpoint) words notes before after h all = absurd h

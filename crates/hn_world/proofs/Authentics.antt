@@ -146,8 +146,8 @@ module _ (laws : AuthenticLaws) where
       let more = bytes_more before.published (before.published ++ h.acts.done.published) (includes_front before.published h.acts.done.published) h.mail.bytes says in
       let then : BytesSayPublished h.between.published h.mail.bytes = subst (λ (w : Parts). BytesSayPublished w.published h.mail.bytes) (sym h.acts.gives) more in
       subst IsGenuineOr (sym h.gives) (genuine_taken copy h.mail h.between then
-          (genuine_at (λ m. m) (λ m. refl) h.mail.to.place (Arrive
-          (record { endpoint = h.mail.to.endpoint; from = h.mail.from; multicast = h.mail.multicast }) h.mail.bytes) words notes before h.between tt says h.acts sound (inl genuine)))
+      (genuine_at (λ m. m) (λ m. refl) h.mail.to.place (Arrive
+      (record { endpoint = h.mail.to.endpoint; from = h.mail.from; multicast = h.mail.multicast }) h.mail.bytes) words notes before h.between tt says h.acts sound (inl genuine)))
 
   genuine_dropped : (copy : ℕ) (words : List ℕ) (notes : List Note) (before after : Parts) → Drops copy words notes before after → IsGenuineOr before → IsGenuineOr after
   genuine_dropped copy words notes before after h (inr collide) = subst IsGenuineOr (sym h.quietly.gives) (inr collide)
@@ -159,8 +159,10 @@ module _ (laws : AuthenticLaws) where
   genuine_stopped name words notes before after h (inr collide) = subst IsGenuineOr (sym h.quietly.gives) (inr collide)
   genuine_stopped name words notes before after h (inl genuine) =
       let here : IsGenuine before.published h.member.router = all_at (λ (m : Member). IsGenuine before.published m.router) before.members h.place h.member h.is_member genuine.routers in
-      subst IsGenuineOr (sym h.quietly.gives) (inl (record { routers = All-set (λ (m : Member). IsGenuine before.published m.router) before.members h.place (stopped h.member) here genuine.routers;
-          copies = genuine.copies }))
+      subst IsGenuineOr (sym h.quietly.gives) (inl (record {
+        routers = All-set (λ (m : Member). IsGenuine before.published m.router) before.members h.place (stopped h.member) here genuine.routers;
+        copies = genuine.copies;
+      }))
 
   plainly : (w : Parts) (links : List Name) (moment : ℕ) (trace : List Traced) → IsGenuineOr w → IsGenuineOr (record w { links = links; moment = moment; trace = trace })
   plainly w links moment trace (inl genuine) = inl (record { routers = genuine.routers; copies = genuine.copies })
@@ -172,12 +174,12 @@ module _ (laws : AuthenticLaws) where
   genuine_by (event.Link name) words notes before after within fits h sound genuine = subst IsGenuineOr (sym h.gives) (plainly before (before.links ++ name ∷ []) before.moment before.trace genuine)
   genuine_by (event.Attach name endpoint link) words notes before after within fits h sound genuine =
       genuine_at (beside (event.Attach name endpoint link) before) (beside_keeps (event.Attach name endpoint link) before) h.place
-          (Attach endpoint) words notes before after fits tt h.acts sound genuine
+      (Attach endpoint) words notes before after fits tt h.acts sound genuine
   genuine_by (event.Detach name endpoint) words notes before after within fits h sound genuine =
       genuine_at (beside (event.Detach name endpoint) before) (beside_keeps (event.Detach name endpoint) before) h.place (Detach endpoint) words notes before after fits tt h.acts sound genuine
   genuine_by (event.External name prefix valid preferred) words notes before after within fits h sound genuine =
       genuine_at (beside (event.External name prefix valid preferred) before)
-          (beside_keeps (event.External name prefix valid preferred) before) h.place (External prefix valid preferred) words notes before after fits tt h.acts sound genuine
+      (beside_keeps (event.External name prefix valid preferred) before) h.place (External prefix valid preferred) words notes before after fits tt h.acts sound genuine
   genuine_by (event.Withdraw name prefix) words notes before after within fits h sound genuine =
       genuine_at (beside (event.Withdraw name prefix) before) (beside_keeps (event.Withdraw name prefix) before) h.place (Withdraw prefix) words notes before after fits tt h.acts sound genuine
   genuine_by (event.Caps name caps) words notes before after within fits h sound genuine =
@@ -214,7 +216,7 @@ module _ (laws : AuthenticLaws) where
           let last : IsFromWithin t.event = All-contains (λ (t : Traced). IsFromWithin t.event) (before.trace ++ t ∷ []) t entered_all (Contains-push before.trace t) in
           subst IsGenuineOr (sym step.gives)
           (plainly step.between step.between.links step.between.moment (step.between.trace ++ t ∷ [])
-              (genuine_by t.event t.words notes before step.between last step.fits step.does sound (kept front)))
+          (genuine_by t.event t.words notes before step.between last step.fits step.does sound (kept front)))
 
   kept_replay : (version : Version) (ts : List Traced) (w : Parts) → Replays version ts w → Kept w
   kept_replay version ts w h =

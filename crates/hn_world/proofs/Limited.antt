@@ -23,7 +23,7 @@ use Rattle.hn_world.specs.Mail.{copies_of}
 use Rattle.hn_world.specs.Replay.{Replays, IsSoundMember, IsSound}
 use Rattle.hn_world.specs.Routed.{routed}
 use Rattle.hn_world.specs.Step.{ActsAt, Does, FitsAt, beside, stopped}
-use Rattle.hn_world.specs.Within.{IsWithinLimits, AreWithinLimits}
+use Rattle.hn_world.specs.Within.{AreWithinLimits, RouterIsWithinLimits}
 use Rattle.hn_world.proofs.Copied.{copied, still_copied}
 use Rattle.hn_world.proofs.Onces.{Any}
 use Rattle.hn_world.proofs.Sounds.{StayLaws, KeepsRouters, beside_keeps, sound_step, replay_keeps, all_at}
@@ -49,7 +49,7 @@ module _ (laws : LimitLaws) where
       let here : IsSoundMember before.moment h.member = all_at (IsSoundMember before.moment) before.members place h.member h.is_member sound in
       let next : Member = record h.member { router = h.next } in
       let was : h.member.router.table.limit ≡ table_limit before.version =
-          all_at (λ (m : Member). m.router.table.limit ≡ table_limit before.version) before.members place h.member h.is_member limited.tables in
+      all_at (λ (m : Member). m.router.table.limit ≡ table_limit before.version) before.members place h.member h.is_member limited.tables in
       let limit : h.next.table.limit ≡ table_limit before.version = laws.limit before.moment event h.member.router h.next h.done h.happened ∙ was in
       let sends = laws.sends before.moment event h.member.router h.next h.done here.router here.past ranged h.happened in
       subst IsLimited (sym h.gives) (record {
@@ -75,7 +75,7 @@ module _ (laws : LimitLaws) where
       limited_at (beside (event.Detach name endpoint) before) (beside_keeps (event.Detach name endpoint) before) h.place (Detach endpoint) words notes before after fits h.acts sound limited
   limited_by (event.External name prefix valid preferred) words notes before after fits h sound limited =
       limited_at (beside (event.External name prefix valid preferred) before)
-          (beside_keeps (event.External name prefix valid preferred) before) h.place (External prefix valid preferred) words notes before after fits h.acts sound limited
+      (beside_keeps (event.External name prefix valid preferred) before) h.place (External prefix valid preferred) words notes before after fits h.acts sound limited
   limited_by (event.Withdraw name prefix) words notes before after fits h sound limited =
       limited_at (beside (event.Withdraw name prefix) before) (beside_keeps (event.Withdraw name prefix) before) h.place (Withdraw prefix) words notes before after fits h.acts sound limited
   limited_by (event.Caps name caps) words notes before after fits h sound limited =
@@ -86,7 +86,7 @@ module _ (laws : LimitLaws) where
       limited_at (beside (event.Addresses name list) before) (beside_keeps (event.Addresses name list) before) h.place (Addresses list) words notes before after fits h.acts sound limited
   limited_by (event.Stop name) words notes before after fits h sound limited =
       let here : h.member.router.table.limit ≡ table_limit before.version =
-          all_at (λ (m : Member). m.router.table.limit ≡ table_limit before.version) before.members h.place h.member h.is_member limited.tables in
+      all_at (λ (m : Member). m.router.table.limit ≡ table_limit before.version) before.members h.place h.member h.is_member limited.tables in
       subst IsLimited (sym h.quietly.gives) (record {
         tables = All-set (λ (m : Member). m.router.table.limit ≡ table_limit before.version) before.members h.place (stopped h.member) here limited.tables;
         datagrams = limited.datagrams;
@@ -99,15 +99,15 @@ module _ (laws : LimitLaws) where
   limited_by (event.Deliver copy) words notes before after fits h sound limited =
       let one : IsShort h.mail.bytes = all_at (λ (c : MailCopy). IsShort c.bytes) before.copies (copy - 1) h.mail h.is_copy limited.datagrams in
       let between = limited_at (λ m. m) (λ m. refl) h.mail.to.place
-          (Arrive (record { endpoint = h.mail.to.endpoint; from = h.mail.from; multicast = h.mail.multicast }) h.mail.bytes) words notes before h.between tt h.acts sound limited in
+      (Arrive (record { endpoint = h.mail.to.endpoint; from = h.mail.from; multicast = h.mail.multicast }) h.mail.bytes) words notes before h.between tt h.acts sound limited in
       subst IsLimited (sym h.gives) (record { tables = between.tables; datagrams = still_copied IsShort copy h.mail h.between one between.datagrams })
   limited_by (event.Drop copy) words notes before after fits h sound limited =
       let one : IsShort h.mail.bytes = all_at (λ (c : MailCopy). IsShort c.bytes) before.copies (copy - 1) h.mail h.is_copy limited.datagrams in
       subst IsLimited (sym h.quietly.gives) (record { tables = limited.tables; datagrams = still_copied IsShort copy h.mail before one limited.datagrams })
   limited_by (event.Inject name endpoint from multicast bytes) words notes before after fits h sound limited =
       limited_at (beside (event.Inject name endpoint from multicast bytes) before)
-          (beside_keeps (event.Inject name endpoint from multicast bytes) before) h.place
-          (Arrive (record { endpoint = endpoint; from = from; multicast = multicast }) bytes) words notes before after fits h.acts sound limited
+      (beside_keeps (event.Inject name endpoint from multicast bytes) before) h.place
+      (Arrive (record { endpoint = endpoint; from = from; multicast = multicast }) bytes) words notes before after fits h.acts sound limited
 
   limited_step : (t : Traced) (before after : Parts) → Any t before after → IsSound before × IsLimited before → IsSound after × IsLimited after
   limited_step t before after (notes, step) (sound, limited) =
@@ -121,7 +121,7 @@ module _ (laws : LimitLaws) where
 
 -- ---- all limits
 
-router_within : (version : Version) (s : State) → IsRouter s → s.table.limit ≡ table_limit version → IsWithinLimits version s
+pub router_within : RouterIsWithinLimits
 router_within version s router limit = record {
   nodes = let within = router.well.table.within in omega arith;
   bodies = All-weaker (λ (node : HeldNode). IsIntact node.stored) (λ (node : HeldNode). length node.stored.body ≤ 60000) (λ (node : HeldNode) is. is.short) s.table.entries router.well.table.intact;

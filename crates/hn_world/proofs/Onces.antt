@@ -118,7 +118,7 @@ module _ (laws : HasLaws) (stream : ℕ → ℕ) where
   one_step event v w m n before a b begins begun h k =
       let same = one_at event (routed event) v w m n before h.between k.between begins begun h.does k.does in
       let made : entered (record { event = event; words = v }) h.between ≡ entered (record { event = event; words = w }) k.between =
-          λ i. entered (record { event = event; words = same.words i }) (same.world i) in
+      λ i. entered (record { event = event; words = same.words i }) (same.world i) in
       record { words = same.words; notes = same.notes; world = h.gives ∙ made ∙ sym k.gives }
 
 -- ---- from a draw that tells its words

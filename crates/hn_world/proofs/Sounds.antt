@@ -85,7 +85,7 @@ sound_acts_at laws change keeps place event words notes before after ranged h al
     let moment : h.next.moment ≡ before.moment = laws.moment before.moment event h.member.router h.next h.done h.happened in
     let next : Member = record h.member { router = h.next } in
     subst IsSound (sym h.gives) (All-set (IsSoundMember before.moment) before.members place (change next)
-        (sound_changed before.moment change keeps next (record { router = router; past = omega arith })) all)
+    (sound_changed before.moment change keeps next (record { router = router; past = omega arith })) all)
 
 -- what an event changes beside a router leaves the router
 pub beside_keeps : (event : WEvent) (w : Parts) → KeepsRouters (beside event w)

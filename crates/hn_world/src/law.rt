@@ -7,7 +7,7 @@ ghost use Rattle.hn_world.specs.declared.parts.Parts.{Parts};
 ghost use Rattle.hn_world.specs.Names.{NamesDiffer};
 ghost use Rattle.hn_world.specs.Replay.{IsReplayed, IsSound, Always};
 ghost use Rattle.hn_world.specs.Step.{Step};
-ghost use Rattle.hn_world.specs.Within.{AreWithinLimits};
+ghost use Rattle.hn_world.specs.Within.{AreWithinLimits, RouterIsWithinLimits};
 ghost use Rattle.hn_world.specs.Authentic.{AuthenticUnlessInjected};
 ghost use Rattle.hn_world.specs.Leaves.{EqualHashesAgree};
 ghost use Rattle.hn_world.specs.Laws.{StepIsUnique, EachEventIsEntered, EachEventIsAStep, AgreementIsUnique, AtMostOneWorld, WorldHasItsTrace, WorldHasItsVersion, WorldIsSound, AlwaysAttached, CopiesHaveReceivers};
@@ -91,6 +91,13 @@ pub fn names_differ()
 /// Each copy goes to a router that is there.
 pub fn copies_have_receivers()
     ensures { CopiesHaveReceivers }
+{}
+
+/// A router, also one that is served by itself, is within the limits of a version whose limit its table has: so many other
+/// nodes with at most 60,000 bytes each, 16 endpoints with 64 peers each, 8 delegated prefixes, 64 addresses, 544
+/// assignments, and less than 36,864 bytes of its own.
+pub fn router_is_within_limits()
+    ensures { RouterIsWithinLimits }
 {}
 
 /// At each moment of a world's past its routers are within the limits of its version, and so is each datagram that was

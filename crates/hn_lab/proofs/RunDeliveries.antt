@@ -51,7 +51,7 @@ pub short_copy : (w : Parts) (copy : ℕ) (bytes : List ℕ) → AreWithinLimits
 short_copy w copy bytes within told accepted =
     let found = delivered_copy w copy accepted in
     let short : length found.0.bytes ≤ 65507 = All-contains (λ (c : MailCopy). length c.bytes ≤ 65507) w.copies found.0 within.datagrams
-        (contains_at w.copies (copy - 1) found.0 (copy_in w copy found.0 found.1)) in
+    (contains_at w.copies (copy - 1) found.0 (copy_in w copy found.0 found.1)) in
     subst (λ (b : List ℕ). length b ≤ 65507) (sym (bytes_of_copy bytes (copy_at w copy) found.0 told found.1)) short
 
 -- what is injected in the place of a copy
@@ -66,7 +66,7 @@ pub injected_for : (w : Parts) (c : MailCopy) (bytes : List ℕ) (info : CopyInf
 injected_for w c bytes info None told is = absurd cc
 injected_for w c bytes info (Some k) told is =
     subst (λ (x : MailCopy). injection_for w x bytes ≡ Some (event.Inject info.to info.endpoint info.from info.multicast bytes)) (same_Some k c is)
-        (injected_at bytes k info (slice_get w.members k.to.place) told)
+    (injected_at bytes k info (slice_get w.members k.to.place) told)
 
 -- ---- other bytes in the place of a copy
 
@@ -84,7 +84,7 @@ pub undropped : (copy : ℕ) (inject : WEvent) (other : Option WEvent) (stop : S
     → IsStopped (EventEnds (event.Drop copy)) stop p a → IsStopped (IsReplaced copy other) stop p a
 undropped copy inject other stop p a is stopped =
     subst (λ (o : Option WEvent). IsStopped (IsReplaced copy o) stop p a) (sym is)
-        (stopped_within (EventEnds (event.Drop copy)) (IsReplaced copy (Some inject)) stop p p a (λ at h. ([], inl h)) refl stopped)
+    (stopped_within (EventEnds (event.Drop copy)) (IsReplaced copy (Some inject)) stop p p a (λ at h. ([], inl h)) refl stopped)
 
 -- ---- a copy is conveyed
 

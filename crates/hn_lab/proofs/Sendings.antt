@@ -58,7 +58,7 @@ placed-insert s senders i within parts =
     in
     let back : drop i senders ≡ filter (λ t. nat_lt (sender_number s) (sender_number t)) senders =
     sym (filter-back (λ (t : Sending). nat_lt (sender_number s) (sender_number t)) senders i
-        (λ k d less within'. let low = leb-true _ _ (parts.0 k d (omega arith) less) in le-ltb (sender_number s) (sender_number (get_or senders k d)) low)
-        (λ k d past less. let high = leb-false _ _ (parts.1 k d past less) in lt-ltb (sender_number s) (sender_number (get_or senders k d)) high))
+    (λ k d less within'. let low = leb-true _ _ (parts.0 k d (omega arith) less) in le-ltb (sender_number s) (sender_number (get_or senders k d)) low)
+    (λ k d past less. let high = leb-false _ _ (parts.1 k d past less) in lt-ltb (sender_number s) (sender_number (get_or senders k d)) high))
     in
     cc

@@ -66,7 +66,7 @@ no_counted_form None word count chance words many first second third none = λ f
     let P : List ℕ → List ℕ → List ℕ → Type 0 = AreCountedWords form in
     let asks = counted_words form words many h in
     none form (subst (λ (w : List ℕ). P word count w) third (subst (λ (w : List ℕ). P word w (get_or words 3 [])) second
-        (subst (λ (w : List ℕ). P w (get_or words 2 []) (get_or words 3 [])) first asks)))
+    (subst (λ (w : List ℕ). P w (get_or words 2 []) (get_or words 3 [])) first asks)))
 no_counted_form (Some found) word count chance words many first second third none = tt
 
 -- ---- the numbers of a soak
@@ -101,7 +101,7 @@ take_all (suc n) (x ∷ xs) all = ap (λ (rest : List _). x ∷ rest) (take_all 
 -- six words and those after these
 pub six_first : {A : Type 0} (text : A → List ℕ) (words : List A) → 6 ≤ length words →
     map text words ≡ get_or (map text words) 0 [] ∷ get_or (map text words) 1 [] ∷ get_or (map text words) 2 [] ∷ get_or
-        (map text words) 3 [] ∷ get_or (map text words) 4 [] ∷ get_or (map text words) 5 [] ∷ map text (take (length words - 6) (drop 6 words))
+    (map text words) 3 [] ∷ get_or (map text words) 4 [] ∷ get_or (map text words) 5 [] ∷ map text (take (length words - 6) (drop 6 words))
 six_first text [] many = absurd (omega arith)
 six_first text (a ∷ []) many = absurd (omega arith)
 six_first text (a ∷ b ∷ []) many = absurd (omega arith)

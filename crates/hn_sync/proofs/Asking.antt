@@ -62,7 +62,7 @@ module _ (read : ReadLaws) (sole : IsSole IsRefresh) (of_entry : HeldIsOfAnEntry
               let same : NodeRequest id ≡ NodeRequest x = ap (λ (y : Saying). y.about) here ∙ about in
               let one : x ≡ id = cc in
               subst (λ (y : NodeId). (z : Saying) × Contains got.next z × (z.about ≡ NodeData y)) (sym one)
-                  (got.answered n (subst (Contains start.reach) one reached) (subst (λ (y : NodeId). Knows start y n) one knows))
+              (got.answered n (subst (Contains start.reach) one reached) (subst (λ (y : NodeId). Knows start y n) one knows))
           | inr later ↦ absurd (nothing_in s later)
         ];
       }
@@ -85,7 +85,7 @@ module _ (read : ReadLaws) (sole : IsSole IsRefresh) (of_entry : HeldIsOfAnEntry
       let one = by_about s.about s.item said r h.1.0 first (rule_of read from s.item r h.1.0 (can_ask s.about s.item first) h.1.1) still are all in
       let rests : h.0 ≡ h.1.0 = quiet_rests sole h.1.0 h.0 (still_quiet start (h.1.0).state one.still quiet) h.1.2 in
       let rest = replies asked (All-tail Asks s asked asks) one.next h.0 a (subst (λ (x : Running). IsStill start x.state) (sym rests) one.still)
-          (ap (λ (x : Running). x.answers) rests ∙ one.are) one.all h.2 in
+      (ap (λ (x : Running). x.answers) rests ∙ one.are) one.all h.2 in
       record {
         still = rest.still;
         next = rest.next;

@@ -74,7 +74,7 @@ module _ (laws : GoingLaws) (here there : Target) (link : ℕ) (one two : Member
       let far = let within = slice_get_within w.members there.place two h.is_two in let few = few_routers w h.replayed in near there (omega (arith, within, few)) h.there_fits in
       question_arrives laws.turns w.moment origin two.router.id there.endpoint one.router next done id_fits h.there_fits refl h.router_one.well.ports h.knows_one
       (has_arrived laws.one_list laws.no_fault w.moment origin (datagram_of two.router.id there.endpoint (request ∷ [])) _ one.router next done far
-          (known_attached here.endpoint two.router.id there.endpoint one.router.ports h.knows_one)
+      (known_attached here.endpoint two.router.id there.endpoint one.router.ports h.knows_one)
       (question_read two.router.id there.endpoint id_fits h.there_fits) happened) router
 
   pub pair_of : (next : State) (done : Done) (q : IsQuestioned w.moment origin one.router next done) → IsPair here there link q.start two.router
@@ -120,11 +120,11 @@ module _ (laws : GoingLaws) (here there : Target) (link : ℕ) (one two : Member
       let ports = λ (x : Member). λ (there_x : Contains w.members x). (All-contains (IsSoundMember w.moment) w.members x (laws.world.sound w h.replayed) there_x).router.well.ports in
       let q_there : Contains (on_link link 0 w.members) there =
       (let got = on_link_there link 0 w.members there.place two there.endpoint h.is_two
-          (known_there there.endpoint one.router.id here.endpoint two.router.ports h.knows_other) (on_from_link link two there.endpoint h.link_two) in
+      (known_there there.endpoint one.router.id here.endpoint two.router.ports h.knows_other) (on_from_link link two there.endpoint h.link_two) in
       let zero_place : 0 + there.place ≡ there.place = omega arith in
       subst (λ (k : ℕ). Contains (on_link link 0 w.members) (record { place = k; endpoint = there.endpoint })) zero_place got) in
       let mail : IsSent w.members here there one link true h.link_one q_there ports h.there_fits q.start.id q.said q.datagrams =
-          sent w.members here there one link true h.link_one q_there ports h.there_fits q.start.id q.said q.datagrams q.are_said in
+      sent w.members here there one link true h.link_one q_there ports h.there_fits q.start.id q.said q.datagrams q.are_said in
       let more : copies_of w.members here.place acts.member acts.done.sends ≡ map copy_of mail.letters = (λ i. copies_of w.members here.place (member i) (q.sends i)) ∙ mail.copies in
       record {
         moment = q.moment;
@@ -162,8 +162,10 @@ module _ (laws : GoingLaws) (here there : Target) (link : ℕ) (one two : Member
           each = λ roomy n given apart.
               let x = q.each n.id n given.reached given.knows in
               let put = mail.each x.0 x.1 in
-              inr (before_same two.router two.router (record two.router { moment = w.moment }) n refl (before_self two.router n),
-                  inl (put.0, put.1, inl ((mail.good put.0 put.1).side, (x.0, put.2, inl x.2))));
+              inr (
+                before_same two.router two.router (record two.router { moment = w.moment }) n refl (before_self two.router n),
+                inl (put.0, put.1, inl ((mail.good put.0 put.1).side, (x.0, put.2, inl x.2))),
+              );
           owned = elim (own_said q.start q.fit) [
             | inl (x, (n, reached, knows, own)) ↦
                 let got = q.each x n reached knows in
@@ -178,8 +180,13 @@ module _ (laws : GoingLaws) (here there : Target) (link : ℕ) (one two : Member
                     lists = λ l new. ((mail.good l new).side, ascends_part l.group q.said (mail.good l new).part q.ascends);
                     one = put.0;
                     there_one = put.1;
-                    own = (n, record { reached = subst (Contains q.start.reach) named reached; knows = subst (λ (y : NodeId). Knows q.start y n) named knows }, ap (λ (y : NodeId). y.0) knows.named
-                        ∙ own, (got.0, put.2, got.2 ∙ ap NodeState named));
+                    own = (
+                      n,
+                      record { reached = subst (Contains q.start.reach) named reached; knows = subst (λ (y : NodeId). Knows q.start y n) named knows },
+                      ap (λ (y : NodeId). y.0) knows.named
+                          ∙ own,
+                      (got.0, put.2, got.2 ∙ ap NodeState named),
+                    );
                   }),
                 )
             | inr none ↦ inl (λ n given own. absurd (none n given own))

@@ -165,7 +165,7 @@ module _ (follow : EndpointsFollow) (t peer : Target) (multicast : Bool) (bytes 
       by_link None k = absurd (nothing_in c k)
       by_link (Some link) k =
           let made = Contains-from_map (copy_for (record { place = t.place; endpoint = send.endpoint }) (Some (address_of peer)) send.bytes)
-              (filter (gets (record { place = t.place; endpoint = send.endpoint }) (Some (address_of peer))) (on_link link 0 before.members)) c k in
+          (filter (gets (record { place = t.place; endpoint = send.endpoint }) (Some (address_of peer))) (on_link link 0 before.members)) c k in
           let got = from_filter (gets (record { place = t.place; endpoint = send.endpoint }) (Some (address_of peer))) (on_link link 0 before.members) made.0 made.1 in
           let same = has_this ((address_of made.0).port == (address_of peer).port) (address_of made.0).ip (address_of peer).ip got.1 in
           let is_peer = same_address made.0 peer (target_fits link 0 before.members made.0 ports got.0) peer_fits same in (
@@ -180,7 +180,7 @@ module _ (follow : EndpointsFollow) (t peer : Target) (multicast : Bool) (bytes 
     | inr new ↦
         let sent = flat_there (copies_of_send before.members t.place h.member) h.done.sends c new in
         let back = All-contains (GoesBack (record { endpoint = t.endpoint; from = address_of peer; multicast = multicast })) h.done.sends sent.0
-            (answers_go_back before.moment (record { endpoint = t.endpoint; from = address_of peer; multicast = multicast }) bytes h.member.router h.next h.done h.happened) sent.1 in
+        (answers_go_back before.moment (record { endpoint = t.endpoint; from = address_of peer; multicast = multicast }) bytes h.member.router h.next h.done h.happened) sent.1 in
         inr (copy_goes_back sent.0 c back sent.2)
   ]
 
@@ -226,12 +226,12 @@ module _ (laws : HasLaws) (here there : Target) (count : ℕ) where
         let acts : ActsAt (λ m. m) t.place (Arrive (record { endpoint = t.endpoint; from = address_of peer; multicast = h.mail.multicast }) h.mail.bytes) words notes before h.between
         = subst (λ (x : Target). ActsAt (λ m. m) x.place (Arrive (record { endpoint = x.endpoint; from = address_of peer; multicast = h.mail.multicast }) h.mail.bytes) words notes before h.between) to
         (subst (λ (x : Addr). ActsAt (λ m. m) h.mail.to.place
-            (Arrive (record { endpoint = h.mail.to.endpoint; from = x; multicast = h.mail.multicast }) h.mail.bytes) words notes before h.between) from h.acts) in
+        (Arrive (record { endpoint = h.mail.to.endpoint; from = x; multicast = h.mail.multicast }) h.mail.bytes) words notes before h.between) from h.acts) in
         let ports = ports_in before replayed in
         let fits = up_fits before.members peer ports up in
         let made : after ≡ taken n h.mail (acted (λ m. m) t.place acts.member acts.next acts.done before) = h.gives ∙ ap (λ (w : Parts). taken n h.mail w) acts.gives in
         let all : Holds (slice_set before.members t.place (record acts.member { router = acts.next }))
-            (slice_set (before.copies ++ copies_of before.members t.place acts.member acts.done.sends) (n - 1) (record h.mail { waiting = false })) = record {
+        (slice_set (before.copies ++ copies_of before.members t.place acts.member acts.done.sends) (n - 1) (record h.mail { waiting = false })) = record {
           one = up_then laws.endpoints t peer h.mail.multicast h.mail.bytes words notes before h.between ports fits acts here holds.one;
           other = up_then laws.endpoints t peer h.mail.multicast h.mail.bytes words notes before h.between ports fits acts there holds.other;
           news = λ k c since at. elim (set_cases (before.copies ++ copies_of before.members t.place acts.member acts.done.sends) (n - 1) k c (record h.mail { waiting = false }) at) [
@@ -337,7 +337,7 @@ module _ (laws : HasLaws) (a b : Name) (code : ℕ) (before : Parts) (replayed :
         } in
         let fits = up_fits before.members asker ports other in
         let all : Holds laws asked_at asker (length before.copies)
-            (slice_set before.members does_ask.place (record acts.member { router = acts.next })) (before.copies ++ copies_of before.members does_ask.place acts.member acts.done.sends) = record {
+        (slice_set before.members does_ask.place (record acts.member { router = acts.next })) (before.copies ++ copies_of before.members does_ask.place acts.member acts.done.sends) = record {
           one = up_then laws.endpoints asked_at asker false bytes t.words notes before step.between ports fits acts asked_at one;
           other = up_then laws.endpoints asked_at asker false bytes t.words notes before step.between ports fits acts asker other;
           news = λ k c since at. elim (copies_go_back laws.endpoints asked_at asker false bytes t.words notes before step.between ports fits acts k c at) [

@@ -112,7 +112,7 @@ module _ (laws : GoingLaws) (here there : Target) (link : ℕ) (start before : S
   copies_taken n front l tail new copies more c size is is_more =
       let place : n - 1 ≡ length front = omega (arith, size) in
       (λ i. slice_set (is i ++ is_more i) (place i) c) ∙ (set_after front l.copy (map copy_of tail) (map copy_of new) c
-          ∙ ap (λ (xs : List MailCopy). (front ++ c ∷ []) ++ xs) (sym (map_letters tail new)))
+      ∙ ap (λ (xs : List MailCopy). (front ++ c ∷ []) ++ xs) (sym (map_letters tail new)))
 
   -- the letter that is delivered
   pub first_letter : (n : ℕ) (w : Parts) (h : IsGoing n w) (mail : MailCopy) → slice_get w.copies (n - 1) ≡ Some mail → (l : Letter) × ((tail : List Letter) × (h.queue ≡ l ∷ tail) × (mail ≡ l.copy))
@@ -174,7 +174,7 @@ module _ (laws : GoingLaws) (here there : Target) (link : ℕ) (start before : S
         → IsReplied start (record { endpoint = here.endpoint; from = address_of there; multicast = false }) l.group next done
     asked_then letter next done happened =
         requests_arrive laws.turns start pair.fit pair.quiet w.moment
-            (record { endpoint = here.endpoint; from = address_of there; multicast = false }) before.id there.endpoint l.group h.one.router next done h.moment
+        (record { endpoint = here.endpoint; from = address_of there; multicast = false }) before.id there.endpoint l.group h.one.router next done h.moment
         pair.id_fits pair.there_fits refl (ports_of w replayed h.one (contains_at w.members here.place h.one h.is_one)).ascending knows_one letter.all h.still
         (has_arrived laws.one_list laws.no_fault w.moment (record { endpoint = here.endpoint; from = address_of there; multicast = false }) l.copy.bytes _ h.one.router next done
         (near_at w replayed there h.two h.is_two pair.there_fits) (known_attached here.endpoint before.id there.endpoint h.one.router.ports knows_one) letter.says happened)
@@ -182,11 +182,11 @@ module _ (laws : GoingLaws) (here there : Target) (link : ℕ) (start before : S
     pub taught_then : ToAsker here there start before l → l.to_asker ≡ true → (next : State) (done : Done) → next.id ≡ before.id
         → Happened w.moment (Arrive (record { endpoint = there.endpoint; from = address_of here; multicast = false }) l.copy.bytes) h.two.router next done
         → IsTaught laws.turns start before before.ports (PendingIn here there start before tail)
-            (WaitingIn here there start before tail) pair.fit pair.table pair.up (record { endpoint = there.endpoint; from = address_of here; multicast = false }) next done
+        (WaitingIn here there start before tail) pair.fit pair.table pair.up (record { endpoint = there.endpoint; from = address_of here; multicast = false }) next done
     taught_then letter goes next done named happened =
         states_arrive laws.turns start before before.ports (PendingIn here there start before tail) (WaitingIn here there start before tail) pair.fit pair.table pair.up w.moment
         (record { endpoint = there.endpoint; from = address_of here; multicast = false }) start.id here.endpoint l.group h.two.router next done
-            pair.fit.numbered.own_id pair.here_fits refl pair.knows_other letter.all
+        pair.fit.numbered.own_id pair.here_fits refl pair.knows_other letter.all
         (opened here there start before laws.turns.tables.of_entry laws.turns.tables.marks l tail (begun_at w.moment h.two.router) goes refl learns_here) named
         (has_arrived laws.one_list laws.no_fault w.moment (record { endpoint = there.endpoint; from = address_of here; multicast = false }) l.copy.bytes _ h.two.router next done
         (near_at w replayed here h.one h.is_one pair.here_fits) (known_attached there.endpoint start.id here.endpoint h.two.router.ports knows_two) letter.says happened)

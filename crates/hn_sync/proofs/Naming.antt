@@ -47,7 +47,7 @@ own_is nodes own s (inr (h, inr (k, inr (l, inr (m, inr (o, inr (p, inr (q, inr 
 -- of the own identifier, the state is stale, or it is a claim
 pub own_answer : (nodes : Nodes) (own : OwnLeaf) (with_data : Bool) (n : Entry) (how : Took) → IsEntry n → n.id.0 ≡ own.id.0 → IsAnswer nodes own (state_said with_data n) how
     → (IsStale (Some (record { number = own.number; hash = own.hash })) (state_of n) × (how ≡ took.Stale))
-        ⊎ ((¬ (IsStale (Some (record { number = own.number; hash = own.hash })) (state_of n))) × (how ≡ took.Own))
+    ⊎ ((¬ (IsStale (Some (record { number = own.number; hash = own.hash })) (state_of n))) × (how ≡ took.Own))
 unfolding IsAnswer
 own_answer nodes own with_data n how fits is = by_line
   where
@@ -56,7 +56,7 @@ own_answer nodes own with_data n how fits is = by_line
 
     by_line : IsAnswer nodes own (state_said with_data n) how
         → (IsStale (Some (record { number = own.number; hash = own.hash })) (state_of n) × (how ≡ took.Stale))
-            ⊎ ((¬ (IsStale (Some (record { number = own.number; hash = own.hash })) (state_of n))) × (how ≡ took.Own))
+        ⊎ ((¬ (IsStale (Some (record { number = own.number; hash = own.hash })) (state_of n))) × (how ≡ took.Own))
     by_line (inl h) = inl (subst (λ (o : Option Part). IsStale o (state_said with_data n)) known h.0, h.1)
     by_line (inr (h, inl k)) = absurd (let clash : None ≡ Some (record { number = own.number; hash = own.hash }) = sym k.0.0 ∙ known in cc)
     by_line (inr (h, inr (k, inl l))) = absurd (let long = l.0 in let less = said_short with_data n fits in omega arith)
@@ -182,7 +182,7 @@ renamed_state me s rest carried id r b about node rule h = by_how rule.how refl
 
         by_taken : ((rule.how ≢ took.Ask) × (b ≡ took_noted carried rule.how (record r { state = record r.state { table = rule.table } })))
             ⊎ ((rule.how ≡ took.Ask) × (b ≡ with_answer (NodeRequest (record { 0 = carried.node })) (RequestNode carried.node [])
-                (took_noted carried took.Ask (record r { state = record r.state { table = rule.table } })))) → IsRenamed me b rest
+            (took_noted carried took.Ask (record r { state = record r.state { table = rule.table } })))) → IsRenamed me b rest
         by_taken (inl k) = passed b (ap (λ (x : Running). x.state.id) k.1) (ap (λ (x : Running). x.state.ports) k.1)
             (free_rest b (ap (λ (x : Running). x.state.id) k.1) (ap (λ (x : Running). x.state.claimed) k.1))
         by_taken (inr k) = passed b (ap (λ (x : Running). x.state.id) k.1) (ap (λ (x : Running). x.state.ports) k.1)

@@ -49,7 +49,7 @@ else_few (event.Router name id) words notes before after accepted none h few =
     let less = below_most 0 (length before.members) (most_routers before.version) _ _ accepted in
     let top = most before.version in
     let made : length after.members ≡ length (before.members ++ record { name = name; running = true; router = h.router; attachments = [] } ∷ []) =
-        ap (λ (w : Parts). length w.members) h.quietly.gives in
+    ap (λ (w : Parts). length w.members) h.quietly.gives in
     let more = length-append before.members (record { name = name; running = true; router = h.router; attachments = [] } ∷ []) in
     omega (arith, less, top, made, more)
 else_few (event.Link name) words notes before after accepted none h few = subst (λ (w : Parts). length w.members ≤ 128) (sym h.gives) few

@@ -124,8 +124,17 @@ refresh_by r b c a reaching rehashed number own done is sends items young kept =
         (record r { state = record r.state { number = number; own = own; reach = reaching.reach; table = loss_marked reaching.reach r.state.moment r.state.table }; done = done })
     put e = ap (λ (x : Running). let y : Running = record x { state = record x.state { reach = reaching.reach; table = loss_marked reaching.reach x.state.moment x.state.table } } in y) e
 
-    gives : a ≡ record r { state = record r.state { number = number; own = own; reach = reaching.reach;
-        table = loss_marked reaching.reach r.state.moment r.state.table; net = a.state.net; ports = a.state.ports }; done = rehashed.done }
+    gives : a ≡ record r {
+      state = record r.state {
+        number = number;
+        own = own;
+        reach = reaching.reach;
+        table = loss_marked reaching.reach r.state.moment r.state.table;
+        net = a.state.net;
+        ports = a.state.ports;
+      };
+      done = rehashed.done;
+    }
     gives = rehashed.gives ∙ ap (λ (x : Running). let y : Running = record x { state = record x.state { net = a.state.net; ports = a.state.ports }; done = rehashed.done } in y)
         (reaching.gives ∙ put is)
 

@@ -92,7 +92,7 @@ module _ (of_entry : HeldIsOfAnEntry) (start : State) (fit : IsFit start) where
         | inl k ↦
             let state : (h.0).state ≡ r.state = ap (λ (x : Running). x.state) h.1 ∙ some_state (NodeState id) _ r in
             let rest = states ids (λ x there. within x (Contains-tail id ids x there)) k.2.next h.0 a (subst (IsStill start) (sym state) still)
-                (ap (λ (x : Running). x.answers) h.1 ∙ k.2.are) k.2.all h.2 in
+            (ap (λ (x : Running). x.answers) h.1 ∙ k.2.are) k.2.all h.2 in
             record {
               state = rest.state ∙ state;
               next = rest.next;
@@ -122,7 +122,7 @@ module _ (of_entry : HeldIsOfAnEntry) (start : State) (fit : IsFit start) where
         | inr k ↦
             let same : h.0 ≡ r = h.1 ∙ k.1 in
             let rest = states ids (λ x there. within x (Contains-tail id ids x there)) said h.0 a
-                (subst (λ (x : Running). IsStill start x.state) (sym same) still) (ap (λ (x : Running). x.answers) same ∙ are) all h.2 in
+            (subst (λ (x : Running). IsStill start x.state) (sym same) still) (ap (λ (x : Running). x.answers) same ∙ are) all h.2 in
             record {
               state = rest.state ∙ ap (λ (x : Running). x.state) same;
               next = rest.next;
@@ -139,7 +139,7 @@ module _ (of_entry : HeldIsOfAnEntry) (start : State) (fit : IsFit start) where
 
   pub network_requested : (said : List Saying) (r a : Running) → IsStill start r.state → AnswersAre r said → All (Says start) said → IsNetworkRequest r a
       → (first : List Saying) × ((s : Saying) → Contains said s → Contains first s)
-          × ((said ≡ []) → first ≡ record { about = NetworkState; item = item.NetworkState start.net [] } ∷ []) × States start.reach first r a
+      × ((said ≡ []) → first ≡ record { about = NetworkState; item = item.NetworkState start.net [] } ∷ []) × States start.reach first r a
   network_requested said r a still are all h =
       let same_net : r.state.net ≡ start.net = ap (λ (s : State). s.net) still.gives in
       let same_reach : r.state.reach ≡ start.reach = ap (λ (s : State). s.reach) still.gives in

@@ -79,7 +79,7 @@ module _ (of_entry : HeldIsOfAnEntry) (before : State) (reach : List NodeId) whe
       let first : length (ids_of_held s.table.entries) ≡ length s.table.entries = length-map s.table.entries (λ (n : HeldNode). n.id.0) in
       let second : length whole ≡ length before.table.entries + length (filter (λ (y : NodeId). is_news before y && not (y.0 == x.0)) reach)
       = length-append (ids_of_held before.table.entries) _ ∙ (λ i.
-          length-map before.table.entries (λ (n : HeldNode). n.id.0) i + length-map (filter (λ (y : NodeId). is_news before y && not (y.0 == x.0)) reach) (λ (y : NodeId). y.0) i) in
+      length-map before.table.entries (λ (n : HeldNode). n.id.0) i + length-map (filter (λ (y : NodeId). is_news before y && not (y.0 == x.0)) reach) (λ (y : NodeId). y.0) i) in
       let less = fewer (is_news before) (λ (y : NodeId). not (y.0 == x.0)) reach x there news (ap not (eq-eqb x.0 x.0 refl)) in
       omega (arith, longest, first, second, less, room, limit, full)
     where
@@ -108,5 +108,5 @@ module _ (of_entry : HeldIsOfAnEntry) (before : State) (reach : List NodeId) whe
       → AsBefore before s n → (held s.table.entries n.id.0 ≡ None) → length s.table.entries ≢ s.table.limit
   room_here s n table limit room both there other (NoneHeld was is) none =
       has_room s n.id table limit room both there (both_true (not (n.id.0 == before.id.0)) (is_none (held before.table.entries n.id.0))
-          (ap not (ne_eqb n.id.0 before.id.0 other)) (ap (λ (o : Option Stored). is_none o) was)) none
+      (ap not (ne_eqb n.id.0 before.id.0 other)) (ap (λ (o : Option Stored). is_none o) was)) none
   room_here s n table limit room both there other (SomeHeld stored was lost is) none = absurd (let clash : None ≡ Some (record stored { lost = lost }) = sym none ∙ is in cc)

@@ -46,7 +46,7 @@ links_signed [] = refl
 links_signed (port ∷ ports) =
     let rest = links_signed ports in
     let one : links_at port ≡ links_by (sign port) = sym (map_map who
-        (λ (peer : NodeId × EpId). let l : PeerLink = record { endpoint = port.id; peer = peer.0; peer_endpoint = peer.1 } in l) port.peers) in
+    (λ (peer : NodeId × EpId). let l : PeerLink = record { endpoint = port.id; peer = peer.0; peer_endpoint = peer.1 } in l) port.peers) in
     cc
 
 pub links_from_signs : (ports others : List Port) → signs ports ≡ signs others → links_of ports ≡ links_of others

@@ -116,7 +116,7 @@ pub record IsQuestioned (now : ℕ) (from : Origin) (s next : State) (done : Don
 pub question_arrives : TurnLaws → (now : ℕ) (from : Origin) (node : NodeId) (endpoint : EpId) (s next : State) (done : Done) → node.0 < 2 ^ 32
     → endpoint.0 < 2 ^ 32 → from.multicast ≡ false → ArePorts s.ports
     → knows_at from.endpoint node endpoint s.ports ≡ true → HasArrived now from (sender_tlv node endpoint ∷ map tlv_said (question ∷ [])) s next done
-        → IsRouter next → IsQuestioned now from s next done
+    → IsRouter next → IsQuestioned now from s next done
 question_arrives laws now from node endpoint s next done fits too unicast ports knows h router =
     let r1 : Running = h.walked.0 in
     let b1 : Running = h.walked.1.0 in
@@ -196,7 +196,7 @@ requests_arrive laws start fit quiet now from node endpoint asked s next done mo
     let same : r1 ≡ b1 = quiet_rests laws.sole b1 r1 (still_quiet start b1.state still_b1 quiet) h.walked.1.2 in
     let none : AnswersAre r1 [] = ap (λ (x : Running). x.answers) same ∙ ap (λ (x : Running). x.answers) heard.gives in
     let got = replies laws.read laws.sole laws.entries.of_entry start fit quiet from asked asks [] r1 h.last
-        (subst (λ (x : Running). IsStill start x.state) (sym same) still_b1) none (All-nil (Says start)) h.walked.2 in
+    (subst (λ (x : Running). IsStill start x.state) (sym same) still_b1) none (All-nil (Says start)) h.walked.2 in
     let same_id : (h.last).state.id ≡ start.id = ap (λ (x : State). x.id) got.still.gives in
     record {
       still = subst (IsStill start) (sym h.is_next) (record {

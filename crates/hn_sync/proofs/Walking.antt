@@ -110,8 +110,13 @@ module _ (laws : TableLaws) (start before : State) (ports : List Port) (Elsewher
               → ((old : Stored) × (held before.table.entries id ≡ Some old)) ⊎ ((x : NodeId) × Contains start.reach x × (x.0 ≡ id) × (is_news before x ≡ true))
           by_before (Some old) some same = inl (old, ap (held before.table.entries) same ∙ some)
           by_before None none same =
-              inr (n.id, given.reached, sym same, both_true (not (n.id.0 == before.id.0)) (is_none (held before.table.entries n.id.0))
-                  (ap not (ne_eqb n.id.0 before.id.0 other)) (ap (λ (o : Option Stored). is_none o) none))
+              inr (
+                n.id,
+                given.reached,
+                sym same,
+                both_true (not (n.id.0 == before.id.0)) (is_none (held before.table.entries n.id.0))
+                    (ap not (ne_eqb n.id.0 before.id.0 other)) (ap (λ (o : Option Stored). is_none o) none),
+              )
 
       not_own : n.id.0 ≢ r.state.id.0
       not_own same = other (same ∙ ap (λ (x : NodeId). x.0) h.named)
@@ -132,7 +137,7 @@ module _ (laws : TableLaws) (start before : State) (ports : List Port) (Elsewher
           of_this : IsRepaired before r.state n ⊎ (AsBefore before r.state n × Hope (s ∷ rest) h.said n) → Each_after n
           of_this (inl settled) =
               inl (stays_settled before laws.put_one laws.of_entry n given.knows.fits with_data r.state tabled.state
-                  (own_leaf r.state) r.state.moment rule.table rule.how rule.accepts refl not_own h.table settled)
+              (own_leaf r.state) r.state.moment rule.table rule.how rule.accepts refl not_own h.table settled)
           of_this (inr waits) = elim (settles before laws.put_one laws.of_entry n given.knows.fits with_data r.state tabled.state
               (own_leaf r.state) r.state.moment rule.table rule.how rule.accepts refl not_own before_table
               (room_here laws.of_entry before start.reach r.state n h.table h.limit room h.both given.reached other waits.0) waits.0) [
@@ -143,10 +148,13 @@ module _ (laws : TableLaws) (start before : State) (ports : List Port) (Elsewher
           of_others : m.id.0 ≢ n.id.0 → IsRepaired before r.state m ⊎ (AsBefore before r.state m × Hope (s ∷ rest) h.said m) → Each_after m
           of_others apart (inl settled) =
               inl (settled_same before r.state tabled.state m
-                  (laws.others r.state.table (own_leaf r.state) (state_said with_data n) r.state.moment rule.table rule.how m.id.0 rule.accepts apart) settled)
+              (laws.others r.state.table (own_leaf r.state) (state_said with_data n) r.state.moment rule.table rule.how m.id.0 rule.accepts apart) settled)
           of_others apart (inr waits) =
-              inr (before_same before r.state tabled.state m
-                  (laws.others r.state.table (own_leaf r.state) (state_said with_data n) r.state.moment rule.table rule.how m.id.0 rule.accepts apart) waits.0, inl (other_rest m apart waits.1))
+              inr (
+                before_same before r.state tabled.state m
+                    (laws.others r.state.table (own_leaf r.state) (state_said with_data n) r.state.moment rule.table rule.how m.id.0 rule.accepts apart) waits.0,
+                inl (other_rest m apart waits.1),
+              )
 
       owned_after : IsOwned laws.of_entry laws.marks start before ports Elsewhere Later tabled.state rest
       owned_after = by_owned (owned_rest laws.of_entry laws.marks start before ports Elsewhere Later s rest r.state
@@ -214,8 +222,18 @@ module _ (laws : TableLaws) (start before : State) (ports : List Port) (Elsewher
           by_taken (inr k) =
               let asked = learnt_asked k.0 in
               subst (λ (x : Running). Learnt x rest) (sym k.1)
-                  (record { named = asked.named; signed = asked.signed; table = asked.table; limit = asked.limit; both = asked.both;
-                  said = asked.said; are = asked.are; all = asked.all; each = asked.each; owned = asked.owned })
+              (record {
+                named = asked.named;
+                signed = asked.signed;
+                table = asked.table;
+                limit = asked.limit;
+                both = asked.both;
+                said = asked.said;
+                are = asked.are;
+                all = asked.all;
+                each = asked.each;
+                owned = asked.owned;
+              })
           by_taken (inl k) = subst (λ (x : Running). Learnt x rest) (sym k.1) (noted_learnt tabled (without_ask k.0))
 
     -- the state is of the own identifier
@@ -285,7 +303,7 @@ module _ (laws : TableLaws) (start before : State) (ports : List Port) (Elsewher
               let published : IsPublished b.state = subst (λ (x : Running). IsPublished x.state) (sym gives) (record { same = sym items; young = omega (arith, born) }) in
               let stale = claimed_stale b.state.number n.number b.state.own.hash (hash_of n.body) given.knows.fits.number_fits number in
               inl (stays b (ap (λ (x : Running). x.state.id) gives) (ap (λ (x : Running). signs x.state.ports) gives)
-                  (ap (λ (x : Running). x.state.table) gives ∙ table) (ap (λ (x : Running). x.answers) gives)
+              (ap (λ (x : Running). x.state.table) gives ∙ table) (ap (λ (x : Running). x.answers) gives)
               (inl (λ m m_given m_own. (published, safe_by b.state.number b.state.own.hash stale m m_given m_own))))
           by_claim up_rest (inr k) =
               let gives = k.publishes.gives in
@@ -327,12 +345,12 @@ module _ (laws : TableLaws) (start before : State) (ports : List Port) (Elsewher
         let named : says.0.id ≡ id = says.2.named in
         let given : Given says.0 = record { reached = subst (Contains start.reach) (sym named) says.1; knows = subst (λ (x : NodeId). Knows start x says.0) (sym named) says.2 } in
         state_learnt (record { about = NodeState id; item = i }) false says.0 given (inl (ap NodeState (sym named), refl)) rest r b h
-            (subst (λ (j : PlainItem). IsItemRule from j r b) says.3 rule) published
+        (subst (λ (j : PlainItem). IsItemRule from j r b) says.3 rule) published
     one_learnt (NodeData id) i rest r b says published h rule =
         let named : says.0.id ≡ id = says.2.named in
         let given : Given says.0 = record { reached = subst (Contains start.reach) (sym named) says.1; knows = subst (λ (x : NodeId). Knows start x says.0) (sym named) says.2 } in
         state_learnt (record { about = NodeData id; item = i }) true says.0 given (inr (ap NodeData (sym named), refl)) rest r b h
-            (subst (λ (j : PlainItem). IsItemRule from j r b) says.3 rule) published
+        (subst (λ (j : PlainItem). IsItemRule from j r b) says.3 rule) published
     one_learnt NetworkRequest i rest r b says published h rule = absurd says
     one_learnt (NodeRequest id) i rest r b says published h rule = absurd says
 
@@ -345,7 +363,7 @@ module _ (laws : TableLaws) (start before : State) (ports : List Port) (Elsewher
         let kind = h.kinds s (Contains-head s items) in
         let said = subst (λ (o : Subject). IsSaidOf start o s.item) kind.1 first in
         let passed = renamed_state before.id s items (state_said false said.0) kind.0 r each.1.0 kind.1 (ap (λ (x : NodeId). x.0) said.2.named)
-            (subst (λ (j : PlainItem). IsItemRule from j r each.1.0) said.3 rule) h in
+        (subst (λ (j : PlainItem). IsItemRule from j r each.1.0) said.3 rule) h in
         renamed_walk items (All-tail (Says start) s items says) each.0 a (renamed_refreshed before.id each.1.0 each.0 items passed each.1.2) each.2
 
     pub walk : (items : List Saying) → All (Says start) items → (r a : Running) → IsPublished r.state → Learnt r items → Each (λ tlv. Then (IsTlvRule from tlv) IsRefresh) (map tlv_said items) r a

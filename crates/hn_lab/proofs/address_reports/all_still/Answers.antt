@@ -11,7 +11,7 @@ returns-then-not-branch c =
     let is_still : Member → Type 0 = λ m. IsTrue (is_in_set c.args.reach.now m) → IsStill m.router in
     let no : c.in_ok-is_still.field-0 ≡ false = search rules in
     let there : Contains c.args.members.now c.member-item.result =
-        subst (Contains c.args.members.now) (sym c.member-item.is) (Contains-get_or c.args.members.now c.loop-member.member-index c.member-item.result c.loop-member-test.true) in
+    subst (Contains c.args.members.now) (sym c.member-item.is) (Contains-get_or c.args.members.now c.loop-member.member-index c.member-item.result c.loop-member-test.true) in
     (λ yes. absurd cc, λ all. let yes : IsTrue c.in_ok-is_still.field-0 = c.in_ok-is_still.ensures.1 (All-contains is_still c.args.members.now c.member-item.result all there) in sym no ∙ yes)
 
 pub loop-member-preserved : goal.loop-member-preserved

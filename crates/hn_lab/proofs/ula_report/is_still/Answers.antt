@@ -8,5 +8,5 @@ pub returns : goal.returns
 returns c =
     let in_it : IsTrue (is_in_set c.args.reach.now c.args.member.now) = search rules in
     IfOk-weaker c.still.result (λ answer. IsTrue answer ↔ IsStill c.args.member.now.router)
-        (λ answer. IsTrue answer ↔ (IsTrue (is_in_set c.args.reach.now c.args.member.now) → IsStill c.args.member.now.router))
+    (λ answer. IsTrue answer ↔ (IsTrue (is_in_set c.args.reach.now c.args.member.now) → IsStill c.args.member.now.router))
     (λ answer h. (λ yes _. h.0 yes, λ to. h.1 (to in_it))) c.still.ensures

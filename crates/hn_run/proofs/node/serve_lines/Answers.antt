@@ -58,7 +58,7 @@ returns-in-Ok-serve-clause-node g c bytes file =
     let a = g.K.Sink.held c.args.out.now in
     let b = g.K.Sink.held c.tell.new.out in
     let told = told_served call c.tell.result.status s first last readings rest a b (rw (← c.from.ensures) c.in-Ok-serve.ensures.turns)
-        (rw (← c.from.ensures) c.in-Ok-serve.ensures.cut) c.tell.ensures.told
+    (rw (← c.from.ensures) c.in-Ok-serve.ensures.cut) c.tell.ensures.told
     (λ fails. let untold = c.tell.ensures.untold fails in (untold.0, rw untold.1 (Appends-none a))) in
     let drew = c.words_join.ensures (Some stream) _ _ up.0 (words_of s.log) up.2 c.in-Ok-serve.ensures.words in (
       told.text,

@@ -42,7 +42,7 @@ returns-in_err-write_seen-clause-cut g c =
     let fault = c.in_err-write_seen.field-0.0 in
     let passed = err_from_is_err_and c.from_residual-in_err-write_seen.result c.from_residual-in_err-write_seen.ensures.1 in
     rw (passed.1, passed.2) (cut_later c.pieces_append.ensures c.args.datagrams c.args.malformed c.args.seen.now c.loop-one.one-index _ fault _ _ _
-        c.loop-one-test.true c.loop-one.invariant.written c.in_err-write_seen.ensures.cut)
+    c.loop-one-test.true c.loop-one.invariant.written c.in_err-write_seen.ensures.cut)
 
 pub returns-clause-written : goal.returns-clause-written
 returns-clause-written g c =

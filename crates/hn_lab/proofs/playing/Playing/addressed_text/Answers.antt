@@ -17,7 +17,7 @@ returns-then-not-branch-2 c m at =
     let no : c.in_ok-all_still.field-0 ≡ false = search rules in
     let settled : IsSettled w m = (c.in_ok-settled.ensures m at).0 yes in
     let law = answers_of (λ (s : Member). IsStill s.router) w c.in-Some.r.now m c.in_ok-all_still.field-0 c.reach.result.now c.members.result.now
-        c.reach.ensures c.members.ensures same c.in_ok-all_still.ensures in
+    c.reach.ensures c.members.ensures same c.in_ok-all_still.ensures in
     let busy : ¬ AreAddressesStill w m = λ still. let rests : IsTrue c.in_ok-all_still.field-0 = law.1 still.1 in absurd cc in
     inr (inl (settled, busy, refl))
 
@@ -29,7 +29,7 @@ returns c m at =
     let rests : c.in_ok-all_still.field-0 ≡ true = search rules in
     let settled : IsSettled w m = (c.in_ok-settled.ensures m at).0 yes in
     let law = answers_of (λ (s : Member). IsStill s.router) w c.in-Some.r.now m c.in_ok-all_still.field-0 c.reach.result.now c.members.result.now
-        c.reach.ensures c.members.ensures same c.in_ok-all_still.ensures in
+    c.reach.ensures c.members.ensures same c.in_ok-all_still.ensures in
     let still : AreAddressesStill w m = (settled, law.0 rests) in
     let known : IsKnown w m = record {
       sound = c.always_sound.ensures.sound;

@@ -22,9 +22,9 @@ returns-in-Ok-Same-clause-ends g c text =
     let found = delivered_copy p.world copy c.requires.accepted in
     let bytes_are = bytes_of_copy c.in-Some.bytes.now (copy_at p.world copy) found.0 c.in-Some.ensures found.1 in
     let carries = carries_over c.args.self.now.base c.args.base c.in-Some.bytes.now found.0.bytes c.in-Ok-Same.field-0 Same w v c.requires.based
-        bytes_are c.in-Ok-Same.field-0-is c.in-Ok-Same.ensures.carries in
+    bytes_are c.in-Ok-Same.field-0-is c.in-Ok-Same.ensures.carries in
     conveyed_ends copy found.0 Same (EventNotes (event.Deliver copy))
-        (EventEnds (event.Deliver copy)) c.noted.result p q a c.requires.accepted found.1 carries refl (λ notes at h. h) (λ stop at h. h) (c.noted.ensures.ends v text)
+    (EventEnds (event.Deliver copy)) c.noted.result p q a c.requires.accepted found.1 carries refl (λ notes at h. h) (λ stop at h. h) (c.noted.ensures.ends v text)
 
 pub returns-in-Ok-Lost-clause-ends : goal.returns-in-Ok-Lost-clause-ends
 returns-in-Ok-Lost-clause-ends g c text =
@@ -37,9 +37,9 @@ returns-in-Ok-Lost-clause-ends g c text =
     let found = delivered_copy p.world copy c.requires.accepted in
     let bytes_are = bytes_of_copy c.in-Some.bytes.now (copy_at p.world copy) found.0 c.in-Some.ensures found.1 in
     let carries = carries_over c.args.self.now.base c.args.base c.in-Some.bytes.now found.0.bytes c.in-Ok-Lost.field-0 Lost w v c.requires.based
-        bytes_are c.in-Ok-Lost.field-0-is c.in-Ok-Lost.ensures.carries in
+    bytes_are c.in-Ok-Lost.field-0-is c.in-Ok-Lost.ensures.carries in
     conveyed_ends copy found.0 Lost (EventNotes (event.Drop copy))
-        (EventEnds (event.Drop copy)) c.noted-in-Ok-Lost.result p q a c.requires.accepted found.1 carries refl (λ notes at h. h) (λ stop at h. h) (c.noted-in-Ok-Lost.ensures.ends v text)
+    (EventEnds (event.Drop copy)) c.noted-in-Ok-Lost.result p q a c.requires.accepted found.1 carries refl (λ notes at h. h) (λ stop at h. h) (c.noted-in-Ok-Lost.ensures.ends v text)
 
 pub returns-in-Ok-Other-clause-ends : goal.returns-in-Ok-Other-clause-ends
 returns-in-Ok-Other-clause-ends g c text =
@@ -52,10 +52,10 @@ returns-in-Ok-Other-clause-ends g c text =
     let found = delivered_copy p.world copy c.requires.accepted in
     let bytes_are = bytes_of_copy c.in-Some.bytes.now (copy_at p.world copy) found.0 c.in-Some.ensures found.1 in
     let carries = carries_over c.args.self.now.base c.args.base c.in-Some.bytes.now found.0.bytes c.in-Ok-Other.field-0
-        (Other c.in-Ok-Other.bytes) w v c.requires.based bytes_are c.in-Ok-Other.field-0-is c.in-Ok-Other.ensures.carries in
+    (Other c.in-Ok-Other.bytes) w v c.requires.based bytes_are c.in-Ok-Other.field-0-is c.in-Ok-Other.ensures.carries in
     conveyed_ends copy found.0 (Other c.in-Ok-Other.bytes) (Replaces copy (injection_for p.world found.0 c.in-Ok-Other.bytes))
-        (IsReplaced copy (injection_for p.world found.0 c.in-Ok-Other.bytes)) c.replace.result p q a c.requires.accepted found.1 carries refl
-        (λ notes at h. h) (λ stop at h. h) (c.replace.ensures.ends v text found.0 found.1)
+    (IsReplaced copy (injection_for p.world found.0 c.in-Ok-Other.bytes)) c.replace.result p q a c.requires.accepted found.1 carries refl
+    (λ notes at h. h) (λ stop at h. h) (c.replace.ensures.ends v text found.0 found.1)
 
 pub returns-in-Err-Failed-clause-ends : goal.returns-in-Err-Failed-clause-ends
 returns-in-Err-Failed-clause-ends g c text =

@@ -19,7 +19,7 @@ returns-in_err-_member-clause-ends c waiting text =
     let p = stage_of c.args.self.now waiting text in
     let why = c.in_err-_member.field-0.0 in
     leaving_on (Reports (unless_runs name w) (Tells name w (IsUlasLine name w))) why c.from_residual.result p p c.from_residual.ensures.1
-        (report_refused (unless_runs name w) (IsOneLine (Tells name w (IsUlasLine name w))) why p (c.in_err-_member.ensures.refused why refl))
+    (report_refused (unless_runs name w) (IsOneLine (Tells name w (IsUlasLine name w))) why p (c.in_err-_member.ensures.refused why refl))
 
 pub returns-in_err-told-clause-ends : goal.returns-in_err-told-clause-ends
 returns-in_err-told-clause-ends c waiting text =
@@ -27,7 +27,7 @@ returns-in_err-told-clause-ends c waiting text =
     let w = c.args.self.now.world in
     let p = stage_of c.args.self.now waiting text in
     leaving_on (Reports (unless_runs name w) (Tells name w (IsUlasLine name w)))
-        (Cut NoMemory) c.from_residual-in_err-told.result p p c.from_residual-in_err-told.ensures.1 (report_starved (unless_runs name w) (IsOneLine (Tells name w (IsUlasLine name w))) p)
+    (Cut NoMemory) c.from_residual-in_err-told.result p p c.from_residual-in_err-told.ensures.1 (report_starved (unless_runs name w) (IsOneLine (Tells name w (IsUlasLine name w))) p)
 
 pub returns-in_err-line-clause-ends : goal.returns-in_err-line-clause-ends
 returns-in_err-line-clause-ends c waiting text =
@@ -35,7 +35,7 @@ returns-in_err-line-clause-ends c waiting text =
     let w = c.args.self.now.world in
     let p = stage_of c.args.self.now waiting text in
     leaving_on (Reports (unless_runs name w) (Tells name w (IsUlasLine name w)))
-        (Cut NoMemory) c.from_residual-in_err-line.result p p c.from_residual-in_err-line.ensures.1 (report_starved (unless_runs name w) (IsOneLine (Tells name w (IsUlasLine name w))) p)
+    (Cut NoMemory) c.from_residual-in_err-line.result p p c.from_residual-in_err-line.ensures.1 (report_starved (unless_runs name w) (IsOneLine (Tells name w (IsUlasLine name w))) p)
 
 pub returns-in_err-of-clause-ends : goal.returns-in_err-of-clause-ends
 returns-in_err-of-clause-ends c waiting text =
@@ -43,7 +43,7 @@ returns-in_err-of-clause-ends c waiting text =
     let w = c.args.self.now.world in
     let p = stage_of c.args.self.now waiting text in
     leaving_on (Reports (unless_runs name w) (Tells name w (IsUlasLine name w)))
-        (Cut NoMemory) c.from_residual-in_err-of.result p p c.from_residual-in_err-of.ensures.1 (report_starved (unless_runs name w) (IsOneLine (Tells name w (IsUlasLine name w))) p)
+    (Cut NoMemory) c.from_residual-in_err-of.result p p c.from_residual-in_err-of.ensures.1 (report_starved (unless_runs name w) (IsOneLine (Tells name w (IsUlasLine name w))) p)
 
 pub returns-clause-ends : goal.returns-clause-ends
 returns-clause-ends c waiting text =
@@ -54,4 +54,4 @@ returns-clause-ends c waiting text =
     let line = string_bytes c.in_ok-line.line in
     let text_is : line ≡ ulas_line name (string_bytes c.in_ok-told.told) = simp append_assoc c.in_ok-line.ensures.ok in
     line_reported (unless_runs name w) (Tells name w (IsUlasLine name w)) line c.in_ok-of.field-0 p found.1
-        (tells_ulas name w (string_bytes c.in_ok-told.told) line found.1 c.in_ok-told.ensures text_is) c.in_ok-of.ensures
+    (tells_ulas name w (string_bytes c.in_ok-told.told) line found.1 c.in_ok-told.ensures text_is) c.in_ok-of.ensures

@@ -18,7 +18,7 @@ returns-then-not-branch-2 c m at =
     let no : c.in_ok-all_still.field-0 ≡ false = search rules in
     let settled : IsSettled w m = (c.in_ok-settled.ensures m at).0 yes in
     let law = answers_of (λ (s : Member). IsStill s.router) w c.in-Some.r.now m c.in_ok-all_still.field-0 c.reach-reach.result.now
-        c.members-members.result.now c.reach-reach.ensures c.members-members.ensures same c.in_ok-all_still.ensures in
+    c.members-members.result.now c.reach-reach.ensures c.members-members.ensures same c.in_ok-all_still.ensures in
     let busy : ¬ ArePrefixesStill w m = λ still. let rests : IsTrue c.in_ok-all_still.field-0 = law.1 still.1 in absurd cc in
     inr (inl (settled, busy, c.in_ok-from_str-2.ensures.ok))
 

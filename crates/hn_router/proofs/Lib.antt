@@ -4,6 +4,7 @@ mod NewRouter
 mod OneEvents
 mod OneNew
 mod SomeEvents
+mod SomeNew
 mod Keeping
 mod Planning
 mod Shift

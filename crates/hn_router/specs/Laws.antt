@@ -37,7 +37,11 @@ abbrev pub EventHasAResult : Type 0
 EventHasAResult =
     (now : ℕ) (event : PlainEvent) (s : State) → IsRouter s → s.moment ≤ now → IsEventInRange event → IsOfBytes event → HasResults now event s
 
--- There is at most one new router of an identifier and a limit at a moment.
+-- There is a new router of an identifier and a limit at a moment.
+abbrev pub NewExists : Type 0
+NewExists = (id : NodeId) (limit now : ℕ) → (s : State) × IsNew id limit now s
+
+-- There is at most one.
 abbrev pub NewIsUnique : Type 0
 NewIsUnique = (id : NodeId) (limit now : ℕ) (a b : State) → IsNew id limit now a → IsNew id limit now b → a ≡ b
 

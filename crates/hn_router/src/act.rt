@@ -69,7 +69,7 @@ fn bytes_in_range(bytes: &[u8])
 }
 
 /// A datagram that arrives is of bytes, by its type. Does nothing: call it to know its law.
-pub(crate) fn event_of_bytes(event: &Event<'_>)
+pub fn event_of_bytes(event: &Event<'_>)
     ensures { IsOfBytes (plain_event event.now) }
 {
     if let Event::Arrive { bytes, .. } = *event {

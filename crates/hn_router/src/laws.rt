@@ -1,11 +1,11 @@
 //! Laws of the router. Each is the contract of a function that does nothing: call it to know its law.
 
-ghost use Rattle.hn_router.specs.Laws.{OneResult, EventHasAResult, NewIsUnique, NewIsRouter, RouterStays, MomentStays, MomentIsNow, EndpointsFollow, RouterHasOneAdvert, SendsAreShort, LimitStays, RefusedInputStays, RestfulTickStays, GenuineStays};
+ghost use Rattle.hn_router.specs.Laws.{OneResult, EventHasAResult, NewExists, NewIsUnique, NewIsRouter, RouterStays, MomentStays, MomentIsNow, EndpointsFollow, RouterHasOneAdvert, SendsAreShort, LimitStays, RefusedInputStays, RestfulTickStays, GenuineStays};
 
 use hn_deleg::usable_is_unique;
 use hn_graph::{own_is_reachable, reachable_is_a_node};
 use hn_link::{common_link_is_unique, elected_is_unique};
-use hn_own::{none_are_well, own_data_is_unique};
+use hn_own::{none_are_well, own_data_exists, own_data_is_unique};
 use hn_rules::{
     changes_keep_genuine, changes_keep_hashed, changes_keep_short, changes_keep_the_limit,
     next_due_is_one, refresh_makes_a_router, restful_tick, router_stays_later, rules_have_a_result,
@@ -35,6 +35,13 @@ pub fn event_has_a_result()
     rules_keep_the_rest();
     rules_have_a_result();
     list_or_first_fault();
+}
+
+/// There is a new router of an identifier and a limit at a moment.
+pub fn new_exists()
+    ensures { NewExists }
+{
+    own_data_exists();
 }
 
 /// There is at most one new router of an identifier and a limit at a moment.

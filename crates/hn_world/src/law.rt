@@ -9,13 +9,14 @@ ghost use Rattle.hn_world.specs.Replay.{IsReplayed, IsSound, Always};
 ghost use Rattle.hn_world.specs.Step.{Step};
 ghost use Rattle.hn_world.specs.Within.{AreWithinLimits, RouterIsWithinLimits};
 ghost use Rattle.hn_world.specs.Authentic.{AuthenticUnlessInjected};
+ghost use Rattle.hn_world.specs.Existing.{StepExists};
 ghost use Rattle.hn_world.specs.Leaves.{EqualHashesAgree};
 ghost use Rattle.hn_world.specs.Laws.{StepIsUnique, EachEventIsEntered, EachEventIsAStep, AgreementIsUnique, AtMostOneWorld, WorldHasItsTrace, WorldHasItsVersion, WorldIsSound, AlwaysAttached, CopiesHaveReceivers};
 
 use hn_hash::equal_hashes_agree_or_collide;
 use hn_router::{
-    endpoints_follow, genuine_stays, limit_stays, moment_is_now, new_is_router, new_is_unique,
-    one_result, router_stays, sends_are_short,
+    endpoints_follow, event_has_a_result, genuine_stays, limit_stays, moment_is_now, new_exists,
+    new_is_router, new_is_unique, one_result, router_stays, sends_are_short,
 };
 use hn_rules::hash_is_of_leaves;
 
@@ -25,6 +26,15 @@ pub fn step_is_unique()
 {
     one_result();
     new_is_unique();
+}
+
+/// Over each stream of random words an accepted event has a result: it cannot be that there is none. With `step_is_unique`
+/// there is exactly one.
+pub fn step_exists()
+    ensures { StepExists }
+{
+    event_has_a_result();
+    new_exists();
 }
 
 /// Each event is entered at the end of the trace, which had fewer than 1,000,000.

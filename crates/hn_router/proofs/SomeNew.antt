@@ -15,11 +15,11 @@ use Rattle.hn_rules.specs.declared.state.State.{State}
 use Rattle.hn_rules.specs.Refresh.{network_state_hash}
 use Rattle.hn_router.specs.Laws.{NewExists}
 
-no_capability : Caps
-no_capability = record { m = 0; p = 0; h = 0; l = 0 }
+abbrev no_capability : Caps
+no_capability = record { m = 0; p = 0; h = 0; l = 0; m_in_range = omega arith; p_in_range = omega arith; h_in_range = omega arith; l_in_range = omega arith }
 
 -- the own items of a router without anything
-bare : OwnItems
+abbrev bare : OwnItems
 bare = items_from no_capability [] [] no_pairs []
 
 bare_are_few : AreFew bare
@@ -40,7 +40,7 @@ bare_are_ranged = record {
 }
 
 -- with that node data, and with a hash
-beginning : NodeId → ℕ → ℕ → PlainData → List ℕ → State
+abbrev beginning : NodeId → ℕ → ℕ → PlainData → List ℕ → State
 beginning id limit now own net = record {
   id = id;
   number = 1;
@@ -61,23 +61,25 @@ beginning id limit now own net = record {
 
 pub some_new : OwnDataExists → NewExists
 some_new exists id limit now =
-    let (own, is, same, born) = exists bare now bare_are_few bare_are_ranged in
-    (beginning id limit now own (network_state_hash (beginning id limit now own [])), record {
-      id_is = refl;
-      number_is = refl;
-      moment_is = refl;
-      caps_are = refl;
-      own_is = is;
-      born_is = born;
-      items_are = same;
-      no_prefixes = refl;
-      nothing_held = refl;
-      unclaimed = refl;
-      no_private = refl;
-      no_addresses = refl;
-      ports_are = refl;
-      table_is = refl;
-      reach_is = refl;
-      net_is = refl;
-      due_is = refl;
-    })
+    let (own, is, same, born) = exists bare now bare_are_few bare_are_ranged in (
+      beginning id limit now own (network_state_hash (beginning id limit now own [])),
+      record {
+        id_is = refl;
+        number_is = refl;
+        moment_is = refl;
+        caps_are = refl;
+        own_is = is;
+        born_is = born;
+        items_are = same;
+        no_prefixes = refl;
+        nothing_held = refl;
+        unclaimed = refl;
+        no_private = refl;
+        no_addresses = refl;
+        ports_are = refl;
+        table_is = refl;
+        reach_is = refl;
+        net_is = refl;
+        due_is = refl;
+      },
+    )

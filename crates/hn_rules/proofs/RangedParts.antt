@@ -184,8 +184,11 @@ each_ranged laws tlvs (PutPairs ran) r is ports (own, private, near) =
       private,
       record { backoffs = soon; ends = near.ends },
     )
-each_ranged laws tlvs ForgetPairs r may ports (own, private, near) =
-    (record { peers = own.peers; delegated = own.delegated; assigned = All-nil IsRangedHeld; addresses = own.addresses }, private, record { backoffs = All-nil (IsSoonDue r.state.moment); ends = near.ends })
+each_ranged laws tlvs ForgetPairs r may ports (own, private, near) = (
+  record { peers = own.peers; delegated = own.delegated; assigned = All-nil IsRangedHeld; addresses = own.addresses },
+  private,
+  record { backoffs = All-nil (IsSoonDue r.state.moment); ends = near.ends },
+)
 each_ranged laws tlvs (PutPrivate bits) r fits ports (own, private, near) =
     let stays = λ (c : Assigned). not (c.endpoint.0 == 0) in
     let waits = λ (b : Backoff). not (b.endpoint.0 == 0) in (

@@ -33,7 +33,8 @@ use Rattle.hn_rules.proofs.Wells.{keeps_attaching, made_detaching}
 pub stays_later : RouterStaysLater
 stays_later now s router rises =
     let later : State = record s { moment = now } in
-    record { well = well_from later (made-later now s rises (made_from s router.well)) (ranged_later now s rises (ranged_from s router.well)); refreshed = refreshed-later now s rises router.refreshed }
+    let well = well_from later (made-later now s rises (made_from s router.well)) (ranged_later now s rises (ranged_from s router.well)) in
+    record { well = well; refreshed = refreshed-later now s rises router.refreshed }
 
 module _ (keeps : ChangesKeepWell) where
   each : EachKeeps [] Well

@@ -87,21 +87,25 @@ some_claimed laws word r is =
     some_then (some_free r.state word is.table) (λ id first.
     some_then (some_published laws 1 (claiming word id r) (can_publish laws r is)) (λ a publishes none. none a (id, first, publishes)))
 
+-- a router that was claimed once
+abbrev once_claimed : Running → Running
+once_claimed r = record r { state = record r.state { claimed = true } }
+
+-- a new identifier where it was claimed before, and else a greater number
+abbrev IsAnswered : ℕ → Running → Running → Type 0
+IsAnswered number r a =
+    ((r.state.claimed ≡ true) × ((word : ℕ) × HasClaimed word r a)) ⊎ ((r.state.claimed ≡ false) × Publishes ((number + 1000) % 2 ^ 32) (once_claimed r) a)
+
 total_claim : RefreshLaws → (number : ℕ) → IsTotal Well (IsClaim number)
 total_claim laws number =
-    let claimed : Running → Running = λ r. record r { state = record r.state { claimed = true } } in
     let again = total_word words_of Well HasClaimed (λ word r a h. published_words 1 (claiming word h.0 r) a h.2) (some_claimed laws) in
-    let first = total_after words_of Well CanPublish claimed (Publishes ((number + 1000) % 2 ^ 32)) (λ r. refl) (can_publish laws) (total_publishes laws ((number + 1000) % 2 ^ 32)) in
-    total_from words_of Well
-    (λ r a. ((r.state.claimed ≡ true) × ((word : ℕ) × HasClaimed word r a)) ⊎ ((r.state.claimed ≡ false) × Publishes ((number + 1000) % 2 ^ 32) (claimed r) a))
-    (IsClaim number) either
-    (total_test words_of Well (λ r. r.state.claimed) (λ r a. (word : ℕ) × HasClaimed word r a) (λ r a. Publishes ((number + 1000) % 2 ^ 32) (claimed r) a)
+    let first = total_after words_of Well CanPublish once_claimed (Publishes ((number + 1000) % 2 ^ 32)) (λ r. refl) (can_publish laws) (total_publishes laws ((number + 1000) % 2 ^ 32)) in
+    total_from words_of Well (IsAnswered number) (IsClaim number) either
+    (total_test words_of Well (λ r. r.state.claimed) (λ r a. (word : ℕ) × HasClaimed word r a) (λ r a. Publishes ((number + 1000) % 2 ^ 32) (once_claimed r) a)
     (total_by words_of (λ r. Well r × (r.state.claimed ≡ true)) Well (λ r a. (word : ℕ) × HasClaimed word r a) (λ r is. is.0) again)
-    (total_by words_of (λ r. Well r × (r.state.claimed ≡ false)) Well (λ r a. Publishes ((number + 1000) % 2 ^ 32) (claimed r) a) (λ r is. is.0) first))
+    (total_by words_of (λ r. Well r × (r.state.claimed ≡ false)) Well (λ r a. Publishes ((number + 1000) % 2 ^ 32) (once_claimed r) a) (λ r is. is.0) first))
   where
-    either : (r a : Running) → Well r
-        → ((r.state.claimed ≡ true) × ((word : ℕ) × HasClaimed word r a)) ⊎ ((r.state.claimed ≡ false) × Publishes ((number + 1000) % 2 ^ 32) (record r { state = record r.state { claimed = true } }) a)
-        → IsClaim number r a
+    either : (r a : Running) → Well r → IsAnswered number r a → IsClaim number r a
     either r a is (inl (one, (word, has))) = inr (record { one_before = one; word = word; id = has.0; first = has.1; publishes = has.2 })
     either r a is (inr (none, publishes)) = inl (record { none_before = none; publishes = publishes })
 

@@ -269,7 +269,8 @@ module _ (tlvs : List PlainTlv) (P : Running → Type 0) (each : EachKeeps tlvs 
 
   -- ---- events beside arrivals and ticks
 
-  pub delegating_walk : (prefix : PlainPrefix) (valid preferred : ℕ) (r : Running) → IsRangedDelegation prefix valid preferred → may_delegate prefix r.state.delegated ≡ true → P r → P (delegating prefix valid preferred r)
+  pub delegating_walk : (prefix : PlainPrefix) (valid preferred : ℕ) (r : Running) → IsRangedDelegation prefix valid preferred
+      → may_delegate prefix r.state.delegated ≡ true → P r → P (delegating prefix valid preferred r)
   delegating_walk prefix valid preferred r fits may = each (ChangePrefixes (Delegate prefix valid preferred)) r (fits, may)
 
   pub withdrawing_walk : (prefix : PlainPrefix) → Keeps P (λ r a. a ≡ withdrawing prefix r)

@@ -1,24 +1,32 @@
-use Rattle.std.proofs.Common.{List, get_or, subst}
+use Rattle.std.proofs.Common.{◌≡◌, ◌↔◌, refl, length, Option, Some, slice_get, subst}
+use Rattle.std.specs.Prelude.{MatchOption}
 use Rattle.std.proofs.lemmas.List.{take_all}
-use Rattle.std.proofs.lemmas.Option.{slice_get-get_or}
-use Rattle.hn_own.specs.Addresses.{OwnAddress}
-use Rattle.hn_addr.specs.Others.{IsOfAddress}
-use Rattle.hn_addr.proofs.Walks.{AreAdded, added_none, added_next, pushed}
-use Rattle.hn_addr.proofs.others.add_of_addresses.Goals as goal
+use Rattle.std.proofs.lemmas.Option.{slice_get_read}
+use Rattle.hn_addr.proofs.GrownByEach.{IsGrownByEach, grown_at_first, grown_next, grown_by_none, grown_by_one}
+use Rattle.hn_addr.proofs.of_node.add_of_parts.Goals as goal
+use Rattle.hn_addr.proofs.of_node.add_of_parts.Goals.{in-Some+in_ok-push-in-Some, in-None}
 
-pub loop-said-init : goal.loop-said-init
-loop-said-init c = added_none (IsOfAddress c.args.node) c.args.list.now.items
+pub loop-part-init : goal.loop-part-init
+loop-part-init g c = grown_at_first (g.T.OfNode.makes c.args.node) c.args.list.now.items
 
-pub loop-said-preserved : goal.loop-said-preserved
-loop-said-preserved c =
-    let all = c.args.addresses.now in
-    let n = c.loop-said.said-index in
-    let node = c.args.node in
-    let none : OwnAddress = (record { 0 = 0 }, 0) in
-    let said : OwnAddress = get_or all n none in
-    rw c.in_ok-push.ensures.items
-    (added_next (IsOfAddress node) c.args.list.now.items c.loop-said.list.items _ all n said (slice_get-get_or all n none c.loop-said-test.true) c.loop-said.invariant (pushed c.loop-said.list.items node said))
+pub loop-part-preserved : goal.loop-part-preserved
+loop-part-preserved g c =
+    let parts = c.args.parts.now in
+    let n = c.loop-part.part-index in
+    let part = c.part-item.result in
+    let makes = g.T.OfNode.makes c.args.node in
+    let IsMade : Option g.row.T.Denot → Type 0 = λ made. MatchOption made ((x : g.row.T.Denot) → ¬ makes part x) (λ one. (x : g.row.T.Denot) → makes part x ↔ (one ≡ x)) in
+    let at : slice_get parts n ≡ Some part = slice_get_read parts (length parts) n part refl c.loop-part-test.true c.part-item.is in
+    elim c.match-from_part.branch [
+      | in-Some+in_ok-push-in-Some w ↦ rw (w.list-is, w.in_ok-push-in-Some.ensures.items)
+          (grown_next makes c.args.list.now.items c.loop-part.list.items _ parts n part at c.loop-part.invariant
+          (grown_by_one (makes part) c.loop-part.list.items w.in-Some.made (subst IsMade w.in-Some.is c.from_part.ensures)))
+      | in-None w ↦ rw w.list-is
+          (grown_next makes c.args.list.now.items c.loop-part.list.items _ parts n part at c.loop-part.invariant
+          (grown_by_none (makes part) c.loop-part.list.items (subst IsMade w.in-None.is c.from_part.ensures)))
+    ]
 
 pub returns : goal.returns
-returns c =
-    subst (λ (seen : List OwnAddress). AreAdded (IsOfAddress c.args.node) c.args.list.now.items c.loop-said.list.items seen) (take_all c.loop-said.said-index c.args.addresses.now c.loop-said-test.false) c.loop-said.invariant
+returns g c =
+    subst (IsGrownByEach (g.T.OfNode.makes c.args.node) c.args.list.now.items c.loop-part.list.items) (take_all c.loop-part.part-index c.args.parts.now c.loop-part-test.false)
+    c.loop-part.invariant

@@ -1,7 +1,7 @@
 use Rattle.std.proofs.Common.{take, []}
-use Rattle.hn_addr.specs.Others.{IsOfNode}
-use Rattle.hn_addr.proofs.Walks.{AreAdded}
-use Rattle.hn_addr.proofs.others.of_nodes.Given as goal
+use Rattle.hn_addr.specs.OfNodes.{IsOfNode}
+use Rattle.hn_addr.proofs.GrownByEach.{IsGrownByEach}
+use Rattle.hn_addr.proofs.of_node.of_nodes.Given as goal
 
 abbrev pub invariant-loop-node : goal.invariant-loop-node
-invariant-loop-node l = AreAdded (IsOfNode l.own) [] l.list.items (take l.node-index l.nodes)
+invariant-loop-node g l = IsGrownByEach (IsOfNode g.T.OfNode.says g.T.OfNode.makes) [] l.list.items (take l.node-index l.nodes)

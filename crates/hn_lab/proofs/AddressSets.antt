@@ -1,7 +1,7 @@
 -- In the set of a settled router whose routers are still no address is published twice.
 use Rattle.std.proofs.Common.{◌≡◌, ◌≢◌, ◌<◌, Contains, sym, ap, subst, inl, inr, arith}
 use Rattle.std.proofs.lemmas.Bool.{cases_lt}
-use Rattle.hn_addr.specs.Addresses.{IsTaken}
+use Rattle.hn_addr.specs.Addresses.{IsAddressOfOther}
 use Rattle.hn_addr.specs.Laws.{StillAddressesStay}
 use Rattle.hn_base.proofs.Keys.{same_node}
 use Rattle.hn_base.specs.declared.ids.NodeId.{NodeId}
@@ -18,7 +18,7 @@ use Rattle.hn_lab.proofs.Sets.{IsKnown, router_of, seen_of}
 module _ (version : OwnVersionIsSaid) (said : OwnAddressesAreSaid) (stays : StillAddressesStay) (w : Parts) (r : Member) (known : IsKnown w r) (still : AreAddressesStill w r) where
   -- what one of the set publishes is, to another of it, an address of another node
   taken : (s u : Member) (a b : OwnAddress) → IsReached w r s → IsReached w r u → HasAddress u.router.own.body b → a.1 ≡ b.1
-      → u.router.id.0 ≢ s.router.id.0 → IsTaken (seen_by s.router) u.router.id.0 a.1
+      → u.router.id.0 ≢ s.router.id.0 → IsAddressOfOther (seen_by s.router) u.router.id.0 a.1
   taken s u a b s_in u_in b_said same apart =
       let seen = (seen_of w r known s s_in).each_member u u_in in
       record {

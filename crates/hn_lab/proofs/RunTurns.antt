@@ -11,7 +11,7 @@ use Rattle.hn_base.specs.Words.{Took}
 use Rattle.hn_base.specs.declared.ids.EpId.{EpId}
 use Rattle.hn_base.specs.declared.name.Name.{Name}
 use Rattle.hn_io.specs.declared.fault.IoFault.TheVariants.{NoMemory}
-use Rattle.hn_radv.specs.Sender.{PlainSender, started, solicited, is_due, draws, sent}
+use Rattle.hn_radv.specs.Sender.{PlainSender, started_sender, solicited, is_due, draws, sent}
 use Rattle.hn_router.specs.Advertising.{IsAdvertAt}
 use Rattle.hn_rules.specs.declared.state.State.{State}
 use Rattle.hn_script.specs.declared.line.Line.TheVariants as line
@@ -137,10 +137,10 @@ no_member (Some m) is = absurd cc
 
 -- an endpoint begins to send
 pub radv_left : (name : Name) (e : EpId) (now : ℕ) (lines : List (List ℕ)) (p a : Stage) → unless_elects name e p.world ≡ None → now ≡ p.world.moment
-    → a ≡ record p { senders = with_sender (record { name = name; endpoint = e; sender = started now; shape = None }) p.senders } → lines ≡ [] → Leaves (OtherEnds (line.Radv name e)) lines p a
+    → a ≡ record p { senders = with_sender (record { name = name; endpoint = e; sender = started_sender now; shape = None }) p.senders } → lines ≡ [] → Leaves (OtherEnds (line.Radv name e)) lines p a
 radv_left name e now lines p a none now_is after_is empty =
     let done : a ≡ starting name e p =
-    after_is ∙ ap (λ (n : ℕ). record p { senders = with_sender (record { name = name; endpoint = e; sender = started n; shape = None }) p.senders }) now_is in
+    after_is ∙ ap (λ (n : ℕ). record p { senders = with_sender (record { name = name; endpoint = e; sender = started_sender n; shape = None }) p.senders }) now_is in
     nothing_left (OtherEnds (line.Radv name e)) lines p a empty (p, (none, refl), (refl, done))
 
 -- a solicitation comes to one

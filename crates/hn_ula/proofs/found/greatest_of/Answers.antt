@@ -1,9 +1,9 @@
 use Rattle.std.proofs.Common.{◌≡◌, refl, length, Some, slice_get, subst, List}
 use Rattle.std.proofs.lemmas.List.{take_all}
 use Rattle.std.proofs.lemmas.Option.{slice_get_read}
-use Rattle.hn_ula.specs.Found.{IsFoundOf}
+use Rattle.hn_ula.specs.Found.{IsGreatestFound}
 use Rattle.hn_ula.specs.declared.generated.Generated.{Generated}
-use Rattle.hn_ula.proofs.Greatests.{found_none, passed_next, taken_next, same_node, other_node}
+use Rattle.hn_ula.proofs.GreatestOfNode.{found_none, passed_next, taken_next, same_node, other_node}
 use Rattle.hn_ula.proofs.found.greatest_of.Goals as goal
 use Rattle.hn_ula.proofs.found.greatest_of.Goals.{then-eq, else-eq}
 
@@ -24,4 +24,4 @@ loop-one-preserved c =
 
 pub returns : goal.returns
 returns c =
-    subst (λ (l : List Generated). IsFoundOf l c.args.node c.loop-one.greatest) (take_all c.loop-one.one-index c.args.list.now c.loop-one-test.false) c.loop-one.invariant
+    subst (λ (l : List Generated). IsGreatestFound l c.args.node c.loop-one.greatest) (take_all c.loop-one.one-index c.args.list.now c.loop-one-test.false) c.loop-one.invariant

@@ -11,8 +11,8 @@ use Rattle.hn_addr.specs.Choosings.{IsFirstAround}
 use Rattle.hn_addr.specs.Numbers.{FitsBeside, HasNoneFrom, IsFirstFrom}
 use Rattle.hn_addr.specs.Others.{AreOthers}
 use Rattle.hn_addr.specs.declared.others.Others.{Others}
-use Rattle.hn_addr.proofs.Aheads.{ahead_from, ahead_before, start_low, start_high, same_ahead}
-use Rattle.hn_addr.proofs.Walks.{taken_there, taken_from}
+use Rattle.hn_addr.proofs.CyclicOrder.{ahead_from, ahead_before, start_low, start_high, same_ahead}
+use Rattle.hn_addr.proofs.OtherAddresses.{other_there, other_from}
 
 -- ---- one number after the other
 
@@ -98,7 +98,7 @@ module _ (view : PlainView) (others : Others) (are : AreOthers view others) (c :
     high = f.high;
     inside = f.inside;
     free = record {
-      free = λ there. let (node, taken) = taken_from view others are (c.prefix.bits + k) there in f.free node taken;
+      free = λ there. let (node, taken) = other_from view others are (c.prefix.bits + k) there in f.free node taken;
       new = f.new;
     };
   }
@@ -108,7 +108,7 @@ module _ (view : PlainView) (others : Others) (are : AreOthers view others) (c :
     low = f.low;
     high = f.high;
     inside = f.inside;
-    free = λ node taken. f.free.free (taken_there view others are node (c.prefix.bits + k) taken);
+    free = λ node taken. f.free.free (other_there view others are node (c.prefix.bits + k) taken);
     new = f.free.new;
   }
 

@@ -16,13 +16,13 @@ use Rattle.hn_io.specs.Laws.{WordsJoin}
 use Rattle.hn_own.specs.Addresses.{OwnAddress, address_cmp}
 use Rattle.hn_rules.specs.Seen.{seen_by}
 use Rattle.hn_rules.specs.declared.state.State.{State}
-use Rattle.hn_addr.specs.Addresses.{Stays, IsFirstFit, counts, adding, KeepsOwn, DrawsOne, GetsNone, IsChosenFor, none_chosen, AreNext, IsStill}
+use Rattle.hn_addr.specs.Addresses.{Stays, IsFirstFit, counts, adding, KeepsOwn, DrawsOne, GetsNone, IsChosenFor, none_chosen, AreNext, IsAddressStill}
 use Rattle.hn_addr.specs.Choosings.{Draws, ChoosingIsUnique}
 use Rattle.hn_addr.specs.Laws.{ChoiceIsUnique}
 use Rattle.hn_addr.specs.declared.choice.Choice.TheVariants.{Keep, Set}
 use Rattle.hn_addr.specs.declared.choosing.Choosing.{Choosing}
-use Rattle.hn_addr.proofs.Leasts.{one_least}
-use Rattle.hn_addr.proofs.Numbers.{one_number}
+use Rattle.hn_addr.proofs.LeastOwnAddress.{one_least}
+use Rattle.hn_addr.proofs.FirstFittingNumber.{one_number}
 
 -- ---- the words
 
@@ -110,11 +110,11 @@ one_choice unique s (Set a) (Set b) v w stream (x, _) (y, _) at_v at_w =
 
 -- ---- whether nothing is chosen anew
 
-pub still_so : (s : State) (list : List OwnAddress) (words : List ℕ) → AreNext s list words → words ≡ [] → list ≡ s.addresses → IsStill s
+pub still_so : (s : State) (list : List OwnAddress) (words : List ℕ) → AreNext s list words → words ≡ [] → list ≡ s.addresses → IsAddressStill s
 still_so s list words next none own = subst (λ (l : List OwnAddress). AreNext s l []) own (subst (AreNext s list) none next)
 
 pub only_still : ChoosingIsUnique → (s : State) (list : List OwnAddress) (words : List ℕ) (told_after : Option (ℕ → ℕ)) → AreNext s list words
-    → Took (Some (λ _. 0)) words told_after → IsStill s → (words ≡ []) × (list ≡ s.addresses)
+    → Took (Some (λ _. 0)) words told_after → IsAddressStill s → (words ≡ []) × (list ≡ s.addresses)
 only_still unique s list words told_after next took still =
     let same = one_next unique s list s.addresses words [] (λ _. 0) next still (begins_taken (λ _. 0) told_after words took) (λ i less. absurd (omega arith)) in
     (same.1, same.0)

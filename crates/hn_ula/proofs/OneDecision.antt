@@ -9,12 +9,12 @@ use Rattle.hn_base.proofs.FirstCause.{both_lines}
 use Rattle.hn_base.proofs.FirstWords.{same_taken, begins_along}
 use Rattle.hn_base.proofs.FrontOfList.{head_is, tail_is}
 use Rattle.hn_rules.specs.declared.state.State.{State}
-use Rattle.hn_ula.specs.Ula.{IsGreatestOwn, MustGo, HasTwo, IsToAnnounce, Withdraws, Announces, Decides, IsStill, made_of}
+use Rattle.hn_ula.specs.Ula.{IsGreatestOwn, MustGo, HasTwo, IsToAnnounce, Withdraws, Announces, Decides, IsUlaStill, made_of}
 use Rattle.hn_ula.specs.declared.decision.Ula.{Ula}
 use Rattle.hn_ula.specs.declared.decision.Ula.TheVariants.{Keep, Announce, Withdraw}
 use Rattle.hn_ula.specs.Found.{IsOwnFound, IsFound}
 use Rattle.hn_ula.specs.declared.found.Found.{Found}
-use Rattle.hn_ula.proofs.Greatests.{same_of_both}
+use Rattle.hn_ula.proofs.GreatestOfNode.{same_of_both}
 
 -- ---- one decision
 
@@ -77,13 +77,13 @@ module _ (s : State) (f : Found) (found : IsFound s f) where
   pub by_third : (ula : Ula) (words : List ℕ) → f.own ≡ None → f.is_to_announce ≡ true → Announces ula words → Decides s ula words
   by_third ula words own is a = inr (none_goes own, inr (none_has_two own, inl (found.is_to_announce.0 is, a)))
 
-  by_none : IsStill s → Decides s Keep []
+  by_none : IsUlaStill s → Decides s Keep []
   by_none still = inr (still.0, inr (still.1, inr (still.2, (refl, refl))))
 
-  still_with : (p : PlainPrefix) → f.own ≡ Some p → f.must_go ≡ false → f.has_two ≡ false → IsStill s
+  still_with : (p : PlainPrefix) → f.own ≡ Some p → f.must_go ≡ false → f.has_two ≡ false → IsUlaStill s
   still_with p own stays one = (λ m. false≢true (sym stays ∙ found.must_go.1 m), λ two. false≢true (sym one ∙ found.has_two.1 two), some_announces p own)
 
-  still_without : f.own ≡ None → f.is_to_announce ≡ false → IsStill s
+  still_without : f.own ≡ None → f.is_to_announce ≡ false → IsUlaStill s
   still_without own is_not = (none_goes own, none_has_two own, λ a. false≢true (sym is_not ∙ found.is_to_announce.1 a))
 
   pub keeps_with : (p : PlainPrefix) → f.own ≡ Some p → f.must_go ≡ false → f.has_two ≡ false → Decides s Keep []
@@ -92,13 +92,13 @@ module _ (s : State) (f : Found) (found : IsFound s f) where
   pub keeps_without : f.own ≡ None → f.is_to_announce ≡ false → Decides s Keep []
   keeps_without own is_not = by_none (still_without own is_not)
 
-  pub answer_with : (p : PlainPrefix) → f.own ≡ Some p → f.must_go ≡ false → IsTrue (not f.has_two) ↔ IsStill s
+  pub answer_with : (p : PlainPrefix) → f.own ≡ Some p → f.must_go ≡ false → IsTrue (not f.has_two) ↔ IsUlaStill s
   answer_with p own stays = (
     λ h. still_with p own stays (from_not f.has_two h),
     λ still. to_not f.has_two (λ two. still.1 (found.has_two.0 two)),
   )
 
-  pub answer_without : f.own ≡ None → IsTrue (not f.is_to_announce) ↔ IsStill s
+  pub answer_without : f.own ≡ None → IsTrue (not f.is_to_announce) ↔ IsUlaStill s
   answer_without own = (
     λ h. still_without own (from_not f.is_to_announce h),
     λ still. to_not f.is_to_announce (λ is. still.2 (found.is_to_announce.0 is)),

@@ -10,7 +10,7 @@ use Rattle.hn_base.specs.declared.ids.NodeId.{NodeId}
 use Rattle.hn_base.proofs.AscendingLists.{nothing_in, not_below_itself}
 use Rattle.hn_base.proofs.FrontOfList.{front_at}
 use Rattle.hn_base.proofs.Prefixes.{prefix_total, exact_prefix}
-use Rattle.hn_ula.specs.Found.{HasOf, IsGreater, IsFoundOf}
+use Rattle.hn_ula.specs.Found.{HasOf, IsGreater, IsGreatestFound}
 use Rattle.hn_ula.specs.declared.generated.Generated.{Generated}
 
 -- ---- the order of prefixes
@@ -59,11 +59,11 @@ still_of list one node q h = Contains-append_left list (one ∷ []) (record { no
 last_of : (list : List Generated) (one : Generated) (node : NodeId) → one.node ≡ node → HasOf (list ++ one ∷ []) node one.prefix
 last_of list one node is = subst (λ (n : NodeId). HasOf (list ++ one ∷ []) n one.prefix) is (Contains-push list one)
 
-pub found_none : (node : NodeId) → IsFoundOf [] node None
+pub found_none : (node : NodeId) → IsGreatestFound [] node None
 found_none node p h = nothing_in (record { node = node; prefix = p }) h
 
 -- one of another node
-passed : (list : List Generated) (one : Generated) (node : NodeId) (found : Option PlainPrefix) → one.node ≢ node → IsFoundOf list node found → IsFoundOf (list ++ one ∷ []) node found
+passed : (list : List Generated) (one : Generated) (node : NodeId) (found : Option PlainPrefix) → one.node ≢ node → IsGreatestFound list node found → IsGreatestFound (list ++ one ∷ []) node found
 passed list one node None other none = λ p h.
     ⊎_elim (λ (before : HasOf list node p). none p before) (λ (last : (one.node ≡ node) × (one.prefix ≡ p)). absurd (other last.0)) (cases_of list one node p h)
 passed list one node (Some best) other g = record {
@@ -73,7 +73,7 @@ passed list one node (Some best) other g = record {
 
 -- one of the node
 taken : (list : List Generated) (one : Generated) (node : NodeId) (found : Option PlainPrefix) (greater : PlainPrefix) → one.node ≡ node
-    → MatchOption found (greater ≡ one.prefix) (λ best. IsGreater best one.prefix greater) → IsFoundOf list node found → IsFoundOf (list ++ one ∷ []) node (Some greater)
+    → MatchOption found (greater ≡ one.prefix) (λ best. IsGreater best one.prefix greater) → IsGreatestFound list node found → IsGreatestFound (list ++ one ∷ []) node (Some greater)
 taken list one node None greater is alone none = record {
   has = subst (HasOf (list ++ one ∷ []) node) (sym alone) (last_of list one node is);
   greatest = λ q h. ⊎_elim (λ (before : HasOf list node q). absurd (none q before))
@@ -91,9 +91,10 @@ taken list one node (Some best) greater is of_two g = record {
 
 -- as a `for` goes over a slice
 pub passed_next : (list : List Generated) (n : ℕ) (one : Generated) (node : NodeId) (found : Option PlainPrefix) → slice_get list n ≡ Some one → one.node ≢ node
-    → IsFoundOf (take n list) node found → IsFoundOf (take (n + 1) list) node found
-passed_next list n one node found at other h = subst (λ (l : List Generated). IsFoundOf l node found) (sym (front_at list n one at)) (passed (take n list) one node found other h)
+    → IsGreatestFound (take n list) node found → IsGreatestFound (take (n + 1) list) node found
+passed_next list n one node found at other h = subst (λ (l : List Generated). IsGreatestFound l node found) (sym (front_at list n one at)) (passed (take n list) one node found other h)
 
 pub taken_next : (list : List Generated) (n : ℕ) (one : Generated) (node : NodeId) (found : Option PlainPrefix) (greater : PlainPrefix) → slice_get list n ≡ Some one → one.node ≡ node
-    → MatchOption found (greater ≡ one.prefix) (λ best. IsGreater best one.prefix greater) → IsFoundOf (take n list) node found → IsFoundOf (take (n + 1) list) node (Some greater)
-taken_next list n one node found greater at is two h = subst (λ (l : List Generated). IsFoundOf l node (Some greater)) (sym (front_at list n one at)) (taken (take n list) one node found greater is two h)
+    → MatchOption found (greater ≡ one.prefix) (λ best. IsGreater best one.prefix greater) → IsGreatestFound (take n list) node found → IsGreatestFound (take (n + 1) list) node (Some greater)
+taken_next list n one node found greater at is two h =
+    subst (λ (l : List Generated). IsGreatestFound l node (Some greater)) (sym (front_at list n one at)) (taken (take n list) one node found greater is two h)

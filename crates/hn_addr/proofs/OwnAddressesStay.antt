@@ -8,7 +8,7 @@ use Rattle.hn_base.proofs.AscendingLists.{nothing_in}
 use Rattle.hn_data.specs.View.{PlainView}
 use Rattle.hn_own.specs.Addresses.{OwnAddress}
 use Rattle.hn_rules.specs.Seen.{seen_by}
-use Rattle.hn_addr.specs.Addresses.{IsTaken, HasCome, Stays, IsChosenFor, counts, none_chosen}
+use Rattle.hn_addr.specs.Addresses.{IsAddressOfOther, HasCome, Stays, IsChosenFor, counts, none_chosen}
 use Rattle.hn_addr.specs.Laws.{StillAddressesStay}
 use Rattle.hn_addr.specs.declared.choosing.Choosing.{Choosing}
 
@@ -20,7 +20,7 @@ one_there (w ∷ ws) word same = absurd cc
 module _ (view : PlainView) (own : List OwnAddress) where
   -- no greater node has an address of the list, and no address is there twice
   record IsCalm (list : List OwnAddress) : Type 0 where
-    pub kept : (a : OwnAddress) → Contains list a → (node : ℕ) → IsTaken view node a.1 → ¬ (view.own < node)
+    pub kept : (a : OwnAddress) → Contains list a → (node : ℕ) → IsAddressOfOther view node a.1 → ¬ (view.own < node)
     pub apart : (a b : OwnAddress) → Contains list a → Contains list b → a.1 ≡ b.1 → a ≡ b
 
   calm_none : IsCalm []
@@ -35,10 +35,10 @@ module _ (view : PlainView) (own : List OwnAddress) where
       this : OwnAddress
       this = (c.endpoint, x)
 
-      kept : (a : OwnAddress) → Contains (list ++ this ∷ []) a → (node : ℕ) → IsTaken view node a.1 → ¬ (view.own < node)
+      kept : (a : OwnAddress) → Contains (list ++ this ∷ []) a → (node : ℕ) → IsAddressOfOther view node a.1 → ¬ (view.own < node)
       kept a there node taken greater =
           ⊎_elim (λ (before : Contains list a). calm.kept a before node taken greater)
-          (λ (last : this ≡ a). stays.not_yielded node (subst (λ (b : OwnAddress). IsTaken view node b.1) (sym last) taken) greater)
+          (λ (last : this ≡ a). stays.not_yielded node (subst (λ (b : OwnAddress). IsAddressOfOther view node b.1) (sym last) taken) greater)
           (Contains-push_cases list this a there)
 
       apart : (a b : OwnAddress) → Contains (list ++ this ∷ []) a → Contains (list ++ this ∷ []) b → a.1 ≡ b.1 → a ≡ b

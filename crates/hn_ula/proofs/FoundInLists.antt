@@ -14,7 +14,7 @@ use Rattle.hn_rules.specs.Seen.{seen_by}
 use Rattle.hn_rules.specs.declared.state.State.{State}
 use Rattle.hn_ula.specs.Ula.{IsGenerated, IsForeign, IsOwnOf, IsGreatestOwn, MustGo, HasTwo, IsToAnnounce}
 use Rattle.hn_ula.specs.Said.{AreGenerated}
-use Rattle.hn_ula.specs.Found.{HasOtherOf, HasAbove, HasForeign, HasGreater, IsFoundOf, IsOwnFound}
+use Rattle.hn_ula.specs.Found.{HasOtherOf, HasPrefixAbove, HasForeign, HasGreater, IsGreatestFound, IsOwnFound}
 use Rattle.hn_ula.specs.declared.generated.Generated.{Generated}
 
 -- ---- a foreign prefix
@@ -32,7 +32,7 @@ foreign_of view used unique are = (
 
 -- ---- the router's own
 
-pub own_of : (s : State) (list : List Generated) (found : Option PlainPrefix) → AreGenerated (seen_by s) list → IsFoundOf list s.id found → IsOwnFound s found
+pub own_of : (s : State) (list : List Generated) (found : Option PlainPrefix) → AreGenerated (seen_by s) list → IsGreatestFound list s.id found → IsOwnFound s found
 own_of s list None are none = λ p h. none p ((are (record { node = s.id; prefix = p })).1 h)
 own_of s list (Some p) are g = record {
   own = (are (record { node = s.id; prefix = p })).0 g.has;
@@ -42,7 +42,7 @@ own_of s list (Some p) are g = record {
 -- ---- the first line
 
 pub above_of : (s : State) (list : List Generated) → AreGenerated (seen_by s) list
-    → HasAbove list s.id ↔ ((node : ℕ) × (p : PlainPrefix) × (s.id.0 < node) × IsGenerated (seen_by s) node p)
+    → HasPrefixAbove list s.id ↔ ((node : ℕ) × (p : PlainPrefix) × (s.id.0 < node) × IsGenerated (seen_by s) node p)
 above_of s list are = (
   λ h. (h.one.node.0, h.one.prefix, h.above, (are h.one).0 h.among),
   λ (node, p, above, is). record {
@@ -136,7 +136,7 @@ no_line s own found none m = none_own s own found none m.one m.has
 
 -- where there is no foreign prefix, a greater node makes it go
 pub by_above : (s : State) (list : List Generated) (own : Option PlainPrefix) (foreign above : Bool) → AreGenerated (seen_by s) list → IsOwnFound s own → is_some own ≡ true
-    → (IsTrue foreign ↔ IsForeign (seen_by s)) → foreign ≡ false → (IsTrue above ↔ HasAbove list s.id) → IsTrue above ↔ MustGo s
+    → (IsTrue foreign ↔ IsForeign (seen_by s)) → foreign ≡ false → (IsTrue above ↔ HasPrefixAbove list s.id) → IsTrue above ↔ MustGo s
 by_above s list own foreign above are found some foreign_is none above_is =
     let one = some_own s own found some in (
       λ h. record { one = one.0; has = one.1; because = inr ((above_of s list are).0 (above_is.0 h)) },

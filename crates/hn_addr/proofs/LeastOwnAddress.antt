@@ -11,10 +11,10 @@ use Rattle.hn_base.proofs.FrontOfList.{front_at}
 use Rattle.hn_data.specs.View.{PlainView}
 use Rattle.hn_own.specs.Addresses.{OwnAddress}
 use Rattle.hn_addr.specs.Addresses.{IsLeastOwn, Stays, HasCome}
-use Rattle.hn_addr.specs.Others.{AreOthers, HasAbove}
+use Rattle.hn_addr.specs.Others.{AreOthers, HasAddressAbove}
 use Rattle.hn_addr.specs.Own.{IsOwnInside, IsLesser, IsLeastFound}
 use Rattle.hn_addr.specs.declared.others.Others.{Others}
-use Rattle.hn_addr.proofs.Walks.{above_there, above_from}
+use Rattle.hn_addr.proofs.OtherAddresses.{above_there, above_from}
 
 -- ---- one own address more
 
@@ -92,10 +92,10 @@ module _ (view : PlainView) (id : NodeId) (own : List OwnAddress) (others : Othe
   pub none_stays : IsLeastFound own c None → (x : ℕ) → ¬ Stays view own c list x
   none_stays none x stays = none x stays.least.own_is stays.least.inside
 
-  pub above_goes : (least : ℕ) → IsLeastOwn own c least → HasAbove others.taken.items id least → (x : ℕ) → ¬ Stays view own c list x
+  pub above_goes : (least : ℕ) → IsLeastOwn own c least → HasAddressAbove others.taken.items id least → (x : ℕ) → ¬ Stays view own c list x
   above_goes least is above x stays =
       let same = one_least own c least x is stays.least in
-      let (node, taken, greater) = above_from view others are id x (subst (HasAbove others.taken.items id) same above) in
+      let (node, taken, greater) = above_from view others are id x id_is (subst (HasAddressAbove others.taken.items id) same above) in
       stays.not_yielded node taken (subst (λ (n : ℕ). n < node) id_is greater)
 
   pub come_goes : (least : ℕ) → IsLeastOwn own c least → HasCome list least → (x : ℕ) → ¬ Stays view own c list x
@@ -103,7 +103,7 @@ module _ (view : PlainView) (id : NodeId) (own : List OwnAddress) (others : Othe
       let same = one_least own c least x is stays.least in
       stays.new (subst (HasCome list) same come)
 
-  pub stays_so : (least : ℕ) → IsLeastOwn own c least → ¬ HasAbove others.taken.items id least → ¬ HasCome list least → Stays view own c list least
+  pub stays_so : (least : ℕ) → IsLeastOwn own c least → ¬ HasAddressAbove others.taken.items id least → ¬ HasCome list least → Stays view own c list least
   stays_so least is not_above new = record {
     least = is;
     not_yielded = λ node taken greater. not_above (above_there view others are id node least taken (subst (λ (n : ℕ). n < node) (sym id_is) greater));

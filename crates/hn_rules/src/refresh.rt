@@ -17,7 +17,7 @@ use hn_graph::{AGE_LIMIT, reachability_stays};
 use hn_hash::{network_of, same_hash};
 use hn_io::Draw;
 use hn_own::{OwnData, OwnItems};
-use hn_timers::{SHORTEST_INTERVAL, Trickle};
+use hn_timers::SHORTEST_INTERVAL;
 use std::alloc::Global;
 
 /// The age from which own node data is published again, in milliseconds: 2^16 before it can no longer be sent (RFC
@@ -146,7 +146,7 @@ impl Running {
         }
         let mut port = port.clone()?;
         let word = self.take(draw)?;
-        port.trickle = Trickle::start(now, SHORTEST_INTERVAL, word);
+        port.trickle.reset(now, word);
         self.put_port(alloc, port)
     }
 

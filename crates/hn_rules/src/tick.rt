@@ -1,6 +1,6 @@
 //! The parts of a tick: silent peers and lost nodes go, and each endpoint sends what is due.
 
-ghost use Rattle.std.specs.Prelude.{◌≡◌, IsTrue, ◌↔◌, All, IfOk, OnOk, true, false, Some};
+ghost use Rattle.std.specs.Prelude.{◌≡◌, IsTrue, ◌↔◌, All, IfOk, OnOk, false, Some};
 ghost use Rattle.hn_dncp.specs.Due.{IsPortStill};
 ghost use Rattle.hn_dncp.specs.Tick.{tick_sends};
 ghost use Rattle.hn_store.specs.Nodes.{held};
@@ -13,7 +13,7 @@ ghost use Rattle.hn_rules.specs.Tick.{HasInterval, IsExpired, Without, IsPortExp
 
 use crate::running::Running;
 use crate::state::State;
-use hn_base::{EpId, KEEP_ALIVE_INTERVAL, NoMemory};
+use hn_base::{EpId, KEEP_ALIVE_INTERVAL, Moment, NoMemory};
 use hn_data::{encode, items_are_unique, keep_alive};
 use hn_dncp::{Neighbour, Peers, Port, pack, still_port};
 use hn_io::Draw;
@@ -92,16 +92,14 @@ impl State {
     }
 
     /// Whether nothing is due at any endpoint. Never allocates.
-    fn are_ports_still(&self) -> bool
-        ensures { result ≡ true → All (IsPortStill self.now.moment) self.now.ports }
+    pub(crate) fn are_ports_still(&self, now: Moment) -> bool
+        ensures { IsTrue result ↔ All (IsPortStill now) self.now.ports }
     {
-        let now = self.moment.get();
-        for port in self.ports.get().as_slice() {
-            if !port.is_still(now) {
-                return false;
-            }
-        }
-        true
+        self.ports
+            .get()
+            .as_slice()
+            .iter()
+            .all(|port| port.is_still(now))
     }
 }
 
@@ -210,7 +208,8 @@ impl Running {
     {
         still_port();
         let _kept = self.state.ports.get().as_slice();
-        if self.state.are_ports_still() {
+        let now = self.state.moment.get();
+        if self.state.are_ports_still(now) {
             return Ok(());
         }
         let endpoints = self.state.ports.get().endpoints(alloc)?;

@@ -1,6 +1,6 @@
 -- The addresses that other nodes have, by a list of those of all nodes.
-use Rattle.std.proofs.Common.{◌≡◌, ◌≢◌, ◌<◌, ◌==◌, ℕ, Bool, true, false, not, Contains, filter, refl, ap, subst, arith}
-use Rattle.std.proofs.lemmas.Bool.Decides.{not_from_Decides, Decides-eqb}
+use Rattle.std.proofs.Common.{◌≡◌, ◌≢◌, ◌<◌, ◌==◌, ℕ, Bool, not, Contains, filter, refl, ap, subst, arith}
+use Rattle.std.proofs.lemmas.Bool.{eqb-true, eqb-false, not-true, not_from_false, false_from_ne_true}
 use Rattle.hn_base.specs.declared.ids.NodeId.{NodeId}
 use Rattle.hn_base.proofs.AscendingLists.{Contains-map, Contains-from_map}
 use Rattle.hn_base.proofs.Elements.{in_filter, from_filter}
@@ -9,22 +9,6 @@ use Rattle.hn_addr.specs.Addresses.{IsAddressOfOther}
 use Rattle.hn_addr.specs.Others.{AreOthers, HasAddressAbove}
 use Rattle.hn_addr.specs.declared.others.Others.{Others}
 use Rattle.hn_addr.specs.declared.others.Taken.{Taken}
-
--- ---- what a test of two numbers tells
-
-differ_so : (m n : ℕ) → not (m == n) ≡ true → m ≢ n
-differ_so m n is = not_from_Decides (m == n) (Decides-eqb m n) (turned (m == n) is)
-  where
-    turned : (b : Bool) → not b ≡ true → b ≡ false
-    turned true e = absurd cc
-    turned false e = refl
-
-differ_told : (m n : ℕ) → m ≢ n → not (m == n) ≡ true
-differ_told m n other = turned (m == n) (λ same. other ((Decides-eqb m n).0 same))
-  where
-    turned : (b : Bool) → ¬ (b ≡ true) → not b ≡ true
-    turned true is_not = absurd (is_not refl)
-    turned false is_not = refl
 
 module _ (view : PlainView) (others : Others) (are : AreOthers view others) where
   -- ---- an address and its node
@@ -66,14 +50,14 @@ module _ (view : PlainView) (others : Others) (are : AreOthers view others) wher
   other_there node x is =
       let t : Taken = record { node = record { 0 = node }; address = x } in
       (are.same x).1 (Contains-map (λ (u : Taken). u.address) (filter is_other others.taken.items) t
-      (in_filter is_other others.taken.items t (listed node x is) (differ_told node view.own is.other)))
+      (in_filter is_other others.taken.items t (listed node x is) (not_from_false (node == view.own) (false_from_ne_true (node == view.own) (λ same. is.other (eqb-true node view.own same))))))
 
   -- and one that is among them some other node has
   pub other_from : (x : ℕ) → Contains others.addresses.items x → (node : ℕ) × IsAddressOfOther view node x
   other_from x there =
       let (t, among, is) = Contains-from_map (λ (u : Taken). u.address) (filter is_other others.taken.items) x ((are.same x).0 there) in
       let (among_all, other) = from_filter is_other others.taken.items t among in
-      (t.node.0, subst (IsAddressOfOther view t.node.0) is (of_listed t among_all (differ_so t.node.0 view.own other)))
+      (t.node.0, subst (IsAddressOfOther view t.node.0) is (of_listed t among_all (eqb-false t.node.0 view.own (not-true (t.node.0 == view.own) other))))
 
   -- ---- a greater node has an address
 

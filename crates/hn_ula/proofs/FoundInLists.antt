@@ -1,6 +1,6 @@
 -- What the lists of a router say of it.
 use Rattle.std.proofs.Common.{◌≡◌, ◌≢◌, ◌∙◌, ◌↔◌, ◌<◌, ◌≤◌, ℕ, Bool, true, false, not, IsTrue, List, [], ◌∷◌, Contains, Option, Some, None, is_some, refl, sym, ap, subst, inl, inr, ⊎_elim, arith}
-use Rattle.std.proofs.lemmas.Bool.{cases_Bool, cases_lt, false≢true}
+use Rattle.std.proofs.lemmas.Bool.{cases_Bool, cases_lt, false≢true, not-true}
 use Rattle.std.proofs.lemmas.Bool.Decides.{not_from_Decides}
 use Rattle.hn_base.specs.Prefix.{PlainPrefix}
 use Rattle.hn_base.specs.declared.ids.NodeId.{NodeId}
@@ -162,17 +162,13 @@ by_greater s list foreign greater are foreign_is neither greater_is = (
   λ h. record {
     none = (nobody_of s list are).0 neither.0;
     no_better = λ better. false≢true (sym neither.1 ∙ foreign_is.1 better);
-    greatest = (greater_of s.reach s.id).0 (λ one. false≢true (sym (turned greater h) ∙ greater_is.1 one));
+    greatest = (greater_of s.reach s.id).0 (λ one. false≢true (sym (not-true greater h) ∙ greater_is.1 one));
   },
   λ a. elim (cases_Bool greater) [
     | inl one ↦ absurd ((greater_of s.reach s.id).1 a.greatest (greater_is.0 one))
     | inr none ↦ ap not none
   ],
 )
-  where
-    turned : (b : Bool) → not b ≡ true → b ≡ false
-    turned true is = absurd (false≢true is)
-    turned false is = refl
 
 pub by_neither : (s : State) (list : List Generated) (foreign : Bool) → AreGenerated (seen_by s) list → (IsTrue foreign ↔ IsForeign (seen_by s))
     → ¬ ((list ≡ []) × (foreign ≡ false)) → ¬ IsToAnnounce s

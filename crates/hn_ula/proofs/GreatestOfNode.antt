@@ -1,10 +1,9 @@
 -- The greatest prefix of a node, one element of a list after the other.
-use Rattle.std.proofs.Common.{◌≡◌, ◌≢◌, ◌∙◌, ◌⊎◌, ℕ, ◌+◌, List, [], ◌∷◌, ◌++◌, take, slice_get, Option, Some, None, Ordering, true, false, eqb, refl, sym, ap, subst, inl, inr, ⊎_elim}
+use Rattle.std.proofs.Common.{◌≡◌, ◌≢◌, ◌∙◌, ◌⊎◌, ℕ, ◌+◌, List, [], ◌∷◌, ◌++◌, take, slice_get, Option, Some, None, Ordering, refl, sym, ap, subst, inl, inr, ⊎_elim}
 use Rattle.std.specs.Prelude.{MatchOption}
 use Rattle.std.specs.declared.cmp.Ordering.TheVariants.{Less, Equal, Greater}
 use Rattle.std.specs.Ordering.{ordering_reverse}
 use Rattle.std.proofs.lemmas.List.Elements.{Contains-push, Contains-push_cases, Contains-append_left}
-use Rattle.std.proofs.lemmas.Bool.Decides.{not_from_Decides, Decides-eqb}
 use Rattle.hn_base.specs.Prefix.{PlainPrefix, prefix_cmp}
 use Rattle.hn_base.specs.declared.ids.NodeId.{NodeId}
 use Rattle.hn_base.proofs.AscendingLists.{nothing_in, not_below_itself}
@@ -35,14 +34,6 @@ same_of_both p q first second = by_order (prefix_cmp p q) refl
     by_order Less e = absurd (first e)
     by_order Equal e = exact_prefix p q e
     by_order Greater e = absurd (second (prefix_total.antisymm q p ∙ ap ordering_reverse e))
-
--- ---- what a comparison of two nodes tells
-
-pub same_node : (a b : NodeId) → true ≡ eqb a.0 b.0 → a ≡ b
-same_node a b is = let same : a.0 ≡ b.0 = (Decides-eqb a.0 b.0).0 (sym is) in λ i. record { 0 = same i }
-
-pub other_node : (a b : NodeId) → false ≡ eqb a.0 b.0 → a ≢ b
-other_node a b is same = not_from_Decides (eqb a.0 b.0) (Decides-eqb a.0 b.0) (sym is) (ap (λ (id : NodeId). id.0) same)
 
 -- ---- one element more
 

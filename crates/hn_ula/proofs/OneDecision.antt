@@ -1,6 +1,6 @@
 -- What is decided by what was found, and that it is one thing.
-use Rattle.std.proofs.Common.{◌≡◌, ◌∙◌, ◌↔◌, ℕ, Bool, true, false, not, IsTrue, Option, Some, None, List, [], ◌∷◌, refl, sym, ap, subst, inl, inr}
-use Rattle.std.proofs.lemmas.Bool.{false≢true}
+use Rattle.std.proofs.Common.{◌≡◌, ◌∙◌, ◌↔◌, ℕ, true, false, not, IsTrue, Option, Some, None, List, [], ◌∷◌, refl, sym, ap, subst, inl, inr}
+use Rattle.std.proofs.lemmas.Bool.{false≢true, not-true, not_from_false, false_from_ne_true}
 use Rattle.std.proofs.lemmas.List.{append-nil}
 use Rattle.hn_base.specs.Words.{IsAt, Took}
 use Rattle.hn_base.specs.Words.{Begins}
@@ -37,16 +37,6 @@ one_decision s a b v w stream x y at_v at_w =
     (λ x' y'. both_lines x' y' (one_withdrawn s a b v w)
     (λ x'' y''. both_lines x'' y'' (λ p q. one_announced a b v w stream p q at_v at_w)
     (λ p q. (p.0 ∙ sym q.0, p.1 ∙ sym q.1))))
-
--- ---- tests
-
-from_not : (b : Bool) → not b ≡ true → b ≡ false
-from_not true is = absurd (false≢true is)
-from_not false is = refl
-
-to_not : (b : Bool) → ¬ (b ≡ true) → not b ≡ true
-to_not true is_not = absurd (is_not refl)
-to_not false is_not = refl
 
 -- ---- by what was found
 
@@ -94,12 +84,12 @@ module _ (s : State) (f : Found) (found : IsFound s f) where
 
   pub answer_with : (p : PlainPrefix) → f.own ≡ Some p → f.must_go ≡ false → IsTrue (not f.has_two) ↔ IsUlaStill s
   answer_with p own stays = (
-    λ h. still_with p own stays (from_not f.has_two h),
-    λ still. to_not f.has_two (λ two. still.1 (found.has_two.0 two)),
+    λ h. still_with p own stays (not-true f.has_two h),
+    λ still. not_from_false f.has_two (false_from_ne_true f.has_two (λ two. still.1 (found.has_two.0 two))),
   )
 
   pub answer_without : f.own ≡ None → IsTrue (not f.is_to_announce) ↔ IsUlaStill s
   answer_without own = (
-    λ h. still_without own (from_not f.is_to_announce h),
-    λ still. to_not f.is_to_announce (λ is. still.2 (found.is_to_announce.0 is)),
+    λ h. still_without own (not-true f.is_to_announce h),
+    λ still. not_from_false f.is_to_announce (false_from_ne_true f.is_to_announce (λ is. still.2 (found.is_to_announce.0 is))),
   )

@@ -20,9 +20,10 @@ use Rattle.hn_rules.specs.Laws.{RouterStaysLater, AttachingKeeps, KeepsWell, Cha
 use Rattle.hn_rules.specs.Lengths.{most_answer, most_datagram, AreShort}
 use Rattle.hn_rules.specs.Router.{IsWell, IsHashed}
 use Rattle.hn_rules.specs.Rules.{begun_at}
-use Rattle.hn_router.specs.Act.{PlainEvent, Arrive, Tick, Attach, Detach, External, Withdraw, SetCaps, Private, Addresses, Restart, IsEventInRange, Happened}
+use Rattle.hn_router.specs.Act.{PlainEvent, Arrive, IsEventInRange, Happened}
 use Rattle.hn_router.specs.Laws.{IsTrusted, SendsAreShort, LimitStays, GenuineStays}
-use Rattle.hn_router.proofs.Changing.{ChangeLaws, IsFrom, EndpointsKeep, GivenKeep, given_keep, event_keeps}
+use Rattle.hn_router.proofs.Changing.{ChangeLaws, IsFrom, given_keep, event_keeps}
+use Rattle.hn_router.proofs.Edits.{EndpointsKeep, GivenKeep}
 
 -- ---- the limit
 
@@ -111,15 +112,7 @@ module _ (laws : EndLaws) where
   say_from : (past : List Publication) (event : PlainEvent) → IsTrusted past event → (tlvs : List PlainTlv) → IsFrom event tlvs → TlvsSayPublished past tlvs
   say_from past (Arrive from bytes) trusted tlvs (inl none) = subst (TlvsSayPublished past) (sym none) (no_tlvs past)
   say_from past (Arrive from bytes) trusted tlvs (inr list) = trusted tlvs list
-  say_from past Tick trusted tlvs none = subst (TlvsSayPublished past) (sym none) (no_tlvs past)
-  say_from past (Attach at) trusted tlvs none = subst (TlvsSayPublished past) (sym none) (no_tlvs past)
-  say_from past (Detach at) trusted tlvs none = subst (TlvsSayPublished past) (sym none) (no_tlvs past)
-  say_from past (External prefix valid preferred) trusted tlvs none = subst (TlvsSayPublished past) (sym none) (no_tlvs past)
-  say_from past (Withdraw prefix) trusted tlvs none = subst (TlvsSayPublished past) (sym none) (no_tlvs past)
-  say_from past (SetCaps caps) trusted tlvs none = subst (TlvsSayPublished past) (sym none) (no_tlvs past)
-  say_from past (Private private) trusted tlvs none = subst (TlvsSayPublished past) (sym none) (no_tlvs past)
-  say_from past (Addresses list) trusted tlvs none = subst (TlvsSayPublished past) (sym none) (no_tlvs past)
-  say_from past Restart trusted tlvs none = subst (TlvsSayPublished past) (sym none) (no_tlvs past)
+  say_from past _ trusted tlvs none = subst (TlvsSayPublished past) (sym none) (no_tlvs past)
 
   begun_genuine : (past : List Publication) (now : ℕ) (s : State) → IsGenuine past s → IsGenuineSoFar past (begun_at now s)
   begun_genuine past now s genuine =

@@ -13,6 +13,7 @@ mod Given
 mod InfoLists
 mod OneAdverts
 mod Changing
+mod Edits
 mod Facts
 mod Refused
 mod Restful

@@ -21,7 +21,8 @@ use Rattle.hn_rules.specs.Refresh.{IsRefresh}
 use Rattle.hn_base.specs.Rules.{Then}
 use Rattle.hn_rules.specs.Rules.{Rule, begun_at}
 use Rattle.hn_rules.specs.Tick.{IsExpiry, forgetting, IsPortsTick}
-use Rattle.hn_router.specs.Act.{PlainEvent, Arrive, Tick, Attach, Detach, External, Withdraw, SetCaps, Private, Addresses, Restart, is_refused, IsEventRule, IsEvent, Happened}
+use Rattle.hn_router.specs.Act.{PlainEvent, Arrive, Tick, Attach, Detach, Private, Restart, is_refused, IsEdit, IsEventRule, IsEvent, Happened}
+use Rattle.hn_router.proofs.Refused.{refused_then}
 use Rattle.hn_router.specs.Laws.{MomentIsNow, endpoints_by, EndpointsFollow}
 use Rattle.hn_rules.specs.Ticks.{IsLosing, IsSettling, IsTick}
 
@@ -61,7 +62,8 @@ filter_parts : {A B : Type 0} (p : B → Bool) (f : A → B) (xs : List A) → m
 filter_parts p f [] = refl
 filter_parts p f (x ∷ xs) = by_test (p (f x)) (filter_parts p f xs)
   where
-    by_test : (b : Bool) → map f (filter (λ y. p (f y)) xs) ≡ filter p (map f xs) → map f (cond b (x ∷ filter (λ y. p (f y)) xs) (filter (λ y. p (f y)) xs)) ≡ cond b (f x ∷ filter p (map f xs)) (filter p (map f xs))
+    by_test : (b : Bool) → map f (filter (λ y. p (f y)) xs) ≡ filter p (map f xs)
+        → map f (cond b (x ∷ filter (λ y. p (f y)) xs) (filter (λ y. p (f y)) xs)) ≡ cond b (f x ∷ filter p (map f xs)) (filter p (map f xs))
     by_test true more = ap (λ ys. f x ∷ ys) more
     by_test false more = more
 
@@ -90,9 +92,22 @@ abbrev Follows : PlainEvent → Running → Running → Type 0
 Follows event r a = (a.state.moment ≡ r.state.moment) × (endpoints_of a.state.ports ≡ endpoints_by event (endpoints_of r.state.ports))
 
 module _ (laws : HasLaws) where
-  -- a step, and then a refresh
-  refreshed : (event : PlainEvent) (r between a : Running) → Follows event r between → IsRefresh between a → Follows event r a
-  refreshed event r between a follows refreshes =
+  -- an edit
+  follows_edit : (event : PlainEvent) (r a : Running) → IsEdit event r a → Follows event r a
+  follows_edit (Attach at) r a is =
+      (ap (λ (x : Running). x.state.moment) is.gives, ap (λ (x : Running). endpoints_of x.state.ports) is.gives ∙ attached_endpoints (attached_port at r.state.moment is.word) r.state.ports)
+  follows_edit (Detach at) r a is = (
+    ap (λ (x : Running). x.state.moment) is,
+    ap (λ (x : Running). endpoints_of x.state.ports) is ∙ filter_parts (λ (e : EpId). not (e.0 == at.0)) (λ (p : Port). p.id) r.state.ports,
+  )
+  follows_edit (Private private) r a is = keeps_plain (setting_private private) (private_moment private) (private_endpoints private) r a is
+  follows_edit Restart r a restarts = laws.restarting r a restarts
+  follows_edit _ r a is = (ap (λ (x : Running). x.state.moment) is, ap (λ (x : Running). endpoints_of x.state.ports) is)
+
+  -- and then a refresh
+  follows_then : (event : PlainEvent) (r a : Running) → Then (IsEdit event) IsRefresh r a → Follows event r a
+  follows_then event r a (between, edits, refreshes) =
+      let follows = follows_edit event r between edits in
       let kept = laws.refresh between a refreshes in
       (kept.0 ∙ follows.0, kept.1 ∙ follows.1)
 
@@ -102,23 +117,7 @@ module _ (laws : HasLaws) where
       (ap (λ (x : Running). x.state.moment) malformed.gives, ap (λ (x : Running). endpoints_of x.state.ports) malformed.gives)
   follows_rule (Arrive from bytes) r a (inr (inr read)) = laws.arrival from read.tlvs r a read.arrives
   follows_rule Tick r a holds = keeps_tick laws r a holds
-  follows_rule (Attach at) r a (between, is, refreshes) =
-      refreshed (Attach at) r between a
-      (ap (λ (x : Running). x.state.moment) is.gives, ap (λ (x : Running). endpoints_of x.state.ports) is.gives ∙ attached_endpoints (attached_port at r.state.moment is.word) r.state.ports) refreshes
-  follows_rule (Detach at) r a (between, is, refreshes) =
-      refreshed (Detach at) r between a
-      (ap (λ (x : Running). x.state.moment) is, ap (λ (x : Running). endpoints_of x.state.ports) is ∙ filter_parts (λ (e : EpId). not (e.0 == at.0)) (λ (p : Port). p.id) r.state.ports) refreshes
-  follows_rule (External prefix valid preferred) r a (between, is, refreshes) =
-      refreshed (External prefix valid preferred) r between a (ap (λ (x : Running). x.state.moment) is, ap (λ (x : Running). endpoints_of x.state.ports) is) refreshes
-  follows_rule (Withdraw prefix) r a (between, is, refreshes) =
-      refreshed (Withdraw prefix) r between a (ap (λ (x : Running). x.state.moment) is, ap (λ (x : Running). endpoints_of x.state.ports) is) refreshes
-  follows_rule (SetCaps caps) r a (between, is, refreshes) =
-      refreshed (SetCaps caps) r between a (ap (λ (x : Running). x.state.moment) is, ap (λ (x : Running). endpoints_of x.state.ports) is) refreshes
-  follows_rule (Private private) r a (between, is, refreshes) =
-      refreshed (Private private) r between a (keeps_plain (setting_private private) (private_moment private) (private_endpoints private) r between is) refreshes
-  follows_rule (Addresses list) r a (between, is, refreshes) =
-      refreshed (Addresses list) r between a (ap (λ (x : Running). x.state.moment) is, ap (λ (x : Running). endpoints_of x.state.ports) is) refreshes
-  follows_rule Restart r a (between, restarts, refreshes) = refreshed Restart r between a (laws.restarting r between restarts) refreshes
+  follows_rule event r a holds = follows_then event r a holds
 
   pub moment_of_event : (event : PlainEvent) (r a : Running) → IsEvent event r a → a.state.moment ≡ r.state.moment
   moment_of_event event r a (inl (refused, is)) = ap (λ (x : Running). x.state.moment) is
@@ -135,21 +134,8 @@ module _ (laws : HasLaws) where
   endpoints_of_event event r a (inr (accepted, holds)) =
       (follows_rule event r a holds).1 ∙ sym (ap (λ (b : Bool). cond b (endpoints_of r.state.ports) (endpoints_by event (endpoints_of r.state.ports))) accepted)
 
--- whether an event is refused does not depend on the moment
-refused_same : (event : PlainEvent) (now : ℕ) (s : State) → is_refused event (begun_at now s).state ≡ is_refused event s
-refused_same (Arrive from bytes) now s = refl
-refused_same Tick now s = refl
-refused_same (Attach at) now s = refl
-refused_same (Detach at) now s = refl
-refused_same (External prefix valid preferred) now s = refl
-refused_same (Withdraw prefix) now s = refl
-refused_same (SetCaps caps) now s = refl
-refused_same (Private private) now s = refl
-refused_same (Addresses list) now s = refl
-refused_same Restart now s = refl
-
 pub ends_follow : HasLaws → EndpointsFollow
 unfolding Happened
 ends_follow laws now event s next done (after, holds, (due, is_due, is_next), is_done) =
     ap (λ (x : State). endpoints_of x.ports) is_next ∙ endpoints_of_event laws event (begun_at now s) after holds
-    ∙ ap (λ (b : Bool). cond b (endpoints_of s.ports) (endpoints_by event (endpoints_of s.ports))) (refused_same event now s)
+    ∙ ap (λ (b : Bool). cond b (endpoints_of s.ports) (endpoints_by event (endpoints_of s.ports))) (refused_then event now s)

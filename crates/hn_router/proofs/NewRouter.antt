@@ -75,7 +75,8 @@ new_is_one none no_endpoints no_delegated no_address own_is_reachable reachable_
       addresses = subst AreAddresses (sym new.no_addresses) no_address;
       posted = record {
         addressed = subst (All (λ a. IsTrue (is_attached a.0 s.ports))) (sym new.no_addresses) (All-nil (λ (a : OwnAddress). IsTrue (is_attached a.0 s.ports)));
-        of_length = subst (λ (pairs : Held). All (λ c. c.endpoint.0 ≡ 0 → Some c.prefix.len ≡ s.private) pairs.assigned) (sym new.nothing_held) (All-nil (λ (c : Assigned). c.endpoint.0 ≡ 0 → Some c.prefix.len ≡ s.private));
+        of_length = subst (λ (pairs : Held). All (λ c. c.endpoint.0 ≡ 0 → Some c.prefix.len ≡ s.private) pairs.assigned) (sym new.nothing_held)
+            (All-nil (λ (c : Assigned). c.endpoint.0 ≡ 0 → Some c.prefix.len ≡ s.private));
         linked = subst (All (λ link. 0 < link.endpoint.0)) (sym links) (All-nil (λ (link : PeerLink). 0 < link.endpoint.0));
       };
       numbered = record {
@@ -104,11 +105,13 @@ new_is_one none no_endpoints no_delegated no_address own_is_reachable reachable_
     }
 
     lost : All (λ node. is_among s.reach node.id.0 ≡ is_none node.stored.lost) s.table.entries
-    lost = subst (λ (nodes : Nodes). All (λ node. is_among s.reach node.id.0 ≡ is_none node.stored.lost) nodes.entries) (sym new.table_is) (All-nil (λ (node : HeldNode). is_among s.reach node.id.0 ≡ is_none node.stored.lost))
+    lost = subst (λ (nodes : Nodes). All (λ node. is_among s.reach node.id.0 ≡ is_none node.stored.lost) nodes.entries) (sym new.table_is)
+        (All-nil (λ (node : HeldNode). is_among s.reach node.id.0 ≡ is_none node.stored.lost))
 
     nodes_are : nodes_of s ≡ own_entry s ∷ []
     nodes_are =
-        ap (λ (nodes : Nodes). filter (λ n. nat_lt n.id.0 s.id.0) (map (held_entry s.moment) nodes.entries) ++ own_entry s ∷ filter (λ n. nat_lt s.id.0 n.id.0) (map (held_entry s.moment) nodes.entries)) new.table_is
+        ap (λ (nodes : Nodes). filter (λ n. nat_lt n.id.0 s.id.0) (map (held_entry s.moment) nodes.entries)
+        ++ own_entry s ∷ filter (λ n. nat_lt s.id.0 n.id.0) (map (held_entry s.moment) nodes.entries)) new.table_is
 
     exactly : (y : NodeId) → Contains s.reach y ↔ IsReachable s.id.0 (nodes_of s) y.0
     exactly y =

@@ -11,10 +11,9 @@ use Rattle.hn_rules.specs.declared.running.Origin.{Origin}
 use Rattle.hn_rules.specs.declared.done.Note.TheVariants as note
 use Rattle.hn_rules.specs.Rules.{IsSole, noted, words_of}
 use Rattle.hn_rules.specs.Arrival.{IsArrival}
-use Rattle.hn_rules.specs.Delegating.{delegating, withdrawing}
-use Rattle.hn_rules.specs.Events.{IsAttaching, detaching, setting_caps, setting_private, setting_addresses, IsRestarting}
+use Rattle.hn_rules.specs.Events.{IsAttaching, setting_private, IsRestarting}
 use Rattle.hn_rules.specs.Refresh.{IsRefresh}
-use Rattle.hn_router.specs.Act.{PlainEvent, Arrive, Tick, Attach, Detach, External, Withdraw, SetCaps, Private, Addresses, Restart, IsFar, IsMalformed, IsRead, is_refused, IsEventRule, IsEvent}
+use Rattle.hn_router.specs.Act.{PlainEvent, Arrive, Tick, Attach, Private, Restart, IsFar, IsMalformed, IsRead, is_refused, IsEdit, IsEventRule, IsEvent}
 use Rattle.hn_rules.specs.Ticks.{IsTick}
 use Rattle.hn_base.proofs.OneResult.{sole_given, sole_plain, sole_both, sole_from, sole_or, sole_where, sole_some}
 use Rattle.hn_base.proofs.DecidingTests.{not_both}
@@ -44,24 +43,24 @@ sole_malformed laws from bytes =
 pub private_words : (private : Option ℕ) (r : Running) → words_of (setting_private private r) ≡ words_of r
 private_words private r = cond_both (option_eq nat_eq private r.state.private) _ _ (λ (a : Running). words_of a ≡ words_of r) (λ _. refl) (λ _. refl)
 
-sole_rule : HasLaws → (event : PlainEvent) → IsSole (IsEventRule event)
-sole_rule laws (Arrive from bytes) =
+sole_arrive : HasLaws → (from : Origin) (bytes : List ℕ) → IsSole (IsEventRule (Arrive from bytes))
+sole_arrive laws from bytes =
     sole_or words_of (IsFar from) (λ r a. IsMalformed from bytes r a ⊎ IsRead from bytes r a)
     (sole_given words_of (IsFar from) (λ r a h. ap (λ (x : Running). x.done.words) h.gives) (λ r a b h k. h.gives ∙ sym k.gives))
-    (sole_or words_of (IsMalformed from bytes) (IsRead from bytes) (sole_malformed laws from bytes) (sole_read laws from bytes) (λ r a b h k. laws.no_list bytes h.place h.why h.fault (k.tlvs, k.list)))
+    (sole_or words_of (IsMalformed from bytes) (IsRead from bytes) (sole_malformed laws from bytes) (sole_read laws from bytes)
+    (λ r a b h k. laws.no_list bytes h.place h.why h.fault (k.tlvs, k.list)))
     (λ r a b h k. elim k [ inl m ↦ h.far m.near | inr m ↦ h.far m.near ])
+
+sole_edit : HasLaws → (event : PlainEvent) → IsSole (IsEdit event)
+sole_edit laws (Attach at) = laws.attaching at
+sole_edit laws (Private private) = sole_plain words_of (setting_private private) (private_words private)
+sole_edit laws Restart = laws.restarting
+sole_edit laws event = sole_given words_of (IsEdit event) (λ r a h. ap (λ (x : Running). x.done.words) h) (λ r a b h k. h ∙ sym k)
+
+sole_rule : HasLaws → (event : PlainEvent) → IsSole (IsEventRule event)
+sole_rule laws (Arrive from bytes) = sole_arrive laws from bytes
 sole_rule laws Tick = laws.tick
-sole_rule laws (Attach at) = sole_both words_of (IsAttaching at) IsRefresh (laws.attaching at) laws.refresh
-sole_rule laws (Detach at) = sole_both words_of (λ b a. a ≡ detaching at b) IsRefresh (sole_plain words_of (detaching at) (λ r. refl)) laws.refresh
-sole_rule laws (External prefix valid preferred) =
-    sole_both words_of (λ b a. a ≡ delegating prefix valid preferred b) IsRefresh (sole_plain words_of (delegating prefix valid preferred) (λ r. refl)) laws.refresh
-sole_rule laws (Withdraw prefix) = sole_both words_of (λ b a. a ≡ withdrawing prefix b) IsRefresh (sole_plain words_of (withdrawing prefix) (λ r. refl)) laws.refresh
-sole_rule laws (SetCaps caps) = sole_both words_of (λ b a. a ≡ setting_caps caps b) IsRefresh (sole_plain words_of (setting_caps caps) (λ r. refl)) laws.refresh
-sole_rule laws (Private private) =
-    sole_both words_of (λ b a. a ≡ setting_private private b) IsRefresh (sole_plain words_of (setting_private private) (private_words private)) laws.refresh
-sole_rule laws (Addresses list) =
-    sole_both words_of (λ b a. a ≡ setting_addresses list b) IsRefresh (sole_plain words_of (setting_addresses list) (λ r. refl)) laws.refresh
-sole_rule laws Restart = sole_both words_of IsRestarting IsRefresh laws.restarting laws.refresh
+sole_rule laws event = sole_both words_of (IsEdit event) IsRefresh (sole_edit laws event) laws.refresh
 
 pub sole_event : HasLaws → (event : PlainEvent) → IsSole (IsEvent event)
 sole_event laws event =

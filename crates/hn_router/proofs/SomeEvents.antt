@@ -1,5 +1,5 @@
 -- Each event has a result over each stream of words: it cannot be that there is none.
-use Rattle.std.proofs.Common.{◌≡◌, ◌^◌, ℕ, false, List, [], ◌∷◌, refl, inl, inr, arith}
+use Rattle.std.proofs.Common.{◌≡◌, ◌^◌, ℕ, false, List, [], ◌∷◌, ap, refl, inl, inr, arith}
 use Rattle.std.specs.Prelude.{All, IsTrue}
 use Rattle.std.proofs.lemmas.List.Elements.{All-nil, All-cons}
 use Rattle.hn_base.specs.Addr.{IsLinkLocal}
@@ -10,7 +10,7 @@ use Rattle.hn_base.specs.Words.{Begins}
 use Rattle.hn_base.specs.declared.ids.EpId.{EpId}
 use Rattle.hn_base.proofs.NextDue.{some_sooner}
 use Rattle.hn_base.proofs.SomeExists.{some_then, some_by}
-use Rattle.hn_base.proofs.SomeResult.{total_plain, total_by, total_both, total_test}
+use Rattle.hn_base.proofs.SomeResult.{total_given, total_plain, total_by, total_both, total_test}
 use Rattle.hn_tlv.specs.Grammar.{PlainTlv, IsTlv, IsTlvList}
 use Rattle.hn_tlv.specs.Laws.{ListOrFirstFault}
 use Rattle.hn_rules.specs.declared.done.Done.{Done}
@@ -18,18 +18,17 @@ use Rattle.hn_rules.specs.declared.done.Note.TheVariants as note
 use Rattle.hn_rules.specs.declared.running.Origin.{Origin}
 use Rattle.hn_rules.specs.declared.running.Running.{Running}
 use Rattle.hn_rules.specs.declared.state.State.{State}
-use Rattle.hn_rules.specs.Delegating.{delegating, withdrawing}
 use Rattle.hn_rules.specs.Due.{IsDueAt}
-use Rattle.hn_rules.specs.Events.{IsAttaching, detaching, setting_caps, setting_private, setting_addresses, IsRestarting}
+use Rattle.hn_rules.specs.Events.{IsAttaching, setting_private, IsRestarting}
 use Rattle.hn_rules.specs.Laws.{HasAResult, ArrivalHasAResult}
 use Rattle.hn_rules.specs.Refresh.{IsRefresh}
 use Rattle.hn_rules.specs.Router.{IsWell}
-use Rattle.hn_rules.specs.Rules.{Rule, IsTotal, begun_at, noted, words_of}
+use Rattle.hn_rules.specs.Rules.{IsTotal, begun_at, noted, words_of}
 use Rattle.hn_rules.specs.Ticks.{IsTick}
-use Rattle.hn_router.specs.Act.{PlainEvent, Arrive, Tick, Attach, Detach, External, Withdraw, SetCaps, Private, Addresses, Restart, is_refused, IsEventInRange, IsOfBytes, IsEventRule, IsEvent, DidNothing, IsDueAfter, Happened, HasResults}
+use Rattle.hn_router.specs.Act.{PlainEvent, Arrive, Tick, Attach, Private, Restart, is_refused, IsEventInRange, IsOfBytes, IsEdit, IsEventRule, IsEvent, DidNothing, IsDueAfter, Happened, HasResults}
 use Rattle.hn_router.specs.Laws.{EventHasAResult}
 use Rattle.hn_router.proofs.OneEvents.{private_words}
-use Rattle.hn_router.proofs.Stays.{HasLaws as StayLaws, IsBeginning, keeps_beginning}
+use Rattle.hn_router.proofs.Stays.{HasLaws as StayLaws, keeps_edit}
 
 -- what the laws say of lists of TLVs and of the rules
 pub record HasLaws : Type 0 where
@@ -74,26 +73,23 @@ total_arrive laws from bytes are stream r is begins = some_by (IsLinkLocal from.
 -- ---- the other events
 
 module _ (laws : HasLaws) where
-  -- the rule of an event, and then a refresh
-  total_then : (event : PlainEvent) → IsEventInRange event → IsTotal (IsTaken event) (IsBeginning event) → IsTotal (IsTaken event) (Then (IsBeginning event) IsRefresh)
-  total_then event fits total =
-      total_both words_of (IsTaken event) Well (IsBeginning event) IsRefresh total (λ r a is holds. keeps_beginning laws.stays event r a fits is.1 holds is.0) laws.refresh
+  total_edit : (event : PlainEvent) → IsTotal Well (IsEdit event)
+  total_edit (Attach at) = laws.attaching at
+  total_edit (Private length) = total_plain words_of Well (setting_private length) (private_words length)
+  total_edit Restart = laws.restarting
+  total_edit event = total_given words_of Well (IsEdit event) (λ r a h. ap (λ (x : Running). x.done.words) h) (λ r is none. none _ refl)
 
-  total_taken : (event : PlainEvent) (rule : Rule) → IsTotal Well rule → IsTotal (IsTaken event) rule
-  total_taken event rule = total_by words_of (IsTaken event) Well rule (λ r is. is.0)
+  -- the edit of an event, and then a refresh
+  total_then : (event : PlainEvent) → IsEventInRange event → IsTotal (IsTaken event) (Then (IsEdit event) IsRefresh)
+  total_then event fits =
+      total_both words_of (IsTaken event) Well (IsEdit event) IsRefresh (total_by words_of (IsTaken event) Well (IsEdit event) (λ r is. is.0) (total_edit event))
+      (λ r a is holds. keeps_edit laws.stays event r a fits is.1 holds is.0) laws.refresh
 
   total_rule : (event : PlainEvent) → IsEventInRange event → IsOfBytes event → IsTotal (IsTaken event) (IsEventRule event)
-  total_rule (Arrive from bytes) fits are = total_taken (Arrive from bytes) (IsEventRule (Arrive from bytes)) (total_arrive laws from bytes are)
-  total_rule Tick fits are = total_taken Tick IsTick laws.tick
-  total_rule (Attach at) fits are = total_then (Attach at) fits (total_taken (Attach at) (IsAttaching at) (laws.attaching at))
-  total_rule (Detach at) fits are = total_then (Detach at) fits (total_plain words_of (IsTaken (Detach at)) (detaching at) (λ r. refl))
-  total_rule (External prefix valid preferred) fits are =
-      total_then (External prefix valid preferred) fits (total_plain words_of (IsTaken (External prefix valid preferred)) (delegating prefix valid preferred) (λ r. refl))
-  total_rule (Withdraw prefix) fits are = total_then (Withdraw prefix) fits (total_plain words_of (IsTaken (Withdraw prefix)) (withdrawing prefix) (λ r. refl))
-  total_rule (SetCaps caps) fits are = total_then (SetCaps caps) fits (total_plain words_of (IsTaken (SetCaps caps)) (setting_caps caps) (λ r. refl))
-  total_rule (Private length) fits are = total_then (Private length) fits (total_plain words_of (IsTaken (Private length)) (setting_private length) (private_words length))
-  total_rule (Addresses list) fits are = total_then (Addresses list) fits (total_plain words_of (IsTaken (Addresses list)) (setting_addresses list) (λ r. refl))
-  total_rule Restart fits are = total_then Restart fits (total_taken Restart IsRestarting laws.restarting)
+  total_rule (Arrive from bytes) fits are =
+      total_by words_of (IsTaken (Arrive from bytes)) Well (IsEventRule (Arrive from bytes)) (λ r is. is.0) (total_arrive laws from bytes are)
+  total_rule Tick fits are = total_by words_of (IsTaken Tick) Well IsTick (λ r is. is.0) laws.tick
+  total_rule event fits are = total_then event fits
 
   total_event : (event : PlainEvent) → IsEventInRange event → IsOfBytes event → IsTotal Well (IsEvent event)
   total_event event fits are =

@@ -101,18 +101,23 @@ is_refused (Private length) s = false
 is_refused (Addresses list) s = not (may_address list s.ports)
 is_refused Restart s = false
 
--- which rules an event runs that is not refused
+-- what an event edits before a refresh; an arrival and a tick edit nothing
+abbrev pub IsEdit : PlainEvent → Rule
+IsEdit (Attach at) before after = IsAttaching at before after
+IsEdit (Detach at) before after = after ≡ detaching at before
+IsEdit (External prefix valid preferred) before after = after ≡ delegating prefix valid preferred before
+IsEdit (Withdraw prefix) before after = after ≡ withdrawing prefix before
+IsEdit (SetCaps caps) before after = after ≡ setting_caps caps before
+IsEdit (Private length) before after = after ≡ setting_private length before
+IsEdit (Addresses list) before after = after ≡ setting_addresses list before
+IsEdit Restart before after = IsRestarting before after
+IsEdit _ before after = after ≡ before
+
+-- which rules an event runs that is not refused: those of an arrival or a tick, or its edit and then a refresh
 abbrev pub IsEventRule : PlainEvent → Rule
 IsEventRule (Arrive from bytes) before after = IsFar from before after ⊎ (IsMalformed from bytes before after ⊎ IsRead from bytes before after)
 IsEventRule Tick before after = IsTick before after
-IsEventRule (Attach at) before after = Then (IsAttaching at) IsRefresh before after
-IsEventRule (Detach at) before after = Then (λ b a. a ≡ detaching at b) IsRefresh before after
-IsEventRule (External prefix valid preferred) before after = Then (λ b a. a ≡ delegating prefix valid preferred b) IsRefresh before after
-IsEventRule (Withdraw prefix) before after = Then (λ b a. a ≡ withdrawing prefix b) IsRefresh before after
-IsEventRule (SetCaps caps) before after = Then (λ b a. a ≡ setting_caps caps b) IsRefresh before after
-IsEventRule (Private length) before after = Then (λ b a. a ≡ setting_private length b) IsRefresh before after
-IsEventRule (Addresses list) before after = Then (λ b a. a ≡ setting_addresses list b) IsRefresh before after
-IsEventRule Restart before after = Then IsRestarting IsRefresh before after
+IsEventRule event before after = Then (IsEdit event) IsRefresh before after
 
 -- an event: a refused one is noted, and nothing but the moment changes
 abbrev pub IsEvent : PlainEvent → Rule

@@ -15,7 +15,7 @@ use Rattle.hn_router.specs.New.{IsNew}
 use Rattle.hn_own.specs.Ports.{endpoints_of}
 use Rattle.hn_router.specs.Act.{PlainEvent, Arrive, Tick, Attach, Detach, is_refused, IsEventInRange, IsOfBytes, IsEvent, Happened, HasResults}
 use Rattle.hn_rules.specs.Genuine.{IsGenuine, TextsCollide, BytesSayPublished}
-use Rattle.hn_rules.specs.Lengths.{most_datagram}
+use Rattle.hn_router.specs.Sends.{IsShortSend}
 use Rattle.hn_rules.specs.Router.{IsRouter}
 use Rattle.hn_rules.specs.Assigning.{IsRunAssigned}
 use Rattle.hn_rules.specs.Rested.{IsRested}
@@ -87,7 +87,7 @@ RouterHasOneAdvert = (s : State) (e : EpId) (a b : List ℕ) → IsAdvertBytes s
 abbrev pub SendsAreShort : Type 0
 SendsAreShort =
     (now : ℕ) (event : PlainEvent) (s next : State) (done : Done)
-    → IsRouter s → s.moment ≤ now → IsEventInRange event → Happened now event s next done → All (λ o. length o.bytes ≤ most_datagram) done.sends
+    → IsRouter s → s.moment ≤ now → IsEventInRange event → Happened now event s next done → All IsShortSend done.sends
 
 -- No event changes how many nodes a table may hold.
 abbrev pub LimitStays : Type 0

@@ -9,10 +9,8 @@ ghost use Rattle.hn_router.specs.Act.{plain_event, is_refused, IsEventInRange, I
 ghost use Rattle.hn_rules.specs.Router.{IsRefreshed, IsRouter};
 ghost use Rattle.hn_rules.specs.Rules.{Ran};
 
+use crate::edit::edit;
 use crate::event::Event;
-use crate::events::{
-    attach, delegate, detach, restart, set_addresses, set_caps, set_private, withdraw,
-};
 use hn_base::{EpId, LinkLength, NoMemory, link_local};
 use hn_io::Draw;
 use hn_prefix::Prefix;
@@ -113,11 +111,7 @@ fn refuses(state: &State, event: &Event<'_>) -> bool
         Event::Attach { endpoint } => refuses_attach(state, endpoint),
         Event::External { prefix, .. } => !state.delegated.get().may_have(&prefix),
         Event::Addresses { list } => !state.ports.get().may_address(list),
-        Event::Tick
-        | Event::Withdraw { .. }
-        | Event::Caps { .. }
-        | Event::Private { .. }
-        | Event::Restart => false,
+        _ => false,
     }
 }
 
@@ -130,7 +124,8 @@ fn arrive<D: Draw>(
     draw: &mut D,
 ) -> Result<(), NoMemory>
     requires { IsRefreshed running.old.state }
-    ensures { OnOk result (Ran (IsEventRule (Arrive from.now bytes.now)) (D.words draw.old) (D.words draw.new) running.old running.new) }
+    ensures { OnOk result
+        (Ran (IsEventRule (Arrive from.now bytes.now)) (D.words draw.old) (D.words draw.new) running.old running.new) }
 {
     if !link_local(&from.from) {
         return running.note(Note::Far);
@@ -144,7 +139,7 @@ fn arrive<D: Draw>(
     }
 }
 
-/// The rules of an event that is not refused.
+/// The rules of an event that is not refused: those of an arrival or a tick, or its edit and then a refresh.
 fn run_rules<D: Draw>(
     alloc: Global,
     running: &mut Running,
@@ -153,7 +148,8 @@ fn run_rules<D: Draw>(
 ) -> Result<(), NoMemory>
     requires accepted { is_refused (plain_event event.now) running.old.state ≡ false }
     requires router { IsRouter running.old.state }
-    ensures { OnOk result (Ran (IsEventRule (plain_event event.now)) (D.words draw.old) (D.words draw.new) running.old running.new) }
+    ensures { OnOk result
+        (Ran (IsEventRule (plain_event event.now)) (D.words draw.old) (D.words draw.new) running.old running.new) }
 {
     match *event {
         Event::Arrive {
@@ -170,18 +166,10 @@ fn run_rules<D: Draw>(
             arrive(alloc, running, &origin, bytes, draw)
         }
         Event::Tick => running.tick(alloc, draw),
-        Event::Attach { endpoint } => attach(alloc, running, endpoint, draw),
-        Event::Detach { endpoint } => detach(alloc, running, endpoint, draw),
-        Event::External {
-            prefix,
-            valid,
-            preferred,
-        } => delegate(alloc, running, prefix, valid, preferred, draw),
-        Event::Withdraw { prefix } => withdraw(alloc, running, &prefix, draw),
-        Event::Caps { caps } => set_caps(alloc, running, caps, draw),
-        Event::Private { length } => set_private(alloc, running, length, draw),
-        Event::Addresses { list } => set_addresses(alloc, running, list, draw),
-        Event::Restart => restart(alloc, running, draw),
+        _ => {
+            edit(alloc, running, event, draw)?;
+            running.refresh(alloc, true, draw)
+        }
     }
 }
 

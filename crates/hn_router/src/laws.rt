@@ -1,6 +1,8 @@
 //! Laws of the router. Each is the contract of a function that does nothing: call it to know its law.
 
-ghost use Rattle.hn_router.specs.Laws.{OneResult, EventHasAResult, NewExists, NewIsUnique, NewIsRouter, RouterStays, MomentStays, MomentIsNow, EndpointsFollow, RouterHasOneAdvert, SendsAreShort, LimitStays, RefusedInputStays, RestfulTickStays, GenuineStays};
+ghost use Rattle.hn_router.specs.Laws.{OneResult, EventHasAResult, NewExists, NewIsUnique, NewIsRouter, RouterStays, MomentStays};
+ghost use Rattle.hn_router.specs.Laws.{MomentIsNow, EndpointsFollow, RouterHasOneAdvert, SendsAreShort, LimitStays, RefusedInputStays};
+ghost use Rattle.hn_router.specs.Laws.{RestfulTickStays, GenuineStays};
 
 use hn_deleg::usable_is_unique;
 use hn_graph::{own_is_reachable, reachable_is_a_node};

@@ -5,8 +5,8 @@
 mod act;
 mod advertising;
 mod due;
+mod edit;
 mod event;
-mod events;
 mod laws;
 mod router;
 

@@ -21,8 +21,10 @@ loop-one-preserved c =
     let node = c.args.node in
     let at : slice_get list n ≡ Some one = slice_get_read list (length list) n one refl c.loop-one-test.true c.one-item.is in
     elim c.if-eq.branch [
-      | then-eq w ↦ rw w.greatest-is (taken_next list n one node c.loop-one.greatest w.greater.result at (same_node one.node node (eqb-true one.node.0 node.0 (sym w.if-eq.ensures))) w.greater.ensures c.loop-one.invariant)
-      | else-eq w ↦ rw w.greatest-is (passed_next list n one node c.loop-one.greatest at (λ same. eqb-false one.node.0 node.0 (sym w.if-eq.ensures) (ap (λ (id : NodeId). id.0) same)) c.loop-one.invariant)
+      | then-eq w ↦ rw w.greatest-is
+          (taken_next list n one node c.loop-one.greatest w.greater.result at (same_node one.node node (eqb-true one.node.0 node.0 (sym w.if-eq.ensures))) w.greater.ensures c.loop-one.invariant)
+      | else-eq w ↦ rw w.greatest-is
+          (passed_next list n one node c.loop-one.greatest at (λ same. eqb-false one.node.0 node.0 (sym w.if-eq.ensures) (ap (λ (id : NodeId). id.0) same)) c.loop-one.invariant)
     ]
 
 pub returns : goal.returns

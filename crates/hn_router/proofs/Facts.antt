@@ -124,11 +124,11 @@ module _ (laws : EndLaws) where
       }
 
   -- what an event leaves, by the router in the middle of it at its end
-  abbrev IsLeft : List Publication → State → Done → Type 0
-  IsLeft past next done =
+  abbrev IsLeftAtEnd : List Publication → State → Done → Type 0
+  IsLeftAtEnd past next done =
       (IsGenuine (past ++ done.published) next × All (λ o. BytesSayPublished (past ++ done.published) o.bytes) done.sends) ⊎ TextsCollide (past ++ done.published)
 
-  left_at_end : (past : List Publication) (due : ℕ) (r : Running) → IsGenuineOrCollides past r → IsLeft past (record r.state { due = due }) r.done
+  left_at_end : (past : List Publication) (due : ℕ) (r : Running) → IsGenuineOrCollides past r → IsLeftAtEnd past (record r.state { due = due }) r.done
   left_at_end past due r (inl (hashed, so)) = inl (record { own = so.state.own; others = so.state.others }, so.sends)
   left_at_end past due r (inr collide) = inr collide
 
@@ -139,4 +139,4 @@ module _ (laws : EndLaws) where
       let given = given_keep laws.changes (IsGenuineOrCollides past) (keeps past [] (no_tlvs past)) in
       let kept = event_keeps laws.changes IsEventInRange (IsGenuineOrCollides past) (genuine_ends past) given event ranged (λ tlvs from. keeps past tlvs (say_from past event trusted tlvs from))
       (begun_at now s) after holds (inl (begun, begun_genuine past now s genuine)) in
-      subst (λ (x : State). IsLeft past x done) (sym is_next) (subst (IsLeft past (record after.state { due = due })) (sym is_done) (left_at_end past due after kept))
+      subst (λ (x : State). IsLeftAtEnd past x done) (sym is_next) (subst (IsLeftAtEnd past (record after.state { due = due })) (sym is_done) (left_at_end past due after kept))

@@ -27,7 +27,7 @@ use Rattle.hn_router.specs.Laws.{MomentIsNow, endpoints_by, EndpointsFollow}
 use Rattle.hn_rules.specs.Ticks.{IsLosing, IsSettling, IsTick}
 
 -- what the laws say of the rules
-pub record HasLaws : Type 0 where
+pub record MomentLaws : Type 0 where
   pub refresh : KeepsEndpoints IsRefresh
   pub arrival : (from : Origin) (tlvs : List PlainTlv) → KeepsEndpoints (IsArrival from tlvs)
   pub expiry : KeepsEndpoints IsExpiry
@@ -48,8 +48,8 @@ keeps_plain : (step : Running → Running) → ((r : Running) → (step r).state
 keeps_plain step moment ends before after is =
     (ap (λ (r : Running). r.state.moment) is ∙ moment before, ap (λ (r : Running). endpoints_of r.state.ports) is ∙ ends before)
 
-keeps_tick : HasLaws → KeepsEndpoints IsTick
-keeps_tick laws =
+tick_keeps_endpoints : MomentLaws → KeepsEndpoints IsTick
+tick_keeps_endpoints laws =
     let losing = keeps_both IsExpiry (Then (λ b a. a ≡ ending b) IsRefresh) laws.expiry (keeps_both (λ b a. a ≡ ending b) IsRefresh (keeps_plain ending (λ r. refl) (λ r. refl)) laws.refresh) in
     let settling = keeps_both IsAssigning IsRefresh laws.assigning laws.refresh in
     keeps_both IsLosing (Then (λ b a. a ≡ forgetting b) (Then IsSettling IsPortsTick)) losing
@@ -91,7 +91,7 @@ private_endpoints private r =
 abbrev Follows : PlainEvent → Running → Running → Type 0
 Follows event r a = (a.state.moment ≡ r.state.moment) × (endpoints_of a.state.ports ≡ endpoints_by event (endpoints_of r.state.ports))
 
-module _ (laws : HasLaws) where
+module _ (laws : MomentLaws) where
   -- an edit
   follows_edit : (event : PlainEvent) (r a : Running) → IsEdit event r a → Follows event r a
   follows_edit (Attach at) r a is =
@@ -116,7 +116,7 @@ module _ (laws : HasLaws) where
   follows_rule (Arrive from bytes) r a (inr (inl malformed)) =
       (ap (λ (x : Running). x.state.moment) malformed.gives, ap (λ (x : Running). endpoints_of x.state.ports) malformed.gives)
   follows_rule (Arrive from bytes) r a (inr (inr read)) = laws.arrival from read.tlvs r a read.arrives
-  follows_rule Tick r a holds = keeps_tick laws r a holds
+  follows_rule Tick r a holds = tick_keeps_endpoints laws r a holds
   follows_rule event r a holds = follows_then event r a holds
 
   pub moment_of_event : (event : PlainEvent) (r a : Running) → IsEvent event r a → a.state.moment ≡ r.state.moment
@@ -134,7 +134,7 @@ module _ (laws : HasLaws) where
   endpoints_of_event event r a (inr (accepted, holds)) =
       (follows_rule event r a holds).1 ∙ sym (ap (λ (b : Bool). cond b (endpoints_of r.state.ports) (endpoints_by event (endpoints_of r.state.ports))) accepted)
 
-pub ends_follow : HasLaws → EndpointsFollow
+pub ends_follow : MomentLaws → EndpointsFollow
 unfolding Happened
 ends_follow laws now event s next done (after, holds, (due, is_due, is_next), is_done) =
     ap (λ (x : State). endpoints_of x.ports) is_next ∙ endpoints_of_event laws event (begun_at now s) after holds

@@ -28,10 +28,10 @@ use Rattle.hn_rules.specs.Ticks.{IsTick}
 use Rattle.hn_router.specs.Act.{PlainEvent, Arrive, Tick, Attach, Private, Restart, is_refused, IsEventInRange, IsOfBytes, IsEdit, IsEventRule, IsEvent, DidNothing, IsDueAfter, Happened, HasResults}
 use Rattle.hn_router.specs.Laws.{EventHasAResult}
 use Rattle.hn_router.proofs.OneEvents.{private_words}
-use Rattle.hn_router.proofs.Stays.{HasLaws as StayLaws, keeps_edit}
+use Rattle.hn_router.proofs.Stays.{StayLaws, keeps_edit}
 
 -- what the laws say of lists of TLVs and of the rules
-pub record HasLaws : Type 0 where
+pub record SomeEventLaws : Type 0 where
   pub list_or_fault : ListOrFirstFault
   pub refresh : HasAResult IsRefresh
   pub arrival : ArrivalHasAResult
@@ -57,7 +57,7 @@ all_tlvs (tlv ∷ tlvs) bytes list = All-cons IsTlv tlv tlvs list.1 (all_tlvs tl
 abbrev HasArrived : Origin → List ℕ → (ℕ → ℕ) → Running → Type 0
 HasArrived from bytes stream r = Some! (λ (a : Running). IsEventRule (Arrive from bytes) r a × Begins (words_of a) stream)
 
-total_arrive : HasLaws → (from : Origin) (bytes : List ℕ) → All IsByte bytes → IsTotal Well (IsEventRule (Arrive from bytes))
+total_arrive : SomeEventLaws → (from : Origin) (bytes : List ℕ) → All IsByte bytes → IsTotal Well (IsEventRule (Arrive from bytes))
 total_arrive laws from bytes are stream r is begins = some_by (IsLinkLocal from.from.ip) near far
   where
     far : ¬ (IsLinkLocal from.from.ip) → HasArrived from bytes stream r
@@ -72,7 +72,7 @@ total_arrive laws from bytes are stream r is begins = some_by (IsLinkLocal from.
 
 -- ---- the other events
 
-module _ (laws : HasLaws) where
+module _ (laws : SomeEventLaws) where
   total_edit : (event : PlainEvent) → IsTotal Well (IsEdit event)
   total_edit (Attach at) = laws.attaching at
   total_edit (Private length) = total_plain words_of Well (setting_private length) (private_words length)
@@ -104,7 +104,7 @@ module _ (laws : HasLaws) where
       (λ idle. some_then (some_sooner (IsDueAt after.state) after.state.moment (2 ^ 49)) (λ due next none. none due (inl (idle, next))))
       (λ not none. none 0 (inr (not, refl)))
 
-pub some_event : HasLaws → EventHasAResult
+pub some_event : SomeEventLaws → EventHasAResult
 unfolding Happened HasResults
 some_event laws now event s router rises fits are stream =
     let begun = begun_at now s in

@@ -23,7 +23,7 @@ use Rattle.hn_router.proofs.Edits.{EndpointsKeep, GivenKeep, OthersKeep, edit_ke
 use Rattle.hn_router.proofs.Keeping.{router_due}
 
 -- what the laws say of the rules
-pub record HasLaws : Type 0 where
+pub record StayLaws : Type 0 where
   pub later : RouterStaysLater
   pub refreshes : RefreshMakesRouter
   pub arrives : (from : Origin) (tlvs : List PlainTlv) → KeepsRouter (IsArrival from tlvs)
@@ -41,7 +41,7 @@ pub record HasLaws : Type 0 where
   pub addresses : AddressingKeeps
   pub restarts : KeepsWell IsRestarting
 
-module _ (laws : HasLaws) where
+module _ (laws : StayLaws) where
   keeps_tick : KeepsRouter IsTick
   keeps_tick r a (lost, (expired, expires, (ended, ends, refreshes)), (left, forgets, (settled, (assigned, assigns, settles), ticks))) router =
       let well_ended = laws.ends expired ended ends (laws.expires r expired expires router.well) in

@@ -201,8 +201,12 @@ impl Router {
         event_of_bytes(event);
     }
 
-    /// What an event would do; the router stays as it is. Whether there is memory or not, it cannot be that the event has no
-    /// result over a stream of words; with `one_result` it has exactly one.
+    /// What an event would do; the router stays as it is. Each datagram that it sends has at most 65,507 bytes. Whether there is
+    /// memory or not, it cannot be that the event has no result over a stream of words; with `one_result` it has exactly one.
+    ///
+    /// # Errors
+    ///
+    /// Out of memory.
     pub fn plan<D: Draw>(
         &self,
         alloc: Global,
@@ -263,9 +267,10 @@ impl Router {
         self.state.moment = Present::new(now);
     }
 
-    /// An event happens to the router at a moment. A tick before `due_at` takes no memory, and only the moment changes. After
-    /// a tick that does nothing `due_at` is the moment at which something is next due. Whether there is memory or not, it cannot
-    /// be that the event has no result over a stream of words.
+    /// An event happens to the router at a moment. Each datagram that it sends has at most 65,507 bytes. A tick before `due_at`
+    /// takes no memory, and only the moment changes. After a tick that does nothing `due_at` is the moment at which something is
+    /// next due. Whether there is memory or not, it cannot be that the event has no result over a stream of words; with
+    /// `one_result` it has exactly one.
     ///
     /// # Errors
     ///

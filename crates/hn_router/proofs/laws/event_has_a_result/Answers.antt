@@ -1,4 +1,4 @@
-use Rattle.hn_router.proofs.SomeEvents.{HasLaws, some_event}
+use Rattle.hn_router.proofs.SomeEvents.{SomeEventLaws, some_event}
 use Rattle.hn_router.proofs.laws.event_has_a_result.Goals as goal
 
 pub returns : goal.returns
@@ -6,7 +6,7 @@ returns c =
     let rules = c.rules_keep_a_router.ensures in
     let rest = c.rules_keep_the_rest.ensures in
     let results = c.rules_have_a_result.ensures in
-    let laws : HasLaws = record {
+    let laws : SomeEventLaws = record {
       list_or_fault = c.list_or_first_fault.ensures;
       refresh = results.refresh;
       arrival = results.arrival;

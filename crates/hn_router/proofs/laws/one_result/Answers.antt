@@ -6,14 +6,14 @@ use Rattle.hn_rules.specs.declared.state.State.{State}
 use Rattle.hn_rules.specs.Rules.{begun_at}
 use Rattle.hn_router.specs.Act.{Happened}
 use Rattle.hn_router.proofs.Keeping.{one_due}
-use Rattle.hn_router.proofs.OneEvents.{HasLaws, sole_event}
+use Rattle.hn_router.proofs.OneEvents.{OneEventLaws, sole_event}
 use Rattle.hn_router.proofs.laws.one_result.Goals as goal
 
 pub returns : goal.returns
 unfolding Happened
 returns c now event s a b da db stream (left, ran, (due, is_due, is_a), is_da) (right, also, (other, is_other, is_b), is_db) at_a at_b =
     let rules = c.rules_have_one_result.ensures in
-    let laws : HasLaws = record {
+    let laws : OneEventLaws = record {
       one_list = c.list_is_unique.ensures;
       no_list = c.first_fault_is_unique.ensures.no_list;
       one_place = c.first_fault_is_unique.ensures.one;

@@ -21,13 +21,38 @@ fn bytes_in_range(bytes: &[u8])
 }
 
 /// What an event gives its router fits, and what arrives is of bytes. Changes nothing: call it to know its law.
-fn own_in_range(event: &WEvent)
+fn given_in_range(event: &WEvent)
     ensures fits { FitsAt (routed event.now) }
     ensures injected { IsOfBytesAt (routed event.now) }
 {
     if let Some((_, own)) = event.routed() {
         event_in_range(&own);
         event_of_bytes(&own);
+    }
+}
+
+/// So it is of each event. Most events give nothing, and take no time here.
+fn own_in_range(event: &WEvent)
+    ensures fits { FitsAt (routed event.now) }
+    ensures injected { IsOfBytesAt (routed event.now) }
+{
+    match event {
+        WEvent::Attach { .. }
+        | WEvent::External { .. }
+        | WEvent::Private { .. }
+        | WEvent::Addresses { .. }
+        | WEvent::Inject { .. } => given_in_range(event),
+        WEvent::Router { .. }
+        | WEvent::Link { .. }
+        | WEvent::Detach { .. }
+        | WEvent::Withdraw { .. }
+        | WEvent::Caps { .. }
+        | WEvent::Stop { .. }
+        | WEvent::Start { .. }
+        | WEvent::Time { .. }
+        | WEvent::Tick { .. }
+        | WEvent::Deliver { .. }
+        | WEvent::Drop { .. } => {}
     }
 }
 

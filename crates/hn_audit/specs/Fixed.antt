@@ -47,10 +47,10 @@ abbrev pub Comes : State → Type 0
 Comes s = (stream : ℕ → ℕ) → Some! (λ (ran : Ran). IsRunAnew s ran × Begins ran.words stream)
 
 -- it comes to a result on a router, and each makes, changes or destroys an assignment
-pub record Acts (s : State) : Type 0 where
+pub record ActsAnew (s : State) : Type 0 where
   pub comes : Comes s
   pub acts : (ran : Ran) → IsRunAnew s ran → ¬ AreAssignmentsUnchanged s.held.assigned ran.held.assigned
 
 -- so it is on a router of the set of r
 abbrev pub SomeActs : Parts → Member → Type 0
-SomeActs w r = (s : Member) × IsReached w r s × Acts s.router
+SomeActs w r = (s : Member) × IsReached w r s × ActsAnew s.router

@@ -26,7 +26,8 @@ SameParts a b =
 
 abbrev same_test : Assigned → Assigned → Bool
 same_test a b =
-    is_one_prefix a.delegated b.delegated && (a.endpoint.0 == b.endpoint.0 && (is_one_prefix a.prefix b.prefix && (option_eq nat_eq a.published b.published && (a.since == b.since && beq a.applied b.applied))))
+    is_one_prefix a.delegated b.delegated && (a.endpoint.0 == b.endpoint.0 &&
+    (is_one_prefix a.prefix b.prefix && (option_eq nat_eq a.published b.published && (a.since == b.since && beq a.applied b.applied))))
 
 pub assigned_decided : (a b : Assigned) → Decides (same_test a b) (a ≡ b)
 assigned_decided a b =
@@ -41,7 +42,13 @@ assigned_decided a b =
     })
     (λ (same : a ≡ b). (
       ap (λ (c : Assigned). c.delegated) same,
-      (ap (λ (c : Assigned). c.endpoint.0) same, (ap (λ (c : Assigned). c.prefix) same, (ap (λ (c : Assigned). c.published) same, (ap (λ (c : Assigned). c.since) same, ap (λ (c : Assigned). c.applied) same)))),
+      (
+        ap (λ (c : Assigned). c.endpoint.0) same,
+        (
+          ap (λ (c : Assigned). c.prefix) same,
+          (ap (λ (c : Assigned). c.published) same, (ap (λ (c : Assigned). c.since) same, ap (λ (c : Assigned). c.applied) same)),
+        ),
+      ),
     ))
     (Decides-and _ _ (prefix_decided a.delegated b.delegated) (Decides-and _ _ (Decides-eqb a.endpoint.0 b.endpoint.0) (Decides-and _ _ (prefix_decided a.prefix b.prefix)
     (Decides-and _ _ (option_decided a.published b.published) (Decides-and _ _ (Decides-eqb a.since b.since) (booleans_Decides a.applied b.applied))))))

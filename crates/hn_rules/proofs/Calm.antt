@@ -72,7 +72,8 @@ same_published before after same = sym (published_unmarked after) ∙ ap (filter
 with_held : (s : State) (ran : Held) → AreAssignmentsUnchanged s.held.assigned ran.assigned → IsFresh s → IsFresh (record s { held = ran })
 with_held s ran same is = record {
   refreshed = record {
-    published = ap (λ (list : List AssignedPrefix). let items : OwnItems = record (own_items s) { assigned = list } in items) (same_published s.held.assigned ran.assigned same) ∙ is.refreshed.published;
+    published = ap (λ (list : List AssignedPrefix). let items : OwnItems = record (own_items s) { assigned = list } in items) (same_published s.held.assigned ran.assigned same)
+        ∙ is.refreshed.published;
     reached = record {
       moment = is.refreshed.reached.moment;
       past = is.refreshed.reached.past;
@@ -105,7 +106,8 @@ module _ (laws : CalmLaws) (s : State) (now : ℕ) (router : IsRouter s) (begun 
   pub nothing_lost : (lost : Running) → IsLosing start lost → lost ≡ start
   nothing_lost lost (expired, expiry, (ended, ends, refresh)) =
       let none : expired ≡ start = only IsExpiry laws.one_expiry start expired expiry (none_expire_at start router.well.ports quiet.heard) in
-      let same : ending start ≡ start = ap (λ (list : List OwnPrefix). let x : Running = record start { state = record start.state { delegated = list } } in x) ((laws.ending now s.delegated).1 quiet.lasting) in
+      let same : ending start ≡ start = ap (λ (list : List OwnPrefix). let x : Running = record start { state = record start.state { delegated = list } } in x)
+      ((laws.ending now s.delegated).1 quiet.lasting) in
       let whole : ended ≡ start = ends ∙ ap ending none ∙ same in
       only IsRefresh laws.one_refresh start lost (subst (λ (x : Running). IsRefresh x lost) whole refresh) (same_refresh start (recent_fresh laws.reach then refreshed_then quiet.young quiet.leads))
 

@@ -83,7 +83,8 @@ module _ (laws : StillLaws) (s : State) (now : ℕ) (router : IsRouter s) (begun
   expires =
       each_same (λ at. AtPort at IsPortExpiry) r
       (λ at. none_expire at r router.well.ports (λ port found.
-      All-contains (λ (p : Port). All (λ (peer : Neighbour). ¬ (IsExpired (at_moment now s) peer)) p.peers) s.ports port still.heard (found_passes (is_port at) s.ports port found).0)) (endpoints_of s.ports)
+      All-contains (λ (p : Port). All (λ (peer : Neighbour). ¬ (IsExpired (at_moment now s) peer)) p.peers) s.ports port still.heard (found_passes (is_port at) s.ports port found).0))
+      (endpoints_of s.ports)
 
   ends : r ≡ ending r
   ends = ap (λ (list : List OwnPrefix). let x : Running = record r { state = record r.state { delegated = list } } in x) (sym ((laws.ending now s.delegated).1 still.lasting))
@@ -98,7 +99,8 @@ module _ (laws : StillLaws) (s : State) (now : ℕ) (router : IsRouter s) (begun
       reaches = record {
         reach = s.reach;
         is_reach = still.reached;
-        gives = ap (λ (entries : List HeldNode). let x : Running = record r { state = record r.state { table = record s.table { entries = entries } } } in x) (sym (marks_same s.reach now s.table.entries router.refreshed.lost));
+        gives = ap (λ (entries : List HeldNode). let x : Running = record r { state = record r.state { table = record s.table { entries = entries } } } in x)
+            (sym (marks_same s.reach now s.table.entries router.refreshed.lost));
       }
 
   assigns : IsAssigning r r
@@ -370,12 +372,14 @@ one_tick sole r a b h k silent_a silent_b =
     sole.one stream r a b h k (subst (λ (words : List ℕ). Begins words stream) (sym words_a) none) (subst (λ (words : List ℕ). Begins words stream) (sym words_b) none)
 
 -- so one that ran where each part leaves the router as it is did nothing
-pub ran_idle : StillIsIdle → IsSole IsTick → (s : State) (now : ℕ) (after : Running) → IsRouter s → s.moment ≤ now → IsTick (begun_at now s) after → after.done ≡ nothing → IsStill now s → after.state ≡ at_moment now s
+pub ran_idle : StillIsIdle → IsSole IsTick → (s : State) (now : ℕ) (after : Running) → IsRouter s → s.moment ≤ now → IsTick (begun_at now s) after
+    → after.done ≡ nothing → IsStill now s → after.state ≡ at_moment now s
 ran_idle is_idle sole s now after router begun tick silent still =
     let (other, other_tick, same, other_silent) = is_idle s now router begun still in
     ap (λ (r : Running). r.state) (one_tick sole (begun_at now s) after other tick other_tick silent other_silent) ∙ same
 
-pub is_idle_where_left : StillIsIdle → IdleIsStill → SilentTickIsStill → IsSole IsTick → (s : State) (now : ℕ) (after : Running) → IsRouter s → s.moment ≤ now → IsTick (begun_at now s) after → after.done ≡ nothing
+pub is_idle_where_left : StillIsIdle → IdleIsStill → SilentTickIsStill → IsSole IsTick → (s : State) (now : ℕ) (after : Running) → IsRouter s
+    → s.moment ≤ now → IsTick (begun_at now s) after → after.done ≡ nothing
     → IsLeft now s after.state ↔ ((after.state ≡ at_moment now s) × (after.done ≡ nothing))
 is_idle_where_left is_idle is_still silent_is_still sole s now after router begun tick silent = (
   λ left. (ran_idle is_idle sole s now after router begun tick silent (silent_is_still s now after router begun tick silent left), silent),

@@ -62,7 +62,8 @@ module _ (s : State) where
   IsHeld m n x = (node : HeldNode) × Contains s.table.entries node × (held_entry m node ≡ x) × Contains (nodes_at n) (held_entry n node)
 
   pub own_there : (moment : ℕ) → Contains (nodes_at moment) (own_at moment)
-  own_there moment = Contains-append_right (filter lower (held_at moment)) (own_at moment ∷ filter greater (held_at moment)) (own_at moment) (Contains-head (own_at moment) (filter greater (held_at moment)))
+  own_there moment = Contains-append_right (filter lower (held_at moment)) (own_at moment ∷ filter greater (held_at moment)) (own_at moment)
+      (Contains-head (own_at moment) (filter greater (held_at moment)))
 
   -- a node at one moment is the own one or a held one, which is there at the other moment
   pub own_or_held : (m n : ℕ) (x : Entry) → Contains (nodes_at m) x → (x ≡ own_at m) ⊎ IsHeld m n x

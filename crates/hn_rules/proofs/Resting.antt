@@ -86,7 +86,8 @@ hashed_stays : (r : Running) (port : Port) → may_ask r.state.moment port.asked
 hashed_stays r port not_now = ap (λ (a : Option ℕ). let p : Port = record port { asked = a } in p) (cond-false (may_ask r.state.moment port.asked) (Some r.state.moment) port.asked not_now)
 
 -- another hash than the local one, while the endpoint may not ask
-pub compared_stays : (at : EpId) (same : Bool) (port : Port) (r : Running) → same ≡ false → may_ask r.state.moment port.asked ≡ false → ArePorts r.state.ports → port_at at r.state.ports ≡ Some port → r ≡ compared same port r
+pub compared_stays : (at : EpId) (same : Bool) (port : Port) (r : Running) → same ≡ false → may_ask r.state.moment port.asked ≡ false
+    → ArePorts r.state.ports → port_at at r.state.ports ≡ Some port → r ≡ compared same port r
 compared_stays at true port r other not_now are found = absurd cc
 compared_stays at false port r other not_now are found =
     let after = with_port (hashed false r.sender r.state.moment port) r in
@@ -101,7 +102,8 @@ met_stays false true port r is passes = absurd cc
 met_stays false false port r is passes = cond-false (may_ask r.state.moment port.asked) (with_answer subject.NetworkRequest (item.RequestNetwork []) (with_port (asked r.state.moment port) r)) r is
 
 -- by multicast, from a peer or while the endpoint may not ask
-pub named_stays : (from : Origin) (node : NodeId) (endpoint : EpId) (port : Port) (r : Running) → from.multicast ≡ true → (has_peer node endpoint port.peers || not (may_ask r.state.moment port.asked)) ≡ true
+pub named_stays : (from : Origin) (node : NodeId) (endpoint : EpId) (port : Port) (r : Running) → from.multicast ≡ true
+    → (has_peer node endpoint port.peers || not (may_ask r.state.moment port.asked)) ≡ true
     → ArePorts r.state.ports → port_at from.endpoint r.state.ports ≡ Some port → named from node endpoint port r ≡ record r { sender = Some (node, endpoint) }
 named_stays from node endpoint port r multicast passes are found =
     ap (λ (p : Port). met greet p (with_port p start)) same

@@ -99,7 +99,8 @@ resized at (p ∷ ports) port peers up found = by_test (is_port at p) refl found
         let sizes : size (put_port next (p ∷ ports)) ≡ length p.peers + size (put_port next ports) = ap size whole in
         omega (arith, sizes, more)
 
-    by_test : (b : Bool) → is_port at p ≡ b → cond b (Some p) (find (is_port at) ports) ≡ Some port → (port_at at ports ≡ Some port → size (put_port next ports) + length port.peers ≡ size ports + length peers)
+    by_test : (b : Bool) → is_port at p ≡ b → cond b (Some p) (find (is_port at) ports) ≡ Some port
+        → (port_at at ports ≡ Some port → size (put_port next ports) + length port.peers ≡ size ports + length peers)
         → size (put_port next (p ∷ ports)) + length port.peers ≡ size (p ∷ ports) + length peers
     by_test true is found more = here cc
     by_test false is found more = there (λ same. eqb-false p.id.0 at.0 is (same ∙ found_number at ports port found)) (more found)

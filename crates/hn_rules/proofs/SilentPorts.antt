@@ -105,7 +105,8 @@ module _ (not_empty : PackingIsNotEmpty) where
       let none : moves.words ≡ [] = none_after r.done.words moves.words words in
       let moment : moved.state.moment ≡ r.state.moment = ap (λ (x : Running). x.state.moment) moves.gives in
       record {
-        silent = same_done r.done _ (sym (ap (λ (x : Running). x.done.sends) moves.gives) ∙ ap (λ (d : Done). d.sends) quiet) (sym (ap (λ (x : Running). x.done.notes) moves.gives) ∙ ap (λ (d : Done). d.notes) quiet)
+        silent = same_done r.done _ (sym (ap (λ (x : Running). x.done.sends) moves.gives) ∙ ap (λ (d : Done). d.sends) quiet)
+            (sym (ap (λ (x : Running). x.done.notes) moves.gives) ∙ ap (λ (d : Done). d.notes) quiet)
             (sym (ap (λ (x : Running). x.done.published) moves.gives) ∙ ap (λ (d : Done). d.published) quiet) (none_before r.done.words moves.words words);
         untaken = sym moves.as_many ∙ ap length none;
         unsent = subst (λ (n : ℕ). tick_sends n port ≡ false) moment unsent;
@@ -116,7 +117,8 @@ module _ (not_empty : PackingIsNotEmpty) where
   -- ---- each endpoint
 
   -- a tick of other endpoints leaves an endpoint as it was
-  others_tick : (at : EpId) (ats : List EpId) → ((other : EpId) → Contains ats other → other.0 ≢ at.0) → (r a : Running) → Each (λ at. AtPort at IsPortTick) ats r a → port_at at a.state.ports ≡ port_at at r.state.ports
+  others_tick : (at : EpId) (ats : List EpId) → ((other : EpId) → Contains ats other → other.0 ≢ at.0) → (r a : Running)
+      → Each (λ at. AtPort at IsPortTick) ats r a → port_at at a.state.ports ≡ port_at at r.state.ports
   others_tick at ats away r a ticks =
       keeps_each_of Same (λ other. AtPort other IsPortTick) ats
       (λ other there. keeps_option Same other IsPortTick (λ port x y found ticks was. one other there port x y found ticks ∙ was)) r a ticks refl

@@ -96,7 +96,8 @@ module _ (laws : StillLaws) (s : State) (now later : ℕ) (goes : now ≤ later)
   heard_stays heard =
       all_of (λ (port : Port). All (λ (peer : Neighbour). ¬ (IsExpired (at_moment later s) peer)) port.peers) s.ports
       (λ port attached.
-      let here : All (λ (peer : Neighbour). ¬ (IsExpired (at_moment now s) peer)) port.peers = All-contains (λ (p : Port). All (λ (peer : Neighbour). ¬ (IsExpired (at_moment now s) peer)) p.peers) s.ports port heard attached in
+      let here : All (λ (peer : Neighbour). ¬ (IsExpired (at_moment now s) peer)) port.peers =
+      All-contains (λ (p : Port). All (λ (peer : Neighbour). ¬ (IsExpired (at_moment now s) peer)) p.peers) s.ports port heard attached in
       all_of (λ (peer : Neighbour). ¬ (IsExpired (at_moment later s) peer)) port.peers
       (λ peer there. peer_heard port peer attached there (All-contains (λ (p : Neighbour). ¬ (IsExpired (at_moment now s) p)) port.peers peer here there)))
 

@@ -87,9 +87,12 @@ fn add_wishes(
     requires there { place < length usable.now }
     requires usable { AreUsable (plain_view view.now) usable.now }
     requires common { All (HasCommonLink (plain_view view.now)) posts.now }
-    requires asked { (wish : Wish) → Contains wishes.old wish → (other : ℕ) × IsWishAt private.now (plain_view view.now) usable.now other wish }
+    requires asked { (wish : Wish) → Contains wishes.old wish
+        → (other : ℕ) × IsWishAt private.now (plain_view view.now) usable.now other wish }
     ensures { OnOk result ((wish : Wish) → Contains wishes.new wish
-        ↔ (Contains wishes.old wish ⊎ (IsWishAt private.now (plain_view view.entry.now) usable.now place wish × Contains (endpoints_at posts.now) wish.endpoint))) }
+        ↔ (Contains wishes.old wish
+        ⊎ (IsWishAt private.now (plain_view view.entry.now) usable.now place wish
+        × Contains (endpoints_at posts.now) wish.endpoint))) }
 {
     common_link_is_unique();
     for post in posts {
@@ -110,7 +113,8 @@ fn all_wishes(
     requires usable { AreUsable (plain_view view.now) usable.now }
     requires network { IsNetwork view.now.own.0 view.now.nodes.now }
     ensures { IfOk result (λ wishes. (wish : Wish) → Contains wishes wish
-        ↔ ((place : ℕ) × IsWishAt private.now (plain_view view.entry.now) usable.now place wish × Contains endpoints.now wish.endpoint)) }
+        ↔ ((place : ℕ) × IsWishAt private.now (plain_view view.entry.now) usable.now place wish
+        × Contains endpoints.now wish.endpoint)) }
 {
     let mut wishes = Wishes::new(alloc);
     if usable.is_empty() {

@@ -6,7 +6,8 @@ ghost use Rattle.hn_base.specs.Rules.{Each};
 ghost use Rattle.hn_rules.specs.Rules.{Ran, AtPort};
 ghost use Rattle.hn_rules.specs.Nodes.{age_at};
 ghost use Rattle.hn_rules.specs.Router.{IsRefreshed, IsFresh};
-ghost use Rattle.hn_rules.specs.Refresh.{own_items, Publishes, IsPublished, IsPublishing, IsReaching, network_state_hash, IsPortReset, IsReset, IsHashing, IsRefresh};
+ghost use Rattle.hn_rules.specs.Refresh.{own_items, Publishes, IsPublished, IsPublishing, IsReaching, network_state_hash};
+ghost use Rattle.hn_rules.specs.Refresh.{IsPortReset, IsReset, IsHashing, IsRefresh};
 
 use crate::done::Publication;
 use crate::nodes::age_at;
@@ -51,7 +52,9 @@ impl State {
     /// Whether each held node without a moment of loss is one from which paths lead on. Each node is looked at only where
     /// one of them may be old. Never allocates.
     fn leads_on(&self) -> bool
-        ensures { IsTrue result → All (λ node. node.stored.lost ≡ None → age_at self.now.moment node.stored < 2 ^ 32 - 2 ^ 15) self.now.table.entries }
+        ensures { IsTrue result
+            → All (λ node. node.stored.lost ≡ None → age_at self.now.moment node.stored < 2 ^ 32 - 2 ^ 15)
+            self.now.table.entries }
     {
         let now = self.moment.get();
         if self.table.get().is_young(now) {
@@ -69,7 +72,9 @@ impl State {
     /// Never allocates.
     fn is_recent(&self) -> bool
         ensures young { IsTrue result → self.now.moment - self.now.own.born < 2 ^ 32 - 2 ^ 16 }
-        ensures leads { IsTrue result → All (λ node. node.stored.lost ≡ None → age_at self.now.moment node.stored < 2 ^ 32 - 2 ^ 15) self.now.table.entries }
+        ensures leads { IsTrue result
+            → All (λ node. node.stored.lost ≡ None → age_at self.now.moment node.stored < 2 ^ 32 - 2 ^ 15)
+            self.now.table.entries }
     {
         self.own_age() < OLDEST_OWN_DATA && self.leads_on()
     }

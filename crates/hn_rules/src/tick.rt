@@ -9,7 +9,8 @@ ghost use Rattle.hn_own.specs.Ports.{port_at};
 ghost use Rattle.hn_rules.specs.Rules.{AtPort, Ran};
 ghost use Rattle.hn_rules.specs.Router.{IsRefreshed};
 ghost use Rattle.hn_rules.specs.Still.{AreHeard};
-ghost use Rattle.hn_rules.specs.Tick.{HasInterval, IsExpired, Without, IsPortExpiry, IsExpiry, forgetting, IsStateSending, IsPortMoving, IsPortTick, IsPortsTick};
+ghost use Rattle.hn_rules.specs.Tick.{HasInterval, IsExpired, Without, IsPortExpiry, IsExpiry, forgetting, IsStateSending};
+ghost use Rattle.hn_rules.specs.Tick.{IsPortMoving, IsPortTick, IsPortsTick};
 
 use crate::running::Running;
 use crate::state::State;
@@ -55,7 +56,8 @@ impl State {
 
     /// Whether the keep-alives of a peer of an endpoint have stopped. Never allocates.
     fn has_expired(&self, at: EpId) -> bool
-        ensures { result ≡ false → (port : Port) → port_at at self.now.ports ≡ Some port → All (λ peer. ¬ (IsExpired self.now peer)) port.peers }
+        ensures { result ≡ false → (port : Port) → port_at at self.now.ports ≡ Some port
+            → All (λ peer. ¬ (IsExpired self.now peer)) port.peers }
     {
         match self.ports.get().find(at) {
             Some(port) => self.is_some_expired(port.peers.as_slice()),

@@ -173,15 +173,13 @@ each_ranged laws tlvs (ChangePort port how) r (here, may) ports (own, private, n
     let one = port_ranged tlvs how r port may (find_all ArePeersRanged (is_port port.id) r.state.ports port own.peers here) in
     (record { peers = ports_put (port_after how r port) r.state.ports one own.peers; delegated = own.delegated; assigned = own.assigned; addresses = own.addresses }, private, near)
 each_ranged laws tlvs (ChangePrefixes how) r may ports (own, private, near) =
-    let ends = prefixes_near how r.state may near.ends in
-    (
+    let ends = prefixes_near how r.state may near.ends in (
       record { peers = own.peers; delegated = prefixes_ranged how r.state may own.delegated; assigned = own.assigned; addresses = own.addresses },
       private,
       record { backoffs = near.backoffs; ends = ends },
     )
 each_ranged laws tlvs (PutPairs ran) r is ports (own, private, near) =
-    let soon = laws.soon (seen_by r.state) is.wishes r.state.held ran is.is_subroutine near.backoffs in
-    (
+    let soon = laws.soon (seen_by r.state) is.wishes r.state.held ran is.is_subroutine near.backoffs in (
       record { peers = own.peers; delegated = own.delegated; assigned = assigned_ranged laws r.state ran is ports own.assigned; addresses = own.addresses },
       private,
       record { backoffs = soon; ends = near.ends },
@@ -193,8 +191,7 @@ each_ranged laws tlvs ForgetPairs r may ports (own, private, near) = (
 )
 each_ranged laws tlvs (PutPrivate bits) r fits ports (own, private, near) =
     let stays = λ (c : Assigned). not (c.endpoint.0 == 0) in
-    let waits = λ (b : Backoff). not (b.endpoint.0 == 0) in
-    (
+    let waits = λ (b : Backoff). not (b.endpoint.0 == 0) in (
       record { peers = own.peers; delegated = own.delegated; assigned = All-filter stays IsRangedHeld r.state.held.assigned own.assigned; addresses = own.addresses },
       fits,
       record { backoffs = All-filter waits (IsSoonDue r.state.moment) r.state.held.backoffs near.backoffs; ends = near.ends },

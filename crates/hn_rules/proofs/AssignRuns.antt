@@ -13,7 +13,13 @@ use Rattle.hn_assign.specs.declared.held.Held.{Held}
 use Rattle.hn_assign.specs.declared.held.Ran.{Ran as Left}
 use Rattle.hn_rules.specs.declared.running.Running.{Running}
 use Rattle.hn_rules.specs.declared.state.State.{State}
-use Rattle.hn_rules.specs.Assigning.{IsRunAssigned, IsAssigning}
+use Rattle.hn_rules.specs.Assigning.{IsWishAt, IsRunAssigned, IsAssigning}
+use Rattle.hn_rules.specs.Seen.{seen_by}
+use Rattle.hn_assign.specs.Subroutine.{IsSubroutine}
+use Rattle.hn_assign.specs.declared.assigned.Wish.{Wish}
+use Rattle.hn_data.specs.View.{PlainView}
+use Rattle.hn_deleg.specs.Used.{AreUsable}
+use Rattle.hn_store.specs.Nodes.{Nodes}
 use Rattle.hn_rules.specs.Rules.{Ran, with_words}
 use Rattle.hn_rules.specs.Router.{IsRefreshed}
 use Rattle.hn_base.proofs.Prefixes.{is_one_prefix, prefix_decided}
@@ -63,6 +69,25 @@ backoff_decided a b =
     (Decides-and _ _ (prefix_decided a.delegated b.delegated) (Decides-and _ _ (Decides-eqb a.endpoint.0 b.endpoint.0) (Decides-eqb a.due b.due)))
 
 -- ---- an assignment
+
+-- the subroutine does the same where the router sees the same, whatever its table and its network state hash
+pub run_seen : (s : State) (table : Nodes) (net : List ℕ) (left : Left) → seen_by (record s { table = table; net = net }) ≡ seen_by s
+    → IsRunAssigned (record s { table = table; net = net }) left → IsRunAssigned s left
+run_seen s table net left same is =
+    let asked_at = λ (view : PlainView) (place : ℕ) (wish : Wish). IsWishAt s.private view is.usable place wish in
+    record {
+      usable = is.usable;
+      are_usable = subst (λ (view : PlainView). AreUsable view is.usable) same is.are_usable;
+      wishes = is.wishes;
+      are_asked = record {
+        ascending = is.are_asked.ascending;
+        exact = λ wish. (
+          λ there. let w = (is.are_asked.exact wish).0 there in record { place = w.place; asked = subst (λ (view : PlainView). asked_at view w.place wish) same w.asked; post = w.post },
+          λ w. (is.are_asked.exact wish).1 (record { place = w.place; asked = subst (λ (view : PlainView). asked_at view w.place wish) (sym same) w.asked; post = w.post }),
+        );
+      };
+      is_subroutine = subst (λ (view : PlainView). IsSubroutine view is.wishes s.held left) same is.is_subroutine;
+    }
 
 -- what the subroutine left is held, and then the words are taken
 pub assigns : (left : Left) (words : List ℕ) (before between after : Running) → words ≡ left.words

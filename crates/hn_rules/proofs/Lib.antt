@@ -29,6 +29,7 @@ mod SomeWishes
 mod SomeTicks
 mod Parts
 mod PortFacts
+mod PortsInTurn
 mod Published
 mod Dues
 mod Laters

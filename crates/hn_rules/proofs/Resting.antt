@@ -34,15 +34,24 @@ use Rattle.hn_rules.specs.NetworkState.{compared}
 use Rattle.hn_rules.specs.NodeEndpoint.{greeting_port, met, named}
 use Rattle.hn_rules.specs.NodeState.{TakesState}
 use Rattle.hn_rules.specs.Nodes.{own_leaf}
-use Rattle.hn_rules.specs.Rules.{AtPort, with_port, with_words}
+use Rattle.hn_rules.specs.Rules.{Rule, AtPort, IsSole, with_port, with_words}
 use Rattle.hn_rules.specs.Still.{AreHeard}
 use Rattle.hn_rules.specs.Tick.{IsExpired, IsPortExpiry, IsExpiry, IsPortMoving, IsPortTick, IsPortsTick}
+use Rattle.hn_base.specs.Words.{Begins}
+use Rattle.std.proofs.Common.{get_or}
 use Rattle.hn_rules.proofs.Touched.{none_expire, put_found}
 
 -- a rule that changes nothing at any element
 each_rests : {S A : Type 0} (rule : A → RuleOf S) (xs : List A) (s : S) → ((x : A) → rule x s s) → Each rule xs s s
 each_rests rule [] s rests = refl
 each_rests rule (x ∷ xs) s rests = (s, rests x, each_rests rule xs s rests)
+
+-- where a rule may leave all as it was, it does
+pub only : (rule : Rule) → IsSole rule → (r a : Running) → rule r a → rule r r → a ≡ r
+only rule sole r a holds rests =
+    let stream : ℕ → ℕ = λ i. get_or a.done.words i 0 in
+    let begins : Begins a.done.words stream = λ i within. refl in
+    sole.one stream r a r holds rests begins (sole.grows stream r a holds begins)
 
 -- what holds of each endpoint holds of one that is found
 found_of : (P : Port → Type 0) (at : EpId) (ports : List Port) (port : Port) → All P ports → port_at at ports ≡ Some port → P port

@@ -12,7 +12,7 @@ use crate::laws::{idle_is_still, rules_have_one_result, silent_tick_is_still, st
 use crate::running::Running;
 use crate::state::State;
 use hn_assign::{Assigned, Backoff, Held};
-use hn_base::{Moment, NodeId};
+use hn_base::{Moment, NodeId, NodeIds};
 
 /// Whether two lists have the same identifiers.
 fn same_nodes(a: &[NodeId], b: &[NodeId]) -> bool
@@ -36,11 +36,11 @@ fn same_backoffs(a: &[Backoff], b: &[Backoff]) -> bool
 }
 
 impl State {
-    /// Whether another state has the same reachable nodes.
-    fn reaches_as(&self, other: &State) -> bool
-        ensures { IsTrue result ↔ (self.now.reach ≡ other.now.reach) }
+    /// Whether these are the router's reachable nodes.
+    pub(crate) fn reaches(&self, reach: &NodeIds) -> bool
+        ensures { IsTrue result ↔ (reach.now ≡ self.now.reach) }
     {
-        same_nodes(self.reach.get().as_slice(), other.reach.get().as_slice())
+        same_nodes(reach.as_slice(), self.reach.get().as_slice())
     }
 
     /// Whether these are the router's assignments.
@@ -73,7 +73,7 @@ impl State {
     fn is_left(&self, before: &State, now: Moment) -> bool
         ensures { IsTrue result ↔ IsLeft now before.now self.now }
     {
-        self.reaches_as(before)
+        before.reaches(self.reach.get())
             && self.holds_as(before)
             && !before.table.get().needs_forget(now)
             && before.are_ports_still(now)

@@ -13,7 +13,7 @@ use crate::done::Publication;
 use crate::nodes::age_at;
 use crate::running::Running;
 use crate::state::State;
-use hn_base::{EpId, NoMemory, Shared};
+use hn_base::{EpId, NoMemory, NodeIds, Shared};
 use hn_graph::{AGE_LIMIT, reachability_stays};
 use hn_hash::{network_of, same_hash};
 use hn_io::Draw;
@@ -125,6 +125,17 @@ impl Running {
         self.publish_items(alloc, self.state.number.wrapping_add(1), items)
     }
 
+    /// These nodes are reachable. Where they were so before, what is kept of them stays.
+    fn put_reach(&mut self, alloc: Global, reach: NodeIds) -> Result<(), NoMemory>
+        ensures { OnOk result (self.new ≡ record self.old { state = record self.old.state { reach = reach } }) }
+    {
+        if self.state.reaches(&reach) {
+            return Ok(());
+        }
+        self.state.reach = Shared::new(alloc, reach)?;
+        Ok(())
+    }
+
     /// Reachability, and moments of loss.
     fn find_reach(&mut self, alloc: Global) -> Result<(), NoMemory>
         ensures { OnOk result (IsReaching self.old self.new) }
@@ -134,8 +145,7 @@ impl Running {
         if self.state.table.get().needs_mark(reach.as_slice()) {
             self.state.table.edit()?.mark(reach.as_slice(), now);
         }
-        self.state.reach = Shared::new(alloc, reach)?;
-        Ok(())
+        self.put_reach(alloc, reach)
     }
 
     /// Resets Trickle of an endpoint.

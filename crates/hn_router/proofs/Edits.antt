@@ -1,17 +1,21 @@
--- What each edit keeps, the edit of an event keeps.
-use Rattle.std.proofs.Common.{◌≡◌, ◌≢◌, ◌<◌, ℕ, true, false, not, List, Option, sym, subst, arith}
-use Rattle.std.specs.Prelude.{length, nat_lt, ◌==◌, ◌||◌}
-use Rattle.std.proofs.lemmas.Bool.{or_parts, eqb-false, ltb-true, not-false}
+-- What each edit keeps, the edit of an event keeps; and what it leaves as it is.
+use Rattle.std.proofs.Common.{◌≡◌, ◌≢◌, ◌∙◌, ◌<◌, ℕ, Bool, true, false, not, cond, List, [], ◌∷◌, map, filter, Option, ap, refl, sym, subst, arith}
+use Rattle.std.specs.Prelude.{length, nat_lt, nat_eq, ◌==◌, ◌||◌}
+use Rattle.std.specs.Option.{option_eq}
+use Rattle.std.proofs.lemmas.Bool.{or_parts, eqb-false, ltb-true, not-false, cond_both}
 use Rattle.hn_base.specs.declared.caps.Caps.{Caps}
 use Rattle.hn_base.specs.declared.ids.EpId.{EpId}
 use Rattle.hn_base.specs.Prefix.{PlainPrefix}
+use Rattle.hn_dncp.specs.declared.port.Port.{Port}
 use Rattle.hn_own.specs.Addresses.{OwnAddress, may_address}
 use Rattle.hn_own.specs.OwnPrefixes.{may_delegate}
-use Rattle.hn_own.specs.Ports.{is_attached}
+use Rattle.hn_own.specs.Ports.{is_attached, endpoints_of}
 use Rattle.hn_rules.specs.declared.running.Running.{Running}
 use Rattle.hn_rules.specs.Delegating.{delegating, withdrawing}
 use Rattle.hn_rules.specs.Events.{IsAttaching, detaching, setting_caps, setting_private, setting_addresses, IsRestarting}
+use Rattle.hn_rules.specs.Rules.{words_of}
 use Rattle.hn_router.specs.Act.{PlainEvent, Attach, Detach, External, Withdraw, SetCaps, Private, Addresses, Restart, is_refused, IsEdit}
+use Rattle.hn_router.specs.Laws.{endpoints_by}
 
 -- what endpoints that come and go keep, where this holds of the event
 pub record EndpointsKeep (May : PlainEvent → Type 0) (P : Running → Type 0) : Type 0 where
@@ -53,3 +57,40 @@ module _ (May : PlainEvent → Type 0) (P : Running → Type 0) where
       subst P (sym is) (given.addressing list r may (not-false (may_address list r.state.ports) accepted) p)
   edit_keeps ends given others Restart r a may accepted restarts p = others.restarting r a restarts p
   edit_keeps ends given others _ r a may accepted is p = subst P (sym is) p
+
+-- ---- what an edit leaves as it is
+
+pub filter_parts : {A B : Type 0} (p : B → Bool) (f : A → B) (xs : List A) → map f (filter (λ x. p (f x)) xs) ≡ filter p (map f xs)
+filter_parts p f [] = refl
+filter_parts p f (x ∷ xs) = by_test (p (f x)) (filter_parts p f xs)
+  where
+    by_test : (b : Bool) → map f (filter (λ y. p (f y)) xs) ≡ filter p (map f xs)
+        → map f (cond b (x ∷ filter (λ y. p (f y)) xs) (filter (λ y. p (f y)) xs)) ≡ cond b (f x ∷ filter p (map f xs)) (filter p (map f xs))
+    by_test true more = ap (λ ys. f x ∷ ys) more
+    by_test false more = more
+
+-- no word is taken, the moment stays, and the endpoints follow the event
+abbrev Leaves : PlainEvent → Running → Running → Type 0
+Leaves event r a =
+    (words_of a ≡ words_of r) × (a.state.moment ≡ r.state.moment) × (endpoints_of a.state.ports ≡ endpoints_by event (endpoints_of r.state.ports))
+
+-- so it is where no endpoint is attached and the router does not restart
+abbrev pub IsPlainEdit : PlainEvent → Type 0
+IsPlainEdit (Attach at) = Unit {0}
+IsPlainEdit Restart = Unit {0}
+IsPlainEdit event = (r a : Running) → IsEdit event r a → Leaves event r a
+
+private_leaves : (private : Option ℕ) (r : Running) → Leaves (Private private) r (setting_private private r)
+private_leaves private r =
+    cond_both (option_eq nat_eq private r.state.private) _ _ (Leaves (Private private) r) (λ _. (refl, refl, refl)) (λ _. (refl, refl, refl))
+
+pub plain_edit : (event : PlainEvent) → IsPlainEdit event
+plain_edit (Attach at) = tt
+plain_edit Restart = tt
+plain_edit (Detach at) = λ r a is. (
+  ap words_of is,
+  ap (λ (x : Running). x.state.moment) is,
+  ap (λ (x : Running). endpoints_of x.state.ports) is ∙ filter_parts (λ (e : EpId). not (e.0 == at.0)) (λ (p : Port). p.id) r.state.ports,
+)
+plain_edit (Private private) = λ r a is. subst (Leaves (Private private) r) (sym is) (private_leaves private r)
+plain_edit _ = λ r a is. (ap words_of is, ap (λ (x : Running). x.state.moment) is, ap (λ (x : Running). endpoints_of x.state.ports) is)

@@ -1,8 +1,5 @@
 -- After an event a router's moment is the event's, and its endpoints change only where one is attached or detached.
-use Rattle.std.proofs.Common.{◌≡◌, ◌∙◌, ℕ, Bool, true, false, not, cond, List, [], ◌∷◌, ◌++◌, map, filter, nat_lt, Option, inl, inr, refl, sym, ap}
-use Rattle.std.specs.Prelude.{◌==◌, nat_eq}
-use Rattle.std.specs.Option.{option_eq}
-use Rattle.std.proofs.lemmas.Bool.{cond_both}
+use Rattle.std.proofs.Common.{◌≡◌, ◌∙◌, ℕ, Bool, cond, List, ◌∷◌, ◌++◌, map, filter, nat_lt, inl, inr, refl, sym, ap}
 use Rattle.std.proofs.lemmas.List.{map-append}
 use Rattle.hn_base.specs.declared.ids.EpId.{EpId}
 use Rattle.hn_tlv.specs.Grammar.{PlainTlv}
@@ -15,13 +12,14 @@ use Rattle.hn_rules.specs.declared.running.Origin.{Origin}
 use Rattle.hn_rules.specs.Arrival.{IsArrival}
 use Rattle.hn_rules.specs.Assigning.{IsAssigning}
 use Rattle.hn_rules.specs.Delegating.{ending}
-use Rattle.hn_rules.specs.Events.{setting_private, IsRestarting}
+use Rattle.hn_rules.specs.Events.{IsRestarting}
 use Rattle.hn_rules.specs.Laws.{KeepsEndpoints}
 use Rattle.hn_rules.specs.Refresh.{IsRefresh}
 use Rattle.hn_base.specs.Rules.{Then}
 use Rattle.hn_rules.specs.Rules.{Rule, begun_at}
 use Rattle.hn_rules.specs.Tick.{IsExpiry, forgetting, IsPortsTick}
-use Rattle.hn_router.specs.Act.{PlainEvent, Arrive, Tick, Attach, Detach, Private, Restart, is_refused, IsEdit, IsEventRule, IsEvent, Happened}
+use Rattle.hn_router.specs.Act.{PlainEvent, Arrive, Tick, Attach, Restart, is_refused, IsEdit, IsEventRule, IsEvent, Happened}
+use Rattle.hn_router.proofs.Edits.{filter_parts, plain_edit}
 use Rattle.hn_router.proofs.Refused.{refused_then}
 use Rattle.hn_router.specs.Laws.{MomentIsNow, endpoints_by, EndpointsFollow}
 use Rattle.hn_rules.specs.Ticks.{IsLosing, IsSettling, IsTick}
@@ -58,15 +56,6 @@ tick_keeps_endpoints laws =
 
 -- ---- the endpoints after one is attached or detached
 
-filter_parts : {A B : Type 0} (p : B → Bool) (f : A → B) (xs : List A) → map f (filter (λ x. p (f x)) xs) ≡ filter p (map f xs)
-filter_parts p f [] = refl
-filter_parts p f (x ∷ xs) = by_test (p (f x)) (filter_parts p f xs)
-  where
-    by_test : (b : Bool) → map f (filter (λ y. p (f y)) xs) ≡ filter p (map f xs)
-        → map f (cond b (x ∷ filter (λ y. p (f y)) xs) (filter (λ y. p (f y)) xs)) ≡ cond b (f x ∷ filter p (map f xs)) (filter p (map f xs))
-    by_test true more = ap (λ ys. f x ∷ ys) more
-    by_test false more = more
-
 attached_endpoints : (port : Port) (ports : List Port) → endpoints_of (attached port ports) ≡ endpoints_by (Attach port.id) (endpoints_of ports)
 attached_endpoints port ports =
     let number = λ (p : Port). p.id in
@@ -75,15 +64,6 @@ attached_endpoints port ports =
     map-append number below (port ∷ above)
     ∙ ap (λ (es : List EpId). es ++ port.id ∷ map number above) (filter_parts (λ (e : EpId). nat_lt e.0 port.id.0) number ports)
     ∙ ap (λ (es : List EpId). filter (λ (e : EpId). nat_lt e.0 port.id.0) (map number ports) ++ port.id ∷ es) (filter_parts (λ (e : EpId). nat_lt port.id.0 e.0) number ports)
-
--- ---- the private link
-
-private_moment : (private : Option ℕ) (r : Running) → (setting_private private r).state.moment ≡ r.state.moment
-private_moment private r = cond_both (option_eq nat_eq private r.state.private) _ _ (λ (a : Running). a.state.moment ≡ r.state.moment) (λ _. refl) (λ _. refl)
-
-private_endpoints : (private : Option ℕ) (r : Running) → endpoints_of (setting_private private r).state.ports ≡ endpoints_of r.state.ports
-private_endpoints private r =
-    cond_both (option_eq nat_eq private r.state.private) _ _ (λ (a : Running). endpoints_of a.state.ports ≡ endpoints_of r.state.ports) (λ _. refl) (λ _. refl)
 
 -- ---- an event
 
@@ -96,13 +76,8 @@ module _ (laws : MomentLaws) where
   follows_edit : (event : PlainEvent) (r a : Running) → IsEdit event r a → Follows event r a
   follows_edit (Attach at) r a is =
       (ap (λ (x : Running). x.state.moment) is.gives, ap (λ (x : Running). endpoints_of x.state.ports) is.gives ∙ attached_endpoints (attached_port at r.state.moment is.word) r.state.ports)
-  follows_edit (Detach at) r a is = (
-    ap (λ (x : Running). x.state.moment) is,
-    ap (λ (x : Running). endpoints_of x.state.ports) is ∙ filter_parts (λ (e : EpId). not (e.0 == at.0)) (λ (p : Port). p.id) r.state.ports,
-  )
-  follows_edit (Private private) r a is = keeps_plain (setting_private private) (private_moment private) (private_endpoints private) r a is
   follows_edit Restart r a restarts = laws.restarting r a restarts
-  follows_edit _ r a is = (ap (λ (x : Running). x.state.moment) is, ap (λ (x : Running). endpoints_of x.state.ports) is)
+  follows_edit event r a is = let leaves = plain_edit event r a is in (leaves.1, leaves.2)
 
   -- and then a refresh
   follows_then : (event : PlainEvent) (r a : Running) → Then (IsEdit event) IsRefresh r a → Follows event r a

@@ -1,8 +1,6 @@
 -- Each event has at most one result over one stream of words.
-use Rattle.std.proofs.Common.{◌≡◌, ◌∙◌, ◌⊎◌, ℕ, false, List, Option, ap, refl, sym, inl, inr}
-use Rattle.std.specs.Prelude.{IsTrue, nat_eq}
-use Rattle.std.specs.Option.{option_eq}
-use Rattle.std.proofs.lemmas.Bool.{cond_both}
+use Rattle.std.proofs.Common.{◌≡◌, ◌∙◌, ◌⊎◌, ℕ, false, List, ap, refl, sym, inl, inr}
+use Rattle.std.specs.Prelude.{IsTrue}
 use Rattle.hn_base.specs.declared.ids.EpId.{EpId}
 use Rattle.hn_tlv.specs.Grammar.{PlainTlv, IsTlvList}
 use Rattle.hn_tlv.specs.Laws.{ListIsUnique, ListHasNoFirstFault, FirstFaultIsUnique}
@@ -11,12 +9,13 @@ use Rattle.hn_rules.specs.declared.running.Origin.{Origin}
 use Rattle.hn_rules.specs.declared.done.Note.TheVariants as note
 use Rattle.hn_rules.specs.Rules.{IsSole, noted, words_of}
 use Rattle.hn_rules.specs.Arrival.{IsArrival}
-use Rattle.hn_rules.specs.Events.{IsAttaching, setting_private, IsRestarting}
+use Rattle.hn_rules.specs.Events.{IsAttaching, IsRestarting}
 use Rattle.hn_rules.specs.Refresh.{IsRefresh}
-use Rattle.hn_router.specs.Act.{PlainEvent, Arrive, Tick, Attach, Private, Restart, IsFar, IsMalformed, IsRead, is_refused, IsEdit, IsEventRule, IsEvent}
+use Rattle.hn_router.specs.Act.{PlainEvent, Arrive, Tick, Attach, Restart, IsFar, IsMalformed, IsRead, is_refused, IsEdit, IsEventRule, IsEvent}
 use Rattle.hn_rules.specs.Ticks.{IsTick}
 use Rattle.hn_base.proofs.OneResult.{sole_given, sole_plain, sole_both, sole_from, sole_or, sole_where, sole_some}
 use Rattle.hn_base.proofs.DecidingTests.{not_both}
+use Rattle.hn_router.proofs.Edits.{plain_edit}
 
 -- what the laws say of lists of TLVs and of the rules
 pub record OneEventLaws : Type 0 where
@@ -39,10 +38,6 @@ sole_malformed laws from bytes =
     sole_given words_of (IsMalformed from bytes) (λ r a h. ap (λ (x : Running). x.done.words) h.gives)
     (λ r a b h k. let same = laws.one_place bytes h.place k.place h.why k.why h.fault k.fault in h.gives ∙ (λ i. noted (note.Malformed (same.0 i) (same.1 i)) r) ∙ sym k.gives)
 
--- setting the private link takes no word
-pub private_words : (private : Option ℕ) (r : Running) → words_of (setting_private private r) ≡ words_of r
-private_words private r = cond_both (option_eq nat_eq private r.state.private) _ _ (λ (a : Running). words_of a ≡ words_of r) (λ _. refl) (λ _. refl)
-
 sole_arrive : OneEventLaws → (from : Origin) (bytes : List ℕ) → IsSole (IsEventRule (Arrive from bytes))
 sole_arrive laws from bytes =
     sole_or words_of (IsFar from) (λ r a. IsMalformed from bytes r a ⊎ IsRead from bytes r a)
@@ -53,9 +48,8 @@ sole_arrive laws from bytes =
 
 sole_edit : OneEventLaws → (event : PlainEvent) → IsSole (IsEdit event)
 sole_edit laws (Attach at) = laws.attaching at
-sole_edit laws (Private private) = sole_plain words_of (setting_private private) (private_words private)
 sole_edit laws Restart = laws.restarting
-sole_edit laws event = sole_given words_of (IsEdit event) (λ r a h. ap (λ (x : Running). x.done.words) h) (λ r a b h k. h ∙ sym k)
+sole_edit laws event = sole_given words_of (IsEdit event) (λ r a h. (plain_edit event r a h).0) (λ r a b h k. h ∙ sym k)
 
 sole_rule : OneEventLaws → (event : PlainEvent) → IsSole (IsEventRule event)
 sole_rule laws (Arrive from bytes) = sole_arrive laws from bytes

@@ -1,5 +1,5 @@
 -- Each event has a result over each stream of words: it cannot be that there is none.
-use Rattle.std.proofs.Common.{◌≡◌, ◌^◌, ℕ, false, List, [], ◌∷◌, ap, refl, inl, inr, arith}
+use Rattle.std.proofs.Common.{◌≡◌, ◌^◌, ℕ, false, List, [], ◌∷◌, refl, inl, inr, arith}
 use Rattle.std.specs.Prelude.{All, IsTrue}
 use Rattle.std.proofs.lemmas.List.Elements.{All-nil, All-cons}
 use Rattle.hn_base.specs.Addr.{IsLinkLocal}
@@ -19,15 +19,15 @@ use Rattle.hn_rules.specs.declared.running.Origin.{Origin}
 use Rattle.hn_rules.specs.declared.running.Running.{Running}
 use Rattle.hn_rules.specs.declared.state.State.{State}
 use Rattle.hn_rules.specs.Due.{IsDueAt}
-use Rattle.hn_rules.specs.Events.{IsAttaching, setting_private, IsRestarting}
+use Rattle.hn_rules.specs.Events.{IsAttaching, IsRestarting}
 use Rattle.hn_rules.specs.Laws.{HasAResult, ArrivalHasAResult}
 use Rattle.hn_rules.specs.Refresh.{IsRefresh}
 use Rattle.hn_rules.specs.Router.{IsWell}
 use Rattle.hn_rules.specs.Rules.{IsTotal, begun_at, noted, words_of}
 use Rattle.hn_rules.specs.Ticks.{IsTick}
-use Rattle.hn_router.specs.Act.{PlainEvent, Arrive, Tick, Attach, Private, Restart, is_refused, IsEventInRange, IsOfBytes, IsEdit, IsEventRule, IsEvent, DidNothing, IsDueAfter, Happened, HasResults}
+use Rattle.hn_router.specs.Act.{PlainEvent, Arrive, Tick, Attach, Restart, is_refused, IsEventInRange, IsOfBytes, IsEdit, IsEventRule, IsEvent, DidNothing, IsDueAfter, Happened, HasResults}
 use Rattle.hn_router.specs.Laws.{EventHasAResult}
-use Rattle.hn_router.proofs.OneEvents.{private_words}
+use Rattle.hn_router.proofs.Edits.{plain_edit}
 use Rattle.hn_router.proofs.Stays.{StayLaws, keeps_edit}
 
 -- what the laws say of lists of TLVs and of the rules
@@ -75,9 +75,8 @@ total_arrive laws from bytes are stream r is begins = some_by (IsLinkLocal from.
 module _ (laws : SomeEventLaws) where
   total_edit : (event : PlainEvent) → IsTotal Well (IsEdit event)
   total_edit (Attach at) = laws.attaching at
-  total_edit (Private length) = total_plain words_of Well (setting_private length) (private_words length)
   total_edit Restart = laws.restarting
-  total_edit event = total_given words_of Well (IsEdit event) (λ r a h. ap (λ (x : Running). x.done.words) h) (λ r is none. none _ refl)
+  total_edit event = total_given words_of Well (IsEdit event) (λ r a h. (plain_edit event r a h).0) (λ r is none. none _ refl)
 
   -- the edit of an event, and then a refresh
   total_then : (event : PlainEvent) → IsEventInRange event → IsTotal (IsTaken event) (Then (IsEdit event) IsRefresh)

@@ -41,7 +41,7 @@ entered_sends now event done log longer read d at sends pushed same is are =
 module _ (at : PlainSite) (now : ℕ) (event : NodeEvent) (of : PlainEvent) (done : Done) (told told_after : Option (ℕ → ℕ)) (waiting after : Option (List Datagram))
     (before : Node) (router : State) (log : List Logged) (sent : ℕ) (sends : List Outgoing)
     (is : of ≡ plain_of event) (happened : Happened now of before.router router done) (drew : Took told done.words told_after)
-    (arrived : IsShort event) (short : All (λ (o : Outgoing). length o.bytes ≤ 65507) done.sends)
+    (arrived : IsShort event) (short : All (λ (o : Outgoing). length o.bytes ≤ 65507) done.sends) (limit : router.table.limit ≡ before.router.table.limit)
     (pushed : log ≡ before.log ++ entry_of now event done ∷ []) (are : sends ≡ done.sends) where
   entered : IsEntry now event (entry_of now event done) before.router router
   entered = record {
@@ -57,8 +57,11 @@ module _ (at : PlainSite) (now : ℕ) (event : NodeEvent) (of : PlainEvent) (don
       → (l : Logged) × Steps at now event l (serving before.router waiting) (serving router after)
       × Adds l (handed_of at l.sends) told told_after before (record { router = router; log = log; sent = sent })
   stepped h =
-      let all = subst (λ (os : List Outgoing). HandsAll (handed_of at os) waiting after before.sent sent) are h in
-      (entry_of now event done, record { entry = entered; sends = all.sends }, record { log = pushed; words = drew; sent = all.counts; bounded = record { arrived = arrived; sent = short } })
+      let all = subst (λ (os : List Outgoing). HandsAll (handed_of at os) waiting after before.sent sent) are h in (
+        entry_of now event done,
+        record { entry = entered; sends = all.sends },
+        record { log = pushed; words = drew; sent = all.counts; bounded = record { arrived = arrived; sent = short }; limit = limit },
+      )
 
   pub cut_step : HandsPart (handed_of at sends) waiting after before.sent sent
       → (l : Logged) × (front : List Datagram) × CutSteps at now event l front (serving before.router waiting) (serving router after)
@@ -68,5 +71,5 @@ module _ (at : PlainSite) (now : ℕ) (event : NodeEvent) (of : PlainEvent) (don
         entry_of now event done,
         part.front,
         record { entry = entered; sends = part.sends },
-        record { log = pushed; words = drew; sent = part.counts; bounded = record { arrived = arrived; sent = short } },
+        record { log = pushed; words = drew; sent = part.counts; bounded = record { arrived = arrived; sent = short }; limit = limit },
       )

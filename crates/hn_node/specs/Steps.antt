@@ -37,6 +37,7 @@ pub record Adds (l : Logged) (handed : List Datagram) (told told_after : Option 
   pub words : Took told l.words told_after
   pub sent : after.sent ≡ counted before.sent (length handed)
   pub bounded : IsBounded l
+  pub limit : after.router.table.limit ≡ before.router.table.limit
 
 -- entries were added to the log, and these datagrams were sent
 pub record Grows (entries : List Logged) (handed : List Datagram) (told told_after : Option (ℕ → ℕ)) (before after : Node) : Type 0 where
@@ -44,3 +45,4 @@ pub record Grows (entries : List Logged) (handed : List Datagram) (told told_aft
   pub words : Took told (words_of entries) told_after
   pub sent : after.sent ≡ counted before.sent (length handed)
   pub bounded : All IsBounded entries
+  pub limit : after.router.table.limit ≡ before.router.table.limit

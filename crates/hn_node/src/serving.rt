@@ -73,6 +73,7 @@ pub fn serve<W: Wire, C: Clock, D: Draw>(
     ensures ticks { IfOk result (λ s. s.end ≡ ServeEnd.Turns → count_by is_tick s.log ≡ turns) }
     ensures words { IfOk result (λ s. Took (D.words draw.old) (words_of s.log) (D.words draw.new)) }
     ensures bounded { IfOk result (λ s. All IsBounded s.log) }
+    ensures limit { IfOk result (λ s. s.router.table.limit ≡ router.table.limit) }
     ensures caused { IsCaused (HasFailed result) (W.faults wire.old) (W.faults wire.new)
         (W.never_fails wire.old) (W.never_fails wire.new) }
 {

@@ -15,15 +15,17 @@ pub returns-clause-ok : goal.returns-clause-ok
 returns-clause-ok g c =
     let pushed : c.push.new.self ≡ c.args.self.now.log ++ entry_of c.args.now c.args.event c.in-Ok.done ∷ [] = of_ok c.push.result _ c.push.ensures.ok c.if-is_err.ensures.value in
     let are = entered_sends c.args.now c.args.event c.in-Ok.done _ _ _ _ _ _ pushed c.as_slice.ensures c.len-at.ensures c.as_slice-sends.ensures in
+    let limit = c.limit_stays.ensures c.args.now _ c.args.self.now.router c.act.new.self c.in-Ok.done c.in-Ok.ensures.happened in
     on_ok_weaker c.hand_all.result
     (stepped (plain_site c.args.site.now) c.args.now c.args.event _ c.in-Ok.done _ _ _ _ c.args.self.now _ _ _ _ c.event.ensures
-    c.in-Ok.ensures.happened c.in-Ok.ensures.drew c.requires.short c.in-Ok.ensures.short pushed are)
+    c.in-Ok.ensures.happened c.in-Ok.ensures.drew c.requires.short c.in-Ok.ensures.short limit pushed are)
     c.hand_all.ensures.ok
 
 pub returns-clause-cut : goal.returns-clause-cut
 returns-clause-cut g c = λ failed.
     let pushed : c.push.new.self ≡ c.args.self.now.log ++ entry_of c.args.now c.args.event c.in-Ok.done ∷ [] = of_ok c.push.result _ c.push.ensures.ok c.if-is_err.ensures.value in
     let are = entered_sends c.args.now c.args.event c.in-Ok.done _ _ _ _ _ _ pushed c.as_slice.ensures c.len-at.ensures c.as_slice-sends.ensures in
+    let limit = c.limit_stays.ensures c.args.now _ c.args.self.now.router c.act.new.self c.in-Ok.done c.in-Ok.ensures.happened in
     cut_step (plain_site c.args.site.now) c.args.now c.args.event _ c.in-Ok.done _ _ _ _ c.args.self.now _ _ _ _ c.event.ensures
-    c.in-Ok.ensures.happened c.in-Ok.ensures.drew c.requires.short c.in-Ok.ensures.short pushed are
+    c.in-Ok.ensures.happened c.in-Ok.ensures.drew c.requires.short c.in-Ok.ensures.short limit pushed are
     (of_err c.hand_all.result _ _ c.hand_all.ensures.cut failed)

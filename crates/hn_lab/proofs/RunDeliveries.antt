@@ -22,11 +22,11 @@ use Rattle.hn_lab.specs.declared.carrying.Carried.{Carried}
 use Rattle.hn_lab.specs.declared.carrying.Carried.TheVariants.{Same}
 use Rattle.hn_lab.specs.declared.end.Stop.{Stop}
 use Rattle.hn_lab.specs.declared.end.Stop.TheVariants.{Refused, WireFailed, Cut}
-use Rattle.hn_lab.specs.Carrying.{CarriesOver, Carries}
-use Rattle.hn_lab.specs.Delivery.{EventNotes, EventEnds, injection_for, Replaces, IsReplaced, ComesTo, Conveys, DeliveryEnds, Delivers}
+use Rattle.hn_lab.specs.Carrying.{CarriesOver, Carries, FailsCarrying, Breaks}
+use Rattle.hn_lab.specs.Delivery.{EventNotes, EventEnds, injection_for, Replaces, IsReplaced, ComesTo, IsBroken, Conveys, DeliveryEnds, Delivers}
 use Rattle.hn_lab.specs.Ended.{IsStopped, EndsWith}
 use Rattle.hn_lab.specs.Process.{Process}
-use Rattle.hn_lab.specs.Stage.{Stage, Route, Mail, Ports, route_of}
+use Rattle.hn_lab.specs.Stage.{Stage, Route, Mail, route_of}
 use Rattle.hn_lab.proofs.RunStops.{stopped_within, stopped_last, starved}
 
 -- a delivery that is not refused is one of a copy
@@ -117,14 +117,17 @@ conveyed_ends copy c carried done process (Err stop) p q a accepted is carries b
     (ap (λ (s : Stage). s.text) beside) ends
 
 -- the wire fails
-pub broken : (copy : ℕ) (o : Option ℕ) (base : ℕ) (w v : Option (List Datagram)) (p a : Stage) → o ≡ Some base → p.route ≡ route_of o w
-    → a ≡ record p { route = route_of o v } → refusal p.world (event.Deliver copy) ≡ None → IsStopped (Delivers copy) WireFailed p a
-broken copy o base w v p a is from stays accepted =
-    let before_is : p.route ≡ Ports base w = from ∙ ap (λ (x : Option ℕ). route_of x w) is in
-    let after_is : route_of o v ≡ Ports base v = ap (λ (x : Option ℕ). route_of x v) is in
-    stopped_last (Delivers copy) WireFailed p a
-    ([], inr (p, (accepted, refl), inl (record { stop_is = refl; route = route_of o v; breaks = rw (before_is, after_is) (v, refl); stays = stays })))
-    (ap (λ (s : Stage). s.text) stays) (λ e. absurd cc)
+breaks_over : (o : Option ℕ) (base : ℕ) (bytes : List ℕ) (w v : Option (List Datagram)) → o ≡ Some base → FailsCarrying base bytes w v → Breaks bytes (route_of o w) (route_of o v)
+breaks_over o base bytes w v is fails = subst (λ (x : Option ℕ). Breaks bytes (route_of x w) (route_of x v)) (sym is) (v, fails, refl)
+
+pub broken : (copy : ℕ) (c : MailCopy) (o : Option ℕ) (base : ℕ) (sent : List ℕ) (w v : Option (List Datagram)) (p a : Stage) → o ≡ Some base → p.route ≡ route_of o w
+    → a ≡ record p { route = route_of o v } → refusal p.world (event.Deliver copy) ≡ None → copy_at p.world copy ≡ Some c → sent ≡ c.bytes
+    → FailsCarrying base sent w v → IsStopped (Delivers copy) WireFailed p a
+broken copy c o base sent w v p a is from stays accepted found bytes_are fails =
+    let so : FailsCarrying base c.bytes w v = subst (λ (b : List ℕ). FailsCarrying base b w v) bytes_are fails in
+    let breaks : Breaks c.bytes p.route (route_of o v) = subst (λ (r : Route). Breaks c.bytes r (route_of o v)) (sym from) (breaks_over o base c.bytes w v is so) in
+    let is_broken : IsBroken copy (Some WireFailed) p a = record { stop_is = refl; mail = c; is_copy = found; route = route_of o v; breaks = breaks; stays = stays } in
+    stopped_last (Delivers copy) WireFailed p a ([], inr (p, (accepted, refl), inl is_broken)) (ap (λ (s : Stage). s.text) stays) (λ e. absurd cc)
 
 -- memory ends before a delivery
 pub delivery_starved : (copy : ℕ) (p a : Stage) → IsStopped (Delivers copy) (Cut NoMemory) p a

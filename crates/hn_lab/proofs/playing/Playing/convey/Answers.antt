@@ -1,4 +1,4 @@
-use Rattle.std.proofs.Common.{refl}
+use Rattle.std.proofs.Common.{Err, refl, ap}
 use Rattle.hn_world.specs.declared.event.WEvent.TheVariants as event
 use Rattle.hn_world.specs.Refusal.{copy_at}
 use Rattle.hn_lab.specs.declared.carrying.Carried.TheVariants.{Same, Lost, Other}
@@ -63,7 +63,10 @@ returns-in-Err-Failed-clause-ends g c text =
     let v = g.W.Wire.waiting c.carry.new.wire in
     let copy = c.args.copy in
     let p = stage_of c.args.self.now w text in
-    broken copy c.args.self.now.base c.args.base w v p (stage_of c.args.self.now v text) c.requires.based refl refl c.requires.accepted
+    let found = delivered_copy p.world copy c.requires.accepted in
+    let bytes_are = bytes_of_copy c.in-Some.bytes.now (copy_at p.world copy) found.0 c.in-Some.ensures found.1 in
+    broken copy found.0 c.args.self.now.base c.args.base c.in-Some.bytes.now w v p (stage_of c.args.self.now v text) c.requires.based refl refl c.requires.accepted
+    found.1 bytes_are (c.in-Err-Failed.ensures.broken (ap Err c.in-Err-Failed.field-0-is))
 
 pub returns-in-Err-NoMemory-clause-ends : goal.returns-in-Err-NoMemory-clause-ends
 returns-in-Err-NoMemory-clause-ends g c text =

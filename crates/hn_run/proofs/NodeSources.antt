@@ -15,10 +15,10 @@ long_fault : (fault : ScriptFault) (whole read : List ℕ) → 2 ^ 24 < length r
 long_fault fault whole read long front (inl is) = inl (omega arith, is.1, is.2)
 long_fault fault whole read long front (inr is) = let short = is.0 in absurd (omega arith)
 
-long_refusal : (call : PlainCall) (number code : ℕ) (whole read : List ℕ) → 2 ^ 24 < length read → length read ≤ length whole
-    → IsNodeRefusal call read number code → IsNodeRefusal call whole number code
-long_refusal call number code whole read long front (inl is) = inl (is.0, long_fault is.0 whole read long front is.1, is.2, is.3)
-long_refusal call number code whole read long front (inr is) = let short = is.2.small in absurd (omega arith)
+long_refusal : (call : PlainCall) (number code : ℕ) (readings rest : Option (List ℕ)) (whole read : List ℕ) → 2 ^ 24 < length read → length read ≤ length whole
+    → IsNodeRefusal call read number code readings rest → IsNodeRefusal call whole number code readings rest
+long_refusal call number code readings rest whole read long front (inl is) = inl (is.0, long_fault is.0 whole read long front is.1, is.2, is.3, is.4)
+long_refusal call number code readings rest whole read long front (inr is) = let short = is.2.small in absurd (omega arith)
 
 long_makes : (call : PlainCall) (status : ℕ) (served : Option Served) (before after : Outside) (text whole read : List ℕ) → 2 ^ 24 < length read
     → length read ≤ length whole → MakesNode call read status served before after text
@@ -26,7 +26,7 @@ long_makes : (call : PlainCall) (status : ℕ) (served : Option Served) (before 
 long_makes call status served before after text whole read long front (inl is) = inl (record {
   number = is.number;
   code = is.code;
-  refused = long_refusal call is.number is.code whole read long front is.refused;
+  refused = long_refusal call is.number is.code before.readings after.readings whole read long front is.refused;
   status_is = is.status_is;
   unserved = is.unserved;
   unsent = is.unsent;
@@ -38,6 +38,7 @@ long_makes call status served before after text whole read long front (inr (inr 
 long_status : (call : PlainCall) (status : ℕ) (whole read : List ℕ) → 2 ^ 24 < length read → length read ≤ length whole → StatusOfNode call read status → StatusOfNode call whole status
 long_status call status whole read long front only = record {
   no_file = λ fault is. only.no_file (record { line = 0; code = 15 }) (inl (long, refl, refl));
+  overfull = λ lines now number file full. let short = file.small in absurd (omega arith);
   done = λ lines file free. let short = file.small in absurd (omega arith);
 }
 

@@ -1,7 +1,8 @@
-mod Walks
-mod Leasts
-mod Aheads
-mod Insides
-mod Numbers
-mod Choosings
-mod Stills
+mod GrownByEach
+mod OtherAddresses
+mod LeastOwnAddress
+mod CyclicOrder
+mod NumbersInPrefix
+mod FirstFittingNumber
+mod OneChoosing
+mod OwnAddressesStay

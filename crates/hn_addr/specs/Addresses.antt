@@ -21,7 +21,7 @@ use Rattle.hn_addr.specs.declared.choosing.Choosing.{Choosing}
 -- ---- the addresses of other nodes
 
 -- Another node has an address: it is reachable, has an HNCP-Version, and says the address, of whatever endpoint.
-pub record IsTaken (view : PlainView) (node address : ℕ) : Type 0 where
+pub record IsAddressOfOther (view : PlainView) (node address : ℕ) : Type 0 where
   pub entry : Entry
   pub reachable : Contains view.nodes entry
   pub is_it : entry.id.0 ≡ node
@@ -48,7 +48,7 @@ pub record IsLeastOwn (own : List OwnAddress) (c : Assigned) (x : ℕ) : Type 0 
 -- It stays: no node with a greater identifier has it, and it did not come already.
 pub record Stays (view : PlainView) (own : List OwnAddress) (c : Assigned) (list : List OwnAddress) (x : ℕ) : Type 0 where
   pub least : IsLeastOwn own c x
-  pub not_yielded : (node : ℕ) → IsTaken view node x → ¬ (view.own < node)
+  pub not_yielded : (node : ℕ) → IsAddressOfOther view node x → ¬ (view.own < node)
   pub new : ¬ HasCome list x
 
 -- ---- a new address
@@ -58,7 +58,7 @@ pub record NumberFits (view : PlainView) (c : Assigned) (list : List OwnAddress)
   pub low : 1 ≤ k
   pub high : k ≤ 65535
   pub inside : k < 2 ^ (128 - c.prefix.len)
-  pub free : (node : ℕ) → ¬ IsTaken view node (c.prefix.bits + k)
+  pub free : (node : ℕ) → ¬ IsAddressOfOther view node (c.prefix.bits + k)
   pub new : ¬ HasCome list (c.prefix.bits + k)
 
 -- the number at which a word says to begin, 1 to 65,535
@@ -128,5 +128,5 @@ IsChoice s Keep words = AreNext s s.addresses words
 IsChoice s (Set list) words = AreNext s list words × (list ≢ s.addresses)
 
 -- The own addresses stay, and no word is taken: no address is chosen anew.
-abbrev pub IsStill : State → Type 0
-IsStill s = AreNext s s.addresses []
+abbrev pub IsAddressStill : State → Type 0
+IsAddressStill s = AreNext s s.addresses []

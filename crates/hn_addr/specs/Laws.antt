@@ -5,7 +5,7 @@ use Rattle.hn_base.specs.Words.{Begins}
 use Rattle.hn_own.specs.Addresses.{OwnAddress}
 use Rattle.hn_rules.specs.Seen.{seen_by}
 use Rattle.hn_rules.specs.declared.state.State.{State}
-use Rattle.hn_addr.specs.Addresses.{IsTaken, IsChoice, IsStill}
+use Rattle.hn_addr.specs.Addresses.{IsAddressOfOther, IsChoice, IsAddressStill}
 use Rattle.hn_addr.specs.declared.choice.Choice.{Choice}
 
 -- A number is below the size of a prefix if and only if the address that it makes is inside the prefix.
@@ -22,5 +22,5 @@ ChoiceIsUnique =
 -- are the same.
 abbrev pub StillAddressesStay : Type 0
 StillAddressesStay =
-    (s : State) (a : OwnAddress) → IsStill s → Contains s.addresses a
-    → ((node : ℕ) → IsTaken (seen_by s) node a.1 → ¬ (s.id.0 < node)) × ((b : OwnAddress) → Contains s.addresses b → b.1 ≡ a.1 → b ≡ a)
+    (s : State) (a : OwnAddress) → IsAddressStill s → Contains s.addresses a
+    → ((node : ℕ) → IsAddressOfOther (seen_by s) node a.1 → ¬ (s.id.0 < node)) × ((b : OwnAddress) → Contains s.addresses b → b.1 ≡ a.1 → b ≡ a)

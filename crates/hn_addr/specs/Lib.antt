@@ -1,4 +1,5 @@
 pub mod Addresses
+pub mod OfNodes
 pub mod Others
 pub mod Own
 pub mod Numbers

@@ -1,11 +1,11 @@
-//! Which addresses a router takes.
+//! Which addresses a router takes (RFC 7788, section 6.4).
 
 ghost use Rattle.std.specs.Prelude.{◌≡◌, ◌↔◌, ℕ, List, IsTrue, IfOk, Contains};
 ghost use Rattle.std.specs.List.Sorted.{IsStrictlySortedBy};
 ghost use Rattle.hn_base.specs.Ascending.{HaveSame};
 ghost use Rattle.hn_base.specs.Words.{Took};
 ghost use Rattle.hn_own.specs.Addresses.{address_cmp};
-ghost use Rattle.hn_addr.specs.Addresses.{AreNext, IsChoice, IsStill};
+ghost use Rattle.hn_addr.specs.Addresses.{AreNext, IsChoice, IsAddressStill};
 
 use crate::choosing::{Choosing, choose_all};
 use crate::laws::choosing_is_unique;
@@ -52,8 +52,8 @@ fn are_own(router: &Router, list: &[(EpId, u128)]) -> bool
     list == router.addresses()
 }
 
-/// The addresses that a router takes now, one at most for each assignment that is applied and of an attached endpoint, in
-/// ascending order of delegated prefix and endpoint:
+/// The addresses that a router takes now (RFC 7788, section 6.4). Each assignment that is applied and of an attached endpoint
+/// has one at most. They are chosen in ascending order of delegated prefix and endpoint:
 ///
 /// 1. The least own address of the endpoint inside the prefix stays, where no reachable node with a greater identifier and
 ///    an HNCP-Version has it, and it did not come already.
@@ -66,9 +66,10 @@ fn are_own(router: &Router, list: &[(EpId, u128)]) -> bool
 ///
 /// # Errors
 ///
-/// Out of memory.
+/// Out of memory. Words may have been taken then.
 pub fn choose<D: Draw>(alloc: Global, router: &Router, draw: &mut D) -> Result<Choice, NoMemory>
-    ensures { IfOk result (λ choice. (words : List ℕ) × IsChoice router.now choice words × Took (D.words draw.old) words (D.words draw.new)) }
+    ensures { IfOk result
+        (λ choice. (words : List ℕ) × IsChoice router.now choice words × Took (D.words draw.old) words (D.words draw.new)) }
 {
     let next = next(alloc, router, draw)?;
     if are_own(router, next.list.as_slice()) {
@@ -84,7 +85,7 @@ pub fn choose<D: Draw>(alloc: Global, router: &Router, draw: &mut D) -> Result<C
 ///
 /// Out of memory.
 pub fn still(alloc: Global, router: &Router) -> Result<bool, NoMemory>
-    ensures { IfOk result (λ answer. IsTrue answer ↔ IsStill router.now) }
+    ensures { IfOk result (λ answer. IsTrue answer ↔ IsAddressStill router.now) }
 {
     choosing_is_unique();
     let next = next(alloc, router, &mut Zeros)?;

@@ -28,7 +28,7 @@ pub(crate) fn address_of(prefix: &Prefix, k: u32) -> u128
     prefix.bits() + u128::from(k)
 }
 
-/// Whether an address is no other node's, and did not come already.
+/// Whether an address is no other node's, and did not come already (RFC 7788, section 6.4).
 fn is_free(others: &Others, list: &[(EpId, u128)], address: u128) -> bool
     requires { IsStrictlySortedBy nat_cmp others.now.addresses.items }
     ensures { IsTrue result ↔ IsFreeAddress others.now list.now address }
@@ -45,7 +45,8 @@ pub(crate) fn first_from(
 ) -> Option<u32>
     requires low { 1 ≤ from }
     requires ascending { IsStrictlySortedBy nat_cmp others.now.addresses.items }
-    ensures { MatchOption result (HasNoneFrom others.now list.now prefix.now from) (IsFirstFrom others.now list.now prefix.now from) }
+    ensures { MatchOption result (HasNoneFrom others.now list.now prefix.now from)
+        (IsFirstFrom others.now list.now prefix.now from) }
 {
     for k in from..count(prefix) {
         if is_free(others, list, address_of(prefix, k)) {

@@ -95,7 +95,8 @@ module _ (w : Parts) (r : Member) (usable : List Delegated) (case : IsCase w r u
   on_both : (link : Link) (s u : Member) (e f : EpId) → IsThere w r link s e → IsThere w r link u f → (at : NodeId × EpId)
       → IsOnCommonLink (seen_by s.router) e.0 at → IsOnCommonLink (seen_by u.router) f.0 at
   on_both link s u e f one other at on =
-      let here : IsOnLinkOf (home_of w r usable) (end_on link s e) at.0 at.1 = (common_is_link w r usable case s (reached_there w r case.known link s e one) (end_on link s e) (there_end w r case.known link s e one) at.0 at.1).0 on in
+      let here : IsOnLinkOf (home_of w r usable) (end_on link s e) at.0 at.1 =
+      (common_is_link w r usable case s (reached_there w r case.known link s e one) (end_on link s e) (there_end w r case.known link s e one) at.0 at.1).0 on in
       let there : IsOnLinkOf (home_of w r usable) (end_on link u f) at.0 at.1 =
       record { endpoint = here.endpoint; there = here.there; on_link = here.on_link; of_node = here.of_node; of_id = here.of_id } in
       (common_is_link w r usable case u (reached_there w r case.known link u f other) (end_on link u f) (there_end w r case.known link u f other) at.0 at.1).1 there

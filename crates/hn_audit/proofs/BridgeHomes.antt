@@ -1,5 +1,6 @@
 -- The home of a settled set: its posts on links, and its assignments.
-use Rattle.std.proofs.Common.{◌≡◌, ◌≢◌, ◌∙◌, ◌<◌, ◌^◌, ◌+◌, ◌*◌, ◌==◌, ℕ, Bool, List, [], ◌++◌, Option, Some, None, IsSome, Contains, IsTrue, filter, find, map, not, inl, inr, refl, sym, ap, subst, arith}
+use Rattle.std.proofs.Common.{◌≡◌, ◌≢◌, ◌∙◌, ◌<◌, ◌^◌, ◌+◌, ◌*◌, ◌==◌, ℕ, Bool, List, [], ◌++◌, Option, Some, None, IsSome, Contains, IsTrue, filter, find, map, not, inl, inr, refl, sym, ap, subst}
+use Rattle.std.proofs.Common.{arith}
 use Rattle.std.specs.Option.{option_map, option_map_or}
 use Rattle.std.specs.List.{filter_map, flat_map}
 use Rattle.std.proofs.lemmas.Bool.{and_from, and_parts, eqb-true, eq-eqb}
@@ -52,7 +53,8 @@ attached_by m e link is = go (find (is_of e) m.attachments) refl is
 on_link_is_port : (m : Member) (e : EpId) (link : ℕ) → IsAttachedMember m → 0 < e.0 → link_of e m ≡ Some link → Contains (endpoints_of m.router.ports) e
 on_link_is_port m e link attached positive on =
     let by = attached_by m e link on in
-    (attached.endpoints e positive).1 (subst (Contains (map (λ (a : Attachment). a.endpoint) m.attachments)) by.1.of_endpoint (Contains-map (λ (a : Attachment). a.endpoint) m.attachments by.0 by.1.there))
+    (attached.endpoints e positive).1 (subst (Contains (map (λ (a : Attachment). a.endpoint) m.attachments)) by.1.of_endpoint
+    (Contains-map (λ (a : Attachment). a.endpoint) m.attachments by.0 by.1.there))
 
 pub on_link_is_attached : (m : Member) (e : EpId) (link : ℕ) → IsAttachedMember m → 0 < e.0 → link_of e m ≡ Some link → IsTrue (is_attached e m.router.ports)
 on_link_is_attached m e link attached positive on = id_is_found (λ (p : Port). p.id) m.router.ports e (on_link_is_port m e link attached positive on)

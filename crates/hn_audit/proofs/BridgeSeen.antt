@@ -59,7 +59,8 @@ published_as c a is = go c.published refl is
 
 as_published : (c : Assigned) (a : Advertised) → IsPublishedAs c a → publication_of c ≡ Some (said_by a)
 as_published c a is =
-    let same : record { endpoint = c.endpoint; priority = a.key.priority; prefix = c.prefix } ≡ said_by a = λ i. record { endpoint = sym is.endpoint i; priority = a.key.priority; prefix = sym is.prefix i } in
+    let same : record { endpoint = c.endpoint; priority = a.key.priority; prefix = c.prefix } ≡ said_by a =
+    λ i. record { endpoint = sym is.endpoint i; priority = a.key.priority; prefix = sym is.prefix i } in
     ap (option_map (λ (priority : ℕ). record { endpoint = c.endpoint; priority = priority; prefix = c.prefix })) is.published ∙ ap Some same
 
 module _ (w : Parts) (r : Member) (usable : List Delegated) (case : IsCase w r usable) (s : Member) (s_in : IsReached w r s) where
@@ -144,7 +145,8 @@ module _ (w : Parts) (r : Member) (usable : List Delegated) (case : IsCase w r u
         },
       )
 
-  pub gathered_is_published : (list : List Advertised) → gathered.AreAdvertised (seen_by s.router) s.router.held.assigned list → (a : Advertised) → Contains list a ↔ IsAdvertisedInHome (home_of w r usable) a
+  pub gathered_is_published : (list : List Advertised) → gathered.AreAdvertised (seen_by s.router) s.router.held.assigned list → (a : Advertised)
+      → Contains list a ↔ IsAdvertisedInHome (home_of w r usable) a
   gathered_is_published list are a = (
     λ there. elim ((are a).0 there) [
       | inl other ↦ of_other a other.0 other.1 other.2

@@ -14,13 +14,14 @@ use Rattle.hn_assign.specs.Pair.{IsWished, assigned_pair, pair_cmp, wish_pair}
 use Rattle.hn_assign.specs.Rest.{IsAtRest}
 use Rattle.hn_deleg.specs.Laws.{UsableIsUnique}
 use Rattle.hn_sound.specs.Laws.{RestKnowsNoOrder}
+use Rattle.hn_rules.specs.declared.state.State.{State}
 use Rattle.hn_world.specs.declared.member.Member.{Member}
 use Rattle.hn_world.specs.declared.parts.Parts.{Parts}
 use Rattle.hn_audit.specs.declared.witness.Unquiet.{Unquiet}
 use Rattle.hn_audit.specs.declared.witness.Unquiet.TheVariants as act
 use Rattle.hn_audit.specs.First.{IsFoundOf}
 use Rattle.hn_audit.specs.FirstWitness.{act_of, FindsOfRouter, FindsRestless, FindsUnasked, IsFirstUnquiet}
-use Rattle.hn_audit.specs.Laws.{WitnessRefutesQuiet}
+use Rattle.hn_audit.specs.Laws.{WitnessNamesRestless, WitnessRefutesQuiet}
 use Rattle.hn_audit.specs.Quiet.{IsQuiet, IsRouterAtRest}
 use Rattle.hn_audit.specs.Reached.{IsReached}
 use Rattle.hn_audit.specs.Set.{set_of}
@@ -132,35 +133,43 @@ first_disturbs w r u h = router_disturbs w r h.one u ((set_has w r h.one).0 (con
 
 -- ---- what it says refutes that the router is quiet
 
-module _ (unique : UsableIsUnique) (total : IsTotalOrder pair_cmp) (order : RestKnowsNoOrder) (w : Parts) (r : Member) where
-  -- a pair of one of the set that is quiet
-  pair_rests : (s : Member) (outlook : Outlook s.router) (wish : Wish) (assignment : Option Assigned) → IsReached w r s → IsQuiet w r → Contains outlook.wishes wish
-      → HasAt assigned_pair (wish_pair wish) assignment s.router.held.assigned → IsAtRest outlook.advertised s.router.id.0 wish assignment
-  pair_rests s o wish assignment reached quiet there has =
-      rests_in_order unique total s.router o.usable o.are_usable o.wishes o.are_asked (quiet s reached) order o.advertised o.are_advertised wish there assignment has
+module _ (unique : UsableIsUnique) (total : IsTotalOrder pair_cmp) (order : RestKnowsNoOrder) where
+  -- a pair of a router at rest
+  pair_rests : (s : State) (outlook : Outlook s) (wish : Wish) (assignment : Option Assigned) → IsRouterAtRest s → Contains outlook.wishes wish
+      → HasAt assigned_pair (wish_pair wish) assignment s.held.assigned → IsAtRest outlook.advertised s.id.0 wish assignment
+  pair_rests s o wish assignment rest there has =
+      rests_in_order unique total s o.usable o.are_usable o.wishes o.are_asked rest order o.advertised o.are_advertised wish there assignment has
 
-  pub refutes_quiet : (u : Unquiet) → Disturbs w r u → ¬ IsQuiet w r
-  refutes_quiet (act.Unasked router endpoint delegated prefix) h quiet =
-      let o = h.outlook in
-      let all = wished_there unique total h.one.router o.usable o.are_usable o.wishes o.are_asked (quiet h.one h.of_set.reached) in
-      h.unasked (All-contains (λ (c : Assigned). IsWished o.wishes (assigned_pair c)) h.one.router.held.assigned h.assignment all h.has.held)
-  refutes_quiet (act.Makes router endpoint delegated) h quiet =
+  pub names_restless : WitnessNamesRestless
+  names_restless w r (act.Unasked router endpoint delegated prefix) h =
+      let o = h.outlook in (
+        h.one,
+        h.of_set.reached,
+        λ rest.
+            h.unasked (All-contains (λ (c : Assigned). IsWished o.wishes (assigned_pair c)) h.one.router.held.assigned h.assignment
+            (wished_there unique total h.one.router o.usable o.are_usable o.wishes o.are_asked rest) h.has.held),
+      )
+  names_restless w r (act.Makes router endpoint delegated) h =
+      let p = h.pair in (
+        p.one,
+        p.of_set.reached,
+        λ rest. elim (pair_rests p.one.router p.outlook p.wish None rest p.asked p.has).nothing_to_do [
+          | inl unwanted ↦ unwanted h.wanted
+          | inr none ↦ h.some_free none
+        ],
+      )
+  names_restless w r (act.Takes router endpoint delegated best) h =
       let p = h.pair in
-      let rest = pair_rests p.one p.outlook p.wish None p.of_set.reached quiet p.asked p.has in
-      elim rest.nothing_to_do [
-        | inl unwanted ↦ unwanted h.wanted
-        | inr none ↦ h.some_free none
-      ]
-  refutes_quiet (act.Takes router endpoint delegated best) h quiet =
+      (p.one, p.of_set.reached, λ rest. (pair_rests p.one.router p.outlook p.wish None rest p.asked p.has).no_best h.advertised h.is_best.candidate)
+  names_restless w r (act.Drops router endpoint delegated prefix) h =
       let p = h.pair in
-      let rest = pair_rests p.one p.outlook p.wish None p.of_set.reached quiet p.asked p.has in
-      rest.no_best h.advertised h.is_best.candidate
-  refutes_quiet (act.Drops router endpoint delegated prefix) h quiet =
+      (p.one, p.of_set.reached, λ rest. h.restless (pair_rests p.one.router p.outlook p.wish (Some h.assignment) rest p.asked p.has))
+  names_restless w r (act.Changes router endpoint delegated prefix best) h =
       let p = h.pair in
-      h.restless (pair_rests p.one p.outlook p.wish (Some h.assignment) p.of_set.reached quiet p.asked p.has)
-  refutes_quiet (act.Changes router endpoint delegated prefix best) h quiet =
-      let p = h.pair in
-      h.restless (pair_rests p.one p.outlook p.wish (Some h.assignment) p.of_set.reached quiet p.asked p.has)
+      (p.one, p.of_set.reached, λ rest. h.restless (pair_rests p.one.router p.outlook p.wish (Some h.assignment) rest p.asked p.has))
+
+  pub refutes_quiet : WitnessRefutesQuiet
+  refutes_quiet w r u h quiet = let (s, reached, restless) = names_restless w r u h in restless (quiet s reached)
 
 -- ---- the facts of an answer
 

@@ -4,6 +4,7 @@ use Rattle.std.specs.Cmp.{IsTotalOrder}
 use Rattle.std.proofs.lemmas.List.Elements.{All-contains}
 use Rattle.hn_base.proofs.AscendingLists.{Contains-from_map, Contains-map}
 use Rattle.hn_base.proofs.Elements.{all_of}
+use Rattle.hn_base.proofs.SomeExists.{some_then}
 use Rattle.hn_assign.specs.declared.assigned.Advertised.{Advertised}
 use Rattle.hn_assign.specs.declared.assigned.Assigned.{Assigned}
 use Rattle.hn_assign.specs.declared.held.Held.{Held}
@@ -11,13 +12,14 @@ use Rattle.hn_assign.specs.declared.held.Ran.{Ran}
 use Rattle.hn_assign.specs.Fixed.{AreAtRest, AreAssignmentsUnchanged, unmarked}
 use Rattle.hn_assign.specs.Gathered.{AreAdvertised}
 use Rattle.hn_assign.specs.Pair.{IsWished, assigned_pair, pair_cmp}
-use Rattle.hn_assign.specs.Laws.{AssignedAreWished, RestHasADueRun, RestIsUnchanged, AdvertisedExists}
+use Rattle.hn_assign.specs.Laws.{AssignedAreWished, RestHasADueRun, RestIsUnchanged, SubroutineHasADueRun, AdvertisedExists}
 use Rattle.hn_deleg.specs.Laws.{UsableIsUnique}
 use Rattle.hn_rules.specs.declared.state.State.{State}
+use Rattle.hn_rules.specs.Laws.{WishesExist}
 use Rattle.hn_rules.specs.Router.{IsRouter}
 use Rattle.hn_rules.specs.Seen.{seen_by}
 use Rattle.hn_audit.specs.Fixed.{IsRunAnew}
-use Rattle.hn_audit.specs.Laws.{RestHasARun}
+use Rattle.hn_audit.specs.Laws.{AnewHasARun, RestHasARun}
 use Rattle.hn_audit.specs.Quiet.{IsRouterAtRest}
 use Rattle.hn_audit.proofs.Restings.{wished_there, rests_there}
 
@@ -77,3 +79,10 @@ pub rest_has_a_run : RestHasADueRun → RestHasARun
 rest_has_a_run comes s router rest =
     let found = comes (seen_by s) rest.wishes s.held.assigned rest.advertised rest.are_asked.ascending router.well.pairs.assigned rest.wished rest.are_advertised rest.at_rest in
     (found.0, record { usable = rest.usable; are_usable = rest.are_usable; wishes = rest.wishes; are_asked = rest.are_asked; run = found.1 }, found.2, found.3)
+
+-- each router has a run
+pub anew_has_a_run : WishesExist → SubroutineHasADueRun → AnewHasARun
+anew_has_a_run wished comes s router stream =
+    some_then (wished s router) (λ wishes w.
+    some_then (comes (seen_by s) wishes s.held.assigned stream w.are_asked.ascending router.well.pairs.assigned w.fitting w.prefixes) (λ ran runs none.
+    none ran (record { usable = w.usable; are_usable = w.are_usable; wishes = wishes; are_asked = w.are_asked; run = runs.0 }, runs.1)))

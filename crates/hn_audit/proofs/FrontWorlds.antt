@@ -13,7 +13,8 @@ replayed traces versions version ts w leads =
     (subst (λ (trace : List Traced). Replays version trace w) (sym (traces version ts w leads)) leads)
 
 -- what always held of a world always held of a world of its past
-pub front_has_it : WorldHasItsTrace → WorldHasItsVersion → (P : Parts → Type 0) (w v : Parts) (past future : List Traced) → w.trace ≡ past ++ future → Replays w.version past v → Always P w → Always P v
+pub front_has_it : WorldHasItsTrace → WorldHasItsVersion → (P : Parts → Type 0) (w v : Parts) (past future : List Traced) → w.trace ≡ past ++ future
+    → Replays w.version past v → Always P w → Always P v
 front_has_it traces versions P w v past future split leads always before after splits =
     let here : past ≡ before ++ after = sym (traces w.version past v leads) ∙ splits in
     let whole : w.trace ≡ before ++ (after ++ future) = split ∙ ap (λ (ts : List Traced). ts ++ future) here ∙ append_assoc before after future in

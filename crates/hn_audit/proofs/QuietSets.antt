@@ -1,6 +1,6 @@
 -- A set is quiet if and only if the assignment subroutine, run anew, comes to something on each of its routers and changes
 -- nothing. And the router of a name runs.
-use Rattle.std.proofs.Common.{◌≡◌, ◌↔◌, ℕ, Bool, false, IsTrue, List, Option, Some, All, sym, subst}
+use Rattle.std.proofs.Common.{◌≡◌, ◌↔◌, ℕ, Bool, true, false, not, IsTrue, IfSome, List, Option, Some, None, is_some, All, refl, sym, subst}
 use Rattle.std.specs.Option.{option_map_or}
 use Rattle.std.proofs.lemmas.List.Elements.{All-contains, All-nil}
 use Rattle.hn_rules.specs.Router.{IsRouter}
@@ -8,10 +8,12 @@ use Rattle.hn_world.specs.declared.member.Member.{Member}
 use Rattle.hn_world.specs.declared.parts.Parts.{Parts}
 use Rattle.hn_world.specs.Names.{is_named, member_named}
 use Rattle.hn_world.specs.Replay.{IsSound, IsSoundMember}
-use Rattle.hn_audit.specs.Fixed.{ChangesNothing, IsFixed, MayChangeNothing}
-use Rattle.hn_audit.specs.Laws.{RestKeepsAssignments, RestHasARun, UnchangedIsAtRest}
+use Rattle.hn_audit.specs.Fixed.{ChangesNothing, IsFixed, MayChangeNothing, SomeActs}
+use Rattle.hn_audit.specs.Laws.{AnewHasARun, HasRestless, RestKeepsAssignments, RestHasARun, UnchangedIsAtRest, WitnessNamesRestless}
 use Rattle.hn_audit.specs.Quiet.{IsQuiet}
 use Rattle.hn_audit.specs.Reached.{runs, IsRunning, IsReached}
+use Rattle.hn_audit.specs.Witness.{Disturbs}
+use Rattle.hn_audit.specs.declared.witness.Unquiet.{Unquiet}
 use Rattle.hn_base.proofs.Elements.{found_passes}
 
 -- a router of a sound world
@@ -36,6 +38,32 @@ module _ (w : Parts) (r : Member) (sound : IsSound w) (answer : Bool) (quiet : I
 
       may : IsFixed w r → MayChangeNothing w r
       may fixed s reached = let found = fixed s reached in (found.0, found.1, found.3)
+
+-- ---- where it is not quiet
+
+module _ (w : Parts) (r : Member) (sound : IsSound w) where
+  -- a router that is not at rest acts
+  restless_acts : AnewHasARun → UnchangedIsAtRest → HasRestless w r → SomeActs w r
+  restless_acts runs rests (s, reached, restless) =
+      let router = router_of w r s sound reached in
+      (s, reached, record { comes = runs s.router router; acts = λ ran run same. restless (rests s.router ran router run same) })
+
+  -- where one acts, it is not so that no run changes anything
+  acting_changes : SomeActs w r → ¬ ChangesNothing w r
+  acting_changes (s, reached, acting) nothing = acting.comes (λ _. 0) (λ ran run. acting.acts ran run.0 (nothing s ran reached run.0))
+
+  module _ (runs : AnewHasARun) (keeps : RestKeepsAssignments) (rests : UnchangedIsAtRest) (names : WitnessNamesRestless) where
+    -- the answer by a witness: quiet if and only if no run changes anything, and else one acts
+    pub quiet_or_acts : (found : Option Unquiet) (answer : Bool) → is_some found ≡ not answer → IfSome found (Disturbs w r) → (IsTrue answer ↔ IsQuiet w r)
+        → (IsTrue answer ↔ ChangesNothing w r) × ((answer ≡ false) ↔ SomeActs w r)
+    quiet_or_acts None false said witness quiet = absurd (cc)
+    quiet_or_acts (Some u) true said witness quiet = absurd (cc)
+    quiet_or_acts None true said witness quiet =
+        let nothing = quiet_changes_nothing w r sound true quiet keeps refl in
+        ((λ is. nothing, λ _. refl), (λ is. absurd (cc), λ acting. absurd (acting_changes acting nothing)))
+    quiet_or_acts (Some u) false said witness quiet =
+        let acting = restless_acts runs rests (names w r u witness) in
+        ((λ is. absurd (cc), λ nothing. absurd (acting_changes acting nothing)), (λ _. acting, λ _. refl))
 
 -- the router of a name, which runs
 pub named_runs : (name : List ℕ) (w : Parts) (r : Member) → IsTrue (runs name w) → member_named name w ≡ Some r → IsRunning w r

@@ -32,7 +32,8 @@ one_wishes total s usable a b h k =
     (λ wish. let p = h.exact wish in let q = k.exact wish in (λ x. q.1 (p.0 x), λ y. p.1 (q.0 y)))
 
 -- the lists of a router at rest are those of any other look at it
-module _ (unique : UsableIsUnique) (total : IsTotalOrder pair_cmp) (s : State) (usable : List Delegated) (are_usable : AreUsable (seen_by s) usable) (wishes : List Wish) (are_asked : AreAsked s usable wishes)
+module _ (unique : UsableIsUnique) (total : IsTotalOrder pair_cmp) (s : State) (usable : List Delegated) (are_usable : AreUsable (seen_by s) usable)
+    (wishes : List Wish) (are_asked : AreAsked s usable wishes)
     (rest : IsRouterAtRest s) where
   one_list : rest.usable ≡ usable
   one_list = unique (seen_by s) rest.usable usable rest.are_usable are_usable

@@ -65,5 +65,6 @@ use_same_too once r s u one other =
 pub use_these : UsableIsUnique → (r s : State) (used other : List Delegated) → AreUsable (seen_by r) used → AreUsable (seen_by s) other → AreSame used other ↔ UseSame r s
 use_these once r s used other is_used is_other = (
   λ same. record { one = used; is_one = is_used; other = other; is_other = is_other; same = same },
-  λ h. subst (λ (a : List Delegated). AreSame a other) (once (seen_by r) h.one used h.is_one is_used) (subst (λ (b : List Delegated). AreSame h.one b) (once (seen_by s) h.other other h.is_other is_other) h.same),
+  λ h. subst (λ (a : List Delegated). AreSame a other) (once (seen_by r) h.one used h.is_one is_used)
+      (subst (λ (b : List Delegated). AreSame h.one b) (once (seen_by s) h.other other h.is_other is_other) h.same),
 )

@@ -185,12 +185,14 @@ module _ (laws : RestLaws) (now : ℕ) (s : State) (router : IsRouter s) (begun 
             let here : IsWishAt s.private at same.other w.place wish = same_wish s.private before at rest.usable same.other used_next goes w.place wish w.asked in
             record {
               place = w.place;
-              asked = subst (λ (view : PlainView). IsWishAt next.private view same.other w.place wish) (sym seen_next) (subst (λ (private : Option ℕ). IsWishAt private at same.other w.place wish) (sym left.private) here);
+              asked = subst (λ (view : PlainView). IsWishAt next.private view same.other w.place wish) (sym seen_next)
+                  (subst (λ (private : Option ℕ). IsWishAt private at same.other w.place wish) (sym left.private) here);
               post = subst (λ (posts : List EpId). Contains posts wish.endpoint) (sym posts_are) w.post;
             },
         λ w.
             let there : IsWishAt s.private at same.other w.place wish =
-            subst (λ (private : Option ℕ). IsWishAt private at same.other w.place wish) left.private (subst (λ (view : PlainView). IsWishAt next.private view same.other w.place wish) seen_next w.asked) in
+            subst (λ (private : Option ℕ). IsWishAt private at same.other w.place wish) left.private
+            (subst (λ (view : PlainView). IsWishAt next.private view same.other w.place wish) seen_next w.asked) in
             (rest.are_asked.exact wish).1 (record {
               place = w.place;
               asked = same_wish s.private at before same.other rest.usable (same_back rest.usable same.other used_next) goes_back w.place wish there;
@@ -201,7 +203,8 @@ module _ (laws : RestLaws) (now : ℕ) (s : State) (router : IsRouter s) (begun 
 
     wished_next : All (λ c. IsWished rest.wishes (assigned_pair c)) next.held.assigned
     wished_next = all_of (λ c. IsWished rest.wishes (assigned_pair c)) next.held.assigned (λ c there.
-        let among : Contains (map unmarked s.held.assigned) (unmarked c) = subst (λ (list : List Assigned). Contains list (unmarked c)) left.assigned (Contains-map unmarked next.held.assigned c there) in
+        let among : Contains (map unmarked s.held.assigned) (unmarked c) =
+        subst (λ (list : List Assigned). Contains list (unmarked c)) left.assigned (Contains-map unmarked next.held.assigned c there) in
         let (d, d_in, d_is) = Contains-from_map unmarked s.held.assigned (unmarked c) among in
         let (wish, wish_in, pair) = All-contains (λ (x : Assigned). IsWished rest.wishes (assigned_pair x)) s.held.assigned d rest.wished d_in in
         (wish, wish_in, pair ∙ ap assigned_pair d_is))
@@ -215,7 +218,8 @@ module _ (laws : RestLaws) (now : ℕ) (s : State) (router : IsRouter s) (begun 
       advertised = rest.advertised;
       are_advertised =
           subst (λ (view : PlainView). AreAdvertised view next.held.assigned rest.advertised) (sym seen_next)
-          ((laws.advertised_same at s.held.assigned next.held.assigned rest.advertised left.assigned).0 ((laws.advertised_later before at s.held.assigned rest.advertised later).0 rest.are_advertised));
+          ((laws.advertised_same at s.held.assigned next.held.assigned rest.advertised left.assigned).0
+          ((laws.advertised_later before at s.held.assigned rest.advertised later).0 rest.are_advertised));
       wished = wished_next;
       at_rest =
           subst (λ (id : NodeId). AreAtRest rest.advertised id.0 rest.wishes next.held.assigned) (sym left.id)

@@ -111,7 +111,8 @@ module _ (unique : UsableIsUnique) (before after : Parts) (r next : Member) (pla
 
   -- ---- settled
 
-  holds_now : (s s' u u' : Member) → IsStillAs s.router s'.router → IsStillAs u.router u'.router → IsKept u u' → Contains s.router.reach u.router.id → Holds s.router u.router → Holds s'.router u'.router
+  holds_now : (s s' u u' : Member) → IsStillAs s.router s'.router → IsStillAs u.router u'.router → IsKept u u' → Contains s.router.reach u.router.id
+      → Holds s.router u.router → Holds s'.router u'.router
   holds_now s s' u u' s_still u_still u_kept reaches holds = record {
     stored = holds.stored;
     is_held = ap (λ (id : NodeId). held s'.router.table.entries id.0) u_kept.id ∙ s_still.known u.router.id reaches ∙ holds.is_held;

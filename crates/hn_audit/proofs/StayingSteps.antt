@@ -82,7 +82,8 @@ module _ (before after : Parts) (same : after.members ≡ before.members) (r : M
 
 -- ---- a router ticks
 
-module _ (before after : Parts) (place : ℕ) (x : Member) (n : State) (there : slice_get before.members place ≡ Some x) (gives : after.members ≡ slice_set before.members place (record x { router = n }))
+module _ (before after : Parts) (place : ℕ) (x : Member) (n : State) (there : slice_get before.members place ≡ Some x)
+    (gives : after.members ≡ slice_set before.members place (record x { router = n }))
     (r : Member) (settled : IsSettled before r) (quiet : IsQuiet before r) where
   abbrev next_x : Member
   next_x = record x { router = n }
@@ -178,7 +179,13 @@ module _ (laws : StayLaws) (before after : Parts) (replays : IsReplayed before) 
         let run = ticked now s n done happened in
         let used = restful.used in
         let seen : seen_by n ≡ seen_by run.after.state = ap seen_by run.is in
-        let same : UseSame s run.after.state = record { one = used.one; is_one = used.is_one; other = used.other; is_other = subst (λ (view : PlainView). AreUsable view used.other) seen used.is_other; same = used.same } in
+        let same : UseSame s run.after.state = record {
+          one = used.one;
+          is_one = used.is_one;
+          other = used.other;
+          is_other = subst (λ (view : PlainView). AreUsable view used.other) seen used.is_other;
+          same = used.same;
+        } in
         let rest = quiet x reached in
         let was = rested laws.rests now s sound.router sound.past restful.uneventful rest run.after run.tick same in
         let with_due : IsRested s (record run.after.state { due = run.due }) = record {

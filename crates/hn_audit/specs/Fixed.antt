@@ -1,6 +1,8 @@
 -- The fixed point of the assignment subroutine: a router whose subroutine, run once more, would make, change and destroy
 -- no assignment. No backoff is waited for: each pair without an assignment has one that is due.
-use Rattle.std.specs.Prelude.{◌≡◌, List, All}
+use Rattle.std.specs.Prelude.{◌≡◌, ℕ, List, All}
+use Rattle.hn_base.specs.Exists.{Some! }
+use Rattle.hn_base.specs.Words.{Begins}
 use Rattle.hn_assign.specs.declared.assigned.Wish.{Wish}
 use Rattle.hn_assign.specs.declared.held.Ran.{Ran}
 use Rattle.hn_assign.specs.Fixed.{IsDueRun, AreAssignmentsUnchanged}
@@ -39,3 +41,16 @@ abbrev pub IsFixed : Parts → Member → Type 0
 IsFixed w r =
     (s : Member) → IsReached w r s
     → (ran : Ran) × IsRunAnew s.router ran × All (λ word. word ≡ 0) ran.words × AreAssignmentsUnchanged s.router.held.assigned ran.held.assigned
+
+-- over each stream of random words it comes to a result on a router: it cannot be that there is none
+abbrev pub Comes : State → Type 0
+Comes s = (stream : ℕ → ℕ) → Some! (λ (ran : Ran). IsRunAnew s ran × Begins ran.words stream)
+
+-- it comes to a result on a router, and each makes, changes or destroys an assignment
+pub record ActsAnew (s : State) : Type 0 where
+  pub comes : Comes s
+  pub acts : (ran : Ran) → IsRunAnew s ran → ¬ AreAssignmentsUnchanged s.held.assigned ran.held.assigned
+
+-- so it is on a router of the set of r
+abbrev pub SomeActs : Parts → Member → Type 0
+SomeActs w r = (s : Member) × IsReached w r s × ActsAnew s.router

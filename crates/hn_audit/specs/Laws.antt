@@ -14,7 +14,7 @@ use Rattle.hn_world.specs.Replay.{Replays, IsReplayed, Always}
 use Rattle.hn_audit.specs.Reached.{IsRunning, IsReached}
 use Rattle.hn_audit.specs.Settled.{IsSettled}
 use Rattle.hn_audit.specs.Quiet.{IsQuiet, IsRouterAtRest}
-use Rattle.hn_audit.specs.Fixed.{IsRunAnew}
+use Rattle.hn_audit.specs.Fixed.{Comes, IsRunAnew}
 use Rattle.hn_audit.specs.Sound.{IsSound}
 use Rattle.hn_audit.specs.declared.witness.Unquiet.{Unquiet}
 use Rattle.hn_audit.specs.declared.witness.Unsettled.{Unsettled}
@@ -81,6 +81,10 @@ RestHasARun =
     (s : State) → IsRouter s → IsRouterAtRest s
     → (ran : Ran) × IsRunAnew s ran × AreAssignmentsUnchanged s.held.assigned ran.held.assigned × (ran.words ≡ [])
 
+-- On each router it comes to a result: it cannot be that it has no run.
+abbrev pub AnewHasARun : Type 0
+AnewHasARun = (s : State) → IsRouter s → Comes s
+
 -- What a witness says refutes that a router is settled.
 abbrev pub WitnessRefutesSettled : Type 0
 WitnessRefutesSettled = (w : Parts) (r : Member) (witness : Unsettled) → Refutes w r witness → ¬ IsSettled w r
@@ -88,6 +92,14 @@ WitnessRefutesSettled = (w : Parts) (r : Member) (witness : Unsettled) → Refut
 -- And that it is quiet.
 abbrev pub WitnessRefutesQuiet : Type 0
 WitnessRefutesQuiet = (w : Parts) (r : Member) (witness : Unquiet) → Disturbs w r witness → ¬ IsQuiet w r
+
+-- a router of the set of r is not at rest
+abbrev pub HasRestless : Parts → Member → Type 0
+HasRestless w r = (s : Member) × IsReached w r s × ¬ IsRouterAtRest s.router
+
+-- What it says names one that is not at rest.
+abbrev pub WitnessNamesRestless : Type 0
+WitnessNamesRestless = (w : Parts) (r : Member) (witness : Unquiet) → Disturbs w r witness → HasRestless w r
 
 -- At most one answer is the first witness by which a router is not settled: a witness, or none.
 abbrev pub UnsettledIsOne : Type 0

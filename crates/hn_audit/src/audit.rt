@@ -1,10 +1,10 @@
-ghost use Rattle.std.specs.Prelude.{◌≡◌, ◌↔◌, IsTrue, IfOk, IfSome, Some, None, filter, map};
+ghost use Rattle.std.specs.Prelude.{◌≡◌, ◌↔◌, IsTrue, IfOk, IfSome, Some, None, false, filter, map};
 ghost use Rattle.hn_base.specs.Name.{name_text};
 ghost use Rattle.hn_world.specs.declared.member.Member.{Member};
 ghost use Rattle.hn_world.specs.declared.parts.Parts.{Parts};
 ghost use Rattle.hn_world.specs.Names.{member_named};
 ghost use Rattle.hn_audit.specs.FirstWitness.{IsFirstUnsettled, IsFirstUnquiet};
-ghost use Rattle.hn_audit.specs.Fixed.{ChangesNothing, IsFixed, MayChangeNothing};
+ghost use Rattle.hn_audit.specs.Fixed.{ChangesNothing, IsFixed, MayChangeNothing, SomeActs};
 ghost use Rattle.hn_audit.specs.Quiet.{IsQuiet};
 ghost use Rattle.hn_audit.specs.Reached.{runs};
 ghost use Rattle.hn_audit.specs.Set.{is_in_set};
@@ -78,8 +78,10 @@ pub trait Audit {
     /// Whether a running router is quiet: it and those that it reaches would make, change and destroy no assignment. So
     /// it is if and only if the assignment subroutine, run once more on each of them with a due backoff for each pair
     /// without an assignment and with random words of zero, comes to a result that makes, changes and destroys no
-    /// assignment (RFC 7695, section 4.1). Then each result leaves all assignments as they are, whatever the random words
-    /// are. A router that is settled and quiet is sound.
+    /// assignment (RFC 7695, section 4.1). It also is if and only if each result, whatever the random words are, leaves all
+    /// assignments as they are. Where a router is not quiet, the subroutine comes to a result on a router of its set, over
+    /// each stream of random words, and each result makes, changes or destroys an assignment. A router that is settled and
+    /// quiet is sound.
     ///
     /// # Errors
     ///
@@ -89,7 +91,9 @@ pub trait Audit {
         ensures quiet { IfOk result (λ answer. (r : Member) → member_named (name_text name.now) (parts self.now) ≡ Some r
             → IsTrue answer ↔ IsQuiet (parts self.now) r) }
         ensures unchanged { IfOk result (λ answer. (r : Member) → member_named (name_text name.now) (parts self.now) ≡ Some r
-            → IsTrue answer → ChangesNothing (parts self.now) r) }
+            → IsTrue answer ↔ ChangesNothing (parts self.now) r) }
+        ensures acts { IfOk result (λ answer. (r : Member) → member_named (name_text name.now) (parts self.now) ≡ Some r
+            → (answer ≡ false) ↔ SomeActs (parts self.now) r) }
         ensures fixed { IfOk result (λ answer. (r : Member) → member_named (name_text name.now) (parts self.now) ≡ Some r
             → IsTrue answer ↔ IsFixed (parts self.now) r) }
         ensures any_words { IfOk result (λ answer. (r : Member) → member_named (name_text name.now) (parts self.now) ≡ Some r
@@ -159,6 +163,7 @@ impl Audit for World {
         always_sound();
         rest_is_the_fixed_point();
         settled_and_quiet_is_sound();
+        witness_refutes();
         self.is_replayed();
         Ok(self.unquiet(alloc, name)?.is_none())
     }

@@ -1,13 +1,13 @@
 //! Laws of settled and quiet routers. Each is the contract of a function that does nothing.
 
 ghost use Rattle.hn_world.specs.Leaves.{EqualHashesAgree};
-ghost use Rattle.hn_audit.specs.Laws.{SettledAndQuietIsSound, SetIsSoundAlike, SettledSeeEachOther, AlwaysSettledAreSound, IsOfEachFront, SettledAreSound, RestKeepsAssignments, RestHasARun, UnchangedIsAtRest, WitnessRefutesSettled, WitnessRefutesQuiet, UnsettledIsOne, UnquietIsOne};
+ghost use Rattle.hn_audit.specs.Laws.{SettledAndQuietIsSound, SetIsSoundAlike, SettledSeeEachOther, AlwaysSettledAreSound, IsOfEachFront, SettledAreSound, RestKeepsAssignments, RestHasARun, UnchangedIsAtRest, AnewHasARun, WitnessRefutesSettled, WitnessRefutesQuiet, WitnessNamesRestless, UnsettledIsOne, UnquietIsOne};
 ghost use Rattle.hn_audit.specs.Staying.{QuietHomesStay, QuietHomesAlwaysStay};
 
 use hn_assign::{
     advertised_exists, advertised_of_later, advertised_of_unchanged, answers_know_no_order,
     pairs_are_ordered, rest_changes_no_assignment, rest_has_a_run, rest_is_unchanged, rest_stays,
-    subroutine_leaves,
+    subroutine_has_a_result, subroutine_leaves,
 };
 use hn_data::items_are_unique;
 use hn_deleg::{usable_is_unique, usable_never_overlap};
@@ -16,7 +16,7 @@ use hn_router::moment_is_now;
 use hn_rules::{
     assigned_is_published, entries_are_as_known, items_are_published, own_peers_are_of_endpoints,
     private_post_is_alone, restful_tick, tick_keeps_the_identifier, used_where_assigned,
-    view_is_a_network, view_of_later,
+    view_is_a_network, view_of_later, wishes_exist,
 };
 use hn_sound::{home_at_rest_is_sound, home_rests_as_seen, lists_are_exact, rest_knows_no_order};
 use hn_world::{always_attached, always_sound, at_most_one_world, each_event_is_a_step};
@@ -90,18 +90,22 @@ pub fn headline_of_each_front()
 
 /// On a router at rest the assignment subroutine, run once more with a due backoff for each pair without an assignment,
 /// makes, changes and destroys no assignment, whatever the random words are (RFC 7695, section 4.1); and it comes to a
-/// result, which takes no random word. Where a result makes, changes and destroys none, the router is at rest.
+/// result, which takes no random word. Where a result makes, changes and destroys none, the router is at rest. On each
+/// router it cannot be that it comes to no result.
 pub fn rest_is_the_fixed_point()
     ensures unchanged { RestKeepsAssignments }
     ensures rests { UnchangedIsAtRest }
     ensures comes { RestHasARun }
+    ensures runs { AnewHasARun }
 {
     advertised_exists();
     pairs_are_ordered();
     rest_has_a_run();
     rest_is_unchanged();
+    subroutine_has_a_result();
     subroutine_leaves();
     usable_is_unique();
+    wishes_exist();
 }
 
 /// A settled and quiet router stays so, with the same assignments, marks of application aside, when time passes, and when
@@ -137,10 +141,11 @@ pub fn quiet_homes_always_stay()
     quiet_homes_stay();
 }
 
-/// What a witness says refutes that a router is settled, or that it is quiet.
+/// What a witness says refutes that a router is settled, or that it is quiet: then a router of its set is not at rest.
 pub fn witness_refutes()
     ensures settled { WitnessRefutesSettled }
     ensures quiet { WitnessRefutesQuiet }
+    ensures restless { WitnessNamesRestless }
 {
     pairs_are_ordered();
     rest_knows_no_order();

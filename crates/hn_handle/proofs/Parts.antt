@@ -57,15 +57,18 @@ module _ (Value Heap : RattleType) (LH : Laws Heap) (g : Ghosts Heap.Denot) wher
 
   module _ {M : Type 1} {𝓤 : Ura M} {𝓛 : Logic 𝓤} {K : Type 0} {Γ : List (Item 𝓤)} {G : Goal 𝓤 𝓛.H} where
     pub parts_out : K → (p : Apart.Denot) (vs : List Val)
-        → ((b o : ℕ) (h : Val) → p.at ≡ block_ptr b o → vs ≡ both h (vptr b o) ∷ [] → Good (layout Heap) h → Seq K 𝓛 (‵ (box_owns (g.dealloc_token p.alloc) Value (block_ptr b o) p.value) ∷ ‵ (Heap.own_val p.alloc (h ∷ [])) ∷ Γ) G)
+        → ((b o : ℕ) (h : Val) → p.at ≡ block_ptr b o → vs ≡ both h (vptr b o) ∷ [] → Good (layout Heap) h
+        → Seq K 𝓛 (‵ (box_owns (g.dealloc_token p.alloc) Value (block_ptr b o) p.value) ∷ ‵ (Heap.own_val p.alloc (h ∷ [])) ∷ Γ) G)
         → Seq K 𝓛 (‵ (Apart.own_val p vs) ∷ Γ) G
     parts_out t p vs rest =
-        fsplit t $ fpick t (λ fields. fsplit t $ feq_l t (λ are. fsplit t $ handle_tells heap t p.alloc fields.0 (λ h is_heap good. move t (1 ∷ []) $ fsplit t $ feq_l t (λ is_place. drop t $ move t (1 ∷ []) $
+        fsplit t $ fpick t (λ fields. fsplit t $ feq_l t (λ are.
+        fsplit t $ handle_tells heap t p.alloc fields.0 (λ h is_heap good. move t (1 ∷ []) $ fsplit t $ feq_l t (λ is_place. drop t $ move t (1 ∷ []) $
         in_a_block t p.at (λ at. box_owns (g.dealloc_token p.alloc) Value at p.value) (fst∗ 𝓤 (never 𝓤) (sem 𝓛 (g.dealloc_token p.alloc (bare (lone Value.mir)) null_ptr))) (λ b o e. rest b o h e
         (are ∙ (λ i. vstruct (of_list (is_heap i ++ ((is_place ∙ ap (λ (at : Ptr). ptr_val at ∷ []) e) i ++ []))) ∷ [])) good)))))
 
     pub parts_in : K → (b o : ℕ) (h : Val) (a : Heap.Denot) (x : Value.Denot)
-        → Step K 𝓛 (‵ (Apart.own_val (record { alloc = a; at = block_ptr b o; value = x }) (both h (vptr b o) ∷ [])) ∷ Γ) G (‵ (box_owns (g.dealloc_token a) Value (block_ptr b o) x) ∷ ‵ (Heap.own_val a (h ∷ [])) ∷ Γ) G
+        → Step K 𝓛 (‵ (Apart.own_val (record { alloc = a; at = block_ptr b o; value = x }) (both h (vptr b o) ∷ [])) ∷ Γ) G
+        (‵ (box_owns (g.dealloc_token a) Value (block_ptr b o) x) ∷ ‵ (Heap.own_val a (h ∷ [])) ∷ Γ) G
     parts_in t b o h a x = step (λ rest.
         nothing t $ feq_i t (List Val) (vptr b o ∷ []) (vptr b o ∷ []) refl $ fjoin t $ move t (2 ∷ []) $ fjoin t $
         feq_i t (List Val) (both h (vptr b o) ∷ []) (both h (vptr b o) ∷ []) refl $ fjoin t $

@@ -1,7 +1,7 @@
 -- In the set of a settled router whose routers are still no address is published twice.
 use Rattle.std.proofs.Common.{◌≡◌, ◌≢◌, ◌<◌, Contains, sym, ap, subst, inl, inr, arith}
 use Rattle.std.proofs.lemmas.Bool.{cases_lt}
-use Rattle.hn_addr.specs.Addresses.{IsTaken}
+use Rattle.hn_addr.specs.Addresses.{IsAddressOfOther}
 use Rattle.hn_addr.specs.Laws.{StillAddressesStay}
 use Rattle.hn_base.proofs.Keys.{same_node}
 use Rattle.hn_base.specs.declared.ids.NodeId.{NodeId}
@@ -17,7 +17,8 @@ use Rattle.hn_lab.proofs.Sets.{IsKnown, router_of, seen_of}
 
 module _ (version : OwnVersionIsSaid) (said : OwnAddressesAreSaid) (stays : StillAddressesStay) (w : Parts) (r : Member) (known : IsKnown w r) (still : AreAddressesStill w r) where
   -- what one of the set publishes is, to another of it, an address of another node
-  taken : (s u : Member) (a b : OwnAddress) → IsReached w r s → IsReached w r u → HasAddress u.router.own.body b → a.1 ≡ b.1 → u.router.id.0 ≢ s.router.id.0 → IsTaken (seen_by s.router) u.router.id.0 a.1
+  taken : (s u : Member) (a b : OwnAddress) → IsReached w r s → IsReached w r u → HasAddress u.router.own.body b → a.1 ≡ b.1
+      → u.router.id.0 ≢ s.router.id.0 → IsAddressOfOther (seen_by s.router) u.router.id.0 a.1
   taken s u a b s_in u_in b_said same apart =
       let seen = (seen_of w r known s s_in).each_member u u_in in
       record {
@@ -43,7 +44,8 @@ module _ (version : OwnVersionIsSaid) (said : OwnAddressesAreSaid) (stays : Stil
       let router = router_of w r known s s_in in
       sym ((stays s.router a (still.1 s s_in) ((said s.router a router).0 a_said)).1 b ((said s.router b router).0 b_said) (sym same))
 
-  of_one : (s u : Member) (a b : OwnAddress) → IsReached w r s → IsReached w r u → HasAddress s.router.own.body a → HasAddress u.router.own.body b → a.1 ≡ b.1 → s.router.id.0 ≡ u.router.id.0 → (s ≡ u) × (a ≡ b)
+  of_one : (s u : Member) (a b : OwnAddress) → IsReached w r s → IsReached w r u → HasAddress s.router.own.body a → HasAddress u.router.own.body b
+      → a.1 ≡ b.1 → s.router.id.0 ≡ u.router.id.0 → (s ≡ u) × (a ≡ b)
   of_one s u a b s_in u_in a_said b_said same ids =
       let one : s ≡ u = (seen_of w r known s s_in).one_of_an_id s u s_in u_in (same_node s.router.id u.router.id ids) in
       (one, once s a b s_in a_said (subst (λ (m : Member). HasAddress m.router.own.body b) (sym one) b_said) same)

@@ -73,7 +73,8 @@ module _ {A : Type 0} (name : Name) (IsMadeBy : State → A → List ℕ → Typ
     takes_words = takes words p q took same;
   }
 
-  choice_ends : (made : A) (stop : Option Stop) (p q a : Stage) → HasChosen made p q → ThenProcess (MayHappen (event_for made)) (TellsLines (told_of made)) stop q a → Chooses name IsMadeBy event_for told_of stop p a
+  choice_ends : (made : A) (stop : Option Stop) (p q a : Stage) → HasChosen made p q
+      → ThenProcess (MayHappen (event_for made)) (TellsLines (told_of made)) stop q a → Chooses name IsMadeBy event_for told_of stop p a
   choice_ends made stop p q a chosen ends =
       then_on (Unless (unless_runs name p.world)) (MakesChoice name IsMadeBy event_for told_of) stop p p a (chosen.runs, refl) (record {
         member = chosen.member;
@@ -87,12 +88,14 @@ module _ {A : Type 0} (name : Name) (IsMadeBy : State → A → List ℕ → Typ
       })
 
   -- what it chose is stopped
-  pub choice_stopped : (made : A) (why : Stop) (p q a : Stage) → HasChosen made p q → q.text ≡ p.text → IsStopped (MayHappen (event_for made)) why q a → IsStopped (Chooses name IsMadeBy event_for told_of) why p a
+  pub choice_stopped : (made : A) (why : Stop) (p q a : Stage) → HasChosen made p q → q.text ≡ p.text → IsStopped (MayHappen (event_for made)) why q a
+      → IsStopped (Chooses name IsMadeBy event_for told_of) why p a
   choice_stopped made why p q a chosen told stopped =
       stopped_within (MayHappen (event_for made)) (Chooses name IsMadeBy event_for told_of) why p q a (λ at h. choice_ends made (Some why) p q at chosen (inl h)) told stopped
 
   -- what it chose happened, and lines are left to tell
-  pub choice_left : (made : A) (lines : List (List ℕ)) (p q a : Stage) → HasChosen made p q → MayHappen (event_for made) None q a → lines ≡ told_of made → Leaves (Chooses name IsMadeBy event_for told_of) lines p a
+  pub choice_left : (made : A) (lines : List (List ℕ)) (p q a : Stage) → HasChosen made p q → MayHappen (event_for made) None q a
+      → lines ≡ told_of made → Leaves (Chooses name IsMadeBy event_for told_of) lines p a
   choice_left made lines p q a chosen happened are stop end tells =
       choice_ends made stop p q end chosen
       (then_on (MayHappen (event_for made)) (TellsLines (told_of made)) stop q a end happened (subst (λ (ls : List (List ℕ)). TellsLines ls stop a end) are tells))

@@ -52,7 +52,8 @@ tells_sent : (d : Datagram) (ds : List Datagram) (after : Option (List Datagram)
 tells_sent d ds None h = absurd h
 tells_sent d ds (Some after) h = ap Some h
 
-tells_taken : (at : ℕ) (got : Option Arrived) (ds : List Datagram) (after : Option (List Datagram)) → TakesAt at got (Some ds) after → (rest : List Datagram) × (after ≡ Some rest) × TakesOf at got ds rest
+tells_taken : (at : ℕ) (got : Option Arrived) (ds : List Datagram) (after : Option (List Datagram)) → TakesAt at got (Some ds) after
+    → (rest : List Datagram) × (after ≡ Some rest) × TakesOf at got ds rest
 tells_taken at got ds None h = absurd h
 tells_taken at got ds (Some after) h = (after, refl, h)
 

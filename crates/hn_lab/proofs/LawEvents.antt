@@ -22,7 +22,8 @@ use Rattle.hn_lab.specs.Laws.{IsTold, AdvertIsUnique}
 use Rattle.hn_lab.specs.Process.{Unless, ThenProcess, EachProcess, Until}
 use Rattle.hn_lab.specs.Sending.{Turns, TickEnds}
 use Rattle.hn_lab.specs.Stage.{Stage, Route}
-use Rattle.hn_lab.proofs.LawAlike.{Grows, grows_none, grows_from, Agree, AreOne, FirstIsShort, SecondIsShort, IsCutShort, apart, IsSole, IsSoleNoting, sole_notes, sole_at, noting_at, IsStill, alike_still, grows_still, sole_unless, sole_then, sole_each, then_noting}
+use Rattle.hn_lab.proofs.LawAlike.{Grows, grows_none, grows_from, Agree, AreOne, FirstIsShort, SecondIsShort, IsCutShort, apart, IsSole, IsSoleNoting, sole_notes, sole_at, noting_at, IsStill}
+use Rattle.hn_lab.proofs.LawAlike.{alike_still, grows_still, sole_unless, sole_then, sole_each, then_noting}
 use Rattle.hn_lab.proofs.LawCarry.{one_carriage, still_told}
 use Rattle.hn_lab.proofs.LawSendings.{sole_turns}
 use Rattle.hn_lab.proofs.LawUntil.{sole_until}

@@ -66,7 +66,8 @@ one_elect unique name e letter m = record { one = once }
     once : (l k : List ℕ) → IsElectLine name e letter m l → IsElectLine name e letter m k → l ≡ k
     once l k is other =
         let common = unique.common (seen_by m.router) e.0 other.is_elected.common is.is_elected.common other.is_elected.is_common is.is_elected.is_common in
-        let elected = subst (λ (link : List (NodeId × EpId)). MatchOption other.who (HasNoCandidate (seen_by m.router) link letter) (IsElected (seen_by m.router) link letter)) common other.is_elected.is_elected in
+        let elected = subst (λ (link : List (NodeId × EpId)).
+        MatchOption other.who (HasNoCandidate (seen_by m.router) link letter) (IsElected (seen_by m.router) link letter)) common other.is_elected.is_elected in
         let who = unique.answer (seen_by m.router) is.is_elected.common letter is.who other.who is.is_elected.is_elected elected in
         is.line_is ∙ ap (elect_line name e letter) who ∙ sym other.line_is
 

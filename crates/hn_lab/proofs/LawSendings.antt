@@ -129,7 +129,8 @@ module _ (name : Name) (e : EpId) where
     grows = λ c p a h. grows_none p a (stays p a h.1).1;
   }
     where
-      once : (p a b : Stage) → ((position (sends_at name e) p.senders ≡ None) × (a ≡ p)) ⊎ IsSolicited name e p a → ((position (sends_at name e) p.senders ≡ None) × (b ≡ p)) ⊎ IsSolicited name e p b → a ≡ b
+      once : (p a b : Stage) → ((position (sends_at name e) p.senders ≡ None) × (a ≡ p)) ⊎ IsSolicited name e p a
+          → ((position (sends_at name e) p.senders ≡ None) × (b ≡ p)) ⊎ IsSolicited name e p b → a ≡ b
       once p a b (inl h) (inl k) = h.1 ∙ sym k.1
       once p a b (inl h) (inr k) = absurd (none-some k.place (sym h.0 ∙ k.is_at.is_first))
       once p a b (inr h) (inl k) = absurd (none-some h.place (sym k.0 ∙ h.is_at.is_first))

@@ -34,7 +34,8 @@ pub record Reached (all ls : List (ℕ × Line)) (number : ℕ) (l : Line) (p m 
   pub lines_are : all ≡ ls ++ (number, l) ∷ rest
   pub so_far : SoFar ls p m h j
 
-abbrev pub reached : (all ls left rest : List (ℕ × Line)) (number : ℕ) (l : Line) (p m : Stage) (h j : Option (List ℕ)) → all ≡ ls ++ left → left ≡ (number, l) ∷ rest → SoFar ls p m h j → Reached all ls number l p m h j
+abbrev pub reached : (all ls left rest : List (ℕ × Line)) (number : ℕ) (l : Line) (p m : Stage) (h j : Option (List ℕ)) → all ≡ ls ++ left
+    → left ≡ (number, l) ∷ rest → SoFar ls p m h j → Reached all ls number l p m h j
 reached all ls left rest number l p m h j is next s = record {
   rest = rest;
   lines_are = is ∙ ap (λ (x : List (ℕ × Line)). ls ++ x) next;
@@ -62,7 +63,8 @@ module _ (all ls : List (ℕ × Line)) (number : ℕ) (l : Line) (p m a : Stage)
   all_broken e = (e.at, (number, stops WireFailed e.at e.ended), e.is_last (λ same. absurd cc), whole (Some WireFailed) e)
 
   -- the sink fails in it
-  pub cut_so : EndsAt (LineEnds l) (Some (Cut Failed)) m a j k → (after : Stage) × (written : List ℕ) × IsCutPlay all p after × (after ≡ record a { text = after.text }) × IsCutText after.text written × Appends h k written
+  pub cut_so : EndsAt (LineEnds l) (Some (Cut Failed)) m a j k → (after : Stage) × (written : List ℕ) × IsCutPlay all p after
+      × (after ≡ record a { text = after.text }) × IsCutText after.text written × Appends h k written
   cut_so e =
       let cut : IsCutThere e.at.world e.at.text h k = whole (Some (Cut Failed)) e in (
         e.at,
@@ -87,7 +89,8 @@ module _ (all ls : List (ℕ × Line)) (number : ℕ) (l : Line) (p m a : Stage)
         bytes_more e.at.text (told e.at.world (refused_line number code ∷ []))
         ∙ ap (λ (x : List ℕ). bytes_of e.at.text ++ x) (bytes_told e.at.world (refused_line number code ∷ []) ∙ append-nil (refused_line number code))
 
-    pub all_refused : Appends k o (refused_line number code) → (after : Stage) × IsPlay all (end.Refused number code) p after × (after ≡ record a { text = after.text }) × Appends h o (bytes_of after.text)
+    pub all_refused : Appends k o (refused_line number code) → (after : Stage) × IsPlay all (end.Refused number code) p after
+        × (after ≡ record a { text = after.text }) × Appends h o (bytes_of after.text)
     all_refused written = (
       telling (refused_line number code ∷ []) e.at,
       stops (Refused code) (telling (refused_line number code ∷ []) e.at) (e.at, e.ended, refl),

@@ -27,7 +27,8 @@ abbrev pub IsUncut : List (ℕ × Line) → Stage → Stage → Option (List ℕ
 IsUncut lines p a h k r = IfOk r (λ end. (after : Stage) × IsPlay lines end p after × (after ≡ record a { text = after.text }) × Appends h k (bytes_of after.text))
 
 -- lines that can be done are not refused, and lines of which one is refused are not done
-pub not_refused : AtMostOnePlay → (script : Script) (route : Route) (status : ℕ) (r : Result End IoFault) (p a : Stage) (h k : Option (List ℕ)) → status ≡ play_status r → p ≡ begun route script.version → IsUncut script.lines p a h k r → HasDonePlay route script → status ≢ 2
+pub not_refused : AtMostOnePlay → (script : Script) (route : Route) (status : ℕ) (r : Result End IoFault) (p a : Stage) (h k : Option (List ℕ))
+    → status ≡ play_status r → p ≡ begun route script.version → IsUncut script.lines p a h k r → HasDonePlay route script → status ≢ 2
 not_refused law script route status (Ok Done) p a h k is begins uncut done two = absurd (omega arith)
 not_refused law script route status (Ok (Refused number code)) p a h k is begins uncut done two =
     let play = subst (λ (x : Stage). IsPlay script.lines (Refused number code) x uncut.0) begins uncut.1 in
@@ -36,7 +37,8 @@ not_refused law script route status (Ok WireFailed) p a h k is begins uncut done
 not_refused law script route status (Err Failed) p a h k is begins uncut done two = absurd (omega arith)
 not_refused law script route status (Err NoMemory) p a h k is begins uncut done two = absurd (omega arith)
 
-pub not_done : AtMostOnePlay → (script : Script) (route : Route) (status : ℕ) (r : Result End IoFault) (p a : Stage) (h k : Option (List ℕ)) → status ≡ play_status r → p ≡ begun route script.version → IsUncut script.lines p a h k r → HasRefusal route script → status ≢ 0
+pub not_done : AtMostOnePlay → (script : Script) (route : Route) (status : ℕ) (r : Result End IoFault) (p a : Stage) (h k : Option (List ℕ))
+    → status ≡ play_status r → p ≡ begun route script.version → IsUncut script.lines p a h k r → HasRefusal route script → status ≢ 0
 not_done law script route status (Ok Done) p a h k is begins uncut refused none =
     let play = subst (λ (x : Stage). IsPlay script.lines Done x uncut.0) begins uncut.1 in
     let same = (law script.lines Done (Refused refused.line refused.code) (begun route script.version) uncut.0 refused.after refused.told tt tt play refused.play).0 in cc
@@ -46,7 +48,8 @@ not_done law script route status (Err Failed) p a h k is begins uncut refused no
 not_done law script route status (Err NoMemory) p a h k is begins uncut refused none = absurd (omega arith)
 
 -- where memory sufficed, a play is whole, or a failed sink cut it
-pub plays_out : (script : Script) (first last : Route) (status : ℕ) (r : Result End IoFault) (p a : Stage) (h k : Option (List ℕ)) → status ≡ play_status r → ¬ (status ≡ 6) → p ≡ begun first script.version → last ≡ a.route → IsUncut script.lines p a h k r
+pub plays_out : (script : Script) (first last : Route) (status : ℕ) (r : Result End IoFault) (p a : Stage) (h k : Option (List ℕ))
+    → status ≡ play_status r → ¬ (status ≡ 6) → p ≡ begun first script.version → last ≡ a.route → IsUncut script.lines p a h k r
     → (r ≡ Err Failed → (after : Stage) × (written : List ℕ) × IsCutPlay script.lines p after × (after ≡ record a { text = after.text }) × IsCutText after.text written × Appends h k written)
     → (written : List ℕ) × Plays first last script status (Some a.world) written × Appends h k written
 plays_out script first last status (Ok end) p a h k is rest begins route_is (after, play, same, appends) cut =

@@ -16,7 +16,8 @@ assigned_head name assigned = codes "prefixes " ++ name_text name ++ codes " " +
 abbrev pub assigned_lines : Name → List Assigned → List (List ℕ)
 assigned_lines name assigned = assigned_head name assigned ∷ map (prefix_line name) assigned
 
-pub all_assigned : (name : Name) (assigned : List Assigned) (head : List ℕ) (none one all told : List (List ℕ)) → none ≡ [] → one ≡ none ++ head ∷ [] → all ≡ one ++ map (prefix_line name) assigned → told ≡ all → head ≡ assigned_head name assigned → told ≡ assigned_lines name assigned
+pub all_assigned : (name : Name) (assigned : List Assigned) (head : List ℕ) (none one all told : List (List ℕ)) → none ≡ [] → one ≡ none ++ head ∷ []
+    → all ≡ one ++ map (prefix_line name) assigned → told ≡ all → head ≡ assigned_head name assigned → told ≡ assigned_lines name assigned
 all_assigned name assigned head none one all told none_is one_is all_is told_is head_is =
     told_is
     ∙ all_is
@@ -30,7 +31,8 @@ assigned_text name e delegated prefix published applied =
     ++ codes " is=" ++ prefix ++ codes " published=" ++ published
     ++ codes " applied=" ++ applied ++ 10 ∷ []
 
-pub assigned_so : (name : Name) (c : Assigned) (delegated prefix published applied line : List ℕ) → delegated ≡ prefix_text_of c.delegated → prefix ≡ prefix_text_of c.prefix → published ≡ published_text c.published → applied ≡ yes_no c.applied
+pub assigned_so : (name : Name) (c : Assigned) (delegated prefix published applied line : List ℕ) → delegated ≡ prefix_text_of c.delegated
+    → prefix ≡ prefix_text_of c.prefix → published ≡ published_text c.published → applied ≡ yes_no c.applied
     → line ≡ assigned_text name c.endpoint.0 delegated prefix published applied → line ≡ prefix_line name c
 assigned_so name c delegated prefix published applied line delegated_is prefix_is published_is applied_is line_is =
     let e = c.endpoint.0 in

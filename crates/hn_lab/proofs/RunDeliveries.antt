@@ -22,11 +22,11 @@ use Rattle.hn_lab.specs.declared.carrying.Carried.{Carried}
 use Rattle.hn_lab.specs.declared.carrying.Carried.TheVariants.{Same}
 use Rattle.hn_lab.specs.declared.end.Stop.{Stop}
 use Rattle.hn_lab.specs.declared.end.Stop.TheVariants.{Refused, WireFailed, Cut}
-use Rattle.hn_lab.specs.Carrying.{CarriesOver, Carries}
-use Rattle.hn_lab.specs.Delivery.{EventNotes, EventEnds, injection_for, Replaces, IsReplaced, ComesTo, Conveys, DeliveryEnds, Delivers}
+use Rattle.hn_lab.specs.Carrying.{CarriesOver, Carries, FailsCarrying, Breaks}
+use Rattle.hn_lab.specs.Delivery.{EventNotes, EventEnds, injection_for, Replaces, IsReplaced, ComesTo, IsBroken, Conveys, DeliveryEnds, Delivers}
 use Rattle.hn_lab.specs.Ended.{IsStopped, EndsWith}
 use Rattle.hn_lab.specs.Process.{Process}
-use Rattle.hn_lab.specs.Stage.{Stage, Route, Mail, Ports, route_of}
+use Rattle.hn_lab.specs.Stage.{Stage, Route, Mail, route_of}
 use Rattle.hn_lab.proofs.RunStops.{stopped_within, stopped_last, starved}
 
 -- a delivery that is not refused is one of a copy
@@ -50,7 +50,8 @@ copy_in w copy c found = by_test (copy == 0) found
 pub short_copy : (w : Parts) (copy : ℕ) (bytes : List ℕ) → AreWithinLimits w → Some bytes ≡ option_map (λ k. k.bytes) (copy_at w copy) → refusal w (event.Deliver copy) ≡ None → length bytes ≤ 65507
 short_copy w copy bytes within told accepted =
     let found = delivered_copy w copy accepted in
-    let short : length found.0.bytes ≤ 65507 = All-contains (λ (c : MailCopy). length c.bytes ≤ 65507) w.copies found.0 within.datagrams (contains_at w.copies (copy - 1) found.0 (copy_in w copy found.0 found.1)) in
+    let short : length found.0.bytes ≤ 65507 = All-contains (λ (c : MailCopy). length c.bytes ≤ 65507) w.copies found.0 within.datagrams
+    (contains_at w.copies (copy - 1) found.0 (copy_in w copy found.0 found.1)) in
     subst (λ (b : List ℕ). length b ≤ 65507) (sym (bytes_of_copy bytes (copy_at w copy) found.0 told found.1)) short
 
 -- what is injected in the place of a copy
@@ -59,11 +60,13 @@ injected_at : (bytes : List ℕ) (k : MailCopy) (info : CopyInfo) (found : Optio
 injected_at bytes k info None told = absurd cc
 injected_at bytes k info (Some m) told = ap (λ (i : CopyInfo). Some (event.Inject i.to i.endpoint i.from i.multicast bytes)) (sym (same_Some info (info_of k m) told))
 
-pub injected_for : (w : Parts) (c : MailCopy) (bytes : List ℕ) (info : CopyInfo) (found : Option MailCopy) → Some info ≡ option_and_then (λ (k : MailCopy). option_map (info_of k) (slice_get w.members k.to.place)) found → found ≡ Some c
+pub injected_for : (w : Parts) (c : MailCopy) (bytes : List ℕ) (info : CopyInfo) (found : Option MailCopy)
+    → Some info ≡ option_and_then (λ (k : MailCopy). option_map (info_of k) (slice_get w.members k.to.place)) found → found ≡ Some c
     → injection_for w c bytes ≡ Some (event.Inject info.to info.endpoint info.from info.multicast bytes)
 injected_for w c bytes info None told is = absurd cc
 injected_for w c bytes info (Some k) told is =
-    subst (λ (x : MailCopy). injection_for w x bytes ≡ Some (event.Inject info.to info.endpoint info.from info.multicast bytes)) (same_Some k c is) (injected_at bytes k info (slice_get w.members k.to.place) told)
+    subst (λ (x : MailCopy). injection_for w x bytes ≡ Some (event.Inject info.to info.endpoint info.from info.multicast bytes)) (same_Some k c is)
+    (injected_at bytes k info (slice_get w.members k.to.place) told)
 
 -- ---- other bytes in the place of a copy
 
@@ -72,17 +75,21 @@ module _ (copy : ℕ) (inject : WEvent) (p b a : Stage) (dropped : EventEnds (ev
   put_in_place (Ok notes) ends = (b, dropped, ends)
   put_in_place (Err stop) ends = stopped_within (EventEnds inject) (IsReplaced copy (Some inject)) stop p b a (λ at h. (h.0, inr (b, dropped, h.1))) told ends
 
-  pub replaced : (other : Option WEvent) (r : Result (List Note) Stop) → other ≡ Some inject → EndsWith (EventNotes inject) (EventEnds inject) r b a → EndsWith (Replaces copy other) (IsReplaced copy other) r p a
+  pub replaced : (other : Option WEvent) (r : Result (List Note) Stop) → other ≡ Some inject → EndsWith (EventNotes inject) (EventEnds inject) r b a
+      → EndsWith (Replaces copy other) (IsReplaced copy other) r p a
   replaced other r is ends = subst (λ (o : Option WEvent). EndsWith (Replaces copy o) (IsReplaced copy o) r p a) (sym is) (put_in_place r ends)
 
 -- the drop is stopped
-pub undropped : (copy : ℕ) (inject : WEvent) (other : Option WEvent) (stop : Stop) (p a : Stage) → other ≡ Some inject → IsStopped (EventEnds (event.Drop copy)) stop p a → IsStopped (IsReplaced copy other) stop p a
+pub undropped : (copy : ℕ) (inject : WEvent) (other : Option WEvent) (stop : Stop) (p a : Stage) → other ≡ Some inject
+    → IsStopped (EventEnds (event.Drop copy)) stop p a → IsStopped (IsReplaced copy other) stop p a
 undropped copy inject other stop p a is stopped =
-    subst (λ (o : Option WEvent). IsStopped (IsReplaced copy o) stop p a) (sym is) (stopped_within (EventEnds (event.Drop copy)) (IsReplaced copy (Some inject)) stop p p a (λ at h. ([], inl h)) refl stopped)
+    subst (λ (o : Option WEvent). IsStopped (IsReplaced copy o) stop p a) (sym is)
+    (stopped_within (EventEnds (event.Drop copy)) (IsReplaced copy (Some inject)) stop p p a (λ at h. ([], inl h)) refl stopped)
 
 -- ---- a copy is conveyed
 
-pub carries_over : (o : Option ℕ) (base : ℕ) (sent bytes : List ℕ) (came carried : Carried) (w v : Option (List Datagram)) → o ≡ Some base → sent ≡ bytes → came ≡ carried → CarriesOver base sent came w v
+pub carries_over : (o : Option ℕ) (base : ℕ) (sent bytes : List ℕ) (came carried : Carried) (w v : Option (List Datagram)) → o ≡ Some base
+    → sent ≡ bytes → came ≡ carried → CarriesOver base sent came w v
     → Carries bytes carried (route_of o w) (route_of o v)
 carries_over o base sent bytes came carried w v is bytes_are is_carried over =
     let so : CarriesOver base bytes carried w v = subst (λ (k : Carried). CarriesOver base bytes k w v) is_carried (subst (λ (b : List ℕ). CarriesOver base b came w v) bytes_are over) in
@@ -93,7 +100,8 @@ pub conveyed : (copy : ℕ) (c : MailCopy) (carried : Carried) (route : Route) (
 conveyed copy c carried route p is carries notes stop at comes = inr (record { mail = c; is_copy = is; carried = carried; route = route; carries = carries; comes = comes })
 
 -- what the conveying of a copy comes to: by notes, or by why it is stopped
-pub conveyed_ends : (copy : ℕ) (c : MailCopy) (carried : Carried) (done : List Note → Process) (process : Process) (r : Result (List Note) Stop) (p q a : Stage) → refusal p.world (event.Deliver copy) ≡ None → copy_at p.world copy ≡ Some c
+pub conveyed_ends : (copy : ℕ) (c : MailCopy) (carried : Carried) (done : List Note → Process) (process : Process) (r : Result (List Note) Stop) (p q a : Stage)
+    → refusal p.world (event.Deliver copy) ≡ None → copy_at p.world copy ≡ Some c
     → Carries c.bytes carried p.route q.route → q ≡ record p { route = q.route }
     → ((notes : List Note) (at : Stage) → done notes None q at → ComesTo copy c carried notes None q at)
     → ((stop : Stop) (at : Stage) → process (Some stop) q at → (notes : List Note) × ComesTo copy c carried notes (Some stop) q at)
@@ -109,13 +117,17 @@ conveyed_ends copy c carried done process (Err stop) p q a accepted is carries b
     (ap (λ (s : Stage). s.text) beside) ends
 
 -- the wire fails
-pub broken : (copy : ℕ) (o : Option ℕ) (base : ℕ) (w v : Option (List Datagram)) (p a : Stage) → o ≡ Some base → p.route ≡ route_of o w → a ≡ record p { route = route_of o v } → refusal p.world (event.Deliver copy) ≡ None → IsStopped (Delivers copy) WireFailed p a
-broken copy o base w v p a is from stays accepted =
-    let before_is : p.route ≡ Ports base w = from ∙ ap (λ (x : Option ℕ). route_of x w) is in
-    let after_is : route_of o v ≡ Ports base v = ap (λ (x : Option ℕ). route_of x v) is in
-    stopped_last (Delivers copy) WireFailed p a
-    ([], inr (p, (accepted, refl), inl (record { stop_is = refl; route = route_of o v; breaks = rw (before_is, after_is) (v, refl); stays = stays })))
-    (ap (λ (s : Stage). s.text) stays) (λ e. absurd cc)
+breaks_over : (o : Option ℕ) (base : ℕ) (bytes : List ℕ) (w v : Option (List Datagram)) → o ≡ Some base → FailsCarrying base bytes w v → Breaks bytes (route_of o w) (route_of o v)
+breaks_over o base bytes w v is fails = subst (λ (x : Option ℕ). Breaks bytes (route_of x w) (route_of x v)) (sym is) (v, fails, refl)
+
+pub broken : (copy : ℕ) (c : MailCopy) (o : Option ℕ) (base : ℕ) (sent : List ℕ) (w v : Option (List Datagram)) (p a : Stage) → o ≡ Some base → p.route ≡ route_of o w
+    → a ≡ record p { route = route_of o v } → refusal p.world (event.Deliver copy) ≡ None → copy_at p.world copy ≡ Some c → sent ≡ c.bytes
+    → FailsCarrying base sent w v → IsStopped (Delivers copy) WireFailed p a
+broken copy c o base sent w v p a is from stays accepted found bytes_are fails =
+    let so : FailsCarrying base c.bytes w v = subst (λ (b : List ℕ). FailsCarrying base b w v) bytes_are fails in
+    let breaks : Breaks c.bytes p.route (route_of o v) = subst (λ (r : Route). Breaks c.bytes r (route_of o v)) (sym from) (breaks_over o base c.bytes w v is so) in
+    let is_broken : IsBroken copy (Some WireFailed) p a = record { stop_is = refl; mail = c; is_copy = found; route = route_of o v; breaks = breaks; stays = stays } in
+    stopped_last (Delivers copy) WireFailed p a ([], inr (p, (accepted, refl), inl is_broken)) (ap (λ (s : Stage). s.text) stays) (λ e. absurd cc)
 
 -- memory ends before a delivery
 pub delivery_starved : (copy : ℕ) (p a : Stage) → IsStopped (Delivers copy) (Cut NoMemory) p a
@@ -129,7 +141,8 @@ mail_stops copy (Refused code) p at ends = (ends.0, inl ends.1)
 mail_stops copy WireFailed p at ends = absurd ends.1
 mail_stops copy (Cut fault) p at ends = (ends.0, inl ends.1)
 
-pub by_mail : (copy : ℕ) (r : Result (List Note) Stop) (p a : Stage) → p.route ≡ Mail → EndsWith (EventNotes (event.Deliver copy)) (EventEnds (event.Deliver copy)) r p a → EndsWith (DeliveryEnds copy) (Delivers copy) r p a
+pub by_mail : (copy : ℕ) (r : Result (List Note) Stop) (p a : Stage) → p.route ≡ Mail
+    → EndsWith (EventNotes (event.Deliver copy)) (EventEnds (event.Deliver copy)) r p a → EndsWith (DeliveryEnds copy) (Delivers copy) r p a
 by_mail copy (Ok notes) p a mail ends =
     let accepted = ends.step.step.accepted in
     let c = delivered_copy p.world copy accepted in
@@ -142,12 +155,15 @@ pub undelivered : (copy code : ℕ) (p : Stage) → refusal p.world (event.Deliv
 undelivered copy code p is = stopped_last (Delivers copy) (Refused code) p p ([], inl (is, refl)) refl (λ e. absurd cc)
 
 -- or the copy is conveyed
-pub by_wire : (copy : ℕ) (r : Result (List Note) Stop) (p a : Stage) → refusal p.world (event.Deliver copy) ≡ None → EndsWith (Conveys copy) (Delivers copy) r p a → EndsWith (DeliveryEnds copy) (Delivers copy) r p a
+pub by_wire : (copy : ℕ) (r : Result (List Note) Stop) (p a : Stage) → refusal p.world (event.Deliver copy) ≡ None
+    → EndsWith (Conveys copy) (Delivers copy) r p a → EndsWith (DeliveryEnds copy) (Delivers copy) r p a
 by_wire copy (Ok notes) p a accepted ends = (p, (accepted, refl), ends)
 by_wire copy (Err stop) p a accepted ends = ends
 
 -- the router that a copy goes to
-pub receiver_is : (w : Parts) (found : Option MailCopy) → option_map (λ (i : CopyInfo). i.to) (option_and_then (λ (k : MailCopy). option_map (info_of k) (slice_get w.members k.to.place)) found) ≡ option_map (λ m. m.name) (option_and_then (λ (k : MailCopy). slice_get w.members k.to.place) found)
+pub receiver_is : (w : Parts) (found : Option MailCopy) → option_map (λ (i : CopyInfo). i.to)
+    (option_and_then (λ (k : MailCopy). option_map (info_of k) (slice_get w.members k.to.place)) found) ≡ option_map (λ m. m.name)
+    (option_and_then (λ (k : MailCopy). slice_get w.members k.to.place) found)
 receiver_is w None = refl
 receiver_is w (Some k) = by_member (slice_get w.members k.to.place)
   where

@@ -13,7 +13,8 @@ use Rattle.hn_lab.proofs.RunWrites.{goes_on, still_done}
 
 module _ {A : Type 0} (each : A → Process) where
   -- elements that are done, and further ones
-  each-append : (xs more : List A) (stop : Option Stop) (before between after : Stage) → EachProcess each xs None before between → EachProcess each more stop between after → EachProcess each (xs ++ more) stop before after
+  each-append : (xs more : List A) (stop : Option Stop) (before between after : Stage) → EachProcess each xs None before between
+      → EachProcess each more stop between after → EachProcess each (xs ++ more) stop before after
   each-append [] more stop before between after done rest = subst (λ (s : Stage). EachProcess each more stop s after) done rest
   each-append (x ∷ xs) more stop before between after done rest =
       then_on (each x) (EachProcess each (xs ++ more)) stop before done.0 after done.1 (each-append xs more stop done.0 between after done.2 rest)
@@ -39,7 +40,8 @@ module _ {A : Type 0} (each : A → Process) where
           (λ at ends. rw (take_more xs i d lt) (each-append (take i xs) (get_or xs i d ∷ []) None p done.at at done.ended (at, ends, refl)))
 
       -- one that is stopped
-      pub each_stopped : (stop : Stop) → EndsAt (each (get_or xs i d)) (Some stop) (record b { text = done.at.text }) (record a { text = done.at.text }) j k → EndsAt (EachProcess each xs) (Some stop) p a h k
+      pub each_stopped : (stop : Stop) → EndsAt (each (get_or xs i d)) (Some stop) (record b { text = done.at.text }) (record a { text = done.at.text }) j k
+          → EndsAt (EachProcess each xs) (Some stop) p a h k
       each_stopped stop =
           let split : take i xs ++ (get_or xs i d ∷ drop (suc i) xs) ≡ xs = ap (λ ys. take i xs ++ ys) (sym (drop-cons xs i d lt)) ∙ take-append-drop i xs in
           goes_on (EachProcess each (take i xs)) (each (get_or xs i d)) (EachProcess each xs) (Some stop) p b a h j k done

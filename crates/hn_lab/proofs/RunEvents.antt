@@ -31,7 +31,8 @@ pub event_starved : (event : WEvent) (before after : Stage) → IsStopped (Event
 event_starved event before after = starved (EventEnds event) before after ([], refl)
 
 -- a world does not let it happen
-pub not_applied : (event : WEvent) (why : WorldFault) (before after : Stage) → ((code : ℕ) → why ≡ fault.Refused code → (refusal before.world event ≡ Some code) × (after ≡ before)) → IsStopped (EventEnds event) (stop_of why) before after
+pub not_applied : (event : WEvent) (why : WorldFault) (before after : Stage)
+    → ((code : ℕ) → why ≡ fault.Refused code → (refusal before.world event ≡ Some code) × (after ≡ before)) → IsStopped (EventEnds event) (stop_of why) before after
 not_applied event (fault.Refused code) before after refused = let is = refused code refl in event_refused event code before after is.0 is.1
 not_applied event fault.NoMemory before after refused = event_starved event before after
 

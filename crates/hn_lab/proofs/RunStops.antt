@@ -27,7 +27,8 @@ stopped_within inner outer stop before between after so told stopped = record {
 }
 
 -- where an inner process ends, so does the outer
-pub ended_within : {A : Type 0} (inner outer : Process) (r : Result A Stop) (before between after : Stage) → ((stop : Option Stop) (at : Stage) → inner stop between at → outer stop before at) → between.text ≡ before.text
+pub ended_within : {A : Type 0} (inner outer : Process) (r : Result A Stop) (before between after : Stage)
+    → ((stop : Option Stop) (at : Stage) → inner stop between at → outer stop before at) → between.text ≡ before.text
     → Ended inner r between after → Ended outer r before after
 ended_within inner outer (Ok x) before between after so told ends = so None after ends
 ended_within inner outer (Err stop) before between after so told ends = stopped_within inner outer stop before between after (so (Some stop)) told ends
@@ -54,11 +55,13 @@ stopped_last process stop before after stopped told unwritten = record { at = af
 
 -- ---- an error that is handed on
 
-pub handed_on : {A : Type 0} (done : A → Process) (process : Process) (why : Stop) (r : Result A Stop) (before after : Stage) → IsErrAnd r (λ e. e ≡ why) → IsStopped process why before after → EndsWith done process r before after
+pub handed_on : {A : Type 0} (done : A → Process) (process : Process) (why : Stop) (r : Result A Stop) (before after : Stage)
+    → IsErrAnd r (λ e. e ≡ why) → IsStopped process why before after → EndsWith done process r before after
 handed_on done process why (Ok x) before after is stopped = absurd is
 handed_on done process why (Err e) before after is stopped = subst (λ (w : Stop). IsStopped process w before after) (sym is) stopped
 
-pub leaving_on : (process : Process) (why : Stop) (r : Result (List (List ℕ)) Stop) (before after : Stage) → IsErrAnd r (λ e. e ≡ why) → IsStopped process why before after → EndsLeaving process r before after
+pub leaving_on : (process : Process) (why : Stop) (r : Result (List (List ℕ)) Stop) (before after : Stage) → IsErrAnd r (λ e. e ≡ why)
+    → IsStopped process why before after → EndsLeaving process r before after
 leaving_on process why (Ok lines) before after is stopped = absurd is
 leaving_on process why (Err e) before after is stopped = subst (λ (w : Stop). IsStopped process w before after) (sym is) stopped
 
@@ -83,6 +86,7 @@ nothing_left process lines before after none done (Some WireFailed) end tells = 
 nothing_left process lines before after none done (Some (Cut fault)) end tells = absurd (no_line tells.0 tells.1 tells.2 (sym none ∙ tells.3))
 
 -- the rest of a process is to tell its lines
-pub lines_left : (first outer : Process) (lines : List (List ℕ)) (before after : Stage) → ((stop : Option Stop) (at : Stage) → ThenProcess first (TellsLines lines) stop before at → outer stop before at)
+pub lines_left : (first outer : Process) (lines : List (List ℕ)) (before after : Stage)
+    → ((stop : Option Stop) (at : Stage) → ThenProcess first (TellsLines lines) stop before at → outer stop before at)
     → first None before after → Leaves outer lines before after
 lines_left first outer lines before after so done stop end tells = so stop end (then_on first (TellsLines lines) stop before after end done tells)

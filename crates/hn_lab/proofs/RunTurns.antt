@@ -11,7 +11,7 @@ use Rattle.hn_base.specs.Words.{Took}
 use Rattle.hn_base.specs.declared.ids.EpId.{EpId}
 use Rattle.hn_base.specs.declared.name.Name.{Name}
 use Rattle.hn_io.specs.declared.fault.IoFault.TheVariants.{NoMemory}
-use Rattle.hn_radv.specs.Sender.{PlainSender, started, solicited, is_due, draws, sent}
+use Rattle.hn_radv.specs.Sender.{PlainSender, started_sender, solicited, is_due, draws, sent}
 use Rattle.hn_router.specs.Advertising.{IsAdvertAt}
 use Rattle.hn_rules.specs.declared.state.State.{State}
 use Rattle.hn_script.specs.declared.line.Line.TheVariants as line
@@ -56,7 +56,8 @@ sent_same now v w s same = by_test (draws s) refl
     by_test true is = ap (λ (x : ℕ). sent now x s) (same is)
     by_test false is = rw is refl
 
-module _ (place : ℕ) (s : Sending) (shape : Shape) (asked : PlainSender) (now : ℕ) (r : Bool) (p a : Stage) (is_asked : IsAsked p.world.moment shape s asked) (due_is : r ≡ is_due now asked) (now_is : now ≡ p.world.moment) where
+module _ (place : ℕ) (s : Sending) (shape : Shape) (asked : PlainSender) (now : ℕ) (r : Bool) (p a : Stage)
+    (is_asked : IsAsked p.world.moment shape s asked) (due_is : r ≡ is_due now asked) (now_is : now ≡ p.world.moment) where
   -- it is not
   pub waits : (sender : PlainSender) → r ≡ false → sender ≡ asked → a ≡ with_this place (record s { sender = sender }) p → IsDue place s shape false p a
   waits sender not_due same after_is = record {
@@ -136,10 +137,10 @@ no_member (Some m) is = absurd cc
 
 -- an endpoint begins to send
 pub radv_left : (name : Name) (e : EpId) (now : ℕ) (lines : List (List ℕ)) (p a : Stage) → unless_elects name e p.world ≡ None → now ≡ p.world.moment
-    → a ≡ record p { senders = with_sender (record { name = name; endpoint = e; sender = started now; shape = None }) p.senders } → lines ≡ [] → Leaves (OtherEnds (line.Radv name e)) lines p a
+    → a ≡ record p { senders = with_sender (record { name = name; endpoint = e; sender = started_sender now; shape = None }) p.senders } → lines ≡ [] → Leaves (OtherEnds (line.Radv name e)) lines p a
 radv_left name e now lines p a none now_is after_is empty =
     let done : a ≡ starting name e p =
-    after_is ∙ ap (λ (n : ℕ). record p { senders = with_sender (record { name = name; endpoint = e; sender = started n; shape = None }) p.senders }) now_is in
+    after_is ∙ ap (λ (n : ℕ). record p { senders = with_sender (record { name = name; endpoint = e; sender = started_sender n; shape = None }) p.senders }) now_is in
     nothing_left (OtherEnds (line.Radv name e)) lines p a empty (p, (none, refl), (refl, done))
 
 -- a solicitation comes to one
@@ -147,7 +148,8 @@ pub solicit_left : (name : Name) (e : EpId) (lines : List (List ℕ)) (p a : Sta
     → Leaves (OtherEnds (line.Solicit name e)) lines p a
 solicit_left name e lines p a none done empty = nothing_left (OtherEnds (line.Solicit name e)) lines p a empty (p, (none, refl), done)
 
-pub is_solicited : (name : Name) (e : EpId) (place : ℕ) (s : Sending) (now word : ℕ) (sender : PlainSender) (next : ℕ → ℕ) (p a : Stage) → IsSenderAt name e p.senders place s → now ≡ p.world.moment → word ≡ p.words 0
+pub is_solicited : (name : Name) (e : EpId) (place : ℕ) (s : Sending) (now word : ℕ) (sender : PlainSender) (next : ℕ → ℕ) (p a : Stage)
+    → IsSenderAt name e p.senders place s → now ≡ p.world.moment → word ≡ p.words 0
     → sender ≡ solicited now word s.sender → Some next ≡ Some (λ at. p.words (suc at)) → a ≡ record (with_this place (record s { sender = sender }) p) { words = next } → IsSolicited name e p a
 is_solicited name e place s now word sender next p a is_at now_is word_is sender_is next_is after_is = record {
   place = place;
@@ -165,7 +167,8 @@ radv_refused name e why p (code, why_is, is) =
     subst (λ (w : Stop). IsStopped (OtherEnds (line.Radv name e)) w p p) (sym why_is)
     (stopped_last (OtherEnds (line.Radv name e)) (Refused code) p p (inl (is, refl)) refl (λ same. absurd cc))
 
-pub solicit_refused : (name : Name) (e : EpId) (why : Stop) (p : Stage) → (code : ℕ) × (why ≡ Refused code) × (unless_elects name e p.world ≡ Some code) → IsStopped (OtherEnds (line.Solicit name e)) why p p
+pub solicit_refused : (name : Name) (e : EpId) (why : Stop) (p : Stage) → (code : ℕ) × (why ≡ Refused code)
+    × (unless_elects name e p.world ≡ Some code) → IsStopped (OtherEnds (line.Solicit name e)) why p p
 solicit_refused name e why p (code, why_is, is) =
     subst (λ (w : Stop). IsStopped (OtherEnds (line.Solicit name e)) w p p) (sym why_is)
     (stopped_last (OtherEnds (line.Solicit name e)) (Refused code) p p (inl (is, refl)) refl (λ same. absurd cc))

@@ -72,7 +72,8 @@ gets_more (Some (Cut NoMemory)) w s t h j k first (front, is_front, second) = (
 pub ends_as : (P Q : Process) (stop : Option Stop) (p a : Stage) (h k : Option (List ℕ)) (e : EndsAt P stop p a h k) → Q stop p e.at → EndsAt Q stop p a h k
 ends_as P Q stop p a h k e ended = record { at = e.at; ended = ended; more = e.more; text_is = e.text_is; is_last = e.is_last; gets = e.gets }
 
-pub writing_as : {A : Type 0} (P Q : Process) (r : Result A Stop) (p a : Stage) (h k : Option (List ℕ)) → ((stop : Option Stop) (at : Stage) → P stop p at → Q stop p at) → EndsWriting P r p a h k → EndsWriting Q r p a h k
+pub writing_as : {A : Type 0} (P Q : Process) (r : Result A Stop) (p a : Stage) (h k : Option (List ℕ))
+    → ((stop : Option Stop) (at : Stage) → P stop p at → Q stop p at) → EndsWriting P r p a h k → EndsWriting Q r p a h k
 writing_as P Q (Ok x) p a h k so e = ends_as P Q None p a h k e (so None e.at e.ended)
 writing_as P Q (Err stop) p a h k so e = ends_as P Q (Some stop) p a h k e (so (Some stop) e.at e.ended)
 
@@ -101,7 +102,8 @@ pub first_stops : (P Q : Process) (stop : Stop) (p a : Stage) (h k : Option (Lis
 first_stops P Q stop p a h k e = ends_as P (ThenProcess P Q) (Some stop) p a h k e (inl e.ended)
 
 -- an error that is handed on
-pub writing_on : {A : Type 0} (process : Process) (why : Stop) (r : Result A Stop) (p a : Stage) (h k : Option (List ℕ)) → IsErrAnd r (λ e. e ≡ why) → EndsAt process (Some why) p a h k → EndsWriting process r p a h k
+pub writing_on : {A : Type 0} (process : Process) (why : Stop) (r : Result A Stop) (p a : Stage) (h k : Option (List ℕ)) → IsErrAnd r (λ e. e ≡ why)
+    → EndsAt process (Some why) p a h k → EndsWriting process r p a h k
 writing_on process why (Ok x) p a h k is e = absurd is
 writing_on process why (Err other) p a h k is e = subst (λ (w : Stop). EndsAt process (Some w) p a h k) (sym is) e
 
@@ -140,7 +142,8 @@ still_writes process (Ok x) p a h same done = still_done process p a h same done
 still_writes process (Err stop) p a h same stopped = still_stopped process stop p a h stopped
 
 -- and nothing follows it
-pub still_then : {A : Type 0} (P Q : Process) (r : Result A Stop) (p a : Stage) (h : Option (List ℕ)) → a.text ≡ p.text → ((q : Stage) → Q None q q) → Ended P r p a → EndsWriting (ThenProcess P Q) r p a h h
+pub still_then : {A : Type 0} (P Q : Process) (r : Result A Stop) (p a : Stage) (h : Option (List ℕ)) → a.text ≡ p.text → ((q : Stage) → Q None q q)
+    → Ended P r p a → EndsWriting (ThenProcess P Q) r p a h h
 still_then P Q (Ok x) p a h same nothing done = still_done (ThenProcess P Q) p a h same (a, done, nothing a)
 still_then P Q (Err stop) p a h same nothing stopped = still_stopped (ThenProcess P Q) stop p a h (stopped_within P (ThenProcess P Q) stop p p a (λ at e. inl e) refl stopped)
 

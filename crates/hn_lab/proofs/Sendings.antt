@@ -57,6 +57,8 @@ placed-insert s senders i within parts =
     sym (filter-front (λ (t : Sending). nat_le (sender_number t) (sender_number s)) senders i (λ k d less within'. parts.0 k d (omega arith) less) (λ k d past less. parts.1 k d past less))
     in
     let back : drop i senders ≡ filter (λ t. nat_lt (sender_number s) (sender_number t)) senders =
-    sym (filter-back (λ (t : Sending). nat_lt (sender_number s) (sender_number t)) senders i (λ k d less within'. let low = leb-true _ _ (parts.0 k d (omega arith) less) in le-ltb (sender_number s) (sender_number (get_or senders k d)) low) (λ k d past less. let high = leb-false _ _ (parts.1 k d past less) in lt-ltb (sender_number s) (sender_number (get_or senders k d)) high))
+    sym (filter-back (λ (t : Sending). nat_lt (sender_number s) (sender_number t)) senders i
+    (λ k d less within'. let low = leb-true _ _ (parts.0 k d (omega arith) less) in le-ltb (sender_number s) (sender_number (get_or senders k d)) low)
+    (λ k d past less. let high = leb-false _ _ (parts.1 k d past less) in lt-ltb (sender_number s) (sender_number (get_or senders k d)) high))
     in
     cc

@@ -17,7 +17,8 @@ lines_at f xs i x within is =
     ∙ ap (λ y. map f (take i xs) ++ f y ∷ map f (drop (i + 1) xs)) (sym is)
 
 -- of a line a part was written, after those before it
-pub cut_at : {K : Type 0} (f : K → List ℕ) (xs : List K) (i : ℕ) (x : K) (lines : List (List ℕ)) (a b c : Option (List ℕ)) → i < length xs → x ≡ get_or xs i x → map f xs ≡ lines → Appends a b (joined (map f (take i xs))) → AppendsPart b c (f x)
+pub cut_at : {K : Type 0} (f : K → List ℕ) (xs : List K) (i : ℕ) (x : K) (lines : List (List ℕ)) (a b c : Option (List ℕ)) → i < length xs
+    → x ≡ get_or xs i x → map f xs ≡ lines → Appends a b (joined (map f (take i xs))) → AppendsPart b c (f x)
     → (before : List (List ℕ)) × (cut part : List ℕ) × AreCut lines before cut part × Appends a c (joined before ++ part)
 cut_at f xs i x lines a b c within is same written part = (
   map f (take i xs),

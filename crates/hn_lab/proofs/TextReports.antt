@@ -32,11 +32,13 @@ use Rattle.hn_lab.proofs.RunStops.{then_on, starved, stopped_last}
 pub reported : (unless : Option ℕ) (AreReport : List (List ℕ) → Type 0) (lines : List (List ℕ)) (p : Stage) → unless ≡ None → AreReport lines → Leaves (ReportsLines unless AreReport) lines p p
 reported unless AreReport lines p none are stop end tells = then_on (Unless unless) (TellsSome AreReport) stop p p end (none, refl) (lines, are, tells)
 
-pub line_reported : (unless : Option ℕ) (IsReport : List ℕ → Type 0) (line : List ℕ) (lines : List (List ℕ)) (p : Stage) → unless ≡ None → IsReport line → lines ≡ line ∷ [] → Leaves (Reports unless IsReport) lines p p
+pub line_reported : (unless : Option ℕ) (IsReport : List ℕ → Type 0) (line : List ℕ) (lines : List (List ℕ)) (p : Stage) → unless ≡ None
+    → IsReport line → lines ≡ line ∷ [] → Leaves (Reports unless IsReport) lines p p
 line_reported unless IsReport line lines p none is are = reported unless (IsOneLine IsReport) lines p none (line, is, are)
 
 -- one that is refused, and one for which memory ended
-pub report_refused : (unless : Option ℕ) (AreReport : List (List ℕ) → Type 0) (why : Stop) (p : Stage) → (code : ℕ) × (why ≡ Refused code) × (unless ≡ Some code) → IsStopped (ReportsLines unless AreReport) why p p
+pub report_refused : (unless : Option ℕ) (AreReport : List (List ℕ) → Type 0) (why : Stop) (p : Stage) → (code : ℕ) × (why ≡ Refused code)
+    × (unless ≡ Some code) → IsStopped (ReportsLines unless AreReport) why p p
 report_refused unless AreReport why p (code, why_is, is) =
     subst (λ (w : Stop). IsStopped (ReportsLines unless AreReport) w p p) (sym why_is)
     (stopped_last (ReportsLines unless AreReport) (Refused code) p p (inl (is, refl)) refl (λ e. absurd cc))
@@ -56,7 +58,8 @@ shown name id number reach held running =
     ++ codes " reach=" ++ decimal reach ++ codes " held=" ++ decimal held
     ++ codes " running=" ++ running ++ 10 ∷ []
 
-pub shows : (name : Name) (m : Member) (id : NodeId) (number : ℕ) (reach : List NodeId) (table : Table) (held : ℕ) (running line : List ℕ) → id ≡ m.router.id → number ≡ m.router.number → reach ≡ m.router.reach → table ≡ m.router.table → held ≡ length table.entries
+pub shows : (name : Name) (m : Member) (id : NodeId) (number : ℕ) (reach : List NodeId) (table : Table) (held : ℕ) (running line : List ℕ)
+    → id ≡ m.router.id → number ≡ m.router.number → reach ≡ m.router.reach → table ≡ m.router.table → held ≡ length table.entries
     → running ≡ yes_no m.running → line ≡ shown name id number (length reach) held running → line ≡ show_line name m
 shows name m id number reach table held running line id_is number_is reach_is table_is held_is running_is line_is =
     line_is
@@ -88,7 +91,8 @@ compares left right w agreement same_ids line none agrees ids line_is =
     }
 
 -- the routers of two names reach the same
-pub reach_same : (r : Bool) (left right : Option Member) (a b : Router) (xs ys : List NodeId) → Some a ≡ option_map (λ m. m.router) left → Some b ≡ option_map (λ m. m.router) right → xs ≡ a.reach → ys ≡ b.reach → Decides r (xs ≡ ys)
+pub reach_same : (r : Bool) (left right : Option Member) (a b : Router) (xs ys : List NodeId) → Some a ≡ option_map (λ m. m.router) left
+    → Some b ≡ option_map (λ m. m.router) right → xs ≡ a.reach → ys ≡ b.reach → Decides r (xs ≡ ys)
     → (m n : Member) → left ≡ Some m → right ≡ Some n → IsTrue r ↔ (m.router.reach ≡ n.router.reach)
 reach_same r left right a b xs ys found found' xs_is ys_is same m n is is' =
     let first = member_of left a found in

@@ -86,7 +86,8 @@ module _ (network : ViewIsNetwork) (entries : EntriesAreAsKnown) (w : Parts) (r 
       reached_of w r s from.0 from.1
 
   -- what one of the set publishes is, to each of it, a generated prefix of that node
-  published : (s u : Member) (p : PlainPrefix) (d : Delegation) → IsReached w r s → IsReached w r u → HasVersion u.router.own.body → HasDelegation u.router.own.body d → d.prefix ≡ p → p.len ≡ 48 → IsLocal p → IsGenerated (seen_by s.router) u.router.id.0 p
+  published : (s u : Member) (p : PlainPrefix) (d : Delegation) → IsReached w r s → IsReached w r u → HasVersion u.router.own.body
+      → HasDelegation u.router.own.body d → d.prefix ≡ p → p.len ≡ 48 → IsLocal p → IsGenerated (seen_by s.router) u.router.id.0 p
   published s u p d s_in u_in version says prefix_is long local =
       let seen = (seen_of w r known s s_in).each_member u u_in in
       record {
@@ -102,7 +103,8 @@ module _ (network : ViewIsNetwork) (entries : EntriesAreAsKnown) (w : Parts) (r 
       }
 
   -- and what one of it sees as generated, one of the set has
-  of_somebody : (s : Member) (node : ℕ) (p : PlainPrefix) → IsReached w r s → IsGenerated (seen_by s.router) node p → (u : Member) × IsReached w r u × (u.router.id.0 ≡ node) × ((v : Member) → IsReached w r v → IsGenerated (seen_by v.router) u.router.id.0 p)
+  of_somebody : (s : Member) (node : ℕ) (p : PlainPrefix) → IsReached w r s → IsGenerated (seen_by s.router) node p → (u : Member) × IsReached w r u
+      × (u.router.id.0 ≡ node) × ((v : Member) → IsReached w r v → IsGenerated (seen_by v.router) u.router.id.0 p)
   of_somebody s node p s_in g =
       let from = (seen_of w r known s s_in).nobody_else g.entry g.reachable in (
         from.0,

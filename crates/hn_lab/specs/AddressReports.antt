@@ -1,7 +1,7 @@
 -- The reports on the addresses of routers. docs/FORMATS.md has the table.
 use Rattle.std.specs.Prelude.{◌≡◌, ◌⊎◌, ℕ, List, [], ◌∷◌, ◌++◌, map, length, codes}
 use Rattle.std.specs.Fmt.{decimal}
-use Rattle.hn_addr.specs.Addresses.{IsStill}
+use Rattle.hn_addr.specs.Addresses.{IsAddressStill}
 use Rattle.hn_base.specs.Name.{name_text}
 use Rattle.hn_base.specs.declared.name.Name.{Name}
 use Rattle.hn_data.specs.Said.{HasAddress}
@@ -24,7 +24,7 @@ addresses_lines name m =
 
 -- r is settled, and each of its set is still: nothing would be chosen anew
 abbrev pub AreAddressesStill : Parts → Member → Type 0
-AreAddressesStill w r = IsSettled w r × ((s : Member) → IsReached w r s → IsStill s.router)
+AreAddressesStill w r = IsSettled w r × ((s : Member) → IsReached w r s → IsAddressStill s.router)
 
 -- No address is published twice: not by two of the set, and not on two endpoints of one.
 abbrev pub AreAlone : Parts → Member → Type 0

@@ -1,5 +1,5 @@
 -- How the bytes of a copy are carried.
-use Rattle.std.specs.Prelude.{◌≡◌, ◌≢◌, ℕ, ◌+◌, ◌≤◌, ⊤, List, length, Option, None, Some, IfSome}
+use Rattle.std.specs.Prelude.{◌≡◌, ◌≢◌, ◌⊎◌, ℕ, ◌+◌, ◌≤◌, ⊤, List, length, Option, None, Some, IfSome}
 use Rattle.hn_wire.specs.declared.datagram.Datagram.{Datagram}
 use Rattle.hn_wire.specs.Wires.{Arrived, Sends, TakesAt}
 use Rattle.hn_lab.specs.declared.carrying.Carried.{Carried}
@@ -14,10 +14,14 @@ IsCarried bytes (Some got) Same = got.bytes ≡ bytes
 IsCarried bytes (Some got) (Other others) = (others ≡ got.bytes) × (got.bytes ≢ bytes)
 IsCarried bytes _ _ = ⊥
 
+-- bytes as they go from the base to the port after it
+abbrev pub sent_from : ℕ → List ℕ → Datagram
+sent_from base bytes = record { from = base; to = base + 1; bytes = bytes }
+
 -- bytes are sent from the base to the port after it, and one datagram is taken there
 pub record CarriesOver (base : ℕ) (bytes : List ℕ) (carried : Carried) (before after : Option (List Datagram)) : Type 0 where
   pub between : Option (List Datagram)
-  pub sends : Sends (record { from = base; to = base + 1; bytes = bytes }) before between
+  pub sends : Sends (sent_from base bytes) before between
   pub got : Option Arrived
   pub short : IfSome got (λ g. length g.bytes ≤ 65507)
   pub takes : TakesAt (base + 1) got between after
@@ -29,7 +33,20 @@ Carries bytes carried Mail after = (carried ≡ Same) × (after ≡ Mail)
 Carries bytes carried (Ports base waiting) after =
     (waiting_after : Option (List Datagram)) × CarriesOver base bytes carried waiting waiting_after × (after ≡ Ports base waiting_after)
 
--- the wire fails, and mail never does; nothing is said then of what waits
-abbrev pub Breaks : Route → Route → Type 0
-Breaks Mail after = ⊥
-Breaks (Ports base waiting) after = (waiting_after : Option (List Datagram)) × (after ≡ Ports base waiting_after)
+-- the sending fails: what waits is as before
+abbrev pub FailsSending : Option (List Datagram) → Option (List Datagram) → Type 0
+FailsSending before after = after ≡ before
+
+-- bytes are sent and the taking fails: they wait behind what waited before
+abbrev pub FailsTaking : ℕ → List ℕ → Option (List Datagram) → Option (List Datagram) → Type 0
+FailsTaking base bytes before after = Sends (sent_from base bytes) before after
+
+-- the wire fails while bytes are carried, in one of its two calls
+abbrev pub FailsCarrying : ℕ → List ℕ → Option (List Datagram) → Option (List Datagram) → Type 0
+FailsCarrying base bytes before after = FailsSending before after ⊎ FailsTaking base bytes before after
+
+-- the wire fails, and mail never does
+abbrev pub Breaks : List ℕ → Route → Route → Type 0
+Breaks bytes Mail after = ⊥
+Breaks bytes (Ports base waiting) after =
+    (waiting_after : Option (List Datagram)) × FailsCarrying base bytes waiting waiting_after × (after ≡ Ports base waiting_after)

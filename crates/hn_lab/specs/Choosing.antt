@@ -40,7 +40,8 @@ MayHappen None stop before after = Nothing stop before after
 MayHappen (Some event) stop before after = EventEnds event stop before after
 
 -- the router of a name chooses, by the words to come; then what it chose happens, and lines on it come up
-pub record MakesChoice {A : Type 0} (name : Name) (IsMadeBy : State → A → List ℕ → Type 0) (event_for : A → Option WEvent) (told_of : A → List (List ℕ)) (stop : Option Stop) (before after : Stage) : Type 0 where
+pub record MakesChoice {A : Type 0} (name : Name) (IsMadeBy : State → A → List ℕ → Type 0) (event_for : A → Option WEvent)
+    (told_of : A → List (List ℕ)) (stop : Option Stop) (before after : Stage) : Type 0 where
   pub member : Member
   pub is_member : member_named (name_text name) before.world ≡ Some member
   pub made : A

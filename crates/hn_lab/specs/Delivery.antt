@@ -55,11 +55,13 @@ ComesTo copy c Same notes stop before after = EventNotes (event.Deliver copy) no
 ComesTo copy c Lost notes stop before after = EventNotes (event.Drop copy) notes stop before after
 ComesTo copy c (Other bytes) notes stop before after = Replaces copy (injection_for before.world c bytes) notes stop before after
 
--- the wire fails before a copy is carried: nothing happens
-pub record IsBroken (stop : Option Stop) (before after : Stage) : Type 0 where
+-- the wire fails while a copy is carried: nothing happens
+pub record IsBroken (copy : ℕ) (stop : Option Stop) (before after : Stage) : Type 0 where
   pub stop_is : stop ≡ Some WireFailed
+  pub mail : MailCopy
+  pub is_copy : copy_at before.world copy ≡ Some mail
   pub route : Route
-  pub breaks : Breaks before.route route
+  pub breaks : Breaks mail.bytes before.route route
   pub stays : after ≡ record before { route = route }
 
 -- a copy is carried, and comes to something
@@ -72,7 +74,7 @@ pub record IsConveyed (copy : ℕ) (notes : List Note) (stop : Option Stop) (bef
   pub comes : ComesTo copy mail carried notes stop (record before { route = route }) after
 
 abbrev pub Conveys : ℕ → List Note → Process
-Conveys copy notes stop before after = IsBroken stop before after ⊎ IsConveyed copy notes stop before after
+Conveys copy notes stop before after = IsBroken copy stop before after ⊎ IsConveyed copy notes stop before after
 
 -- a delivery ends: it is refused before a wire is used, or the copy is conveyed
 abbrev pub DeliveryEnds : ℕ → List Note → Process

@@ -8,7 +8,7 @@ use Rattle.hn_base.specs.HexText.{hex_text}
 use Rattle.hn_base.specs.Name.{name_text}
 use Rattle.hn_base.specs.declared.ids.EpId.{EpId}
 use Rattle.hn_base.specs.declared.name.Name.{Name}
-use Rattle.hn_radv.specs.Sender.{PlainSender, started, solicited, is_due, draws, sent}
+use Rattle.hn_radv.specs.Sender.{PlainSender, started_sender, solicited, is_due, draws, sent}
 use Rattle.hn_router.specs.Advertising.{IsAdvertAt}
 use Rattle.hn_world.specs.declared.event.WEvent.TheVariants as event
 use Rattle.hn_world.specs.declared.member.Member.{Member}
@@ -102,7 +102,7 @@ TickEnds name stop before after = ThenProcess (EventEnds (event.Tick name)) (Tur
 -- an endpoint begins to send, anew where it sends
 abbrev pub starting : Name → EpId → Stage → Stage
 starting name e p =
-    record p { senders = with_sender (record { name = name; endpoint = e; sender = started p.world.moment; shape = None }) p.senders }
+    record p { senders = with_sender (record { name = name; endpoint = e; sender = started_sender p.world.moment; shape = None }) p.senders }
 
 -- an endpoint sends no more; those of a router send no more
 abbrev pub ending : Name → EpId → Stage → Stage

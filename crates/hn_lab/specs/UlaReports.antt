@@ -6,7 +6,7 @@ use Rattle.hn_base.specs.Prefix.{PlainPrefix}
 use Rattle.hn_base.specs.declared.name.Name.{Name}
 use Rattle.hn_prefix.specs.PrefixText.{prefix_text_of}
 use Rattle.hn_rules.specs.Seen.{seen_by}
-use Rattle.hn_ula.specs.Ula.{IsForeign, IsOwnOf, IsStill}
+use Rattle.hn_ula.specs.Ula.{IsForeign, IsOwnOf, IsUlaStill}
 use Rattle.hn_ula.specs.declared.decision.Ula.{Ula}
 use Rattle.hn_ula.specs.declared.decision.Ula.TheVariants as ula
 use Rattle.hn_audit.specs.Reached.{IsReached}
@@ -26,7 +26,7 @@ ula_line name decided = codes "ula " ++ name_text name ++ codes " " ++ ula_text 
 
 -- r is settled, and each of its set is still: nothing would be decided anew
 abbrev pub ArePrefixesStill : Parts → Member → Type 0
-ArePrefixesStill w r = IsSettled w r × ((s : Member) → IsReached w r s → IsStill s.router)
+ArePrefixesStill w r = IsSettled w r × ((s : Member) → IsReached w r s → IsUlaStill s.router)
 
 -- a router has a generated prefix; of a list of routers, that many have one
 abbrev pub HasGenerated : Member → Type 0

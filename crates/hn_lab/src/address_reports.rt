@@ -1,7 +1,7 @@
 //! The reports on the addresses of routers.
 
 ghost use Rattle.std.specs.Prelude.{◌≡◌, ◌≢◌, ◌++◌, ◌↔◌, List, Option, Some, Err, map, IfOk, OnOk, IsTrue, All, string_bytes};
-ghost use Rattle.hn_addr.specs.Addresses.{IsStill};
+ghost use Rattle.hn_addr.specs.Addresses.{IsAddressStill};
 ghost use Rattle.hn_base.specs.Name.{name_text};
 ghost use Rattle.hn_wire.specs.declared.datagram.Datagram.{Datagram};
 ghost use Rattle.hn_world.specs.declared.member.Member.{Member as AMember};
@@ -54,7 +54,7 @@ fn add_address_lines(
 
 /// Whether a router would choose nothing anew, if it runs and has one of these identifiers.
 fn is_still(alloc: Global, member: &Member, reach: &[NodeId]) -> Result<bool, NoMemory>
-    ensures { IfOk result (λ answer. IsTrue answer ↔ (IsTrue (is_in_set reach.now member.now) → IsStill member.now.router)) }
+    ensures { IfOk result (λ answer. IsTrue answer ↔ (IsTrue (is_in_set reach.now member.now) → IsAddressStill member.now.router)) }
 {
     if !is_in_set(member, reach) {
         return Ok(true);
@@ -64,7 +64,7 @@ fn is_still(alloc: Global, member: &Member, reach: &[NodeId]) -> Result<bool, No
 
 /// Whether each running router of these identifiers would choose nothing anew.
 fn all_still(alloc: Global, members: &[Member], reach: &[NodeId]) -> Result<bool, NoMemory>
-    ensures { IfOk result (λ answer. IsTrue answer ↔ All (λ m. IsTrue (is_in_set reach.now m) → IsStill m.router) members.now) }
+    ensures { IfOk result (λ answer. IsTrue answer ↔ All (λ m. IsTrue (is_in_set reach.now m) → IsAddressStill m.router) members.now) }
 {
     for member in members {
         if !is_still(alloc, member, reach)? {

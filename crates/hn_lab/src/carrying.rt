@@ -3,7 +3,7 @@
 ghost use Rattle.std.specs.Prelude.{◌≡◌, ◌≤◌, None, Err, length, IfOk};
 ghost use Rattle.hn_io.specs.Faults.{IsCaused};
 ghost use Rattle.hn_io.specs.declared.fault.IoFault.{IoFault};
-ghost use Rattle.hn_lab.specs.Carrying.{CarriesOver};
+ghost use Rattle.hn_lab.specs.Carrying.{CarriesOver, FailsCarrying};
 
 use hn_base::Bytes;
 use hn_io::IoFault;
@@ -71,6 +71,7 @@ pub(crate) fn carry<W: Wire>(
 ) -> Result<Carried, IoFault>
     requires { length bytes.now ≤ 65507 }
     ensures carries { IfOk result (λ carried. CarriesOver base bytes.now carried (W.waiting wire.old) (W.waiting wire.new)) }
+    ensures broken { result ≡ Err IoFault.Failed → FailsCarrying base bytes.now (W.waiting wire.old) (W.waiting wire.new) }
     ensures caused { IsCaused (result ≡ Err IoFault.Failed) (W.faults wire.old) (W.faults wire.new)
         (W.never_fails wire.old) (W.never_fails wire.new) }
 {

@@ -1,6 +1,7 @@
 ghost use Rattle.std.specs.Prelude.{◌≡◌, ◌≢◌, ◌<◌, ◌+◌, List, [], Option, Err, OnOk, length};
 ghost use Rattle.hn_wire.specs.declared.datagram.Datagram.{Datagram};
 ghost use Rattle.hn_world.specs.Step.{IsInRange};
+ghost use Rattle.hn_audit.specs.Staying.{QuietStays};
 ghost use Rattle.hn_lab.specs.declared.end.Stop.{Stop};
 ghost use Rattle.hn_lab.specs.Delivery.{EventNotes, EventEnds};
 ghost use Rattle.hn_lab.specs.Ended.{EndsWith, Ended};
@@ -12,6 +13,7 @@ use crate::carrying::Base;
 use crate::end::Stop;
 use crate::senders::Senders;
 use crate::stream::Stream;
+use hn_audit::quiet_homes_stay;
 use hn_base::{Sequence, Version};
 use hn_io::IoFault;
 use hn_rules::Note;
@@ -44,7 +46,7 @@ impl Playing {
         }
     }
 
-    /// An event. Answers what routers noted.
+    /// An event. Answers what routers noted. A settled and quiet router stays so, as `QuietStays` says.
     ///
     /// # Errors
     ///
@@ -57,8 +59,11 @@ impl Playing {
         ensures unwritten { result ≢ Err (Stop.Cut IoFault.Failed) }
         ensures base { self.new.base ≡ self.old.base }
         ensures entered { OnOk result ((length self.old.world.trace < 1000000) × (length self.new.world.trace ≡ length self.old.world.trace + 1)) }
+        ensures stays { OnOk result (QuietStays event self.old.world self.new.world) }
     {
         each_event_is_entered();
+        quiet_homes_stay();
+        self.world.is_replayed();
         Ok(self.world.apply(alloc, event, &mut self.words)?)
     }
 

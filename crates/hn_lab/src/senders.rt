@@ -4,7 +4,7 @@ ghost use Rattle.std.specs.Prelude.{◌≡◌, ◌≢◌, ◌↔◌, ◌<◌, �
 ghost use Rattle.std.specs.List.{slice_get, slice_set};
 ghost use Rattle.hn_lab.specs.declared.senders.Sending.{Sending as ASending};
 ghost use Rattle.hn_lab.specs.Senders.{shape_of, is_sender_of, sends_at, sender_endpoints, with_sender, without_sender, without_senders};
-ghost use Rattle.hn_radv.specs.Sender.{started};
+ghost use Rattle.hn_radv.specs.Sender.{started_sender};
 
 use hn_advert::Advert;
 use hn_base::{EpId, Moment, Name, NoMemory, Sequence};
@@ -170,7 +170,7 @@ impl Senders {
     /// Out of memory.
     pub(crate) fn start(&mut self, name: Name, endpoint: EpId, now: Moment) -> Result<(), NoMemory>
         requires { now ≤ 2 ^ 48 }
-        ensures { OnOk result (self.new ≡ with_sender (record { name = name; endpoint = endpoint; sender = started now; shape = None }) self.old) }
+        ensures { OnOk result (self.new ≡ with_sender (record { name = name; endpoint = endpoint; sender = started_sender now; shape = None }) self.old) }
     {
         self.end(&name, endpoint);
         let place = self.items.partition_point(|s| s.endpoint <= endpoint);

@@ -13,7 +13,7 @@ ghost use Rattle.hn_lab.specs.Line.{Tells};
 ghost use Rattle.hn_lab.specs.Stage.{stage_of};
 ghost use Rattle.hn_lab.specs.Tells.{Reports};
 ghost use Rattle.hn_lab.specs.Told.{Told};
-ghost use Rattle.hn_ula.specs.Ula.{IsStill};
+ghost use Rattle.hn_ula.specs.Ula.{IsUlaStill};
 ghost use Rattle.hn_lab.specs.UlaReports.{HasGenerated, HaveGenerated, IsUlasTold, IsUlasLine};
 
 use crate::end::Stop;
@@ -29,7 +29,7 @@ use std::alloc::Global;
 
 /// Whether a router would decide nothing anew, if it runs and has one of these identifiers.
 fn is_still(alloc: Global, member: &Member, reach: &[NodeId]) -> Result<bool, NoMemory>
-    ensures { IfOk result (λ answer. IsTrue answer ↔ (IsTrue (is_in_set reach.now member.now) → IsStill member.now.router)) }
+    ensures { IfOk result (λ answer. IsTrue answer ↔ (IsTrue (is_in_set reach.now member.now) → IsUlaStill member.now.router)) }
 {
     if !is_in_set(member, reach) {
         return Ok(true);
@@ -39,7 +39,7 @@ fn is_still(alloc: Global, member: &Member, reach: &[NodeId]) -> Result<bool, No
 
 /// Whether each running router of these identifiers would decide nothing anew.
 fn all_still(alloc: Global, members: &[Member], reach: &[NodeId]) -> Result<bool, NoMemory>
-    ensures { IfOk result (λ answer. IsTrue answer ↔ All (λ m. IsTrue (is_in_set reach.now m) → IsStill m.router) members.now) }
+    ensures { IfOk result (λ answer. IsTrue answer ↔ All (λ m. IsTrue (is_in_set reach.now m) → IsUlaStill m.router) members.now) }
 {
     for member in members {
         if !is_still(alloc, member, reach)? {

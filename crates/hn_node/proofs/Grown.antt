@@ -1,12 +1,12 @@
 -- Entries that were added to the log, and what was sent.
-use Rattle.std.proofs.Common.{◌≡◌, ◌∙◌, ℕ, List, [], ◌∷◌, ◌++◌, Option, length, sym, ap, subst, append_assoc, append-nil, arith}
+use Rattle.std.proofs.Common.{◌≡◌, ◌∙◌, ℕ, List, [], ◌∷◌, ◌++◌, Option, length, refl, sym, ap, subst, append_assoc, append-nil, arith}
 use Rattle.std.proofs.lemmas.Grind.{flat_map-append}
 use Rattle.std.proofs.lemmas.List.Elements.{All-nil, All-push, All-append}
 use Rattle.hn_base.specs.Words.{IsAt, Took}
 use Rattle.hn_wire.specs.declared.datagram.Datagram.{Datagram}
 use Rattle.hn_node.specs.declared.logged.Logged.{Logged}
 use Rattle.hn_node.specs.declared.node.Node.{Node}
-use Rattle.hn_node.specs.Turns.{PlainSite, handed_of, handed_in, words_of, IsShortArrival}
+use Rattle.hn_node.specs.Turns.{PlainSite, handed_of, handed_in, words_of, IsBounded}
 use Rattle.hn_node.specs.Steps.{counted, Adds, Grows}
 use Rattle.hn_node.proofs.Sent.{counted_lists}
 
@@ -28,7 +28,8 @@ none_grown told a = record {
   log = sym (append-nil a.log);
   words = took_nothing told;
   sent = omega arith;
-  short = All-nil IsShortArrival;
+  bounded = All-nil IsBounded;
+  limit = refl;
 }
 
 pub one_grown : (l : Logged) (handed all : List Datagram) (told told_after : Option (ℕ → ℕ)) (a b : Node) → all ≡ handed → Adds l handed told told_after a b → Grows (l ∷ []) all told told_after a b
@@ -36,7 +37,8 @@ one_grown l handed all told told_after a b same h = record {
   log = h.log;
   words = subst (λ (ws : List ℕ). Took told ws told_after) (sym (append-nil l.words)) h.words;
   sent = h.sent ∙ ap (λ (ds : List Datagram). counted a.sent (length ds)) (sym same);
-  short = All-push IsShortArrival [] l (All-nil IsShortArrival) h.short;
+  bounded = All-push IsBounded [] l (All-nil IsBounded) h.bounded;
+  limit = h.limit;
 }
 
 pub both_grown : (xs ys : List Logged) (ds es : List Datagram) (told between told_after : Option (ℕ → ℕ)) (a b c : Node)
@@ -45,7 +47,8 @@ both_grown xs ys ds es told between told_after a b c h k = record {
   log = k.log ∙ ap (λ (log : List Logged). log ++ ys) h.log ∙ append_assoc a.log xs ys;
   words = took_both told between told_after (words_of xs) (words_of ys) (words_of (xs ++ ys)) (words_both xs ys) h.words k.words;
   sent = k.sent ∙ ap (λ (s : ℕ). counted s (length es)) h.sent ∙ counted_lists a.sent ds es;
-  short = All-append IsShortArrival xs ys h.short k.short;
+  bounded = All-append IsBounded xs ys h.bounded k.bounded;
+  limit = k.limit ∙ h.limit;
 }
 
 -- where all of both was sent

@@ -24,17 +24,20 @@ of_entry now event l before after h = record {
   moment_is = refl;
   event_is = refl;
   done = h.done;
-  happened = subst (λ (n : ℕ). Happened n (plain_of l.event) before after h.done) (sym h.moment_is) (subst (λ (e : NodeEvent). Happened now (plain_of e) before after h.done) (sym h.event_is) h.happened);
+  happened = subst (λ (n : ℕ). Happened n (plain_of l.event) before after h.done) (sym h.moment_is)
+      (subst (λ (e : NodeEvent). Happened now (plain_of e) before after h.done) (sym h.event_is) h.happened);
   words_are = h.words_are;
   sends_are = h.sends_are;
 }
 
 -- of one entry, from a router that is the same
-leads_entry : (now : ℕ) (event : NodeEvent) (l : Logged) (entries : List Logged) (first before after : State) → before ≡ first → entries ≡ l ∷ [] → IsEntry now event l before after → Leads entries first after
+leads_entry : (now : ℕ) (event : NodeEvent) (l : Logged) (entries : List Logged) (first before after : State) → before ≡ first → entries ≡ l ∷ []
+    → IsEntry now event l before after → Leads entries first after
 leads_entry now event l entries first before after same are h =
     subst (λ (log : List Logged). Leads log first after) (sym are) (subst (λ (s : State). Leads (l ∷ []) s after) same (after, of_entry now event l before after h, refl))
 
-leads_first : (at : PlainSite) (now : ℕ) (taken : Option NodeEvent) (entries : List Logged) (before after : Serving) → Arrives at now taken entries before after → Leads entries before.router after.router
+leads_first : (at : PlainSite) (now : ℕ) (taken : Option NodeEvent) (entries : List Logged) (before after : Serving)
+    → Arrives at now taken entries before after → Leads entries before.router after.router
 leads_first at now None entries before after h = subst (λ (log : List Logged). Leads log before.router after.router) (sym h.0) (ap (λ (s : Serving). s.router) h.1)
 leads_first at now (Some event) entries before after h = leads_entry now event h.0 entries before.router before.router after.router refl h.2 h.1.entry
 
@@ -94,7 +97,8 @@ once one (l ∷ log) (m ∷ other) first a b stream events x y h k =
     (begins_along m.words k.1.done.words stream k.1.words_are (begins_front m.words (words_of other) stream y)) in
     let words : l.words ≡ m.words = h.1.words_are ∙ ap (λ (d : Done). d.words) same.1 ∙ sym k.1.words_are in
     let sends : l.sends ≡ m.sends = h.1.sends_are ∙ ap (λ (d : Done). d.sends) same.1 ∙ sym k.1.sends_are in
-    let later : Begins (words_of other) (λ i. stream (length l.words + i)) = subst (λ (n : ℕ). Begins (words_of other) (λ i. stream (n + i))) (ap length (sym words)) (begins_back m.words (words_of other) stream y) in
+    let later : Begins (words_of other) (λ i. stream (length l.words + i)) =
+    subst (λ (n : ℕ). Begins (words_of other) (λ i. stream (n + i))) (ap length (sym words)) (begins_back m.words (words_of other) stream y) in
     let rest = once one log other h.0 a b (λ i. stream (length l.words + i)) tails (begins_back l.words (words_of log) stream x) later h.2 (subst (λ (s : State). Leads other s b) (sym same.0) k.2) in
     (rest.0, λ i. same_logged l m moment event words sends i ∷ rest.1 i)
 

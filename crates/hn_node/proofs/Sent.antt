@@ -36,7 +36,8 @@ module _ {A : Type 0} (f : A → List Datagram) (xs : List A) (i : ℕ) (x d : A
   pub next_handed : x ≡ get_or xs i d → HandsAll (flat_map f (take i xs)) a b l m → HandsAll (f x) b c m n → HandsAll (flat_map f (take (i + 1) xs)) a c l n
   next_handed is h k =
       let more : take (i + 1) xs ≡ take i xs ++ x ∷ [] = take_more xs i d within ∙ ap (λ (y : A). take i xs ++ y ∷ []) (sym is) in
-      let split : flat_map f (take (i + 1) xs) ≡ flat_map f (take i xs) ++ f x = ap (flat_map f) more ∙ flat_map-append f (take i xs) (x ∷ []) ∙ ap (λ (ds : List Datagram). flat_map f (take i xs) ++ ds) (append-nil (f x)) in
+      let split : flat_map f (take (i + 1) xs) ≡ flat_map f (take i xs) ++ f x =
+      ap (flat_map f) more ∙ flat_map-append f (take i xs) (x ∷ []) ∙ ap (λ (ds : List Datagram). flat_map f (take i xs) ++ ds) (append-nil (f x)) in
       subst (λ (ds : List Datagram). HandsAll ds a c l n) (sym split) (hands_both (flat_map f (take i xs)) (f x) a b c l m n h k)
 
   pub part_handed : x ≡ get_or xs i d → HandsAll (flat_map f (take i xs)) a b l m → HandsPart (f x) b c m n → HandsPart (flat_map f xs) a c l n

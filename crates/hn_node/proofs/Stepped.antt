@@ -1,17 +1,16 @@
 -- An event that was entered in the log, and what came of it that was sent.
 use Rattle.std.proofs.Common.{◌≡◌, ◌∙◌, ℕ, false, List, [], ◌∷◌, ◌++◌, Option, length, get_or, Result, Ok, Err, refl, sym, ap, subst}
 use Rattle.std.proofs.lemmas.List.{get_or_push}
-use Rattle.std.specs.Prelude.{OnOk, OnErr}
+use Rattle.std.specs.Prelude.{◌≤◌, All, OnOk, OnErr}
 use Rattle.std.specs.Result.{is_err}
 use Rattle.hn_base.specs.Words.{Took}
 use Rattle.hn_wire.specs.declared.datagram.Datagram.{Datagram}
 use Rattle.hn_rules.specs.declared.done.Done.{Done}
 use Rattle.hn_rules.specs.declared.done.Outgoing.{Outgoing}
 use Rattle.hn_rules.specs.declared.state.State.{State}
-use Rattle.hn_router.specs.Act.{PlainEvent, Happened, IsEventInRange}
+use Rattle.hn_router.specs.Act.{PlainEvent, Happened}
 use Rattle.hn_node.specs.declared.logged.Logged.{Logged}
 use Rattle.hn_node.specs.declared.logged.NodeEvent.{NodeEvent}
-use Rattle.hn_node.specs.declared.logged.NodeEvent.TheVariants as node
 use Rattle.hn_node.specs.declared.node.Node.{Node}
 use Rattle.hn_node.specs.Turns.{PlainSite, serving, handed_of, plain_of, IsEntry, Steps, CutSteps, IsShort}
 use Rattle.hn_node.specs.Steps.{HandsAll, HandsPart, Adds}
@@ -29,11 +28,6 @@ of_err (Err f) e P holds is = holds
 last_is : {A : Type 0} (xs ys : List A) (x d : A) (at : ℕ) → ys ≡ xs ++ x ∷ [] → at ≡ length xs → get_or ys at d ≡ x
 last_is {A} xs ys x d at are is = ap (λ (zs : List A). get_or zs at d) are ∙ get_or_push xs x d at (sym is)
 
--- no event of a node attaches an endpoint
-pub in_range : (event : NodeEvent) → IsEventInRange (plain_of event)
-in_range node.Tick = tt
-in_range (node.Arrive endpoint from multicast bytes) = tt
-
 -- what is entered of an event and of what came of it
 abbrev pub entry_of : ℕ → NodeEvent → Done → Logged
 entry_of now event done = record { moment = now; event = event; words = done.words; sends = done.sends }
@@ -46,7 +40,8 @@ entered_sends now event done log longer read d at sends pushed same is are =
 
 module _ (at : PlainSite) (now : ℕ) (event : NodeEvent) (of : PlainEvent) (done : Done) (told told_after : Option (ℕ → ℕ)) (waiting after : Option (List Datagram))
     (before : Node) (router : State) (log : List Logged) (sent : ℕ) (sends : List Outgoing)
-    (is : of ≡ plain_of event) (happened : Happened now of before.router router done) (drew : Took told done.words told_after) (short : IsShort event)
+    (is : of ≡ plain_of event) (happened : Happened now of before.router router done) (drew : Took told done.words told_after)
+    (arrived : IsShort event) (short : All (λ (o : Outgoing). length o.bytes ≤ 65507) done.sends) (limit : router.table.limit ≡ before.router.table.limit)
     (pushed : log ≡ before.log ++ entry_of now event done ∷ []) (are : sends ≡ done.sends) where
   entered : IsEntry now event (entry_of now event done) before.router router
   entered = record {
@@ -62,12 +57,19 @@ module _ (at : PlainSite) (now : ℕ) (event : NodeEvent) (of : PlainEvent) (don
       → (l : Logged) × Steps at now event l (serving before.router waiting) (serving router after)
       × Adds l (handed_of at l.sends) told told_after before (record { router = router; log = log; sent = sent })
   stepped h =
-      let all = subst (λ (os : List Outgoing). HandsAll (handed_of at os) waiting after before.sent sent) are h in
-      (entry_of now event done, record { entry = entered; sends = all.sends }, record { log = pushed; words = drew; sent = all.counts; short = short })
+      let all = subst (λ (os : List Outgoing). HandsAll (handed_of at os) waiting after before.sent sent) are h in (
+        entry_of now event done,
+        record { entry = entered; sends = all.sends },
+        record { log = pushed; words = drew; sent = all.counts; bounded = record { arrived = arrived; sent = short }; limit = limit },
+      )
 
   pub cut_step : HandsPart (handed_of at sends) waiting after before.sent sent
       → (l : Logged) × (front : List Datagram) × CutSteps at now event l front (serving before.router waiting) (serving router after)
       × Adds l front told told_after before (record { router = router; log = log; sent = sent })
   cut_step h =
-      let part = subst (λ (os : List Outgoing). HandsPart (handed_of at os) waiting after before.sent sent) are h in
-      (entry_of now event done, part.front, record { entry = entered; sends = part.sends }, record { log = pushed; words = drew; sent = part.counts; short = short })
+      let part = subst (λ (os : List Outgoing). HandsPart (handed_of at os) waiting after before.sent sent) are h in (
+        entry_of now event done,
+        part.front,
+        record { entry = entered; sends = part.sends },
+        record { log = pushed; words = drew; sent = part.counts; bounded = record { arrived = arrived; sent = short }; limit = limit },
+      )

@@ -20,7 +20,8 @@ arrived at now event told told_after before after a b h =
 module _ (at : PlainSite) (now : ℕ) (taken : Option NodeEvent) (waiting left : Option (List Datagram)) (takes : TakesTurn at taken waiting left) (told : Option (ℕ → ℕ)) (a : Node) where
   -- the answers to what arrives were not all sent
   pub cut_arrival : (after : Option (List Datagram)) (told_after : Option (ℕ → ℕ)) (b : Node)
-      → (event : NodeEvent) × (taken ≡ Some event) × ((l : Logged) × (front : List Datagram) × CutSteps at now event l front (serving a.router left) (serving b.router after) × Adds l front told told_after a b)
+      → (event : NodeEvent) × (taken ≡ Some event) × ((l : Logged) × (front : List Datagram)
+      × CutSteps at now event l front (serving a.router left) (serving b.router after) × Adds l front told told_after a b)
       → (entries : List Logged) × (handed : List Datagram) × CutTurn at now entries handed (serving a.router waiting) (serving b.router after) × Grows entries handed told told_after a b
   cut_arrival after told_after b h =
       let cut = h.2 in (

@@ -1,5 +1,5 @@
 -- The turns of a node: in each it reads its clock, takes a datagram, lets it arrive, ticks, and sends what comes of it.
-use Rattle.std.specs.Prelude.{◌≡◌, ◌⊎◌, ℕ, zero, suc, ◌+◌, ◌*◌, ◌^◌, ◌<◌, ◌≤◌, Bool, true, false, ⊤, List, [], ◌∷◌, ◌++◌, map, length, count_by, Option, None, Some, Result, Ok, Err}
+use Rattle.std.specs.Prelude.{◌≡◌, ◌⊎◌, ℕ, zero, suc, ◌+◌, ◌*◌, ◌^◌, ◌<◌, ◌≤◌, Bool, true, false, ⊤, List, [], ◌∷◌, ◌++◌, map, length, count_by, Option, None, Some, Result, Ok, Err, All}
 use Rattle.std.specs.List.{flat_map}
 use Rattle.hn_base.specs.declared.addr.Addr.{Addr}
 use Rattle.hn_base.specs.declared.memory.NoMemory.{NoMemory}
@@ -219,8 +219,10 @@ abbrev pub IsShort : NodeEvent → Type 0
 IsShort node.Tick = Unit {0}
 IsShort (node.Arrive endpoint from multicast bytes) = length bytes ≤ 65507
 
-abbrev pub IsShortArrival : Logged → Type 0
-IsShortArrival l = IsShort l.event
+-- what arrived and what was sent fits a datagram (RFC 768: 65,535 bytes with its header and that of IPv4)
+pub record IsBounded (l : Logged) : Type 0 where
+  pub arrived : IsShort l.event
+  pub sent : All (λ send. length send.bytes ≤ 65507) l.sends
 
 -- the wire failed
 abbrev pub HasFailed : Result Served NoMemory → Type 0

@@ -13,7 +13,7 @@ use crate::sending::{Site, hand_all};
 use crate::taking::take_turn;
 use hn_base::{Moment, Sequence};
 use hn_io::{Draw, IoFault};
-use hn_router::{Router, moment_is_now, sends_are_short};
+use hn_router::{Router, limit_stays, moment_is_now};
 use hn_wire::{Clock, Wire};
 use std::alloc::Global;
 
@@ -47,8 +47,7 @@ impl Node {
             (W.never_fails wire.old) (W.never_fails wire.new) }
     {
         moment_is_now();
-        sends_are_short();
-        self.router.is_router();
+        limit_stays();
         let Ok(done) = self.router.act(alloc, &event.event(), now, draw) else {
             return Err(IoFault::NoMemory);
         };

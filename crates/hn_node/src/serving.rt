@@ -3,7 +3,7 @@ ghost use Rattle.hn_base.specs.Words.{Took};
 ghost use Rattle.hn_io.specs.Faults.{IsCaused};
 ghost use Rattle.hn_own.specs.Ports.{is_attached};
 ghost use Rattle.hn_wire.specs.declared.datagram.Datagram.{Datagram};
-ghost use Rattle.hn_node.specs.Turns.{serving, handed_in, Turns, CutTurns, arrivals_in, is_tick, words_of, IsShortArrival, HasFailed};
+ghost use Rattle.hn_node.specs.Turns.{serving, handed_in, Turns, CutTurns, arrivals_in, is_tick, words_of, IsBounded, HasFailed};
 
 use crate::logged::Logged;
 use crate::node::Node;
@@ -72,7 +72,8 @@ pub fn serve<W: Wire, C: Clock, D: Draw>(
     ensures taken { IfOk result (λ s. s.taken ≡ arrivals_in s.log) }
     ensures ticks { IfOk result (λ s. s.end ≡ ServeEnd.Turns → count_by is_tick s.log ≡ turns) }
     ensures words { IfOk result (λ s. Took (D.words draw.old) (words_of s.log) (D.words draw.new)) }
-    ensures bounded { IfOk result (λ s. All IsShortArrival s.log) }
+    ensures bounded { IfOk result (λ s. All IsBounded s.log) }
+    ensures limit { IfOk result (λ s. s.router.table.limit ≡ router.table.limit) }
     ensures caused { IsCaused (HasFailed result) (W.faults wire.old) (W.faults wire.new)
         (W.never_fails wire.old) (W.never_fails wire.new) }
 {

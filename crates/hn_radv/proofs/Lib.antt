@@ -1,1 +1,1 @@
-mod Senders
+mod SpacedAndAnswered

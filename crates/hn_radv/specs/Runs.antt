@@ -28,9 +28,9 @@ run_of [] s = s
 run_of (c ∷ cs) s = run_of cs (after c s)
 
 -- the moments at which these calls send
-abbrev pub sent_in : List Call → PlainSender → List ℕ
-sent_in [] s = []
-sent_in (c ∷ cs) s = option_to_list (sends c s) ++ sent_in cs (after c s)
+abbrev pub sent_by_calls : List Call → PlainSender → List ℕ
+sent_by_calls [] s = []
+sent_by_calls (c ∷ cs) s = option_to_list (sends c s) ++ sent_by_calls cs (after c s)
 
 -- each moment is 3,000 ms after each earlier one, or later
 abbrev pub AreSpaced : List ℕ → Type 0

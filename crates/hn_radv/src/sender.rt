@@ -1,7 +1,7 @@
 ghost use Rattle.std.specs.Prelude.{◌≡◌, ◌^◌, ◌≤◌, ℕ, List, true, false, is_some, unwrap_or, length, get_or, if◌then◌else◌};
 ghost use Rattle.std.specs.Option.{option_to_list};
 ghost use Rattle.hn_base.specs.Words.{Took};
-ghost use Rattle.hn_radv.specs.Sender.{started, solicited, is_due, draws, sent};
+ghost use Rattle.hn_radv.specs.Sender.{started_sender, solicited, is_due, draws, sent};
 
 use hn_base::Moment;
 use hn_io::Draw;
@@ -26,36 +26,36 @@ const MORE_INTERVAL: u32 = 402_000;
 /// So many are counted.
 const MOST_COUNTED: u8 = 4;
 
-/// When an endpoint sends its Router Advertisements: at once, after each of the first three in 16 s, then in 198 to 600 s,
-/// and never two within 3 s (RFC 4861, sections 6.2.4 and 6.2.6).
+/// When an endpoint sends its Router Advertisements (RFC 4861, sections 6.2.4 and 6.2.6). The first is due at once. After
+/// each of the first three the next is due in 16 s, and after each later one in 198 to 600 s. Two are never within 3 s.
 #[derive(Clone, Copy)]
 pub struct Sender {
-    /// How many were sent, up to four.
+    /// How many were sent, 0 to 4. It stays at 4.
     pub count: u8,
-    /// When the last one was sent, in milliseconds.
+    /// When the last one was sent, in milliseconds, at most 2^48.
     pub last: Option<Moment>,
-    /// When the next one is due, in milliseconds.
+    /// When the next one is due, in milliseconds, below 2^49 and at least 3,000 ms after the last one.
     pub next: Moment,
 }
 
 impl Model for Sender {
-    ghost use Rattle.hn_radv.specs.Sender.{PlainSender, IsSender};
+    ghost use Rattle.hn_radv.specs.Sender.{PlainSender, IsSpacedSender};
     ghost use Rattle.hn_radv.specs.Inside.{plain_sender};
 
     ghost Value = { PlainSender };
 
     ghost view = { plain_sender };
 
-    ghost invariant = { λ s. IsSender (plain_sender s) };
+    ghost invariant = { λ s. IsSpacedSender (plain_sender s) };
 
     ghost inverse = { λ s. record { count = s.count; last = s.last; next = s.next } };
 }
 
 impl Sender {
-    /// A sender that begins now: the first one is due at once. Never allocates.
+    /// A sender that begins now, a moment of at most 2^48 ms. The first one is due at once. Never allocates.
     pub fn start(now: Moment) -> Sender
         requires { now ≤ 2 ^ 48 }
-        ensures { result ≡ started now }
+        ensures { result ≡ started_sender now }
     {
         Sender {
             count: 0,
@@ -64,8 +64,8 @@ impl Sender {
         }
     }
 
-    /// A solicitation comes now; `word`, a random number, says how much later it is answered, at most 500 ms, and not
-    /// before the last one is 3,000 ms past (RFC 4861, section 6.2.6). Never allocates.
+    /// A solicitation comes now, at most 2^48 ms (RFC 4861, section 6.2.6). It is answered 0 to 500 ms later, as the random
+    /// number `word` says, but not before the last one is 3,000 ms past. Never allocates.
     pub fn solicit(&mut self, now: Moment, word: u32)
         requires { now ≤ 2 ^ 48 }
         ensures { self.new ≡ solicited now word self.old }
@@ -78,8 +78,8 @@ impl Sender {
         self.next = self.next.min(answer);
     }
 
-    /// What is advertised has changed now, so the next one is due as soon as it may be (RFC 4861, section 6.2.4). Never
-    /// allocates.
+    /// What is advertised has changed now, at most 2^48 ms (RFC 4861, section 6.2.4). So the next one is due as soon as it may
+    /// be: now, or 3,000 ms after the last one. Never allocates.
     pub fn changed(&mut self, now: Moment)
         requires { now ≤ 2 ^ 48 }
         ensures { self.new ≡ solicited now 0 self.old }
@@ -112,8 +112,8 @@ impl Sender {
         };
     }
 
-    /// Whether one is due now. If so it counts as sent; with the fourth and each later one a word says when the next is due.
-    /// Never allocates.
+    /// Whether one is due now, at most 2^48 ms (RFC 4861, section 6.2.4). If so it counts as sent. With the fourth and each
+    /// later one a word says when the next is due. No other call takes a word. Never allocates.
     pub fn due<D: Draw>(&mut self, now: Moment, draw: &mut D) -> bool
         requires { now ≤ 2 ^ 48 }
         ensures answer { result ≡ is_due now self.old }

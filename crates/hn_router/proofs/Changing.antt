@@ -1,14 +1,9 @@
--- Each event is a list of elementary changes, but for endpoints that come and go.
-use Rattle.std.proofs.Common.{◌≡◌, ◌≢◌, ◌<◌, ◌⊎◌, ℕ, true, false, not, List, [], ◌∷◌, Option, inl, inr, refl, sym, subst, arith}
-use Rattle.std.specs.Prelude.{length, nat_lt, ◌==◌, ◌||◌}
-use Rattle.std.proofs.lemmas.Bool.{or_parts, eqb-false, ltb-true, not-false}
+-- Each event is a list of elementary changes, but for endpoints that come and go; what it gives has to fit.
+use Rattle.std.proofs.Common.{◌≡◌, ◌⊎◌, ℕ, false, List, [], ◌∷◌, Option, inl, inr, refl, sym, subst}
 use Rattle.hn_base.specs.declared.caps.Caps.{Caps}
-use Rattle.hn_base.specs.declared.ids.EpId.{EpId}
 use Rattle.hn_base.specs.Prefix.{PlainPrefix}
+use Rattle.hn_base.specs.Rules.{Then}
 use Rattle.hn_tlv.specs.Grammar.{PlainTlv, IsTlvList}
-use Rattle.hn_own.specs.Addresses.{may_address}
-use Rattle.hn_own.specs.OwnPrefixes.{may_delegate}
-use Rattle.hn_own.specs.Ports.{is_attached}
 use Rattle.hn_rules.specs.declared.running.Running.{Running}
 use Rattle.hn_rules.specs.declared.running.Origin.{Origin}
 use Rattle.hn_rules.specs.declared.done.Note.TheVariants as note
@@ -16,13 +11,15 @@ use Rattle.hn_rules.specs.Arrival.{IsArrival}
 use Rattle.hn_rules.specs.Assigning.{IsAssigning}
 use Rattle.hn_rules.specs.Changes.{Change, TakeNote, Leads, EachKeeps, change}
 use Rattle.hn_rules.specs.Delegating.{delegating, withdrawing, ending}
-use Rattle.hn_rules.specs.Events.{IsAttaching, detaching, setting_caps, setting_private, setting_addresses, IsRestarting}
+use Rattle.hn_rules.specs.Given.{IsPrivateLength}
+use Rattle.hn_rules.specs.Events.{setting_caps, setting_private, setting_addresses, IsRestarting}
 use Rattle.hn_rules.specs.Laws.{MakesChanges, DelegatingMakesChanges, AddressingMakesChanges}
 use Rattle.hn_rules.specs.Refresh.{IsRefresh}
 use Rattle.hn_rules.specs.Rules.{Rule}
 use Rattle.hn_rules.specs.Tick.{IsExpiry, forgetting, IsPortsTick}
-use Rattle.hn_router.specs.Act.{PlainEvent, Arrive, Tick, Attach, Detach, External, Withdraw, SetCaps, Private, Addresses, Restart, is_refused, IsEventRule, IsEvent}
+use Rattle.hn_router.specs.Act.{PlainEvent, Arrive, Tick, is_refused, IsEventInRange, IsEdit, IsEventRule, IsEvent}
 use Rattle.hn_rules.specs.Ticks.{IsTick}
+use Rattle.hn_router.proofs.Edits.{EndpointsKeep, GivenKeep, OthersKeep, edit_keeps}
 
 -- a rule keeps a fact
 abbrev pub Keeps : (Running → Type 0) → Rule → Type 0
@@ -45,7 +42,7 @@ pub record ChangeLaws : Type 0 where
   pub delegating : DelegatingMakesChanges
   pub withdrawing : (prefix : PlainPrefix) → MakesChanges [] (λ b a. a ≡ withdrawing prefix b)
   pub caps : (caps : Caps) → MakesChanges [] (λ b a. a ≡ setting_caps caps b)
-  pub private : (private : Option ℕ) → MakesChanges [] (λ b a. a ≡ setting_private private b)
+  pub private : (private : Option ℕ) → IsPrivateLength private → MakesChanges [] (λ b a. a ≡ setting_private private b)
   pub addressing : AddressingMakesChanges
   pub restarting : MakesChanges [] IsRestarting
 
@@ -54,10 +51,14 @@ abbrev pub IsFrom : PlainEvent → List PlainTlv → Type 0
 IsFrom (Arrive from bytes) tlvs = (tlvs ≡ []) ⊎ IsTlvList tlvs bytes
 IsFrom _ tlvs = tlvs ≡ []
 
--- what endpoints that come and go keep, where this holds of the event
-pub record EndpointsKeep (May : PlainEvent → Type 0) (P : Running → Type 0) : Type 0 where
-  pub attaching : (at : EpId) (r a : Running) → May (Attach at) → 0 < at.0 → length r.state.ports < 16 → IsAttaching at r a → P r → P a
-  pub detaching : (at : EpId) (r : Running) → P r → P (detaching at r)
+-- what each change keeps, they keep where they fit
+pub given_keep : ChangeLaws → (P : Running → Type 0) → EachKeeps [] P → GivenKeep IsEventInRange P
+given_keep laws P each = record {
+  delegating = λ prefix valid preferred r fits may.
+      let made = laws.delegating prefix valid preferred r fits may in leads_keep [] P each made.0 r (delegating prefix valid preferred r) made.1;
+  private = λ length r fits. let made = laws.private length fits r (setting_private length r) refl in leads_keep [] P each made.0 r (setting_private length r) made.1;
+  addressing = λ list r fit may. let made = laws.addressing list r fit may in leads_keep [] P each made.0 r (setting_addresses list r) made.1;
+}
 
 module _ (laws : ChangeLaws) (May : PlainEvent → Type 0) (P : Running → Type 0) where
   -- changes that take from these TLVs
@@ -80,55 +81,34 @@ module _ (laws : ChangeLaws) (May : PlainEvent → Type 0) (P : Running → Type
         let p_assigned = plain IsAssigning laws.assigning left assigned assigns p_left in
         plain IsPortsTick laws.ports settled a ticks (refreshes assigned settled settles p_assigned)
 
-    attach_keeps : EndpointsKeep May P → (at : EpId) (r a : Running) → May (Attach at) → is_refused (Attach at) r.state ≡ false → IsEventRule (Attach at) r a → P r → P a
-    attach_keeps ends at r a may accepted (between, attaches, refreshed) p =
-        let some : (at.0 == 0) ≡ false = (or_parts (at.0 == 0) (is_attached at r.state.ports || not (nat_lt (length r.state.ports) 16)) accepted).0 in
-        let rest = (or_parts (at.0 == 0) (is_attached at r.state.ports || not (nat_lt (length r.state.ports) 16)) accepted).1 in
-        let room : nat_lt (length r.state.ports) 16 ≡ true = not-false (nat_lt (length r.state.ports) 16) (or_parts (is_attached at r.state.ports) (not (nat_lt (length r.state.ports) 16)) rest).1 in
-        let not_zero : at.0 ≢ 0 = eqb-false at.0 0 some in
-        refreshes between a refreshed (ends.attaching at r between may (omega arith) (ltb-true (length r.state.ports) 16 room) attaches p)
+    others_keep : OthersKeep P
+    others_keep = record {
+      withdrawing = λ prefix r. plain (λ b a. a ≡ withdrawing prefix b) (laws.withdrawing prefix) r (withdrawing prefix r) refl;
+      caps = λ caps r. plain (λ b a. a ≡ setting_caps caps b) (laws.caps caps) r (setting_caps caps r) refl;
+      restarting = plain IsRestarting laws.restarting;
+    }
 
-  event_rule_keeps : EndpointsKeep May P → (event : PlainEvent) → May event → ((tlvs : List PlainTlv) → IsFrom event tlvs → EachKeeps tlvs P)
+    then_keeps : EndpointsKeep May P → GivenKeep May P → (event : PlainEvent) (r a : Running) → May event → is_refused event r.state ≡ false
+        → Then (IsEdit event) IsRefresh r a → P r → P a
+    then_keeps ends given event r a may accepted (between, edits, refreshed) p =
+        refreshes between a refreshed (edit_keeps May P ends given others_keep event r between may accepted edits p)
+
+  -- an event that is not refused, and one that is
+  event_rule_keeps : EndpointsKeep May P → GivenKeep May P → (event : PlainEvent) → May event → ((tlvs : List PlainTlv) → IsFrom event tlvs → EachKeeps tlvs P)
       → (r a : Running) → is_refused event r.state ≡ false → IsEventRule event r a → P r → P a
-  event_rule_keeps ends (Arrive from bytes) ranged each r a accepted (inl far) p = subst P (sym far.gives) (each [] (inl refl) (TakeNote note.Far) r tt p)
-  event_rule_keeps ends (Arrive from bytes) ranged each r a accepted (inr (inl bad)) p =
+  event_rule_keeps ends given (Arrive from bytes) ranged each r a accepted (inl far) p = subst P (sym far.gives) (each [] (inl refl) (TakeNote note.Far) r tt p)
+  event_rule_keeps ends given (Arrive from bytes) ranged each r a accepted (inr (inl bad)) p =
       subst P (sym bad.gives) (each [] (inl refl) (TakeNote (note.Malformed bad.place bad.why)) r tt p)
-  event_rule_keeps ends (Arrive from bytes) ranged each r a accepted (inr (inr read)) p =
+  event_rule_keeps ends given (Arrive from bytes) ranged each r a accepted (inr (inr read)) p =
       by_changes read.tlvs (each read.tlvs (inr read.list)) (IsArrival from read.tlvs) (laws.arrival from read.tlvs) r a read.arrives p
-  event_rule_keeps ends Tick ranged each r a accepted holds p = tick_keeps (each [] refl) r a holds p
-  event_rule_keeps ends (Attach at) ranged each r a accepted holds p = attach_keeps (each [] refl) ends at r a ranged accepted holds p
-  event_rule_keeps ends (Detach at) ranged each r a accepted (between, is, refreshed) p =
-      refreshes (each [] refl) between a refreshed (subst P (sym is) (ends.detaching at r p))
-  event_rule_keeps ends (External prefix valid preferred) ranged each r a accepted (between, is, refreshed) p =
-      let may = not-false (may_delegate prefix r.state.delegated) accepted in
-      let made = laws.delegating prefix valid preferred r may in
-      refreshes (each [] refl) between a refreshed (subst P (sym is) (leads_keep [] P (each [] refl) made.0 r (delegating prefix valid preferred r) made.1 p))
-  event_rule_keeps ends (Withdraw prefix) ranged each r a accepted (between, is, refreshed) p =
-      refreshes (each [] refl) between a refreshed (plain (each [] refl) (λ b a. a ≡ withdrawing prefix b) (laws.withdrawing prefix) r between is p)
-  event_rule_keeps ends (SetCaps caps) ranged each r a accepted (between, is, refreshed) p =
-      refreshes (each [] refl) between a refreshed (plain (each [] refl) (λ b a. a ≡ setting_caps caps b) (laws.caps caps) r between is p)
-  event_rule_keeps ends (Private private) ranged each r a accepted (between, is, refreshed) p =
-      refreshes (each [] refl) between a refreshed (plain (each [] refl) (λ b a. a ≡ setting_private private b) (laws.private private) r between is p)
-  event_rule_keeps ends (Addresses list) ranged each r a accepted (between, is, refreshed) p =
-      let may = not-false (may_address list r.state.ports) accepted in
-      let made = laws.addressing list r may in
-      refreshes (each [] refl) between a refreshed (subst P (sym is) (leads_keep [] P (each [] refl) made.0 r (setting_addresses list r) made.1 p))
-  event_rule_keeps ends Restart ranged each r a accepted (between, restarts, refreshed) p =
-      refreshes (each [] refl) between a refreshed (plain (each [] refl) IsRestarting laws.restarting r between restarts p)
+  event_rule_keeps ends given Tick ranged each r a accepted holds p = tick_keeps (each [] refl) r a holds p
+  event_rule_keeps ends given event ranged each r a accepted holds p = then_keeps (each [] refl) ends given event r a ranged accepted holds p
+
+  none_keeps : (event : PlainEvent) → ((tlvs : List PlainTlv) → IsFrom event tlvs → EachKeeps tlvs P) → EachKeeps [] P
+  none_keeps (Arrive from bytes) each = each [] (inl refl)
+  none_keeps _ each = each [] refl
 
   -- what each change keeps, and endpoints that come and go, each event keeps
-  pub event_keeps : EndpointsKeep May P → (event : PlainEvent) → May event → ((tlvs : List PlainTlv) → IsFrom event tlvs → EachKeeps tlvs P) → Keeps P (IsEvent event)
-  event_keeps ends event ranged each r a (inl (refused, is)) p = subst P (sym is) (none event each (TakeNote note.Refused) r tt p)
-    where
-      none : (event : PlainEvent) → ((tlvs : List PlainTlv) → IsFrom event tlvs → EachKeeps tlvs P) → EachKeeps [] P
-      none (Arrive from bytes) each = each [] (inl refl)
-      none Tick each = each [] refl
-      none (Attach at) each = each [] refl
-      none (Detach at) each = each [] refl
-      none (External prefix valid preferred) each = each [] refl
-      none (Withdraw prefix) each = each [] refl
-      none (SetCaps caps) each = each [] refl
-      none (Private private) each = each [] refl
-      none (Addresses list) each = each [] refl
-      none Restart each = each [] refl
-  event_keeps ends event ranged each r a (inr (accepted, holds)) p = event_rule_keeps ends event ranged each r a accepted holds p
+  pub event_keeps : EndpointsKeep May P → GivenKeep May P → (event : PlainEvent) → May event → ((tlvs : List PlainTlv) → IsFrom event tlvs → EachKeeps tlvs P) → Keeps P (IsEvent event)
+  event_keeps ends given event ranged each r a (inl (refused, is)) p = subst P (sym is) (none_keeps event each (TakeNote note.Refused) r tt p)
+  event_keeps ends given event ranged each r a (inr (accepted, holds)) p = event_rule_keeps ends given event ranged each r a accepted holds p

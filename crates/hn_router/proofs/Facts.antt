@@ -1,6 +1,8 @@
 -- What each event keeps: what is sent is short, the limit of the table stays, and what is held and sent was published.
 use Rattle.std.proofs.Common.{◌≡◌, ◌<◌, ◌^◌, ◌⊎◌, ℕ, List, [], ◌++◌, inl, inr, refl, sym, subst, arith}
-use Rattle.std.specs.Prelude.{All, length, ◌≤◌}
+use Rattle.std.specs.Prelude.{All, length, nat_eq, ◌≤◌}
+use Rattle.std.specs.Option.{option_eq}
+use Rattle.std.proofs.lemmas.Bool.{cond_both}
 use Rattle.std.proofs.lemmas.List.{append-nil}
 use Rattle.std.proofs.lemmas.List.Elements.{All-nil}
 use Rattle.hn_base.specs.declared.ids.EpId.{EpId}
@@ -11,15 +13,17 @@ use Rattle.hn_rules.specs.declared.done.Outgoing.{Outgoing}
 use Rattle.hn_rules.specs.declared.done.Publication.{Publication}
 use Rattle.hn_rules.specs.declared.running.Running.{Running}
 use Rattle.hn_rules.specs.declared.state.State.{State}
+use Rattle.hn_own.specs.HeldPairs.{without_private}
 use Rattle.hn_rules.specs.Events.{IsAttaching, detaching}
 use Rattle.hn_rules.specs.Genuine.{IsGenuine, TextsCollide, TlvsSayPublished, BytesSayPublished, IsGenuineAnswer, IsGenuineSoFar, IsGenuineOrCollides}
 use Rattle.hn_rules.specs.Laws.{RouterStaysLater, AttachingKeeps, KeepsWell, ChangesKeepLimit, RouterIsHashed, ChangesKeepShort, ChangesKeepGenuine}
 use Rattle.hn_rules.specs.Lengths.{most_answer, most_datagram, AreShort}
 use Rattle.hn_rules.specs.Router.{IsWell, IsHashed}
 use Rattle.hn_rules.specs.Rules.{begun_at}
-use Rattle.hn_router.specs.Act.{PlainEvent, Arrive, Tick, Attach, Detach, External, Withdraw, SetCaps, Private, Addresses, Restart, IsEventInRange, Happened}
+use Rattle.hn_router.specs.Act.{PlainEvent, Arrive, IsEventInRange, Happened}
 use Rattle.hn_router.specs.Laws.{IsTrusted, SendsAreShort, LimitStays, GenuineStays}
-use Rattle.hn_router.proofs.Changing.{ChangeLaws, IsFrom, EndpointsKeep, event_keeps}
+use Rattle.hn_router.proofs.Changing.{ChangeLaws, IsFrom, given_keep, event_keeps}
+use Rattle.hn_router.proofs.Edits.{EndpointsKeep, GivenKeep}
 
 -- ---- the limit
 
@@ -29,11 +33,21 @@ limit_ends limit = record {
   detaching = λ at r same. same;
 }
 
+limit_given : (limit : ℕ) → GivenKeep (λ event. Unit {0}) (λ r. r.state.table.limit ≡ limit)
+limit_given limit = record {
+  delegating = λ prefix valid preferred r ranged may same. same;
+  private = λ length r ranged same.
+      cond_both (option_eq nat_eq length r.state.private) r (record r { state = record r.state { private = length; held = without_private r.state.held } })
+      (λ (x : Running). x.state.table.limit ≡ limit) (λ _. same) (λ _. same);
+  addressing = λ list r ranged may same. same;
+}
+
 pub limit_stays : ChangeLaws → ChangesKeepLimit → LimitStays
 unfolding Happened
 limit_stays laws keeps now event s next done (after, holds, (due, is_due, is_next), is_done) =
     subst (λ (x : State). x.table.limit ≡ s.table.limit) (sym is_next)
-    (event_keeps laws (λ event. Unit {0}) (λ r. r.state.table.limit ≡ s.table.limit) (limit_ends s.table.limit) event tt (λ tlvs from. keeps tlvs s.table.limit) (begun_at now s) after holds refl)
+    (event_keeps laws (λ event. Unit {0}) (λ r. r.state.table.limit ≡ s.table.limit) (limit_ends s.table.limit) (limit_given s.table.limit)
+    event tt (λ tlvs from. keeps tlvs s.table.limit) (begun_at now s) after holds refl)
 
 -- ---- the network state hash, and lengths
 
@@ -69,7 +83,8 @@ module _ (laws : EndLaws) where
       let begun : IsHashed (begun_at now s).state = laws.hashed (begun_at now s).state (laws.later now s router rises) in
       let none : AreShort (begun_at now s) =
       record { answers = All-nil (λ (a : Answer). length a.tlv ≤ most_answer); sends = All-nil (λ (o : Outgoing). length o.bytes ≤ most_datagram) } in
-      let kept = event_keeps laws.changes IsEventInRange (λ r. IsHashed r.state × AreShort r) short_ends event ranged (λ tlvs from. keeps tlvs) (begun_at now s) after holds (begun, none) in
+      let given = given_keep laws.changes (λ r. IsHashed r.state × AreShort r) (keeps []) in
+      let kept = event_keeps laws.changes IsEventInRange (λ r. IsHashed r.state × AreShort r) short_ends given event ranged (λ tlvs from. keeps tlvs) (begun_at now s) after holds (begun, none) in
       subst (λ (d : Done). All (λ o. length o.bytes ≤ most_datagram) d.sends) (sym is_done) kept.1.sends
 
   -- ---- what was published
@@ -97,15 +112,7 @@ module _ (laws : EndLaws) where
   say_from : (past : List Publication) (event : PlainEvent) → IsTrusted past event → (tlvs : List PlainTlv) → IsFrom event tlvs → TlvsSayPublished past tlvs
   say_from past (Arrive from bytes) trusted tlvs (inl none) = subst (TlvsSayPublished past) (sym none) (no_tlvs past)
   say_from past (Arrive from bytes) trusted tlvs (inr list) = trusted tlvs list
-  say_from past Tick trusted tlvs none = subst (TlvsSayPublished past) (sym none) (no_tlvs past)
-  say_from past (Attach at) trusted tlvs none = subst (TlvsSayPublished past) (sym none) (no_tlvs past)
-  say_from past (Detach at) trusted tlvs none = subst (TlvsSayPublished past) (sym none) (no_tlvs past)
-  say_from past (External prefix valid preferred) trusted tlvs none = subst (TlvsSayPublished past) (sym none) (no_tlvs past)
-  say_from past (Withdraw prefix) trusted tlvs none = subst (TlvsSayPublished past) (sym none) (no_tlvs past)
-  say_from past (SetCaps caps) trusted tlvs none = subst (TlvsSayPublished past) (sym none) (no_tlvs past)
-  say_from past (Private private) trusted tlvs none = subst (TlvsSayPublished past) (sym none) (no_tlvs past)
-  say_from past (Addresses list) trusted tlvs none = subst (TlvsSayPublished past) (sym none) (no_tlvs past)
-  say_from past Restart trusted tlvs none = subst (TlvsSayPublished past) (sym none) (no_tlvs past)
+  say_from past _ trusted tlvs none = subst (TlvsSayPublished past) (sym none) (no_tlvs past)
 
   begun_genuine : (past : List Publication) (now : ℕ) (s : State) → IsGenuine past s → IsGenuineSoFar past (begun_at now s)
   begun_genuine past now s genuine =
@@ -117,11 +124,11 @@ module _ (laws : EndLaws) where
       }
 
   -- what an event leaves, by the router in the middle of it at its end
-  abbrev IsLeft : List Publication → State → Done → Type 0
-  IsLeft past next done =
+  abbrev IsLeftAtEnd : List Publication → State → Done → Type 0
+  IsLeftAtEnd past next done =
       (IsGenuine (past ++ done.published) next × All (λ o. BytesSayPublished (past ++ done.published) o.bytes) done.sends) ⊎ TextsCollide (past ++ done.published)
 
-  left_at_end : (past : List Publication) (due : ℕ) (r : Running) → IsGenuineOrCollides past r → IsLeft past (record r.state { due = due }) r.done
+  left_at_end : (past : List Publication) (due : ℕ) (r : Running) → IsGenuineOrCollides past r → IsLeftAtEnd past (record r.state { due = due }) r.done
   left_at_end past due r (inl (hashed, so)) = inl (record { own = so.state.own; others = so.state.others }, so.sends)
   left_at_end past due r (inr collide) = inr collide
 
@@ -129,6 +136,7 @@ module _ (laws : EndLaws) where
   unfolding Happened
   genuine_stays keeps past now event s next done router rises ranged genuine trusted (after, holds, (due, is_due, is_next), is_done) =
       let begun : IsHashed (begun_at now s).state = laws.hashed (begun_at now s).state (laws.later now s router rises) in
-      let kept = event_keeps laws.changes IsEventInRange (IsGenuineOrCollides past) (genuine_ends past) event ranged (λ tlvs from. keeps past tlvs (say_from past event trusted tlvs from))
+      let given = given_keep laws.changes (IsGenuineOrCollides past) (keeps past [] (no_tlvs past)) in
+      let kept = event_keeps laws.changes IsEventInRange (IsGenuineOrCollides past) (genuine_ends past) given event ranged (λ tlvs from. keeps past tlvs (say_from past event trusted tlvs from))
       (begun_at now s) after holds (inl (begun, begun_genuine past now s genuine)) in
-      subst (λ (x : State). IsLeft past x done) (sym is_next) (subst (IsLeft past (record after.state { due = due })) (sym is_done) (left_at_end past due after kept))
+      subst (λ (x : State). IsLeftAtEnd past x done) (sym is_next) (subst (IsLeftAtEnd past (record after.state { due = due })) (sym is_done) (left_at_end past due after kept))

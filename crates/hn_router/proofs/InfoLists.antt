@@ -88,7 +88,8 @@ pub record IsNext (view : PlainView) (usable : List Delegated) (done : List Assi
   pub inside_c : IsInDelegated c
 
 -- one that is advertised of an earlier assignment comes before
-before_next : InsideKeepsTheOrder → (view : PlainView) (usable : List Delegated) (e : EpId) (done : List Assigned) (c : Assigned) (b : Assigned) (i j : Info) → IsNext view usable done c → Contains done b
+before_next : InsideKeepsTheOrder → (view : PlainView) (usable : List Delegated) (e : EpId) (done : List Assigned) (c : Assigned) (b : Assigned) (i j : Info)
+    → IsNext view usable done c → Contains done b
     → IsInfoFrom usable e b j → IsInfoFrom usable e c i → IsPrefix j.prefix → IsPrefix i.prefix → prefix_cmp j.prefix i.prefix ≡ Less
 before_next keeps view usable e done c b i j next early from_b from_c valid_j valid_i =
     let less : pair_cmp (assigned_pair b) (assigned_pair c) ≡ Less = All-contains (λ (x : Assigned). pair_cmp (assigned_pair x) (assigned_pair c) ≡ Less) done b next.before early in
@@ -120,7 +121,8 @@ infos_more keeps view usable e done c infos i next were from valid = record {
   );
 }
 
-pub infos_same : (usable : List Delegated) (e : EpId) (done : List Assigned) (c : Assigned) (infos : List Info) → AreInfosOf usable e done infos → HasNoInfo usable e c → AreInfosOf usable e (done ++ c ∷ []) infos
+pub infos_same : (usable : List Delegated) (e : EpId) (done : List Assigned) (c : Assigned) (infos : List Info) → AreInfosOf usable e done infos
+    → HasNoInfo usable e c → AreInfosOf usable e (done ++ c ∷ []) infos
 infos_same usable e done c infos were none = record {
   ascending = were.ascending;
   valid = were.valid;
@@ -142,7 +144,8 @@ before_at xs n c at up k d within =
     let less : pair_cmp (assigned_pair (get_or xs k d)) (assigned_pair (get_or xs n d)) ≡ Less = Less-from_sorted (on assigned_pair pair_cmp) xs k n d up early (slice_get_within xs n c at) in
     rw (get_or-take n xs k d early) (subst (λ (b : Assigned). pair_cmp (assigned_pair (get_or xs k d)) (assigned_pair b) ≡ Less) (get_or_from_slice_get xs n c d at) less)
 
-next_at : (view : PlainView) (usable : List Delegated) (xs : List Assigned) (n : ℕ) (c : Assigned) → slice_get xs n ≡ Some c → AreUsable view usable → IsAscending assigned_pair xs → All IsInDelegated xs
+next_at : (view : PlainView) (usable : List Delegated) (xs : List Assigned) (n : ℕ) (c : Assigned) → slice_get xs n ≡ Some c → AreUsable view usable
+    → IsAscending assigned_pair xs → All IsInDelegated xs
     → IsNext view usable (take n xs) c
 next_at view usable xs n c at are up inside = record {
   are_usable = are;
@@ -151,12 +154,15 @@ next_at view usable xs n c at are up inside = record {
   inside_c = All-contains IsInDelegated xs c inside (contains_at xs n c at);
 }
 
-pub infos_more_at : InsideKeepsTheOrder → (view : PlainView) (usable : List Delegated) (e : EpId) (xs : List Assigned) (n : ℕ) (c : Assigned) (infos : List Info) (i : Info) → slice_get xs n ≡ Some c → AreUsable view usable
-    → IsAscending assigned_pair xs → All IsInDelegated xs → AreInfosOf usable e (take n xs) infos → IsInfoFrom usable e c i → IsPrefix i.prefix → AreInfosOf usable e (take (n + 1) xs) (infos ++ i ∷ [])
+pub infos_more_at : InsideKeepsTheOrder → (view : PlainView) (usable : List Delegated) (e : EpId) (xs : List Assigned) (n : ℕ) (c : Assigned) (infos : List Info) (i : Info)
+    → slice_get xs n ≡ Some c → AreUsable view usable → IsAscending assigned_pair xs → All IsInDelegated xs → AreInfosOf usable e (take n xs) infos
+    → IsInfoFrom usable e c i → IsPrefix i.prefix → AreInfosOf usable e (take (n + 1) xs) (infos ++ i ∷ [])
 infos_more_at keeps view usable e xs n c infos i at are up inside were from valid =
-    subst (λ (l : List Assigned). AreInfosOf usable e l (infos ++ i ∷ [])) (sym (front_at xs n c at)) (infos_more keeps view usable e (take n xs) c infos i (next_at view usable xs n c at are up inside) were from valid)
+    subst (λ (l : List Assigned). AreInfosOf usable e l (infos ++ i ∷ [])) (sym (front_at xs n c at))
+    (infos_more keeps view usable e (take n xs) c infos i (next_at view usable xs n c at are up inside) were from valid)
 
-pub infos_same_at : (usable : List Delegated) (e : EpId) (xs : List Assigned) (n : ℕ) (c : Assigned) (infos : List Info) → slice_get xs n ≡ Some c → AreInfosOf usable e (take n xs) infos → HasNoInfo usable e c
+pub infos_same_at : (usable : List Delegated) (e : EpId) (xs : List Assigned) (n : ℕ) (c : Assigned) (infos : List Info)
+    → slice_get xs n ≡ Some c → AreInfosOf usable e (take n xs) infos → HasNoInfo usable e c
     → AreInfosOf usable e (take (n + 1) xs) infos
 infos_same_at usable e xs n c infos at were none = subst (λ (l : List Assigned). AreInfosOf usable e l infos) (sym (front_at xs n c at)) (infos_same usable e (take n xs) c infos were none)
 

@@ -38,6 +38,9 @@ router_due due s is =
         posted = record { addressed = well.posted.addressed; of_length = well.posted.of_length; linked = well.posted.linked };
         numbered = record { own = well.numbered.own; held = well.numbered.held; own_id = well.numbered.own_id; held_ids = well.numbered.held_ids };
         past = record { born = well.past.born; ports = well.past.ports; nodes = well.past.nodes; assigned = well.past.assigned };
+        ranged = well.ranged;
+        private = well.private;
+        near = well.near;
       };
       refreshed = record {
         published = fresh.published;

@@ -3,13 +3,17 @@ mod Moments
 mod NewRouter
 mod OneEvents
 mod OneNew
+mod SomeEvents
+mod SomeNew
 mod Keeping
 mod Planning
 mod Shift
 mod Stays
+mod Given
 mod InfoLists
 mod OneAdverts
 mod Changing
+mod Edits
 mod Facts
 mod Refused
 mod Restful

@@ -1,8 +1,5 @@
 -- After an event a router's moment is the event's, and its endpoints change only where one is attached or detached.
-use Rattle.std.proofs.Common.{◌≡◌, ◌∙◌, ℕ, Bool, true, false, not, cond, List, [], ◌∷◌, ◌++◌, map, filter, nat_lt, Option, inl, inr, refl, sym, ap}
-use Rattle.std.specs.Prelude.{◌==◌, nat_eq}
-use Rattle.std.specs.Option.{option_eq}
-use Rattle.std.proofs.lemmas.Bool.{cond_both}
+use Rattle.std.proofs.Common.{◌≡◌, ◌∙◌, ℕ, Bool, cond, List, ◌∷◌, ◌++◌, map, filter, nat_lt, inl, inr, refl, sym, ap}
 use Rattle.std.proofs.lemmas.List.{map-append}
 use Rattle.hn_base.specs.declared.ids.EpId.{EpId}
 use Rattle.hn_tlv.specs.Grammar.{PlainTlv}
@@ -15,18 +12,20 @@ use Rattle.hn_rules.specs.declared.running.Origin.{Origin}
 use Rattle.hn_rules.specs.Arrival.{IsArrival}
 use Rattle.hn_rules.specs.Assigning.{IsAssigning}
 use Rattle.hn_rules.specs.Delegating.{ending}
-use Rattle.hn_rules.specs.Events.{setting_private, IsRestarting}
+use Rattle.hn_rules.specs.Events.{IsRestarting}
 use Rattle.hn_rules.specs.Laws.{KeepsEndpoints}
 use Rattle.hn_rules.specs.Refresh.{IsRefresh}
 use Rattle.hn_base.specs.Rules.{Then}
 use Rattle.hn_rules.specs.Rules.{Rule, begun_at}
 use Rattle.hn_rules.specs.Tick.{IsExpiry, forgetting, IsPortsTick}
-use Rattle.hn_router.specs.Act.{PlainEvent, Arrive, Tick, Attach, Detach, External, Withdraw, SetCaps, Private, Addresses, Restart, is_refused, IsEventRule, IsEvent, Happened}
+use Rattle.hn_router.specs.Act.{PlainEvent, Arrive, Tick, Attach, Restart, is_refused, IsEdit, IsEventRule, IsEvent, Happened}
+use Rattle.hn_router.proofs.Edits.{filter_parts, plain_edit}
+use Rattle.hn_router.proofs.Refused.{refused_then}
 use Rattle.hn_router.specs.Laws.{MomentIsNow, endpoints_by, EndpointsFollow}
 use Rattle.hn_rules.specs.Ticks.{IsLosing, IsSettling, IsTick}
 
 -- what the laws say of the rules
-pub record HasLaws : Type 0 where
+pub record MomentLaws : Type 0 where
   pub refresh : KeepsEndpoints IsRefresh
   pub arrival : (from : Origin) (tlvs : List PlainTlv) → KeepsEndpoints (IsArrival from tlvs)
   pub expiry : KeepsEndpoints IsExpiry
@@ -47,8 +46,8 @@ keeps_plain : (step : Running → Running) → ((r : Running) → (step r).state
 keeps_plain step moment ends before after is =
     (ap (λ (r : Running). r.state.moment) is ∙ moment before, ap (λ (r : Running). endpoints_of r.state.ports) is ∙ ends before)
 
-keeps_tick : HasLaws → KeepsEndpoints IsTick
-keeps_tick laws =
+tick_keeps_endpoints : MomentLaws → KeepsEndpoints IsTick
+tick_keeps_endpoints laws =
     let losing = keeps_both IsExpiry (Then (λ b a. a ≡ ending b) IsRefresh) laws.expiry (keeps_both (λ b a. a ≡ ending b) IsRefresh (keeps_plain ending (λ r. refl) (λ r. refl)) laws.refresh) in
     let settling = keeps_both IsAssigning IsRefresh laws.assigning laws.refresh in
     keeps_both IsLosing (Then (λ b a. a ≡ forgetting b) (Then IsSettling IsPortsTick)) losing
@@ -56,14 +55,6 @@ keeps_tick laws =
     (keeps_both IsSettling IsPortsTick settling laws.ports))
 
 -- ---- the endpoints after one is attached or detached
-
-filter_parts : {A B : Type 0} (p : B → Bool) (f : A → B) (xs : List A) → map f (filter (λ x. p (f x)) xs) ≡ filter p (map f xs)
-filter_parts p f [] = refl
-filter_parts p f (x ∷ xs) = by_test (p (f x)) (filter_parts p f xs)
-  where
-    by_test : (b : Bool) → map f (filter (λ y. p (f y)) xs) ≡ filter p (map f xs) → map f (cond b (x ∷ filter (λ y. p (f y)) xs) (filter (λ y. p (f y)) xs)) ≡ cond b (f x ∷ filter p (map f xs)) (filter p (map f xs))
-    by_test true more = ap (λ ys. f x ∷ ys) more
-    by_test false more = more
 
 attached_endpoints : (port : Port) (ports : List Port) → endpoints_of (attached port ports) ≡ endpoints_by (Attach port.id) (endpoints_of ports)
 attached_endpoints port ports =
@@ -74,25 +65,24 @@ attached_endpoints port ports =
     ∙ ap (λ (es : List EpId). es ++ port.id ∷ map number above) (filter_parts (λ (e : EpId). nat_lt e.0 port.id.0) number ports)
     ∙ ap (λ (es : List EpId). filter (λ (e : EpId). nat_lt e.0 port.id.0) (map number ports) ++ port.id ∷ es) (filter_parts (λ (e : EpId). nat_lt port.id.0 e.0) number ports)
 
--- ---- the private link
-
-private_moment : (private : Option ℕ) (r : Running) → (setting_private private r).state.moment ≡ r.state.moment
-private_moment private r = cond_both (option_eq nat_eq private r.state.private) _ _ (λ (a : Running). a.state.moment ≡ r.state.moment) (λ _. refl) (λ _. refl)
-
-private_endpoints : (private : Option ℕ) (r : Running) → endpoints_of (setting_private private r).state.ports ≡ endpoints_of r.state.ports
-private_endpoints private r =
-    cond_both (option_eq nat_eq private r.state.private) _ _ (λ (a : Running). endpoints_of a.state.ports ≡ endpoints_of r.state.ports) (λ _. refl) (λ _. refl)
-
 -- ---- an event
 
 -- the moment and the endpoints after an event
 abbrev Follows : PlainEvent → Running → Running → Type 0
 Follows event r a = (a.state.moment ≡ r.state.moment) × (endpoints_of a.state.ports ≡ endpoints_by event (endpoints_of r.state.ports))
 
-module _ (laws : HasLaws) where
-  -- a step, and then a refresh
-  refreshed : (event : PlainEvent) (r between a : Running) → Follows event r between → IsRefresh between a → Follows event r a
-  refreshed event r between a follows refreshes =
+module _ (laws : MomentLaws) where
+  -- an edit
+  follows_edit : (event : PlainEvent) (r a : Running) → IsEdit event r a → Follows event r a
+  follows_edit (Attach at) r a is =
+      (ap (λ (x : Running). x.state.moment) is.gives, ap (λ (x : Running). endpoints_of x.state.ports) is.gives ∙ attached_endpoints (attached_port at r.state.moment is.word) r.state.ports)
+  follows_edit Restart r a restarts = laws.restarting r a restarts
+  follows_edit event r a is = let leaves = plain_edit event r a is in (leaves.1, leaves.2)
+
+  -- and then a refresh
+  follows_then : (event : PlainEvent) (r a : Running) → Then (IsEdit event) IsRefresh r a → Follows event r a
+  follows_then event r a (between, edits, refreshes) =
+      let follows = follows_edit event r between edits in
       let kept = laws.refresh between a refreshes in
       (kept.0 ∙ follows.0, kept.1 ∙ follows.1)
 
@@ -101,24 +91,8 @@ module _ (laws : HasLaws) where
   follows_rule (Arrive from bytes) r a (inr (inl malformed)) =
       (ap (λ (x : Running). x.state.moment) malformed.gives, ap (λ (x : Running). endpoints_of x.state.ports) malformed.gives)
   follows_rule (Arrive from bytes) r a (inr (inr read)) = laws.arrival from read.tlvs r a read.arrives
-  follows_rule Tick r a holds = keeps_tick laws r a holds
-  follows_rule (Attach at) r a (between, is, refreshes) =
-      refreshed (Attach at) r between a
-      (ap (λ (x : Running). x.state.moment) is.gives, ap (λ (x : Running). endpoints_of x.state.ports) is.gives ∙ attached_endpoints (attached_port at r.state.moment is.word) r.state.ports) refreshes
-  follows_rule (Detach at) r a (between, is, refreshes) =
-      refreshed (Detach at) r between a
-      (ap (λ (x : Running). x.state.moment) is, ap (λ (x : Running). endpoints_of x.state.ports) is ∙ filter_parts (λ (e : EpId). not (e.0 == at.0)) (λ (p : Port). p.id) r.state.ports) refreshes
-  follows_rule (External prefix valid preferred) r a (between, is, refreshes) =
-      refreshed (External prefix valid preferred) r between a (ap (λ (x : Running). x.state.moment) is, ap (λ (x : Running). endpoints_of x.state.ports) is) refreshes
-  follows_rule (Withdraw prefix) r a (between, is, refreshes) =
-      refreshed (Withdraw prefix) r between a (ap (λ (x : Running). x.state.moment) is, ap (λ (x : Running). endpoints_of x.state.ports) is) refreshes
-  follows_rule (SetCaps caps) r a (between, is, refreshes) =
-      refreshed (SetCaps caps) r between a (ap (λ (x : Running). x.state.moment) is, ap (λ (x : Running). endpoints_of x.state.ports) is) refreshes
-  follows_rule (Private private) r a (between, is, refreshes) =
-      refreshed (Private private) r between a (keeps_plain (setting_private private) (private_moment private) (private_endpoints private) r between is) refreshes
-  follows_rule (Addresses list) r a (between, is, refreshes) =
-      refreshed (Addresses list) r between a (ap (λ (x : Running). x.state.moment) is, ap (λ (x : Running). endpoints_of x.state.ports) is) refreshes
-  follows_rule Restart r a (between, restarts, refreshes) = refreshed Restart r between a (laws.restarting r between restarts) refreshes
+  follows_rule Tick r a holds = tick_keeps_endpoints laws r a holds
+  follows_rule event r a holds = follows_then event r a holds
 
   pub moment_of_event : (event : PlainEvent) (r a : Running) → IsEvent event r a → a.state.moment ≡ r.state.moment
   moment_of_event event r a (inl (refused, is)) = ap (λ (x : Running). x.state.moment) is
@@ -135,21 +109,8 @@ module _ (laws : HasLaws) where
   endpoints_of_event event r a (inr (accepted, holds)) =
       (follows_rule event r a holds).1 ∙ sym (ap (λ (b : Bool). cond b (endpoints_of r.state.ports) (endpoints_by event (endpoints_of r.state.ports))) accepted)
 
--- whether an event is refused does not depend on the moment
-refused_same : (event : PlainEvent) (now : ℕ) (s : State) → is_refused event (begun_at now s).state ≡ is_refused event s
-refused_same (Arrive from bytes) now s = refl
-refused_same Tick now s = refl
-refused_same (Attach at) now s = refl
-refused_same (Detach at) now s = refl
-refused_same (External prefix valid preferred) now s = refl
-refused_same (Withdraw prefix) now s = refl
-refused_same (SetCaps caps) now s = refl
-refused_same (Private private) now s = refl
-refused_same (Addresses list) now s = refl
-refused_same Restart now s = refl
-
-pub ends_follow : HasLaws → EndpointsFollow
+pub ends_follow : MomentLaws → EndpointsFollow
 unfolding Happened
 ends_follow laws now event s next done (after, holds, (due, is_due, is_next), is_done) =
     ap (λ (x : State). endpoints_of x.ports) is_next ∙ endpoints_of_event laws event (begun_at now s) after holds
-    ∙ ap (λ (b : Bool). cond b (endpoints_of s.ports) (endpoints_by event (endpoints_of s.ports))) (refused_same event now s)
+    ∙ ap (λ (b : Bool). cond b (endpoints_of s.ports) (endpoints_by event (endpoints_of s.ports))) (refused_then event now s)

@@ -4,11 +4,12 @@ use Rattle.std.specs.Prelude.{All, Contains, ◌↔◌, nat_lt, is_none, IsTrue}
 use Rattle.std.specs.List.Sorted.{IsStrictlySortedBy}
 use Rattle.std.proofs.lemmas.List.Elements.{All-nil}
 use Rattle.hn_base.specs.NodeIds.{node_cmp}
+use Rattle.hn_base.specs.Prefix.{IsPrefix}
 use Rattle.hn_base.specs.declared.ids.NodeId.{NodeId}
 use Rattle.hn_assign.specs.declared.assigned.Assigned.{Assigned}
 use Rattle.hn_data.specs.declared.said.PeerLink.{PeerLink}
 use Rattle.hn_assign.specs.declared.held.Held.{Held}
-use Rattle.hn_assign.specs.Facts.{IsInDelegated, HasOwnPriority, IsAssignedPast}
+use Rattle.hn_assign.specs.Facts.{IsInDelegated, HasOwnPriority, IsAssignedPast, IsSoonDue}
 use Rattle.hn_data.specs.View.{IsNetwork}
 use Rattle.hn_data.specs.declared.view.Entry.{Entry}
 use Rattle.hn_graph.specs.Path.{IsReachable}
@@ -25,8 +26,11 @@ use Rattle.hn_own.specs.Own.{links_of}
 use Rattle.hn_own.specs.declared.own.OwnItems.{OwnItems}
 use Rattle.hn_own.specs.Addresses.{OwnAddress, AreAddresses}
 use Rattle.hn_own.specs.Ports.{ArePorts, is_attached}
+use Rattle.hn_own.specs.Ranges.{IsRangedPeer, IsRangedHeld, IsRangedAddress}
+use Rattle.hn_own.specs.declared.own_prefixes.OwnPrefix.{OwnPrefix}
 use Rattle.hn_rules.specs.Nodes.{held_entry, own_entry, nodes_of}
-use Rattle.hn_rules.specs.Router.{IsPortPast, IsNodePast, IsWell, WasReach}
+use Rattle.hn_rules.specs.Given.{IsPrivateLength}
+use Rattle.hn_rules.specs.Router.{IsPortPast, IsNodePast, EndsSoon, IsWell, WasReach}
 use Rattle.hn_router.specs.Laws.{NewIsRouter}
 use Rattle.hn_base.proofs.AscendingLists.{Contains-one}
 
@@ -71,7 +75,8 @@ new_is_one none no_endpoints no_delegated no_address own_is_reachable reachable_
       addresses = subst AreAddresses (sym new.no_addresses) no_address;
       posted = record {
         addressed = subst (All (λ a. IsTrue (is_attached a.0 s.ports))) (sym new.no_addresses) (All-nil (λ (a : OwnAddress). IsTrue (is_attached a.0 s.ports)));
-        of_length = subst (λ (pairs : Held). All (λ c. c.endpoint.0 ≡ 0 → Some c.prefix.len ≡ s.private) pairs.assigned) (sym new.nothing_held) (All-nil (λ (c : Assigned). c.endpoint.0 ≡ 0 → Some c.prefix.len ≡ s.private));
+        of_length = subst (λ (pairs : Held). All (λ c. c.endpoint.0 ≡ 0 → Some c.prefix.len ≡ s.private) pairs.assigned) (sym new.nothing_held)
+            (All-nil (λ (c : Assigned). c.endpoint.0 ≡ 0 → Some c.prefix.len ≡ s.private));
         linked = subst (All (λ link. 0 < link.endpoint.0)) (sym links) (All-nil (λ (link : PeerLink). 0 < link.endpoint.0));
       };
       numbered = record {
@@ -86,14 +91,27 @@ new_is_one none no_endpoints no_delegated no_address own_is_reachable reachable_
         nodes = subst (λ (nodes : Nodes). All (IsNodePast s.moment) nodes.entries) (sym new.table_is) (All-nil (IsNodePast s.moment));
         assigned = subst (λ (pairs : Held). All (IsAssignedPast s.moment) pairs.assigned) (sym new.nothing_held) (All-nil (IsAssignedPast s.moment));
       };
+      ranged = record {
+        peers = subst (λ (ports : List Port). All (λ port. All IsRangedPeer port.peers) ports) (sym new.ports_are) (All-nil (λ (port : Port). All IsRangedPeer port.peers));
+        delegated = subst (All (λ p. IsPrefix p.prefix)) (sym new.no_prefixes) (All-nil (λ (p : OwnPrefix). IsPrefix p.prefix));
+        assigned = subst (λ (pairs : Held). All IsRangedHeld pairs.assigned) (sym new.nothing_held) (All-nil IsRangedHeld);
+        addresses = subst (All IsRangedAddress) (sym new.no_addresses) (All-nil IsRangedAddress);
+      };
+      private = subst IsPrivateLength (sym new.no_private) tt;
+      near = record {
+        backoffs = subst (λ (pairs : Held). All (IsSoonDue s.moment) pairs.backoffs) (sym new.nothing_held) (All-nil (IsSoonDue s.moment));
+        ends = subst (All (EndsSoon s.moment)) (sym new.no_prefixes) (All-nil (EndsSoon s.moment));
+      };
     }
 
     lost : All (λ node. is_among s.reach node.id.0 ≡ is_none node.stored.lost) s.table.entries
-    lost = subst (λ (nodes : Nodes). All (λ node. is_among s.reach node.id.0 ≡ is_none node.stored.lost) nodes.entries) (sym new.table_is) (All-nil (λ (node : HeldNode). is_among s.reach node.id.0 ≡ is_none node.stored.lost))
+    lost = subst (λ (nodes : Nodes). All (λ node. is_among s.reach node.id.0 ≡ is_none node.stored.lost) nodes.entries) (sym new.table_is)
+        (All-nil (λ (node : HeldNode). is_among s.reach node.id.0 ≡ is_none node.stored.lost))
 
     nodes_are : nodes_of s ≡ own_entry s ∷ []
     nodes_are =
-        ap (λ (nodes : Nodes). filter (λ n. nat_lt n.id.0 s.id.0) (map (held_entry s.moment) nodes.entries) ++ own_entry s ∷ filter (λ n. nat_lt s.id.0 n.id.0) (map (held_entry s.moment) nodes.entries)) new.table_is
+        ap (λ (nodes : Nodes). filter (λ n. nat_lt n.id.0 s.id.0) (map (held_entry s.moment) nodes.entries)
+        ++ own_entry s ∷ filter (λ n. nat_lt s.id.0 n.id.0) (map (held_entry s.moment) nodes.entries)) new.table_is
 
     exactly : (y : NodeId) → Contains s.reach y ↔ IsReachable s.id.0 (nodes_of s) y.0
     exactly y =

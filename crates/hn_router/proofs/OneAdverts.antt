@@ -26,7 +26,8 @@ use Rattle.hn_base.proofs.Prefixes.{prefix_total}
 one_flag : CommonLinkIsUnique → HasOneAnswer → (s : State) (e : EpId) (letter : Letter) (a b : Option NodeId) → IsElectedAt s e letter a → IsElectedAt s e letter b → is_some a ≡ is_some b
 one_flag one_link one_answer s e letter a b f g =
     let same : g.common ≡ f.common = one_link (seen_by s) e.0 g.common f.common g.is_common f.is_common in
-    let who = one_answer (seen_by s) f.common letter a b f.is_elected (subst (λ (c : List (NodeId × EpId)). MatchOption b (HasNoCandidate (seen_by s) c letter) (IsElected (seen_by s) c letter)) same g.is_elected) in
+    let who = one_answer (seen_by s) f.common letter a b f.is_elected
+    (subst (λ (c : List (NodeId × EpId)). MatchOption b (HasNoCandidate (seen_by s) c letter) (IsElected (seen_by s) c letter)) same g.is_elected) in
     ap (λ (o : Option NodeId). is_some o) who
 
 one_lifetime : (s : State) (m n : ℕ) → IsLifetime s m → IsLifetime s n → m ≡ n
@@ -41,7 +42,8 @@ one_infos : UsableIsUnique → (s : State) (e : EpId) (a b : List Info) → AreI
 one_infos one_usable s e a b f g =
     let same : g.usable ≡ f.usable = one_usable (seen_by s) g.usable f.usable g.are_usable f.are_usable in
     let each : (i : Info) → Contains b i ↔ IsInfoOf s f.usable e i = subst (λ (u : List Delegated). (i : Info) → Contains b i ↔ IsInfoOf s u e i) same g.each in
-    ascending_unique (on (λ i. i.prefix) prefix_cmp) (on_total (λ i. i.prefix) prefix_total) a b ((sorted_parts (λ (i : Info). i.prefix) prefix_cmp a).1 f.ascending) ((sorted_parts (λ (i : Info). i.prefix) prefix_cmp b).1 g.ascending)
+    ascending_unique (on (λ i. i.prefix) prefix_cmp) (on_total (λ i. i.prefix) prefix_total) a b
+    ((sorted_parts (λ (i : Info). i.prefix) prefix_cmp a).1 f.ascending) ((sorted_parts (λ (i : Info). i.prefix) prefix_cmp b).1 g.ascending)
     (λ i. (λ h. (each i).1 ((f.each i).0 h), λ h. (f.each i).1 ((each i).0 h)))
 
 one_advert : UsableIsUnique → CommonLinkIsUnique → HasOneAnswer → (s : State) (e : EpId) (a b : Advert) → IsAdvertAt s e a → IsAdvertAt s e b → a ≡ b

@@ -1,8 +1,6 @@
 -- Each event has at most one result over one stream of words.
-use Rattle.std.proofs.Common.{◌≡◌, ◌∙◌, ◌⊎◌, ℕ, false, List, Option, ap, refl, sym, inl, inr}
-use Rattle.std.specs.Prelude.{IsTrue, nat_eq}
-use Rattle.std.specs.Option.{option_eq}
-use Rattle.std.proofs.lemmas.Bool.{cond_both}
+use Rattle.std.proofs.Common.{◌≡◌, ◌∙◌, ◌⊎◌, ℕ, false, List, ap, refl, sym, inl, inr}
+use Rattle.std.specs.Prelude.{IsTrue}
 use Rattle.hn_base.specs.declared.ids.EpId.{EpId}
 use Rattle.hn_tlv.specs.Grammar.{PlainTlv, IsTlvList}
 use Rattle.hn_tlv.specs.Laws.{ListIsUnique, ListHasNoFirstFault, FirstFaultIsUnique}
@@ -11,16 +9,16 @@ use Rattle.hn_rules.specs.declared.running.Origin.{Origin}
 use Rattle.hn_rules.specs.declared.done.Note.TheVariants as note
 use Rattle.hn_rules.specs.Rules.{IsSole, noted, words_of}
 use Rattle.hn_rules.specs.Arrival.{IsArrival}
-use Rattle.hn_rules.specs.Delegating.{delegating, withdrawing}
-use Rattle.hn_rules.specs.Events.{IsAttaching, detaching, setting_caps, setting_private, setting_addresses, IsRestarting}
+use Rattle.hn_rules.specs.Events.{IsAttaching, IsRestarting}
 use Rattle.hn_rules.specs.Refresh.{IsRefresh}
-use Rattle.hn_router.specs.Act.{PlainEvent, Arrive, Tick, Attach, Detach, External, Withdraw, SetCaps, Private, Addresses, Restart, IsFar, IsMalformed, IsRead, is_refused, IsEventRule, IsEvent}
+use Rattle.hn_router.specs.Act.{PlainEvent, Arrive, Tick, Attach, Restart, IsFar, IsMalformed, IsRead, is_refused, IsEdit, IsEventRule, IsEvent}
 use Rattle.hn_rules.specs.Ticks.{IsTick}
 use Rattle.hn_base.proofs.OneResult.{sole_given, sole_plain, sole_both, sole_from, sole_or, sole_where, sole_some}
 use Rattle.hn_base.proofs.DecidingTests.{not_both}
+use Rattle.hn_router.proofs.Edits.{plain_edit}
 
 -- what the laws say of lists of TLVs and of the rules
-pub record HasLaws : Type 0 where
+pub record OneEventLaws : Type 0 where
   pub one_list : ListIsUnique
   pub no_list : ListHasNoFirstFault
   pub one_place : FirstFaultIsUnique
@@ -30,40 +28,35 @@ pub record HasLaws : Type 0 where
   pub attaching : (at : EpId) → IsSole (IsAttaching at)
   pub restarting : IsSole IsRestarting
 
-sole_read : HasLaws → (from : Origin) (bytes : List ℕ) → IsSole (IsRead from bytes)
+sole_read : OneEventLaws → (from : Origin) (bytes : List ℕ) → IsSole (IsRead from bytes)
 sole_read laws from bytes =
     sole_from words_of (IsRead from bytes) (λ r a. (tlvs : List PlainTlv) × IsTlvList tlvs bytes × IsArrival from tlvs r a) (λ r a h. (h.tlvs, h.list, h.arrives))
     (sole_some words_of (λ tlvs. IsTlvList tlvs bytes) (IsArrival from) (λ x y. laws.one_list x y bytes) (laws.arrival from))
 
-sole_malformed : HasLaws → (from : Origin) (bytes : List ℕ) → IsSole (IsMalformed from bytes)
+sole_malformed : OneEventLaws → (from : Origin) (bytes : List ℕ) → IsSole (IsMalformed from bytes)
 sole_malformed laws from bytes =
     sole_given words_of (IsMalformed from bytes) (λ r a h. ap (λ (x : Running). x.done.words) h.gives)
     (λ r a b h k. let same = laws.one_place bytes h.place k.place h.why k.why h.fault k.fault in h.gives ∙ (λ i. noted (note.Malformed (same.0 i) (same.1 i)) r) ∙ sym k.gives)
 
--- setting the private link takes no word
-pub private_words : (private : Option ℕ) (r : Running) → words_of (setting_private private r) ≡ words_of r
-private_words private r = cond_both (option_eq nat_eq private r.state.private) _ _ (λ (a : Running). words_of a ≡ words_of r) (λ _. refl) (λ _. refl)
-
-sole_rule : HasLaws → (event : PlainEvent) → IsSole (IsEventRule event)
-sole_rule laws (Arrive from bytes) =
+sole_arrive : OneEventLaws → (from : Origin) (bytes : List ℕ) → IsSole (IsEventRule (Arrive from bytes))
+sole_arrive laws from bytes =
     sole_or words_of (IsFar from) (λ r a. IsMalformed from bytes r a ⊎ IsRead from bytes r a)
     (sole_given words_of (IsFar from) (λ r a h. ap (λ (x : Running). x.done.words) h.gives) (λ r a b h k. h.gives ∙ sym k.gives))
-    (sole_or words_of (IsMalformed from bytes) (IsRead from bytes) (sole_malformed laws from bytes) (sole_read laws from bytes) (λ r a b h k. laws.no_list bytes h.place h.why h.fault (k.tlvs, k.list)))
+    (sole_or words_of (IsMalformed from bytes) (IsRead from bytes) (sole_malformed laws from bytes) (sole_read laws from bytes)
+    (λ r a b h k. laws.no_list bytes h.place h.why h.fault (k.tlvs, k.list)))
     (λ r a b h k. elim k [ inl m ↦ h.far m.near | inr m ↦ h.far m.near ])
-sole_rule laws Tick = laws.tick
-sole_rule laws (Attach at) = sole_both words_of (IsAttaching at) IsRefresh (laws.attaching at) laws.refresh
-sole_rule laws (Detach at) = sole_both words_of (λ b a. a ≡ detaching at b) IsRefresh (sole_plain words_of (detaching at) (λ r. refl)) laws.refresh
-sole_rule laws (External prefix valid preferred) =
-    sole_both words_of (λ b a. a ≡ delegating prefix valid preferred b) IsRefresh (sole_plain words_of (delegating prefix valid preferred) (λ r. refl)) laws.refresh
-sole_rule laws (Withdraw prefix) = sole_both words_of (λ b a. a ≡ withdrawing prefix b) IsRefresh (sole_plain words_of (withdrawing prefix) (λ r. refl)) laws.refresh
-sole_rule laws (SetCaps caps) = sole_both words_of (λ b a. a ≡ setting_caps caps b) IsRefresh (sole_plain words_of (setting_caps caps) (λ r. refl)) laws.refresh
-sole_rule laws (Private private) =
-    sole_both words_of (λ b a. a ≡ setting_private private b) IsRefresh (sole_plain words_of (setting_private private) (private_words private)) laws.refresh
-sole_rule laws (Addresses list) =
-    sole_both words_of (λ b a. a ≡ setting_addresses list b) IsRefresh (sole_plain words_of (setting_addresses list) (λ r. refl)) laws.refresh
-sole_rule laws Restart = sole_both words_of IsRestarting IsRefresh laws.restarting laws.refresh
 
-pub sole_event : HasLaws → (event : PlainEvent) → IsSole (IsEvent event)
+sole_edit : OneEventLaws → (event : PlainEvent) → IsSole (IsEdit event)
+sole_edit laws (Attach at) = laws.attaching at
+sole_edit laws Restart = laws.restarting
+sole_edit laws event = sole_given words_of (IsEdit event) (λ r a h. (plain_edit event r a h).0) (λ r a b h k. h ∙ sym k)
+
+sole_rule : OneEventLaws → (event : PlainEvent) → IsSole (IsEventRule event)
+sole_rule laws (Arrive from bytes) = sole_arrive laws from bytes
+sole_rule laws Tick = laws.tick
+sole_rule laws event = sole_both words_of (IsEdit event) IsRefresh (sole_edit laws event) laws.refresh
+
+pub sole_event : OneEventLaws → (event : PlainEvent) → IsSole (IsEvent event)
 sole_event laws event =
     sole_or words_of (λ r a. IsTrue (is_refused event r.state) × (a ≡ noted note.Refused r)) (λ r a. (is_refused event r.state ≡ false) × IsEventRule event r a)
     (sole_where words_of (λ r. IsTrue (is_refused event r.state)) (λ r a. a ≡ noted note.Refused r) (sole_plain words_of (noted note.Refused) (λ r. refl)))

@@ -12,21 +12,13 @@ use Rattle.hn_rules.specs.declared.done.Note.{Note}
 use Rattle.hn_rules.specs.declared.done.Note.TheVariants as note
 use Rattle.hn_rules.specs.Rules.{begun_at, noted}
 use Rattle.hn_rules.specs.Still.{at_moment}
-use Rattle.hn_router.specs.Act.{PlainEvent, Arrive, Tick, Attach, Detach, External, Withdraw, SetCaps, Private, Addresses, Restart, is_refused, IsDueAfter, IsEvent, Happened}
+use Rattle.hn_router.specs.Act.{PlainEvent, Arrive, Tick, is_refused, IsDueAfter, IsEvent, Happened}
 use Rattle.hn_router.specs.Laws.{RefusedInputStays}
 
 -- whether an event is refused does not depend on the moment
-refused_then : (event : PlainEvent) (now : ℕ) (s : State) → is_refused event (at_moment now s) ≡ is_refused event s
-refused_then (Arrive from bytes) now s = refl
+pub refused_then : (event : PlainEvent) (now : ℕ) (s : State) → is_refused event (at_moment now s) ≡ is_refused event s
 refused_then Tick now s = refl
-refused_then (Attach at) now s = refl
-refused_then (Detach at) now s = refl
-refused_then (External prefix valid preferred) now s = refl
-refused_then (Withdraw prefix) now s = refl
-refused_then (SetCaps caps) now s = refl
-refused_then (Private private) now s = refl
-refused_then (Addresses list) now s = refl
-refused_then Restart now s = refl
+refused_then _ now s = refl
 
 -- a note was taken, and nothing else happened
 abbrev IsNoted : ℕ → State → Running → Type 0
@@ -68,7 +60,8 @@ pub input_stays : ListHasNoFirstFault → RefusedInputStays
 unfolding Happened
 input_stays none = record {
   refused = λ now event s next done (after, holds, (due, is_due, is_next), is_done) refused. noted_stays now event s next after due (refused_noted now event s after refused holds) is_due is_next;
-  far = λ now from bytes s next done (after, holds, (due, is_due, is_next), is_done) far. noted_stays now (Arrive from bytes) s next after due (far_noted now from bytes s after far holds) is_due is_next;
+  far = λ now from bytes s next done (after, holds, (due, is_due, is_next), is_done) far.
+      noted_stays now (Arrive from bytes) s next after due (far_noted now from bytes s after far holds) is_due is_next;
   malformed = λ now from bytes place why s next done (after, holds, (due, is_due, is_next), is_done) fault.
       noted_stays now (Arrive from bytes) s next after due (malformed_noted none now from bytes place why s after fault holds) is_due is_next;
 }

@@ -1,30 +1,29 @@
 -- What an event leaves of a router is one.
-use Rattle.std.proofs.Common.{◌≡◌, ◌≢◌, ℕ, true, false, not, List, Option, inl, inr, sym, subst, arith}
-use Rattle.std.specs.Prelude.{length, nat_lt, ◌==◌, ◌||◌}
-use Rattle.std.proofs.lemmas.Bool.{or_parts, eqb-false, ltb-true, not-false}
+use Rattle.std.proofs.Common.{◌≡◌, ℕ, false, List, Option, inl, inr, refl, sym, subst}
 use Rattle.hn_base.specs.declared.caps.Caps.{Caps}
 use Rattle.hn_base.specs.declared.ids.EpId.{EpId}
 use Rattle.hn_base.specs.Prefix.{PlainPrefix}
+use Rattle.hn_base.specs.Rules.{Then}
 use Rattle.hn_tlv.specs.Grammar.{PlainTlv}
-use Rattle.hn_own.specs.Addresses.{may_address}
-use Rattle.hn_own.specs.OwnPrefixes.{may_delegate}
-use Rattle.hn_own.specs.Ports.{is_attached}
 use Rattle.hn_rules.specs.declared.running.Running.{Running}
 use Rattle.hn_rules.specs.declared.running.Origin.{Origin}
 use Rattle.hn_rules.specs.Arrival.{IsArrival}
 use Rattle.hn_rules.specs.Delegating.{withdrawing, ending}
+use Rattle.hn_rules.specs.Given.{IsPrivateLength}
 use Rattle.hn_rules.specs.Events.{detaching, setting_caps, setting_private, IsRestarting}
 use Rattle.hn_rules.specs.Laws.{KeepsRouter, KeepsWell, RefreshMakesRouter, AssigningKeeps, DelegatingKeeps, AttachingKeeps, AddressingKeeps, RouterStaysLater}
 use Rattle.hn_rules.specs.Router.{IsWell, IsRouter}
+use Rattle.hn_rules.specs.Refresh.{IsRefresh}
 use Rattle.hn_rules.specs.Rules.{begun_at}
 use Rattle.hn_rules.specs.Tick.{IsExpiry, forgetting, IsPortsTick}
-use Rattle.hn_router.specs.Act.{PlainEvent, Arrive, Tick, Attach, Detach, External, Withdraw, SetCaps, Private, Addresses, Restart, is_refused, IsEventInRange, IsEventRule, IsEvent, Happened}
+use Rattle.hn_router.specs.Act.{PlainEvent, Arrive, Tick, is_refused, IsEventInRange, IsEdit, IsEventRule, IsEvent, Happened}
 use Rattle.hn_router.specs.Laws.{RouterStays}
 use Rattle.hn_rules.specs.Ticks.{IsTick}
+use Rattle.hn_router.proofs.Edits.{EndpointsKeep, GivenKeep, OthersKeep, edit_keeps}
 use Rattle.hn_router.proofs.Keeping.{router_due}
 
 -- what the laws say of the rules
-pub record HasLaws : Type 0 where
+pub record StayLaws : Type 0 where
   pub later : RouterStaysLater
   pub refreshes : RefreshMakesRouter
   pub arrives : (from : Origin) (tlvs : List PlainTlv) → KeepsRouter (IsArrival from tlvs)
@@ -38,11 +37,11 @@ pub record HasLaws : Type 0 where
   pub attaches : AttachingKeeps
   pub detaches : (at : EpId) → KeepsWell (λ b a. a ≡ detaching at b)
   pub sets_caps : (caps : Caps) → KeepsWell (λ b a. a ≡ setting_caps caps b)
-  pub sets_private : (private : Option ℕ) → KeepsWell (λ b a. a ≡ setting_private private b)
+  pub sets_private : (private : Option ℕ) → IsPrivateLength private → KeepsWell (λ b a. a ≡ setting_private private b)
   pub addresses : AddressingKeeps
   pub restarts : KeepsWell IsRestarting
 
-module _ (laws : HasLaws) where
+module _ (laws : StayLaws) where
   keeps_tick : KeepsRouter IsTick
   keeps_tick r a (lost, (expired, expires, (ended, ends, refreshes)), (left, forgets, (settled, (assigned, assigns, settles), ticks))) router =
       let well_ended = laws.ends expired ended ends (laws.expires r expired expires router.well) in
@@ -51,30 +50,39 @@ module _ (laws : HasLaws) where
       let router_settled = laws.refreshes assigned settled settles (laws.assigns left assigned assigns router_left) in
       laws.ticks settled a ticks router_settled
 
+  -- the edit of an event keeps what holds of a router beside what a refresh makes
+  well_ends : EndpointsKeep IsEventInRange (λ r. IsWell r.state)
+  well_ends = record {
+    attaching = λ at r a fits some room attaches well. laws.attaches at r a some fits room attaches well;
+    detaching = λ at r well. laws.detaches at r (detaching at r) refl well;
+  }
+
+  well_given : GivenKeep IsEventInRange (λ r. IsWell r.state)
+  well_given = record {
+    delegating = λ prefix valid preferred r fits may well. laws.delegates prefix valid preferred r fits may well;
+    private = λ length r fits well. laws.sets_private length fits r (setting_private length r) refl well;
+    addressing = λ list r fits may well. laws.addresses list r fits may well;
+  }
+
+  well_others : OthersKeep (λ r. IsWell r.state)
+  well_others = record {
+    withdrawing = λ prefix r well. laws.withdraws prefix r (withdrawing prefix r) refl well;
+    caps = λ caps r well. laws.sets_caps caps r (setting_caps caps r) refl well;
+    restarting = λ r a restarts well. laws.restarts r a restarts well;
+  }
+
+  pub keeps_edit : (event : PlainEvent) (r a : Running) → IsEventInRange event → is_refused event r.state ≡ false → IsEdit event r a → IsWell r.state → IsWell a.state
+  keeps_edit = edit_keeps IsEventInRange (λ r. IsWell r.state) well_ends well_given well_others
+
+  keeps_then : (event : PlainEvent) (r a : Running) → IsEventInRange event → is_refused event r.state ≡ false → Then (IsEdit event) IsRefresh r a → IsRouter r.state → IsRouter a.state
+  keeps_then event r a fits accepted (between, edits, refreshes) router = laws.refreshes between a refreshes (keeps_edit event r between fits accepted edits router.well)
+
   keeps_event_rule : (event : PlainEvent) (r a : Running) → IsEventInRange event → is_refused event r.state ≡ false → IsEventRule event r a → IsRouter r.state → IsRouter a.state
   keeps_event_rule (Arrive from bytes) r a fits accepted (inl far) router = subst (λ (x : Running). IsRouter x.state) (sym far.gives) router
   keeps_event_rule (Arrive from bytes) r a fits accepted (inr (inl malformed)) router = subst (λ (x : Running). IsRouter x.state) (sym malformed.gives) router
   keeps_event_rule (Arrive from bytes) r a fits accepted (inr (inr read)) router = laws.arrives from read.tlvs r a read.arrives router
   keeps_event_rule Tick r a fits accepted holds router = keeps_tick r a holds router
-  keeps_event_rule (Attach at) r a fits accepted (between, attaches, refreshes) router =
-      let some : (at.0 == 0) ≡ false = (or_parts (at.0 == 0) (is_attached at r.state.ports || not (nat_lt (length r.state.ports) 16)) accepted).0 in
-      let rest = (or_parts (at.0 == 0) (is_attached at r.state.ports || not (nat_lt (length r.state.ports) 16)) accepted).1 in
-      let room : nat_lt (length r.state.ports) 16 ≡ true = not-false (nat_lt (length r.state.ports) 16) (or_parts (is_attached at r.state.ports) (not (nat_lt (length r.state.ports) 16)) rest).1 in
-      let not_zero : at.0 ≢ 0 = eqb-false at.0 0 some in
-      laws.refreshes between a refreshes (laws.attaches at r between (omega arith) fits (ltb-true (length r.state.ports) 16 room) attaches router.well)
-  keeps_event_rule (Detach at) r a fits accepted (between, is, refreshes) router = laws.refreshes between a refreshes (laws.detaches at r between is router.well)
-  keeps_event_rule (External prefix valid preferred) r a fits accepted (between, is, refreshes) router =
-      let may = not-false (may_delegate prefix r.state.delegated) accepted in
-      let well : IsWell between.state = subst (λ (x : Running). IsWell x.state) (sym is) (laws.delegates prefix valid preferred r may router.well) in
-      laws.refreshes between a refreshes well
-  keeps_event_rule (Withdraw prefix) r a fits accepted (between, is, refreshes) router = laws.refreshes between a refreshes (laws.withdraws prefix r between is router.well)
-  keeps_event_rule (SetCaps caps) r a fits accepted (between, is, refreshes) router = laws.refreshes between a refreshes (laws.sets_caps caps r between is router.well)
-  keeps_event_rule (Private private) r a fits accepted (between, is, refreshes) router = laws.refreshes between a refreshes (laws.sets_private private r between is router.well)
-  keeps_event_rule (Addresses list) r a fits accepted (between, is, refreshes) router =
-      let may = not-false (may_address list r.state.ports) accepted in
-      let well : IsWell between.state = subst (λ (x : Running). IsWell x.state) (sym is) (laws.addresses list r may router.well) in
-      laws.refreshes between a refreshes well
-  keeps_event_rule Restart r a fits accepted (between, restarts, refreshes) router = laws.refreshes between a refreshes (laws.restarts r between restarts router.well)
+  keeps_event_rule event r a fits accepted holds router = keeps_then event r a fits accepted holds router
 
   keeps_event : (event : PlainEvent) → IsEventInRange event → KeepsRouter (IsEvent event)
   keeps_event event fits r a (inl (refused, is)) router = subst (λ (x : Running). IsRouter x.state) (sym is) router

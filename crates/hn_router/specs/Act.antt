@@ -1,8 +1,10 @@
 -- Which rules an event runs, and in which order.
-use Rattle.std.specs.Prelude.{◌≡◌, ℕ, ◌^◌, ◌<◌, ◌==◌, ◌||◌, IsTrue, false, Bool, not, ◌⊎◌, nat_lt, length, List, Option}
+use Rattle.std.specs.Prelude.{◌≡◌, ℕ, ◌^◌, ◌<◌, ◌==◌, ◌||◌, IsTrue, false, Bool, not, ◌⊎◌, nat_lt, length, List, Option, All}
 use Rattle.hn_base.specs.declared.ids.EpId.{EpId}
 use Rattle.hn_base.specs.declared.caps.Caps.{Caps}
 use Rattle.hn_base.specs.Addr.{IsLinkLocal}
+use Rattle.hn_base.specs.Byte.{IsByte}
+use Rattle.hn_base.specs.Exists.{Some! }
 use Rattle.hn_base.specs.Prefix.{PlainPrefix}
 use Rattle.hn_tlv.specs.Grammar.{PlainTlv, IsTlvList, FirstFault}
 use Rattle.hn_router.specs.declared.event.Event.{Event}
@@ -14,13 +16,16 @@ use Rattle.hn_rules.specs.declared.done.Done.{Done}
 use Rattle.hn_rules.specs.declared.done.Note.TheVariants as note
 use Rattle.hn_own.specs.Addresses.{OwnAddress, may_address}
 use Rattle.hn_own.specs.Ports.{is_attached}
+use Rattle.hn_own.specs.Ranges.{IsRangedAddress}
 use Rattle.hn_own.specs.OwnPrefixes.{may_delegate}
 use Rattle.hn_base.specs.Rules.{Then}
+use Rattle.hn_base.specs.Words.{Begins}
 use Rattle.hn_rules.specs.Rules.{Rule, Ran, begun_at, noted}
 use Rattle.hn_rules.specs.Refresh.{IsRefresh}
 use Rattle.hn_rules.specs.Arrival.{IsArrival}
 use Rattle.hn_rules.specs.Ticks.{IsTick}
 use Rattle.hn_rules.specs.Delegating.{delegating, withdrawing}
+use Rattle.hn_rules.specs.Given.{IsRangedDelegation, IsPrivateLength}
 use Rattle.hn_rules.specs.Done.{nothing}
 use Rattle.hn_rules.specs.Due.{IsNextDue}
 use Rattle.hn_rules.specs.Events.{IsAttaching, detaching, setting_caps, setting_private, setting_addresses, IsRestarting}
@@ -50,10 +55,19 @@ plain_event (event.Private length) = Private length
 plain_event (event.Addresses list) = Addresses list.now
 plain_event event.Restart = Restart
 
--- the number of an endpoint that is attached has 32 bits
+-- What an event gives a router fits: the number of an endpoint that is attached has 32 bits, a delegated prefix is one and
+-- has lifetimes of 32 bits, the prefixes of a private link have from 1 to 64 bits, and own addresses have 128 bits.
 abbrev pub IsEventInRange : PlainEvent → Type 0
 IsEventInRange (Attach at) = at.0 < 2 ^ 32
+IsEventInRange (External prefix valid preferred) = IsRangedDelegation prefix valid preferred
+IsEventInRange (Private length) = IsPrivateLength length
+IsEventInRange (Addresses list) = All IsRangedAddress list
 IsEventInRange _ = Unit {0}
+
+-- a datagram that arrives is of bytes
+abbrev pub IsOfBytes : PlainEvent → Type 0
+IsOfBytes (Arrive from bytes) = All IsByte bytes
+IsOfBytes _ = Unit {0}
 
 -- a datagram from a source that is not link-local, one of bytes that are no list of TLVs, and a list of TLVs
 pub record IsFar (from : Origin) (before after : Running) : Type 0 where
@@ -87,18 +101,23 @@ is_refused (Private length) s = false
 is_refused (Addresses list) s = not (may_address list s.ports)
 is_refused Restart s = false
 
--- which rules an event runs that is not refused
+-- what an event edits before a refresh; an arrival and a tick edit nothing
+abbrev pub IsEdit : PlainEvent → Rule
+IsEdit (Attach at) before after = IsAttaching at before after
+IsEdit (Detach at) before after = after ≡ detaching at before
+IsEdit (External prefix valid preferred) before after = after ≡ delegating prefix valid preferred before
+IsEdit (Withdraw prefix) before after = after ≡ withdrawing prefix before
+IsEdit (SetCaps caps) before after = after ≡ setting_caps caps before
+IsEdit (Private length) before after = after ≡ setting_private length before
+IsEdit (Addresses list) before after = after ≡ setting_addresses list before
+IsEdit Restart before after = IsRestarting before after
+IsEdit _ before after = after ≡ before
+
+-- which rules an event runs that is not refused: those of an arrival or a tick, or its edit and then a refresh
 abbrev pub IsEventRule : PlainEvent → Rule
 IsEventRule (Arrive from bytes) before after = IsFar from before after ⊎ (IsMalformed from bytes before after ⊎ IsRead from bytes before after)
 IsEventRule Tick before after = IsTick before after
-IsEventRule (Attach at) before after = Then (IsAttaching at) IsRefresh before after
-IsEventRule (Detach at) before after = Then (λ b a. a ≡ detaching at b) IsRefresh before after
-IsEventRule (External prefix valid preferred) before after = Then (λ b a. a ≡ delegating prefix valid preferred b) IsRefresh before after
-IsEventRule (Withdraw prefix) before after = Then (λ b a. a ≡ withdrawing prefix b) IsRefresh before after
-IsEventRule (SetCaps caps) before after = Then (λ b a. a ≡ setting_caps caps b) IsRefresh before after
-IsEventRule (Private length) before after = Then (λ b a. a ≡ setting_private length b) IsRefresh before after
-IsEventRule (Addresses list) before after = Then (λ b a. a ≡ setting_addresses list b) IsRefresh before after
-IsEventRule Restart before after = Then IsRestarting IsRefresh before after
+IsEventRule event before after = Then (IsEdit event) IsRefresh before after
 
 -- an event: a refused one is noted, and nothing but the moment changes
 abbrev pub IsEvent : PlainEvent → Rule
@@ -121,6 +140,11 @@ unfoldable pub Happened : ℕ → PlainEvent → State → State → Done → Ty
 Happened now event s next done =
     (after : Running) × IsEvent event (begun_at now s) after × ((due : ℕ) × IsDueAfter event (begun_at now s) after due
     × (next ≡ record after.state { due = due })) × (done ≡ after.done)
+
+-- over each stream of words an event has a result: it cannot be that there is none
+unfoldable pub HasResults : ℕ → PlainEvent → State → Type 0
+HasResults now event s =
+    (stream : ℕ → ℕ) → Some! (λ (result : State × Done). Happened now event s result.0 result.1 × Begins result.1.words stream)
 
 -- an event ran, and a draw moved by exactly the words that it took
 unfoldable pub HasRun : PlainEvent → Option (ℕ → ℕ) → Option (ℕ → ℕ) → Running → Running → Type 0

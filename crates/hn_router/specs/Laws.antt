@@ -13,9 +13,9 @@ use Rattle.hn_rules.specs.declared.running.Running.{Running}
 use Rattle.hn_router.specs.Advertising.{IsAdvertBytes}
 use Rattle.hn_router.specs.New.{IsNew}
 use Rattle.hn_own.specs.Ports.{endpoints_of}
-use Rattle.hn_router.specs.Act.{PlainEvent, Arrive, Tick, Attach, Detach, is_refused, IsEventInRange, IsEvent, Happened}
+use Rattle.hn_router.specs.Act.{PlainEvent, Arrive, Tick, Attach, Detach, is_refused, IsEventInRange, IsOfBytes, IsEvent, Happened, HasResults}
 use Rattle.hn_rules.specs.Genuine.{IsGenuine, TextsCollide, BytesSayPublished}
-use Rattle.hn_rules.specs.Lengths.{most_datagram}
+use Rattle.hn_router.specs.Sends.{IsShortSend}
 use Rattle.hn_rules.specs.Router.{IsRouter}
 use Rattle.hn_rules.specs.Assigning.{IsRunAssigned}
 use Rattle.hn_rules.specs.Rested.{IsRested}
@@ -30,7 +30,18 @@ OneResult =
     → Happened now event s a done_a → Happened now event s b done_b
     → Begins done_a.words stream → Begins done_b.words stream → (a ≡ b) × (done_a ≡ done_b)
 
--- There is at most one new router of an identifier and a limit at a moment.
+-- ---- a result
+
+-- An event that a router may meet has a result.
+abbrev pub EventHasAResult : Type 0
+EventHasAResult =
+    (now : ℕ) (event : PlainEvent) (s : State) → IsRouter s → s.moment ≤ now → IsEventInRange event → IsOfBytes event → HasResults now event s
+
+-- There is a new router of an identifier and a limit at a moment.
+abbrev pub NewExists : Type 0
+NewExists = (id : NodeId) (limit now : ℕ) → (s : State) × IsNew id limit now s
+
+-- There is at most one.
 abbrev pub NewIsUnique : Type 0
 NewIsUnique = (id : NodeId) (limit now : ℕ) (a b : State) → IsNew id limit now a → IsNew id limit now b → a ≡ b
 
@@ -76,7 +87,7 @@ RouterHasOneAdvert = (s : State) (e : EpId) (a b : List ℕ) → IsAdvertBytes s
 abbrev pub SendsAreShort : Type 0
 SendsAreShort =
     (now : ℕ) (event : PlainEvent) (s next : State) (done : Done)
-    → IsRouter s → s.moment ≤ now → IsEventInRange event → Happened now event s next done → All (λ o. length o.bytes ≤ most_datagram) done.sends
+    → IsRouter s → s.moment ≤ now → IsEventInRange event → Happened now event s next done → All IsShortSend done.sends
 
 -- No event changes how many nodes a table may hold.
 abbrev pub LimitStays : Type 0

@@ -2,7 +2,9 @@
 
 ghost use Rattle.std.specs.Prelude.{◌≡◌, ◌≢◌, ◌^◌, ◌<◌, All, Contains, IfOk, IfSome, IfNone};
 ghost use Rattle.hn_base.specs.Prefix.{IsPrefix};
+ghost use Rattle.hn_data.specs.View.{plain_view};
 ghost use Rattle.hn_deleg.specs.Used.{whole_seconds};
+ghost use Rattle.hn_rules.specs.Seen.{seen_by};
 ghost use Rattle.hn_router.specs.Advertising.{AreInfos, IsLifetime, IsAdvertAt, IsAdvertBytes};
 ghost use Rattle.hn_router.specs.Infos.{FitsFields, IsInfoFrom, HasNoInfo};
 
@@ -10,7 +12,8 @@ use crate::router::Router;
 use hn_advert::{Advert, Info, Infos, bytes};
 use hn_assign::Assigned;
 use hn_base::{Bytes, EpId, Letter, NoMemory};
-use hn_deleg::{Delegated, inside_keeps_the_order, lifetimes_fit, whole_seconds};
+use hn_data::View;
+use hn_deleg::{Delegated, inside_keeps_the_order, lifetimes_fit, outside, used, whole_seconds};
 use hn_prefix::Prefix;
 use std::alloc::Global;
 
@@ -55,12 +58,13 @@ fn info_of(usable: &[Delegated], e: EpId, c: &Assigned) -> Option<Info>
 
 impl Router {
     /// The prefixes that an endpoint advertises, in ascending order, with their lifetimes.
-    fn infos(&self, alloc: Global, e: EpId) -> Result<Infos, NoMemory>
+    fn infos(&self, alloc: Global, view: &View<'_>, e: EpId) -> Result<Infos, NoMemory>
+        requires { plain_view view.now ≡ seen_by self.now }
         ensures { IfOk result (AreInfos self.now e) }
     {
         lifetimes_fit();
         inside_keeps_the_order();
-        let usable = self.used(alloc)?.into_vec();
+        let usable = used(alloc, view)?.into_vec();
         let mut infos = Infos::new(alloc);
         for c in self.assigned() {
             if let Some(info) = info_of(usable.as_slice(), e, c) {
@@ -71,11 +75,11 @@ impl Router {
     }
 
     /// The lifetime in seconds as a default router; 0 is that of a router that is none.
-    fn lifetime(&self, alloc: Global) -> Result<u16, NoMemory>
-        ensures { IfOk result (IsLifetime self.now) }
+    fn lifetime(&self, view: &View<'_>) -> u16
+        requires { plain_view view.now ≡ seen_by self.now }
+        ensures { IsLifetime self.now result }
     {
-        let outside = self.outside(alloc)?;
-        Ok(if outside { LIFETIME } else { 0 })
+        if outside(view) { LIFETIME } else { 0 }
     }
 
     /// The Router Advertisement on an endpoint at the router's moment (RFC 4861, sections 4.2 and 4.6.2; RFC 7788, section
@@ -85,22 +89,27 @@ impl Router {
     /// what is left of the lifetimes of the delegated prefix in whole seconds, rounded down. An endpoint that is not
     /// attached is answered too.
     ///
+    /// The router's moment is that of its last event. So let a tick happen at the moment of the advertisement, and then ask:
+    /// what is left of the lifetimes is of that moment then.
+    ///
     /// # Errors
     ///
     /// Out of memory.
     pub fn advertisement(&self, alloc: Global, e: EpId) -> Result<Advert, NoMemory>
         ensures { IfOk result (IsAdvertAt self.now e) }
     {
-        let managed = self.elected(alloc, e, Letter::H)?.is_some();
+        let nodes = self.nodes(alloc)?;
+        let view = self.view(nodes.as_slice());
+        let managed = self.elected_in(alloc, &view, e, Letter::H)?.is_some();
         Ok(Advert {
             managed,
             other: managed,
-            lifetime: self.lifetime(alloc)?,
-            infos: self.infos(alloc, e)?,
+            lifetime: self.lifetime(&view),
+            infos: self.infos(alloc, &view, e)?,
         })
     }
 
-    /// The same advertisement as the bytes of the ICMPv6 message.
+    /// The same advertisement as the bytes of the ICMPv6 message. Let a tick happen at the same moment before.
     ///
     /// # Errors
     ///

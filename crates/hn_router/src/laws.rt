@@ -1,19 +1,21 @@
 //! Laws of the router. Each is the contract of a function that does nothing: call it to know its law.
 
-ghost use Rattle.hn_router.specs.Laws.{OneResult, NewIsUnique, NewIsRouter, RouterStays, MomentStays, MomentIsNow, EndpointsFollow, RouterHasOneAdvert, SendsAreShort, LimitStays, RefusedInputStays, RestfulTickStays, GenuineStays};
+ghost use Rattle.hn_router.specs.Laws.{OneResult, EventHasAResult, NewExists, NewIsUnique, NewIsRouter, RouterStays, MomentStays};
+ghost use Rattle.hn_router.specs.Laws.{MomentIsNow, EndpointsFollow, RouterHasOneAdvert, SendsAreShort, LimitStays, RefusedInputStays};
+ghost use Rattle.hn_router.specs.Laws.{RestfulTickStays, GenuineStays};
 
 use hn_deleg::usable_is_unique;
 use hn_graph::{own_is_reachable, reachable_is_a_node};
 use hn_link::{common_link_is_unique, elected_is_unique};
-use hn_own::{none_are_well, own_data_is_unique};
+use hn_own::{none_are_well, own_data_exists, own_data_is_unique};
 use hn_rules::{
     changes_keep_genuine, changes_keep_hashed, changes_keep_short, changes_keep_the_limit,
-    next_due_is_one, refresh_makes_a_router, restful_tick, router_stays_later,
+    next_due_is_one, refresh_makes_a_router, restful_tick, router_stays_later, rules_have_a_result,
     rules_have_one_result, rules_keep_a_router, rules_keep_the_endpoints, rules_keep_the_rest,
     rules_make_changes,
 };
 use hn_store::loss_keeps_table;
-use hn_tlv::{first_fault_is_unique, list_is_unique};
+use hn_tlv::{first_fault_is_unique, list_is_unique, list_or_first_fault};
 
 /// From one state, with one event, moment and stream of words, there is at most one result.
 pub fn one_result()
@@ -23,6 +25,25 @@ pub fn one_result()
     first_fault_is_unique();
     rules_have_one_result();
     next_due_is_one();
+}
+
+/// Over each stream of words an event has a result: it cannot be that there is none. With `one_result` there is exactly one.
+pub fn event_has_a_result()
+    ensures { EventHasAResult }
+{
+    router_stays_later();
+    refresh_makes_a_router();
+    rules_keep_a_router();
+    rules_keep_the_rest();
+    rules_have_a_result();
+    list_or_first_fault();
+}
+
+/// There is a new router of an identifier and a limit at a moment.
+pub fn new_exists()
+    ensures { NewExists }
+{
+    own_data_exists();
 }
 
 /// There is at most one new router of an identifier and a limit at a moment.

@@ -1,4 +1,4 @@
-ghost use Rattle.std.specs.Prelude.{◌≡◌, ◌≤◌, ◌^◌, ◌⊎◌, [], ◌∷◌, nat_lt, length, IfOk, OnErr, IsTrue, ◌↔◌, ◌<◌, Ok};
+ghost use Rattle.std.specs.Prelude.{◌≡◌, ◌≤◌, ◌^◌, ◌⊎◌, [], ◌∷◌, nat_lt, length, IfOk, OnErr, ◌<◌, Ok, All};
 ghost use Rattle.hn_base.specs.Caps.{plain_caps};
 ghost use Rattle.hn_assign.specs.Gathered.{AreAdvertised};
 ghost use Rattle.hn_base.specs.Words.{Took};
@@ -6,10 +6,11 @@ ghost use Rattle.hn_own.specs.Ports.{is_attached, endpoints_of};
 ghost use Rattle.hn_rules.specs.Nodes.{leaves_of, view_of};
 ghost use Rattle.hn_own.specs.OwnPrefixes.{may_delegate};
 ghost use Rattle.hn_own.specs.Addresses.{may_address};
-ghost use Rattle.hn_own.specs.Posts.{posts_of, length_at};
+ghost use Rattle.hn_own.specs.Posts.{posts_of};
 ghost use Rattle.hn_rules.specs.Assigning.{AreAsked};
 ghost use Rattle.hn_rules.specs.Seen.{seen_by, IsElectedAt};
-ghost use Rattle.hn_deleg.specs.Used.{AreUsable, IsOutside};
+ghost use Rattle.hn_data.specs.View.{plain_view};
+ghost use Rattle.hn_deleg.specs.Used.{AreUsable};
 ghost use Rattle.hn_own.specs.HeldPairs.{AreHeldPairs};
 ghost use Rattle.hn_link.specs.CommonLink.{IsCommonLink};
 ghost use Rattle.hn_rules.specs.Done.{nothing};
@@ -18,25 +19,26 @@ ghost use Rattle.hn_rules.specs.Router.{IsRouter};
 ghost use Rattle.hn_rules.specs.Idle.{IsIdleTick};
 ghost use Rattle.hn_rules.specs.Router.{IsRouter};
 ghost use Rattle.hn_rules.specs.Still.{at_moment};
-ghost use Rattle.hn_router.specs.Act.{plain_event, Tick, Happened};
+ghost use Rattle.hn_router.specs.Act.{plain_event, Tick, Happened, HasResults};
 ghost use Rattle.hn_router.specs.New.{no_caps, IsNew};
 ghost use Rattle.hn_router.specs.Plan.{changed};
+ghost use Rattle.hn_router.specs.Sends.{IsShortSend};
 
-use crate::act::{event_in_range, run};
+use crate::act::{event_in_range, event_of_bytes, run};
 use crate::due::{due_after, is_tick};
 use crate::event::Event;
-use crate::laws::{new_is_router, router_stays};
+use crate::laws::{event_has_a_result, new_is_router, router_stays, sends_are_short};
 use hn_assign::{AdvertisedPrefixes, Assigned, Held, Wishes, gather};
 use hn_base::{
     Caps, Endpoints, EpId, Letter, LinkLength, Moment, NoMemory, NodeId, NodeIds, Sequence, Shared,
 };
-use hn_data::{Entry, NodeData};
-use hn_deleg::{Delegated, outside, used};
+use hn_data::{Entry, NodeData, View};
+use hn_deleg::{Delegated, used};
 use hn_dncp::Port;
 use hn_hash::{Leaf, Part, network_of};
 use hn_io::Draw;
 use hn_link::{common, elected};
-use hn_own::{Addresses, HeldPairs, OwnData, OwnItems, OwnPrefixes, Ports, length_at};
+use hn_own::{Addresses, HeldPairs, OwnData, OwnItems, OwnPrefixes, Ports};
 use hn_prefix::Prefix;
 use hn_rules::{
     Done, Present, Running, State, idle_is_still, idle_until_due, router_stays_later,
@@ -188,7 +190,23 @@ impl Router {
         Ok(Router { state })
     }
 
-    /// What an event would do; the router stays as it is.
+    /// It cannot be that an event has no result. Does nothing: call it to know its law.
+    fn has_results(&self, event: &Event<'_>, now: Moment)
+        requires { self.now.moment ≤ now }
+        ensures { HasResults now (plain_event event.now) self.now }
+    {
+        let _ = &self.state;
+        event_has_a_result();
+        event_in_range(event);
+        event_of_bytes(event);
+    }
+
+    /// What an event would do; the router stays as it is. Each datagram that it sends has at most 65,507 bytes. Whether there is
+    /// memory or not, it cannot be that the event has no result over a stream of words; with `one_result` it has exactly one.
+    ///
+    /// # Errors
+    ///
+    /// Out of memory.
     pub fn plan<D: Draw>(
         &self,
         alloc: Global,
@@ -200,8 +218,12 @@ impl Router {
         requires in_range { now ≤ 2 ^ 48 }
         ensures happened { IfOk result (λ plan. Happened now (plain_event event.now) self.now plan.state plan.done) }
         ensures drew { IfOk result (λ plan. Took (D.words draw.old) plan.done.words (D.words draw.new)) }
+        ensures short { IfOk result (λ plan. All IsShortSend plan.done.sends) }
+        ensures exists { HasResults now (plain_event event.now) self.now }
     {
+        self.has_results(event, now);
         router_stays();
+        sends_are_short();
         router_stays_later();
         idle_is_still();
         still_is_idle();
@@ -245,8 +267,10 @@ impl Router {
         self.state.moment = Present::new(now);
     }
 
-    /// An event happens to the router at a moment. A tick before `due_at` takes no memory, and only the moment changes. After
-    /// a tick that does nothing `due_at` is the moment at which something is next due.
+    /// An event happens to the router at a moment. Each datagram that it sends has at most 65,507 bytes. A tick before `due_at`
+    /// takes no memory, and only the moment changes. After a tick that does nothing `due_at` is the moment at which something is
+    /// next due. Whether there is memory or not, it cannot be that the event has no result over a stream of words; with
+    /// `one_result` it has exactly one.
     ///
     /// # Errors
     ///
@@ -262,11 +286,15 @@ impl Router {
         requires in_range { now ≤ 2 ^ 48 }
         ensures happened { IfOk result (λ done. Happened now (plain_event event.now) self.old self.new done) }
         ensures drew { IfOk result (λ done. Took (D.words draw.old) done.words (D.words draw.new)) }
+        ensures short { IfOk result (λ done. All IsShortSend done.sends) }
         ensures err { OnErr result (self.new ≡ self.old) }
+        ensures exists { HasResults now (plain_event event.now) self.old }
         ensures undue { plain_event event.now ≡ Tick → now < self.old.due
             → (result ≡ Ok nothing) × (self.new ≡ at_moment now self.old) × (draw.new ≡ draw.old) }
-        ensures next { IfOk result (λ done. plain_event event.now ≡ Tick → IsIdleTick now self.old → IsNextDue self.new self.new.due) }
+        ensures next { IfOk result (λ done. plain_event event.now ≡ Tick → IsIdleTick now self.old
+            → IsNextDue self.new self.new.due) }
     {
+        self.has_results(event, now);
         rules_have_one_result();
         if is_tick(event) && now < self.due_at() {
             self.pass(now);
@@ -287,7 +315,8 @@ impl Router {
         self.state.due
     }
 
-    /// The identifier. Never allocates.
+    /// The identifier. An event may change it: where another node claims it a second time, the router takes a new one and
+    /// publishes under that (RFC 7787, section 4.4; RFC 7788, section 3). So ask for it after each event. Never allocates.
     pub fn id(&self) -> NodeId
         ensures { result ≡ self.now.id }
     {
@@ -308,7 +337,8 @@ impl Router {
         self.state.own.get().body()
     }
 
-    /// The moment of the last event, in milliseconds. Never allocates.
+    /// The moment of the last event, in milliseconds. What the router tells of lifetimes is as of this moment: let a tick
+    /// happen first to know them as of now. Never allocates.
     pub fn moment(&self) -> Moment
         ensures { result ≡ self.now.moment }
     {
@@ -343,7 +373,9 @@ impl Router {
         self.state.own.get().born()
     }
 
-    /// Whether an endpoint is attached. Never allocates.
+    /// Whether an endpoint is attached. Ask before `Arrive` and `Detach`, which are refused at an endpoint that is not attached,
+    /// and before `Attach`, which is refused at one that is. After an event that is refused only the moment is another, and the
+    /// note is `Refused`. Never allocates.
     pub fn attached(&self, endpoint: EpId) -> bool
         ensures { result ≡ is_attached endpoint self.now.ports }
     {
@@ -357,22 +389,24 @@ impl Router {
         self.state.ports.get().as_slice()
     }
 
-    /// Whether there is room for one more endpoint. Never allocates.
+    /// Whether there is room for one more endpoint: the router has fewer than 16. Ask before `Attach`, which is refused where
+    /// there is none. Never allocates.
     pub fn has_room(&self) -> bool
         ensures { result ≡ nat_lt (length self.now.ports) 16 }
     {
         self.state.ports.get().has_room()
     }
 
-    /// Whether a delegated prefix may be added: the router has it already, or fewer than eight. Never allocates.
+    /// Whether a delegated prefix may be added: the router has it already, or fewer than eight. Ask before `External`, which is
+    /// refused where it may not. Never allocates.
     pub fn may_have(&self, prefix: &Prefix) -> bool
         ensures { result ≡ may_delegate prefix.now self.now.delegated }
     {
         self.state.delegated.get().may_have(prefix)
     }
 
-    /// Whether a list may be the own addresses: strictly ascending, at most 64, each of an attached endpoint. Never
-    /// allocates.
+    /// Whether a list may be the own addresses: strictly ascending, at most 64, each of an attached endpoint. Ask before
+    /// `Addresses`, which is refused where it may not. Never allocates.
     pub fn may_address(&self, list: &[(EpId, u128)]) -> bool
         ensures { result ≡ may_address list.now self.now.ports }
     {
@@ -393,16 +427,6 @@ impl Router {
         self.state.addresses.get().as_slice()
     }
 
-    /// The length of the prefixes that a post gets, 1 to 64: the private length at endpoint 0 where there is a private
-    /// link, and 64 elsewhere. Never allocates.
-    pub fn length_of(&self, endpoint: EpId) -> u8
-        ensures length { result ≡ length_at self.now.private endpoint }
-        ensures some { 1 ≤ result }
-        ensures in_range { result ≤ 64 }
-    {
-        length_at(self.state.private, endpoint)
-    }
-
     /// Its assignments and backoffs. Never allocates.
     pub fn held(&self) -> &Held
         ensures { result.now ≡ self.now.held }
@@ -418,15 +442,6 @@ impl Router {
         self.state.held.get().get().assigned.as_slice()
     }
 
-    /// Whether a reachable node with an HNCP-Version has a connection to the outside, as of the router's moment (RFC 7788,
-    /// section 10.2).
-    pub(crate) fn outside(&self, alloc: Global) -> Result<bool, NoMemory>
-        ensures { IfOk result (λ outside. IsTrue outside ↔ IsOutside (seen_by self.now)) }
-    {
-        let nodes = self.state.seen(alloc)?;
-        Ok(outside(&self.state.view(nodes.as_slice())))
-    }
-
     /// What the router sees: the nodes that were reachable at the last refresh, itself among them, in ascending order of
     /// their identifiers, each with its node data (RFC 7787, section 4.6).
     ///
@@ -437,6 +452,14 @@ impl Router {
         ensures { IfOk result (λ nodes. nodes.items ≡ view_of self.now) }
     {
         self.state.seen(alloc)
+    }
+
+    /// The view of these nodes, as of the router's moment. Never allocates.
+    pub(crate) fn view<'a>(&self, nodes: &'a [Entry]) -> View<'a>
+        requires { nodes.now ≡ view_of self.now }
+        ensures { plain_view result ≡ seen_by self.now }
+    {
+        self.state.view(nodes)
     }
 
     /// The delegated prefixes that the router uses, in ascending order, at its moment (RFC 7788, sections 6.2 and 6.3).
@@ -492,11 +515,25 @@ impl Router {
     ) -> Result<Option<NodeId>, NoMemory>
         ensures { IfOk result (IsElectedAt self.now e letter) }
     {
-        view_is_a_network();
         let nodes = self.state.seen(alloc)?;
-        let view = self.state.view(nodes.as_slice());
-        let common = common(alloc, &view, e)?;
-        Ok(elected(&view, common.as_slice(), letter))
+        self.elected_in(alloc, &self.state.view(nodes.as_slice()), e, letter)
+    }
+
+    /// The same, in what the router sees.
+    pub(crate) fn elected_in(
+        &self,
+        alloc: Global,
+        view: &View<'_>,
+        e: EpId,
+        letter: Letter,
+    ) -> Result<Option<NodeId>, NoMemory>
+        requires { plain_view view.now ≡ seen_by self.now }
+        ensures { IfOk result (IsElectedAt self.now e letter) }
+    {
+        let _ = &self.state;
+        view_is_a_network();
+        let common = common(alloc, view, e)?;
+        Ok(elected(view, common.as_slice(), letter))
     }
 
     /// The endpoints that are attached, in ascending order.

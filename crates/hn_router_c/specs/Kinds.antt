@@ -36,7 +36,14 @@ sent_of outgoing = sent_to outgoing.endpoint outgoing.to
 
 -- an assignment
 abbrev pub assigned_of : assign.Assigned → Assigned
-assigned_of a = record { endpoint = a.endpoint.0; length = a.prefix.len; applied = flag a.applied; prefix = to_be_bytes w128 a.prefix.bits; delegated = to_be_bytes w128 a.delegated.bits; delegated_length = a.delegated.len }
+assigned_of a = record {
+  endpoint = a.endpoint.0;
+  length = a.prefix.len;
+  applied = flag a.applied;
+  prefix = to_be_bytes w128 a.prefix.bits;
+  delegated = to_be_bytes w128 a.delegated.bits;
+  delegated_length = a.delegated.len;
+}
 
 -- a delegated prefix that is used
 abbrev pub used_of : Delegated → Used

@@ -184,7 +184,8 @@ module _ (laws : AnnouncingLaws) (a b : State) (twins : AreTwins a b) where
         | inr (node_is, other_is) ↦
             let said_a = subst (λ (n : Entry). IsAnnounced (seen_by a) n d) node_is is in
             let too = said_too laws.said a.own b.own twins.router.well.own twins.other_router.well.own twins.delegated d said_a.said in
-            let live_a : 0 < remaining (a.moment - a.own.born) (seconds_left a.own.born too.own.valid_until) = subst (λ (seconds : ℕ). 0 < remaining (a.moment - a.own.born) seconds) too.valid said_a.live in
+            let live_a : 0 < remaining (a.moment - a.own.born) (seconds_left a.own.born too.own.valid_until) =
+            subst (λ (seconds : ℕ). 0 < remaining (a.moment - a.own.born) seconds) too.valid said_a.live in
             record {
               other = own_entry b;
               delegation = record { valid = seconds_left b.own.born too.own.valid_until; preferred = seconds_left b.own.born too.own.preferred_until; prefix = d.prefix };

@@ -46,9 +46,11 @@ met_words Full port r = refl
 met_words Known port r = refl
 met_words Added port r = refl
 met_words Unknown port r =
-    cond_both (may_ask r.state.moment port.asked) (with_answer subject.NetworkRequest (item.RequestNetwork []) (with_port (asked r.state.moment port) r)) r (λ (a : Running). a.done.words ≡ r.done.words) (λ _. refl) (λ _. refl)
+    cond_both (may_ask r.state.moment port.asked) (with_answer subject.NetworkRequest (item.RequestNetwork []) (with_port (asked r.state.moment port) r)) r
+    (λ (a : Running). a.done.words ≡ r.done.words) (λ _. refl) (λ _. refl)
 
-one_of_four : (words : List ℕ) (a b c : Bool) (x y z w : Running) → x.done.words ≡ words → y.done.words ≡ words → z.done.words ≡ words → w.done.words ≡ words → (cond a x (cond b y (cond c z w))).done.words ≡ words
+one_of_four : (words : List ℕ) (a b c : Bool) (x y z w : Running) → x.done.words ≡ words → y.done.words ≡ words → z.done.words ≡ words
+    → w.done.words ≡ words → (cond a x (cond b y (cond c z w))).done.words ≡ words
 one_of_four words true b c x y z w is_x is_y is_z is_w = is_x
 one_of_four words false true c x y z w is_x is_y is_z is_w = is_y
 one_of_four words false false true x y z w is_x is_y is_z is_w = is_z
@@ -104,6 +106,8 @@ read_more from bytes place next tlv told told_between told_after before between 
 }
 
 -- the TLVs of a datagram, and then the answers, which take no word
-pub ran_arrival : (from : Origin) (tlvs : List PlainTlv) (told told_after : Option (ℕ → ℕ)) (before read after : Running) → Ran (IsTlvs from tlvs) told told_after before read → IsAnswering from read after → Ran (IsArrival from tlvs) told told_after before after
+pub ran_arrival : (from : Origin) (tlvs : List PlainTlv) (told told_after : Option (ℕ → ℕ)) (before read after : Running)
+    → Ran (IsTlvs from tlvs) told told_after before read → IsAnswering from read after → Ran (IsArrival from tlvs) told told_after before after
 ran_arrival from tlvs told told_after before read after ran answering =
-    ran_both words_of (IsTlvs from tlvs) (IsAnswering from) told told_after told_after before read after ran (ran_plain words_of (IsAnswering from) told_after read after answering (ap (λ (r : Running). r.done.words) answering.gives))
+    ran_both words_of (IsTlvs from tlvs) (IsAnswering from) told told_after told_after before read after ran
+    (ran_plain words_of (IsAnswering from) told_after read after answering (ap (λ (r : Running). r.done.words) answering.gives))

@@ -1,12 +1,10 @@
 -- An assignment of prefixes: the words that it takes, and what it leaves.
-use Rattle.std.proofs.Common.{◌≡◌, ◌∙◌, ℕ, Bool, true, false, List, Option, Decides, refl, sym, ap, subst}
-use Rattle.std.specs.Prelude.{◌==◌, ◌&&◌, nat_eq, not}
+use Rattle.std.proofs.Common.{◌≡◌, ◌∙◌, ℕ, Bool, List, Option, Decides, sym, ap, subst}
+use Rattle.std.specs.Prelude.{◌==◌, ◌&&◌, nat_eq}
 use Rattle.std.specs.Cmp.{booleans_Decides}
-use Rattle.std.specs.Cmp.Lexicographic.{pointwise}
 use Rattle.std.specs.Option.{option_eq}
 use Rattle.std.proofs.Math.Bool.{beq}
 use Rattle.std.proofs.lemmas.Bool.Decides.{Decides-and, Decides-like, Decides-eqb}
-use Rattle.std.proofs.lemmas.Slice.Eq.{slice_eq-Decides}
 use Rattle.hn_base.proofs.DecidingTests.{option_decided}
 use Rattle.hn_base.specs.Words.{Drew, Took}
 use Rattle.hn_assign.specs.declared.assigned.Assigned.{Assigned}
@@ -15,7 +13,13 @@ use Rattle.hn_assign.specs.declared.held.Held.{Held}
 use Rattle.hn_assign.specs.declared.held.Ran.{Ran as Left}
 use Rattle.hn_rules.specs.declared.running.Running.{Running}
 use Rattle.hn_rules.specs.declared.state.State.{State}
-use Rattle.hn_rules.specs.Assigning.{IsRunAssigned, IsAssigning}
+use Rattle.hn_rules.specs.Assigning.{IsWishAt, IsRunAssigned, IsAssigning}
+use Rattle.hn_rules.specs.Seen.{seen_by}
+use Rattle.hn_assign.specs.Subroutine.{IsSubroutine}
+use Rattle.hn_assign.specs.declared.assigned.Wish.{Wish}
+use Rattle.hn_data.specs.View.{PlainView}
+use Rattle.hn_deleg.specs.Used.{AreUsable}
+use Rattle.hn_store.specs.Nodes.{Nodes}
 use Rattle.hn_rules.specs.Rules.{Ran, with_words}
 use Rattle.hn_rules.specs.Router.{IsRefreshed}
 use Rattle.hn_base.proofs.Prefixes.{is_one_prefix, prefix_decided}
@@ -28,7 +32,8 @@ SameParts a b =
 
 abbrev same_test : Assigned → Assigned → Bool
 same_test a b =
-    is_one_prefix a.delegated b.delegated && (a.endpoint.0 == b.endpoint.0 && (is_one_prefix a.prefix b.prefix && (option_eq nat_eq a.published b.published && (a.since == b.since && beq a.applied b.applied))))
+    is_one_prefix a.delegated b.delegated && (a.endpoint.0 == b.endpoint.0 &&
+    (is_one_prefix a.prefix b.prefix && (option_eq nat_eq a.published b.published && (a.since == b.since && beq a.applied b.applied))))
 
 pub assigned_decided : (a b : Assigned) → Decides (same_test a b) (a ≡ b)
 assigned_decided a b =
@@ -43,7 +48,13 @@ assigned_decided a b =
     })
     (λ (same : a ≡ b). (
       ap (λ (c : Assigned). c.delegated) same,
-      (ap (λ (c : Assigned). c.endpoint.0) same, (ap (λ (c : Assigned). c.prefix) same, (ap (λ (c : Assigned). c.published) same, (ap (λ (c : Assigned). c.since) same, ap (λ (c : Assigned). c.applied) same)))),
+      (
+        ap (λ (c : Assigned). c.endpoint.0) same,
+        (
+          ap (λ (c : Assigned). c.prefix) same,
+          (ap (λ (c : Assigned). c.published) same, (ap (λ (c : Assigned). c.since) same, ap (λ (c : Assigned). c.applied) same)),
+        ),
+      ),
     ))
     (Decides-and _ _ (prefix_decided a.delegated b.delegated) (Decides-and _ _ (Decides-eqb a.endpoint.0 b.endpoint.0) (Decides-and _ _ (prefix_decided a.prefix b.prefix)
     (Decides-and _ _ (option_decided a.published b.published) (Decides-and _ _ (Decides-eqb a.since b.since) (booleans_Decides a.applied b.applied))))))
@@ -57,27 +68,42 @@ backoff_decided a b =
     (λ (same : a ≡ b). (ap (λ (c : Backoff). c.delegated) same, (ap (λ (c : Backoff). c.endpoint.0) same, ap (λ (c : Backoff). c.due) same)))
     (Decides-and _ _ (prefix_decided a.delegated b.delegated) (Decides-and _ _ (Decides-eqb a.endpoint.0 b.endpoint.0) (Decides-eqb a.due b.due)))
 
--- assignments of which `!=` answered no
-pub same_assigned : (xs ys : List Assigned) (answer : Bool) → answer ≡ not (pointwise same_test xs ys) → answer ≡ false → xs ≡ ys
-same_assigned xs ys answer is none = by_test (pointwise same_test xs ys) refl (sym is ∙ none)
-  where
-    by_test : (b : Bool) → b ≡ pointwise same_test xs ys → not b ≡ false → xs ≡ ys
-    by_test true test none = (slice_eq-Decides assigned_decided xs ys true test).0 refl
-    by_test false test none = absurd cc
-
 -- ---- an assignment
 
--- the words that it takes
-pub ran_assigning : (left : Left) (words : List ℕ) (held : Held) (told told_after : Option (ℕ → ℕ)) (before took after : Running) → IsRunAssigned before.state left → Took told left.words told_after
-    → took ≡ with_words words before → words ≡ left.words → held ≡ left.held → after ≡ record took { state = record took.state { held = held } } → Ran IsAssigning told told_after before after
-ran_assigning left words held told told_after before took after assigned drew gives same_words same_held is =
-    let all : took ≡ with_words left.words before = gives ∙ ap (λ (ws : List ℕ). with_words ws before) same_words in
-    let whole : after ≡ with_words left.words (record before { state = record before.state { held = left.held } }) =
-    is ∙ ap (λ (h : Held). record took { state = record took.state { held = h } }) same_held ∙ ap (λ (r : Running). record r { state = record r.state { held = left.held } }) all in
+-- the subroutine does the same where the router sees the same, whatever its table and its network state hash
+pub run_seen : (s : State) (table : Nodes) (net : List ℕ) (left : Left) → seen_by (record s { table = table; net = net }) ≡ seen_by s
+    → IsRunAssigned (record s { table = table; net = net }) left → IsRunAssigned s left
+run_seen s table net left same is =
+    let asked_at = λ (view : PlainView) (place : ℕ) (wish : Wish). IsWishAt s.private view is.usable place wish in
     record {
-      holds = record { ran = left; is_assigned = assigned; gives = whole };
-      drew = subst (λ (ws : List ℕ). Drew told before.done.words told_after ws) (ap (λ (r : Running). r.done.words) (sym whole)) (drew before.done.words);
+      usable = is.usable;
+      are_usable = subst (λ (view : PlainView). AreUsable view is.usable) same is.are_usable;
+      wishes = is.wishes;
+      are_asked = record {
+        ascending = is.are_asked.ascending;
+        exact = λ wish. (
+          λ there. let w = (is.are_asked.exact wish).0 there in record { place = w.place; asked = subst (λ (view : PlainView). asked_at view w.place wish) same w.asked; post = w.post },
+          λ w. (is.are_asked.exact wish).1 (record { place = w.place; asked = subst (λ (view : PlainView). asked_at view w.place wish) (sym same) w.asked; post = w.post }),
+        );
+      };
+      is_subroutine = subst (λ (view : PlainView). IsSubroutine view is.wishes s.held left) same is.is_subroutine;
     }
+
+-- what the subroutine left is held, and then the words are taken
+pub assigns : (left : Left) (words : List ℕ) (before between after : Running) → words ≡ left.words
+    → between ≡ record before { state = record before.state { held = left.held } } → after ≡ with_words words between
+    → after ≡ with_words left.words (record before { state = record before.state { held = left.held } })
+assigns left words before between after same held gives =
+    gives ∙ ap (λ (ws : List ℕ). with_words ws between) same ∙ ap (λ (r : Running). with_words left.words r) held
+
+-- the words that it takes
+pub ran_assigning : (left : Left) (told told_after : Option (ℕ → ℕ)) (before after : Running)
+    → IsRunAssigned before.state left → Took told left.words told_after
+    → after ≡ with_words left.words (record before { state = record before.state { held = left.held } }) → Ran IsAssigning told told_after before after
+ran_assigning left told told_after before after assigned drew gives = record {
+  holds = record { ran = left; is_assigned = assigned; gives = gives };
+  drew = subst (λ (ws : List ℕ). Drew told before.done.words told_after ws) (ap (λ (r : Running). r.done.words) (sym gives)) (drew before.done.words);
+}
 
 -- with the same assignments what a refresh makes stays
 pub refreshed_with : (s : State) (held : Held) → held.assigned ≡ s.held.assigned → IsRefreshed s → IsRefreshed (record s { held = held })
@@ -92,8 +118,8 @@ refreshed_with s held same is = record {
   hashed = is.hashed;
 }
 
-pub untouched_assigning : (left : Left) (words : List ℕ) (held : Held) (before took : Running) → took ≡ with_words words before → held ≡ left.held → left.held.assigned ≡ took.state.held.assigned
-    → IsRefreshed before.state → IsRefreshed (record took.state { held = held })
-untouched_assigning left words held before took gives same_held same is =
-    let state : before.state ≡ took.state = ap (λ (r : Running). r.state) (sym gives) in
-    refreshed_with took.state held (ap (λ (h : Held). h.assigned) same_held ∙ same) (subst IsRefreshed state is)
+pub untouched_assigning : (left : Left) (before after : Running)
+    → after ≡ with_words left.words (record before { state = record before.state { held = left.held } })
+    → left.held.assigned ≡ before.state.held.assigned → IsRefreshed before.state → IsRefreshed after.state
+untouched_assigning left before after gives same is =
+    subst IsRefreshed (ap (λ (r : Running). r.state) (sym gives)) (refreshed_with before.state left.held same is)

@@ -10,11 +10,13 @@ use Rattle.hn_rules.specs.declared.running.Running.{Running}
 use Rattle.hn_rules.specs.Rules.{Rule, AtPort}
 
 -- the rule of an endpoint that is attached
-pub at_port : (at : EpId) (port : Port) (ports : List Port) (rule : Port → Rule) (before after : Running) → Some port ≡ port_at at ports → ports ≡ before.state.ports → rule port before after → AtPort at rule before after
+pub at_port : (at : EpId) (port : Port) (ports : List Port) (rule : Port → Rule) (before after : Running) → Some port ≡ port_at at ports
+    → ports ≡ before.state.ports → rule port before after → AtPort at rule before after
 at_port at port ports rule before after here same holds =
     subst (λ (o : Option Port). OnSome rule o before after) (here ∙ ap (port_at at) same) holds
 
-found_here : (at : EpId) (port p : Port) (ps : List Port) (b : Bool) → is_port at p ≡ b → Some port ≡ cond b (Some p) (find (is_port at) ps) → (Some port ≡ find (is_port at) ps → port.id ≡ at) → port.id ≡ at
+found_here : (at : EpId) (port p : Port) (ps : List Port) (b : Bool) → is_port at p ≡ b → Some port ≡ cond b (Some p) (find (is_port at) ps)
+    → (Some port ≡ find (is_port at) ps → port.id ≡ at) → port.id ≡ at
 found_here at port p ps true test here rest =
     let number : p.id.0 ≡ at.0 = eqb-true p.id.0 at.0 test in
     let same : port ≡ p = cc in

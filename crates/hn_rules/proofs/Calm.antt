@@ -1,20 +1,17 @@
 -- A tick of a router that keeps nothing which has come to its moment.
-use Rattle.std.proofs.Common.{◌≡◌, ◌∙◌, ℕ, ◌≤◌, cond, List, [], ◌∷◌, map, get_or, Option, Some, refl, sym, ap, subst}
+use Rattle.std.proofs.Common.{◌≡◌, ◌∙◌, ℕ, ◌≤◌, cond, List, [], ◌∷◌, map, Option, Some, refl, sym, ap, subst}
 use Rattle.std.specs.Prelude.{Contains, ◌==◌}
 use Rattle.std.specs.List.{filter_map, cons_option}
 use Rattle.std.specs.Option.{option_map}
 use Rattle.std.proofs.lemmas.List.Elements.{All-contains_itself, All-filter, All-weaker}
-use Rattle.hn_base.specs.Words.{Begins}
 use Rattle.hn_base.specs.declared.ids.NodeId.{NodeId}
 use Rattle.hn_assign.specs.Fixed.{AreAssignmentsUnchanged, unmarked}
-use Rattle.hn_assign.specs.Subroutine.{IsSubroutine}
 use Rattle.hn_assign.specs.declared.assigned.Assigned.{Assigned}
 use Rattle.hn_assign.specs.declared.held.Held.{Held}
 use Rattle.hn_assign.specs.declared.held.Ran.{Ran}
 use Rattle.hn_data.specs.View.{PlainView}
 use Rattle.hn_data.specs.declared.said.AssignedPrefix.{AssignedPrefix}
 use Rattle.hn_data.specs.declared.view.Entry.{Entry}
-use Rattle.hn_deleg.specs.Used.{AreUsable}
 use Rattle.hn_graph.specs.Laws.{ReachabilityStays}
 use Rattle.hn_own.specs.HeldPairs.{published_in, publication_of}
 use Rattle.hn_own.specs.Laws.{NoneEnds}
@@ -27,23 +24,24 @@ use Rattle.hn_store.specs.declared.stored.HeldNode.{HeldNode}
 use Rattle.hn_store.specs.declared.stored.Stored.{Stored}
 use Rattle.hn_rules.specs.declared.running.Running.{Running}
 use Rattle.hn_rules.specs.declared.state.State.{State}
-use Rattle.hn_rules.specs.Assigning.{IsWishAt, IsRunAssigned}
+use Rattle.hn_rules.specs.Assigning.{IsRunAssigned}
 use Rattle.hn_rules.specs.Delegating.{ending}
 use Rattle.hn_rules.specs.Nodes.{held_entry, own_entry, entry_of}
 use Rattle.hn_rules.specs.Refresh.{own_items, IsRefresh}
 use Rattle.hn_rules.specs.Rested.{IsRested, RestfulTick}
 use Rattle.hn_rules.specs.Router.{IsRefreshed, IsFresh, IsRouter}
-use Rattle.hn_rules.specs.Rules.{Rule, AtPort, IsSole, begun_at, with_words}
+use Rattle.hn_rules.specs.Rules.{AtPort, IsSole, begun_at, with_words}
 use Rattle.hn_rules.specs.Seen.{seen_by}
 use Rattle.hn_rules.specs.Still.{at_moment, IsUneventful}
 use Rattle.hn_rules.specs.Tick.{IsExpiry, forgetting, IsPortTick}
 use Rattle.hn_rules.specs.Ticks.{IsLosing, IsSettling, IsTick}
+use Rattle.hn_rules.proofs.AssignRuns.{run_seen}
 use Rattle.hn_rules.proofs.Endpoints.{ports_stand}
 use Rattle.hn_rules.proofs.Forgetting.{stays, filter_map-same, same_held, refreshed_forgetting}
 use Rattle.hn_rules.proofs.Leads.{keeps_each}
 use Rattle.hn_rules.proofs.Recent.{LeadsOn, recent_fresh, same_refresh}
 use Rattle.hn_rules.proofs.Refreshes.{Kept, kept_self, keeps_kept_at, refreshed-later, tick_keeps}
-use Rattle.hn_rules.proofs.Resting.{none_expire_at}
+use Rattle.hn_rules.proofs.Resting.{none_expire_at, only}
 
 -- the laws on which it rests
 pub record CalmLaws : Type 0 where
@@ -51,13 +49,6 @@ pub record CalmLaws : Type 0 where
   pub ending : NoneEnds
   pub one_expiry : IsSole IsExpiry
   pub one_refresh : IsSole IsRefresh
-
--- where a rule may leave all as it was, it does
-only : (rule : Rule) → IsSole rule → (r a : Running) → rule r a → rule r r → a ≡ r
-only rule sole r a holds rests =
-    let stream : ℕ → ℕ = λ i. get_or a.done.words i 0 in
-    let begins : Begins a.done.words stream = λ i within. refl in
-    sole.one stream r a r holds rests begins (sole.grows stream r a holds begins)
 
 -- ---- assignments that differ in marks alone
 
@@ -72,7 +63,8 @@ same_published before after same = sym (published_unmarked after) ∙ ap (filter
 with_held : (s : State) (ran : Held) → AreAssignmentsUnchanged s.held.assigned ran.assigned → IsFresh s → IsFresh (record s { held = ran })
 with_held s ran same is = record {
   refreshed = record {
-    published = ap (λ (list : List AssignedPrefix). let items : OwnItems = record (own_items s) { assigned = list } in items) (same_published s.held.assigned ran.assigned same) ∙ is.refreshed.published;
+    published = ap (λ (list : List AssignedPrefix). let items : OwnItems = record (own_items s) { assigned = list } in items) (same_published s.held.assigned ran.assigned same)
+        ∙ is.refreshed.published;
     reached = record {
       moment = is.refreshed.reached.moment;
       past = is.refreshed.reached.past;
@@ -105,7 +97,8 @@ module _ (laws : CalmLaws) (s : State) (now : ℕ) (router : IsRouter s) (begun 
   pub nothing_lost : (lost : Running) → IsLosing start lost → lost ≡ start
   nothing_lost lost (expired, expiry, (ended, ends, refresh)) =
       let none : expired ≡ start = only IsExpiry laws.one_expiry start expired expiry (none_expire_at start router.well.ports quiet.heard) in
-      let same : ending start ≡ start = ap (λ (list : List OwnPrefix). let x : Running = record start { state = record start.state { delegated = list } } in x) ((laws.ending now s.delegated).1 quiet.lasting) in
+      let same : ending start ≡ start = ap (λ (list : List OwnPrefix). let x : Running = record start { state = record start.state { delegated = list } } in x)
+      ((laws.ending now s.delegated).1 quiet.lasting) in
       let whole : ended ≡ start = ends ∙ ap ending none ∙ same in
       only IsRefresh laws.one_refresh start lost (subst (λ (x : Running). IsRefresh x lost) whole refresh) (same_refresh start (recent_fresh laws.reach then refreshed_then quiet.young quiet.leads))
 
@@ -131,20 +124,7 @@ module _ (laws : CalmLaws) (s : State) (now : ℕ) (router : IsRouter s) (begun 
 
   -- and prefixes are assigned as then
   pub assigned_then : (ran : Ran) → IsRunAssigned forgot ran → IsRunAssigned then ran
-  assigned_then ran is = record {
-    usable = is.usable;
-    are_usable = subst (λ (view : PlainView). AreUsable view is.usable) same_view is.are_usable;
-    wishes = is.wishes;
-    are_asked = record {
-      ascending = is.are_asked.ascending;
-      exact = λ wish. (
-        λ there. let w = (is.are_asked.exact wish).0 there in
-            record { place = w.place; asked = subst (λ (view : PlainView). IsWishAt s.private view is.usable w.place wish) same_view w.asked; post = w.post },
-        λ w. (is.are_asked.exact wish).1 (record { place = w.place; asked = subst (λ (view : PlainView). IsWishAt s.private view is.usable w.place wish) (sym same_view) w.asked; post = w.post }),
-      );
-    };
-    is_subroutine = subst (λ (view : PlainView). IsSubroutine view is.wishes s.held ran) same_view is.is_subroutine;
-  }
+  assigned_then ran is = run_seen then (remembered now s.table) s.net ran same_view is
 
   module _ (changes_none : (ran : Ran) → IsRunAssigned then ran → AreAssignmentsUnchanged s.held.assigned ran.held.assigned) where
     -- prefixes are assigned as they were, and nothing is published

@@ -65,5 +65,6 @@ free-after own entries word n enough small all =
     let at : get_or (range_with_len 0 (n + 1)) k d ≡ k = get_or-range_with_len 0 (n + 1) k d less ∙ omega arith in
     rw at (id_is_taken (id_after word k) own entries (every k less)))
     in
-    let no_more = length-le_from_Contains nat_eq_equiv Decides-eqb (ids_after word (n + 1)) (taken_ids own entries) (ids_apart word (n + 1) (omega arith)) (λ id is. All-contains Among (ids_after word (n + 1)) id among is) in
+    let no_more = length-le_from_Contains nat_eq_equiv Decides-eqb (ids_after word (n + 1)) (taken_ids own entries)
+    (ids_apart word (n + 1) (omega arith)) (λ id is. All-contains Among (ids_after word (n + 1)) id among is) in
     omega (arith, length-map-range_with_len (id_after word) 0 (n + 1), length-map entries (λ (node : HeldNode). node.id.0)))

@@ -30,7 +30,12 @@ module _ (laws : GenuineLaws) (past : List Publication) (tlvs : List PlainTlv) (
   still_collide : (c : Change) (r : Running) → IsAllowed tlvs c r → TextsCollide (past ++ r.done.published) → TextsCollide (past ++ (change c r).done.published)
   still_collide c r is collide =
       let nothing_yet : GrowsFrom r.done r =
-      record { sends = ([], sym (append-nil r.done.sends)); notes = ([], sym (append-nil r.done.notes)); published = ([], sym (append-nil r.done.published)); words = ([], sym (append-nil r.done.words)) } in
+      record {
+        sends = ([], sym (append-nil r.done.sends));
+        notes = ([], sym (append-nil r.done.notes));
+        published = ([], sym (append-nil r.done.published));
+        words = ([], sym (append-nil r.done.words));
+      } in
       let more = (laws.add tlvs r.done c r is nothing_yet).published in
       subst (λ (list : List Publication). TextsCollide (past ++ list)) (sym more.1)
       (collide_more (past ++ r.done.published) (past ++ (r.done.published ++ more.0)) (includes_more past r.done.published more.0) collide)
@@ -39,7 +44,8 @@ module _ (laws : GenuineLaws) (past : List Publication) (tlvs : List PlainTlv) (
   answers_more : (r : Running) (p : Publication) → All (IsGenuineAnswer (past ++ r.done.published)) r.answers → All (IsGenuineAnswer (past ++ (r.done.published ++ p ∷ []))) r.answers
   answers_more r p = All-weaker _ _ (answer_more (past ++ r.done.published) (past ++ (r.done.published ++ p ∷ [])) (includes_more past r.done.published (p ∷ []))) r.answers
 
-  sends_more : (r : Running) (p : Publication) → All (λ o. BytesSayPublished (past ++ r.done.published) o.bytes) r.done.sends → All (λ o. BytesSayPublished (past ++ (r.done.published ++ p ∷ [])) o.bytes) r.done.sends
+  sends_more : (r : Running) (p : Publication) → All (λ o. BytesSayPublished (past ++ r.done.published) o.bytes) r.done.sends
+      → All (λ o. BytesSayPublished (past ++ (r.done.published ++ p ∷ [])) o.bytes) r.done.sends
   sends_more r p =
       All-weaker (λ (o : Outgoing). BytesSayPublished (past ++ r.done.published) o.bytes) (λ (o : Outgoing). BytesSayPublished (past ++ (r.done.published ++ p ∷ [])) o.bytes)
       (λ (o : Outgoing). bytes_more (past ++ r.done.published) (past ++ (r.done.published ++ p ∷ [])) (includes_more past r.done.published (p ∷ [])) o.bytes) r.done.sends
@@ -99,7 +105,8 @@ module _ (laws : GenuineLaws) (past : List Publication) (tlvs : List PlainTlv) (
         record {
           state = record { own = so.state.own; others = so.state.others };
           answers = so.answers;
-          sends = All-append (λ (o : Outgoing). BytesSayPublished (past ++ r.done.published) o.bytes) r.done.sends sends so.sends (sends_say (past ++ r.done.published) laws.say r sends before.hash so.answers is);
+          sends = All-append (λ (o : Outgoing). BytesSayPublished (past ++ r.done.published) o.bytes) r.done.sends sends so.sends
+              (sends_say (past ++ r.done.published) laws.say r sends before.hash so.answers is);
         },
       )
   by_change c r is before after so =

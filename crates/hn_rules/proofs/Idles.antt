@@ -1,29 +1,24 @@
 -- A tick does nothing if and only if each part of it leaves the router as it is.
-use Rattle.std.proofs.Common.{◌≡◌, ◌∙◌, ◌↔◌, ℕ, ◌-◌, ◌^◌, ◌<◌, ◌≤◌, ◌+◌, Bool, true, false, nat_le, List, [], ◌∷◌, ◌++◌, map, filter, nat_lt, Option, Some, None, inl, inr, refl, sym, ap, subst, arith}
+use Rattle.std.proofs.Common.{◌≡◌, ◌∙◌, ◌↔◌, ℕ, ◌-◌, ◌^◌, ◌<◌, ◌≤◌, ◌+◌, Bool, true, false, nat_le, List, [], ◌∷◌, ◌++◌, map, filter, nat_lt, Option, Some, None, refl, sym, ap, subst, arith}
 use Rattle.std.specs.Prelude.{All, Contains}
 use Rattle.std.specs.List.{list_any}
 use Rattle.std.specs.Option.{option_map_or}
 use Rattle.std.proofs.lemmas.Bool.{or_parts, lt-leb}
 use Rattle.std.specs.List.Sorted.{IsStrictlySortedBy}
 use Rattle.std.proofs.lemmas.List.Elements.{All-contains, All-filter}
-use Rattle.hn_base.proofs.AscendingLists.{Contains-map}
-use Rattle.hn_base.proofs.Elements.{all_of, found_passes}
+use Rattle.hn_base.proofs.Elements.{all_of}
 use Rattle.hn_base.specs.NodeIds.{node_cmp}
-use Rattle.hn_base.specs.Rules.{Each, OnSome}
-use Rattle.hn_base.specs.declared.ids.EpId.{EpId}
 use Rattle.hn_base.specs.declared.ids.NodeId.{NodeId}
 use Rattle.hn_assign.specs.declared.held.Held.{Held}
 use Rattle.hn_assign.specs.declared.held.Ran.{Ran as Assigned}
 use Rattle.hn_data.specs.declared.view.Entry.{Entry}
 use Rattle.hn_dncp.specs.Due.{IsPortStill, IsIdleAt}
 use Rattle.hn_dncp.specs.Laws.{PackingIsNotEmpty, StillPortIsIdle}
-use Rattle.hn_dncp.specs.declared.peers.Neighbour.{Neighbour}
-use Rattle.hn_dncp.specs.declared.port.Port.{Port}
 use Rattle.hn_graph.specs.Path.{IsReachable}
 use Rattle.hn_own.specs.Laws.{NoneEnds}
 use Rattle.hn_own.specs.Own.{links_of}
 use Rattle.hn_own.specs.OwnPrefixes.{delegated_after, has_ended_one}
-use Rattle.hn_own.specs.Ports.{ArePorts, is_port, port_at, put_port, endpoints_of}
+use Rattle.hn_own.specs.Ports.{ArePorts}
 use Rattle.hn_own.specs.declared.own.OwnItems.{OwnItems}
 use Rattle.hn_own.specs.declared.own_prefixes.OwnPrefix.{OwnPrefix}
 use Rattle.hn_store.specs.Laws.{NoneIsForgotten}
@@ -39,20 +34,23 @@ use Rattle.hn_rules.specs.Done.{nothing}
 use Rattle.hn_rules.specs.Idle.{IsIdleTick, IsLeft}
 use Rattle.hn_rules.specs.Laws.{StillIsIdle, IdleIsStill, SilentTickIsStill, IdleUntilDue, StillStays, NextDueStays}
 use Rattle.hn_rules.specs.Nodes.{held_entry, own_entry, held_entries, nodes_of, IsReach}
-use Rattle.hn_rules.specs.Refresh.{own_items, IsPublished, IsReaching, IsRefresh}
+use Rattle.hn_rules.specs.Refresh.{own_items, IsPublished, IsRefresh}
 use Rattle.hn_rules.specs.Router.{IsRouter}
 use Rattle.hn_base.specs.Words.{Begins}
-use Rattle.hn_rules.specs.Rules.{AtPort, IsSole, begun_at}
+use Rattle.hn_rules.specs.Rules.{IsSole, begun_at}
 use Rattle.hn_rules.specs.Still.{at_moment, AreHeard, IsStill}
-use Rattle.hn_rules.specs.Tick.{IsExpired, IsPortExpiry, IsExpiry, forgetting, IsPortTick, IsPortsTick}
+use Rattle.hn_rules.specs.Tick.{IsExpiry, forgetting, IsPortsTick}
 use Rattle.hn_rules.specs.Ticks.{IsTick}
+use Rattle.hn_rules.proofs.AssignRuns.{run_seen}
 use Rattle.hn_rules.proofs.Forgetting.{IsMarked, stays}
-use Rattle.hn_rules.proofs.Recent.{marks_same}
-use Rattle.hn_rules.proofs.Refreshes.{only_one, refreshed-later, seen_marked}
-use Rattle.hn_rules.proofs.Shrinking.{with_ports, none_expired, expiry_ports}
-use Rattle.hn_rules.proofs.SilentPorts.{found_itself, all_idle, ticks_ports}
+use Rattle.hn_rules.proofs.Recent.{marks_same, same_refresh}
+use Rattle.hn_rules.proofs.Resting.{none_expire_at, only, ports_rest}
+use Rattle.hn_rules.proofs.Refreshes.{refreshed-later, seen_marked}
+use Rattle.hn_rules.proofs.OneResults.{sole_expiry}
+use Rattle.hn_rules.proofs.PortsInTurn.{with_ports}
+use Rattle.hn_rules.proofs.Shrinking.{none_expired, expiry_ports}
+use Rattle.hn_rules.proofs.SilentPorts.{all_idle, ticks_ports}
 use Rattle.hn_rules.proofs.Silences.{Silent, none_after, seen_again, silent_refresh, silent_walk}
-use Rattle.hn_rules.proofs.Touched.{none_expire, put_same}
 use Rattle.hn_rules.proofs.Walk.{assigning_walk, ports_walk}
 
 -- the laws of the crates below that they stand on
@@ -68,22 +66,11 @@ pub record IdleLaws : Type 0 where
   pub port : StillPortIsIdle
   pub packing : PackingIsNotEmpty
 
--- a rule of each element that leaves all as it was
-each_same : {S A : Type 0} (rule : A → S → S → Type 0) (r : S) → ((x : A) → rule x r r) → (xs : List A) → Each rule xs r r
-each_same rule r one [] = refl
-each_same rule r one (x ∷ xs) = (r, one x, each_same rule r one xs)
-
 -- ---- each part leaves the router as it is: the tick does nothing
 
 module _ (laws : StillLaws) (s : State) (now : ℕ) (router : IsRouter s) (begun : s.moment ≤ now) (still : IsStill now s) where
   abbrev r : Running
   r = begun_at now s
-
-  expires : IsExpiry r r
-  expires =
-      each_same (λ at. AtPort at IsPortExpiry) r
-      (λ at. none_expire at r router.well.ports (λ port found.
-      All-contains (λ (p : Port). All (λ (peer : Neighbour). ¬ (IsExpired (at_moment now s) peer)) p.peers) s.ports port still.heard (found_passes (is_port at) s.ports port found).0)) (endpoints_of s.ports)
 
   ends : r ≡ ending r
   ends = ap (λ (list : List OwnPrefix). let x : Running = record r { state = record r.state { delegated = list } } in x) (sym ((laws.ending now s.delegated).1 still.lasting))
@@ -92,31 +79,16 @@ module _ (laws : StillLaws) (s : State) (now : ℕ) (router : IsRouter s) (begun
   forgets = ap (λ (table : Nodes). let x : Running = record r { state = record r.state { table = table } } in x) (sym ((laws.forgetting now s.table).1 still.kept))
 
   refreshes : IsRefresh r r
-  refreshes = (r, inl (record { same = router.refreshed.published; young = still.young }, refl), (r, reaches, inl (sym (refreshed-later now s begun router.refreshed).hashed, refl)))
-    where
-      reaches : IsReaching r r
-      reaches = record {
-        reach = s.reach;
-        is_reach = still.reached;
-        gives = ap (λ (entries : List HeldNode). let x : Running = record r { state = record r.state { table = record s.table { entries = entries } } } in x) (sym (marks_same s.reach now s.table.entries router.refreshed.lost));
-      }
+  refreshes = same_refresh r (record { refreshed = refreshed-later now s begun router.refreshed; reached = still.reached; young = still.young })
 
   assigns : IsAssigning r r
   assigns = record { ran = record { held = s.held; words = [] }; is_assigned = still.rests; gives = refl }
 
-  ticks : IsPortsTick r r
-  ticks = each_same (λ at. AtPort at IsPortTick) r (λ at. by_port at (port_at at s.ports) refl) (endpoints_of s.ports)
-    where
-      by_port : (at : EpId) (o : Option Port) → port_at at s.ports ≡ o → OnSome IsPortTick o r r
-      by_port at None found = refl
-      by_port at (Some port) found =
-          let idle = (laws.port now port).0 (All-contains (IsPortStill now) s.ports port still.silent (found_passes (is_port at) s.ports port found).0) in
-          let put : put_port port s.ports ≡ s.ports = put_same port s.ports (only_one at s.ports port router.well.ports.ascending found) in
-          let whole = ap (λ (p : Port). put_port p s.ports) idle.same ∙ put in
-          (r, record { words = []; as_many = sym idle.untaken; gives = ap (λ (ports : List Port). with_ports r ports) (sym whole) }, inr (idle.unsent, refl))
-
   still_tick : IsIdleTick now s
-  still_tick = (r, (r, (r, expires, (r, ends, refreshes)), (r, forgets, (r, (r, assigns, refreshes), ticks))), refl, refl)
+  still_tick =
+      let expires = none_expire_at r router.well.ports still.heard in
+      let ticks = ports_rest laws.port r router.well.ports still.silent in
+      (r, (r, (r, expires, (r, ends, refreshes)), (r, forgets, (r, (r, assigns, refreshes), ticks))), refl, refl)
 
 pub still_idle : StillLaws → StillIsIdle
 still_idle laws s now router begun still = still_tick laws s now router begun still
@@ -144,19 +116,19 @@ module _ (laws : IdleLaws) (s : State) (now : ℕ) (router : IsRouter s) (begun 
   kept_by : (expired ended : Running) → IsExpiry start expired → ended ≡ ending expired → IsPublished ended.state → IsKept expired ended
   kept_by expired ended expiry ends published =
       let ports = expired.state.ports in
-      let left : expired ≡ with_ports start ports = expiry_ports start expired expiry in
-      let whole : ended ≡ ending (with_ports start ports) = ends ∙ ap ending left in
-      let fresh : IsPublished (ending (with_ports start ports)).state = subst (λ (x : Running). IsPublished x.state) whole published in
+      let state : ended.state ≡ (ending (with_ports start ports)).state =
+      ap (λ (x : Running). x.state) ends ∙ ap (λ (x : State). let y : State = record x { delegated = delegated_after x.moment x.delegated } in y) (expiry_ports start expired expiry) in
+      let fresh : IsPublished (ending (with_ports start ports)).state = subst IsPublished state published in
       let items : own_items (ending (with_ports start ports)).state ≡ own_items s = fresh.same ∙ sym router.refreshed.published in
       let links : links_of ports ≡ links_of s.ports = ap (λ (o : OwnItems). o.links) items in
       let delegated : delegated_after now s.delegated ≡ s.delegated = ap (λ (o : OwnItems). o.delegated) items in
-      let none = none_expired start expired router.well.ports expiry links in
+      let heard = none_expired start expired router.well.ports expiry links in
+      let none : expired ≡ start = only IsExpiry sole_expiry start expired expiry (none_expire_at start router.well.ports heard) in
       record {
-        heard = all_of (λ (port : Port). All (λ (peer : Neighbour). ¬ (IsExpired (at_moment now s) peer)) port.peers) s.ports
-            (λ port there. none.1 port.id (Contains-map (λ (p : Port). p.id) s.ports port there) port (found_itself s.ports port router.well.ports there));
+        heard = heard;
         lasting = (laws.ending now s.delegated).0 delegated;
         young = fresh.young;
-        same = ends ∙ ap ending none.0 ∙ ap (λ (list : List OwnPrefix). let x : Running = record start { state = record start.state { delegated = list } } in x) delegated;
+        same = ends ∙ ap ending none ∙ ap (λ (list : List OwnPrefix). let x : Running = record start { state = record start.state { delegated = list } } in x) delegated;
       }
 
   -- ---- what comes after
@@ -208,19 +180,7 @@ module _ (laws : IdleLaws) (s : State) (now : ℕ) (router : IsRouter s) (begun 
         → IsRunAssigned (at_moment now s) (record { held = s.held; words = [] })
     rests remains ran was held_is words_are =
         let there : IsRunAssigned (record (at_moment now s) { net = net }) ran = subst (λ (x : State). IsRunAssigned x ran) (forgot_is remains) was in
-        let here : IsRunAssigned (at_moment now s) ran = record {
-          usable = there.usable;
-          are_usable = there.are_usable;
-          wishes = there.wishes;
-          are_asked = record {
-            ascending = there.are_asked.ascending;
-            exact = λ wish. (
-              λ asked. let one = (there.are_asked.exact wish).0 asked in record { place = one.place; asked = one.asked; post = one.post },
-              λ one. (there.are_asked.exact wish).1 (record { place = one.place; asked = one.asked; post = one.post }),
-            );
-          };
-          is_subroutine = there.is_subroutine;
-        } in
+        let here : IsRunAssigned (at_moment now s) ran = run_seen (at_moment now s) s.table net ran refl there in
         let same : ran ≡ record { held = s.held; words = [] } = λ i. record { held = held_is i; words = words_are i } in
         subst (IsRunAssigned (at_moment now s)) same here
 
@@ -370,12 +330,14 @@ one_tick sole r a b h k silent_a silent_b =
     sole.one stream r a b h k (subst (λ (words : List ℕ). Begins words stream) (sym words_a) none) (subst (λ (words : List ℕ). Begins words stream) (sym words_b) none)
 
 -- so one that ran where each part leaves the router as it is did nothing
-pub ran_idle : StillIsIdle → IsSole IsTick → (s : State) (now : ℕ) (after : Running) → IsRouter s → s.moment ≤ now → IsTick (begun_at now s) after → after.done ≡ nothing → IsStill now s → after.state ≡ at_moment now s
+pub ran_idle : StillIsIdle → IsSole IsTick → (s : State) (now : ℕ) (after : Running) → IsRouter s → s.moment ≤ now → IsTick (begun_at now s) after
+    → after.done ≡ nothing → IsStill now s → after.state ≡ at_moment now s
 ran_idle is_idle sole s now after router begun tick silent still =
     let (other, other_tick, same, other_silent) = is_idle s now router begun still in
     ap (λ (r : Running). r.state) (one_tick sole (begun_at now s) after other tick other_tick silent other_silent) ∙ same
 
-pub is_idle_where_left : StillIsIdle → IdleIsStill → SilentTickIsStill → IsSole IsTick → (s : State) (now : ℕ) (after : Running) → IsRouter s → s.moment ≤ now → IsTick (begun_at now s) after → after.done ≡ nothing
+pub is_idle_where_left : StillIsIdle → IdleIsStill → SilentTickIsStill → IsSole IsTick → (s : State) (now : ℕ) (after : Running) → IsRouter s
+    → s.moment ≤ now → IsTick (begun_at now s) after → after.done ≡ nothing
     → IsLeft now s after.state ↔ ((after.state ≡ at_moment now s) × (after.done ≡ nothing))
 is_idle_where_left is_idle is_still silent_is_still sole s now after router begun tick silent = (
   λ left. (ran_idle is_idle sole s now after router begun tick silent (silent_is_still s now after router begun tick silent left), silent),

@@ -220,14 +220,16 @@ module _ (laws : DelegationLaws) (a b : PlainData) (is_a : IsOwnData a) (is_b : 
   list = a.items.delegated
 
   external_b : IsExternal a.born list (subs_at a.born list) → Contains (items_of b.born b.items) (External (subs_at b.born list))
-  external_b is = external_there b.born b.items (External (subs_at b.born list)) (subst (λ (l : List OwnPrefix). Contains (external_items b.born l) (External (subs_at b.born list))) (sym same) (is.at b.born))
+  external_b is = external_there b.born b.items (External (subs_at b.born list))
+      (subst (λ (l : List OwnPrefix). Contains (external_items b.born l) (External (subs_at b.born list))) (sym same) (is.at b.born))
 
   pub said_too : (d : Delegation) → HasDelegation a.body d → IsSaid list a b d
   said_too d (others, are, within) =
       let read_a = read_is laws.read a is_a in
       let same_items : others ≡ read_a.read = laws.read.one_items a.body others read_a.read are (are_items laws.read a is_a) in
       let among : Contains (items_of a.born a.items) (External within.subs) =
-      All-contains (Contains (items_of a.born a.items)) read_a.read (External within.subs) read_a.of_items (subst (λ (l : List PlainItem). Contains l (External within.subs)) same_items within.external) in
+      All-contains (Contains (items_of a.born a.items)) read_a.read (External within.subs) read_a.of_items
+      (subst (λ (l : List PlainItem). Contains l (External within.subs)) same_items within.external) in
       let external = is_external a.born list within.subs
       (subst (λ (l : List (List ℕ)). Contains l within.subs) (externals_among a.born a.items) (in_filter_map external_of (items_of a.born a.items) (External within.subs) within.subs among refl)) in
       let (inner, inner_are, says) = within.inside in
@@ -243,7 +245,8 @@ module _ (laws : DelegationLaws) (a b : PlainData) (is_a : IsOwnData a) (is_b : 
       let bytes : All IsByte (subs_at b.born list) = laws.read.of_bytes writable.tlvs_after.0 (subs_at b.born list) writable.tlvs_after.1 in
       let all = all_read (tlv_at b.born) laws.read.same_item laws.no_fault laws.item_or_fault list (each_tlv b.born list bytes) in
       let there : Contains all.items at.other = all.all own at.other own_there at.other_read in
-      let found = in_filter_map delegation_of all.items at.other (record { valid = seconds_left b.born own.valid_until; preferred = seconds_left b.born own.preferred_until; prefix = d.prefix }) there at.other_says in
+      let found = in_filter_map delegation_of all.items at.other
+      (record { valid = seconds_left b.born own.valid_until; preferred = seconds_left b.born own.preferred_until; prefix = d.prefix }) there at.other_says in
       let read_b = read_is laws.read b is_b in
       record {
         own = own;

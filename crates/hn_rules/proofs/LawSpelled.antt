@@ -62,7 +62,8 @@ assigned_fit a is =
     let endpoint = word a.endpoint.0 in
     let bits = take (bytes_for a.prefix.len) (to_be_bytes w128 a.prefix.bits) in
     let field : All IsByte (prefix_field a.prefix) =
-    All-cons IsByte a.prefix.len bits (let len = is.in_range.1.1.len_in_range in omega arith) (All-take IsByte (bytes_for a.prefix.len) (to_be_bytes w128 a.prefix.bits) (number_bytes 16 a.prefix.bits))
+    All-cons IsByte a.prefix.len bits (let len = is.in_range.1.1.len_in_range in omega arith)
+    (All-take IsByte (bytes_for a.prefix.len) (to_be_bytes w128 a.prefix.bits) (number_bytes 16 a.prefix.bits))
     in
     let priority : 16 * 0 + a.priority < 2 ^ 8 = let fits = is.in_range.1.0 in omega arith in
     let after : List ℕ = (16 * 0 + a.priority) ∷ prefix_field a.prefix in
@@ -72,7 +73,8 @@ assigned_fit a is =
       length_fits = let short = is.short in omega arith;
       bytes =
           All-append IsByte ((endpoint ++ after) ++ []) []
-          (All-append IsByte (endpoint ++ after) [] (All-append IsByte endpoint after (number_bytes 4 a.endpoint.0) (All-cons IsByte (16 * 0 + a.priority) (prefix_field a.prefix) priority field)) none) none;
+          (All-append IsByte (endpoint ++ after) [] (All-append IsByte endpoint after (number_bytes 4 a.endpoint.0)
+          (All-cons IsByte (16 * 0 + a.priority) (prefix_field a.prefix) priority field)) none) none;
     }
 
 address_fit : (a : OwnAddress) → IsFit (address_item a)

@@ -37,9 +37,14 @@ module _ (f : NodeId → Option Entry) (named : (id : NodeId) (n : Entry) → f 
   ascending_there [] up = tt
   ascending_there (id ∷ ids) up = by_entry (f id) (named id) (ascending_there ids up.1)
     where
-      by_entry : (o : Option Entry) → ((n : Entry) → o ≡ Some n → n.id ≡ id) → IsStrictlySortedBy nat_cmp (ids_of (filter_map f ids)) → IsStrictlySortedBy nat_cmp (ids_of (cons_option o (filter_map f ids)))
+      by_entry : (o : Option Entry) → ((n : Entry) → o ≡ Some n → n.id ≡ id) → IsStrictlySortedBy nat_cmp (ids_of (filter_map f ids))
+          → IsStrictlySortedBy nat_cmp (ids_of (cons_option o (filter_map f ids)))
       by_entry None is more = more
-      by_entry (Some n) is more = (subst (λ (i : NodeId). AllByRecursion (λ k. nat_cmp i.0 k ≡ Less) (ids_of (filter_map f ids))) (sym (is n refl)) (all_there (λ k. nat_cmp id.0 k ≡ Less) ids up.0), more)
+      by_entry (Some n) is more = (
+        subst (λ (i : NodeId). AllByRecursion (λ k. nat_cmp i.0 k ≡ Less) (ids_of (filter_map f ids))) (sym (is n refl))
+            (all_there (λ k. nat_cmp id.0 k ≡ Less) ids up.0),
+        more,
+      )
 
 -- ---- what a router sees
 

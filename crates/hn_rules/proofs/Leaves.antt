@@ -45,7 +45,8 @@ module _ (held_of_entry : HeldIsOfAnEntry) (s : State) (well : IsWell s) where
 
   parts_are : (ids : List NodeId) → filter_map (part_of s) ids ≡ map leaf_part (filter_map (entry_of s) ids)
   parts_are [] = refl
-  parts_are (id ∷ ids) = ap (λ o. cons_option o (filter_map (part_of s) ids)) (part_is id) ∙ ap (cons_option (option_map leaf_part (entry_of s id))) (parts_are ids) ∙ joined (entry_of s id) (filter_map (entry_of s) ids)
+  parts_are (id ∷ ids) = ap (λ o. cons_option o (filter_map (part_of s) ids)) (part_is id)
+      ∙ ap (cons_option (option_map leaf_part (entry_of s id))) (parts_are ids) ∙ joined (entry_of s id) (filter_map (entry_of s) ids)
     where
       joined : (o : Option Entry) (ns : List Entry) → cons_option (option_map leaf_part o) (map leaf_part ns) ≡ map leaf_part (cons_option o ns)
       joined None ns = refl

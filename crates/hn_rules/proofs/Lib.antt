@@ -23,8 +23,13 @@ mod Leaves
 mod Limits
 mod NodeLists
 mod OneResults
+mod SomeRefreshes
+mod SomeArrivals
+mod SomeWishes
+mod SomeTicks
 mod Parts
 mod PortFacts
+mod PortsInTurn
 mod Published
 mod Dues
 mod Laters
@@ -37,6 +42,7 @@ mod AtPorts
 mod Calm
 mod PostParts
 mod PrivatePosts
+mod RangedParts
 mod Recent
 mod Refreshes
 mod Refreshing

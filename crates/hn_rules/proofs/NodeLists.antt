@@ -29,7 +29,8 @@ own_stored s = record { number = s.number; hash = s.own.hash; age = 0; at = 0; b
 ids_of_held : (now : ℕ) (p : ℕ → Bool) (held : List HeldNode) → ids_of (filter (λ n. p n.id.0) (map (held_entry now) held)) ≡ table.ids_of_held (filter (λ n. p n.id.0) held)
 ids_of_held now p [] = refl
 ids_of_held now p (x ∷ xs) =
-    elim (p x.id.0) as (λ b. ids_of (cond b (held_entry now x ∷ filter (λ n. p n.id.0) (map (held_entry now) xs)) (filter (λ n. p n.id.0) (map (held_entry now) xs))) ≡ table.ids_of_held (cond b (x ∷ filter (λ n. p n.id.0) xs) (filter (λ n. p n.id.0) xs))) [
+    elim (p x.id.0) as (λ b. ids_of (cond b (held_entry now x ∷ filter (λ n. p n.id.0) (map (held_entry now) xs)) (filter (λ n. p n.id.0) (map (held_entry now) xs))) ≡ table.ids_of_held
+    (cond b (x ∷ filter (λ n. p n.id.0) xs) (filter (λ n. p n.id.0) xs))) [
       | true ↦ ap (λ ids. x.id.0 ∷ ids) (ids_of_held now p xs)
       | false ↦ ids_of_held now p xs
     ]

@@ -102,7 +102,7 @@ one_published : HasLaws → (number : ℕ) (r a b : Running) → Publishes numbe
 unfolding published_with
 one_published laws number r a b h k = h.gives ∙ ap (published_with number r) (laws.one_own h.own k.own h.data_is k.data_is (h.items_are ∙ sym k.items_are) (h.born_is ∙ sym k.born_is)) ∙ sym k.gives
 
-published_words : (number : ℕ) (r a : Running) → Publishes number r a → a.done.words ≡ r.done.words
+pub published_words : (number : ℕ) (r a : Running) → Publishes number r a → a.done.words ≡ r.done.words
 published_words number r a h = ap (λ (x : Running). x.done.words) h.gives
 
 sole_publishes : HasLaws → (number : ℕ) → IsSole (Publishes number)
@@ -112,7 +112,8 @@ sole_publishing : HasLaws → IsSole IsPublishing
 sole_publishing laws =
     sole_or words_of (λ r a. IsPublished r.state × (a ≡ r)) (λ r a. ¬ (IsPublished r.state) × Publishes (next_number r.state.number) r a)
     (sole_where words_of (λ r. IsPublished r.state) (λ r a. a ≡ r) (sole_plain words_of (λ r. r) (λ r. refl)))
-    (sole_where words_of (λ r. ¬ (IsPublished r.state)) (λ r a. Publishes (next_number r.state.number) r a) (sole_start words_of (λ s. Publishes (next_number s.state.number)) (λ s. sole_publishes laws (next_number s.state.number))))
+    (sole_where words_of (λ r. ¬ (IsPublished r.state)) (λ r a. Publishes (next_number r.state.number) r a)
+    (sole_start words_of (λ s. Publishes (next_number s.state.number)) (λ s. sole_publishes laws (next_number s.state.number))))
     (λ r a b h k. k.0 h.0)
 
 one_reach : HasLaws → (s : State) (xs ys : List NodeId) → IsReach s xs → IsReach s ys → xs ≡ ys
@@ -121,7 +122,8 @@ one_reach laws s xs ys a b = laws.one_order xs ys a.ascending b.ascending (λ id
 sole_reaching : HasLaws → IsSole IsReaching
 sole_reaching laws =
     sole_given words_of IsReaching (λ r a h. ap (λ (x : Running). x.done.words) h.gives)
-    (λ r a b h k. h.gives ∙ ap (λ (reach : List NodeId). record r { state = record r.state { reach = reach; table = loss_marked reach r.state.moment r.state.table } }) (one_reach laws r.state h.reach k.reach h.is_reach k.is_reach) ∙ sym k.gives)
+    (λ r a b h k. h.gives ∙ ap (λ (reach : List NodeId). record r { state = record r.state { reach = reach; table = loss_marked reach r.state.moment r.state.table } })
+    (one_reach laws r.state h.reach k.reach h.is_reach k.is_reach) ∙ sym k.gives)
 
 sole_port_reset : (port : Port) → IsSole (IsPortReset port)
 sole_port_reset port =
@@ -132,11 +134,13 @@ sole_port_reset port =
     (λ r a b h k. k.0 h.0)
 
 sole_reset : IsSole IsReset
-sole_reset = sole_start words_of (λ s. Each (λ at. AtPort at IsPortReset) (endpoints_of s.state.ports)) (λ s. sole_each words_of (λ at. AtPort at IsPortReset) (λ at. sole_at at IsPortReset sole_port_reset) (endpoints_of s.state.ports))
+sole_reset = sole_start words_of (λ s. Each (λ at. AtPort at IsPortReset) (endpoints_of s.state.ports))
+    (λ s. sole_each words_of (λ at. AtPort at IsPortReset) (λ at. sole_at at IsPortReset sole_port_reset) (endpoints_of s.state.ports))
 
 sole_hashing : IsSole IsHashing
 sole_hashing =
-    sole_or words_of (λ r a. (network_state_hash r.state ≡ r.state.net) × (a ≡ r)) (λ r a. (network_state_hash r.state ≢ r.state.net) × IsReset (record r { state = record r.state { net = network_state_hash r.state } }) a)
+    sole_or words_of (λ r a. (network_state_hash r.state ≡ r.state.net) × (a ≡ r))
+    (λ r a. (network_state_hash r.state ≢ r.state.net) × IsReset (record r { state = record r.state { net = network_state_hash r.state } }) a)
     (sole_where words_of (λ r. network_state_hash r.state ≡ r.state.net) (λ r a. a ≡ r) (sole_plain words_of (λ r. r) (λ r. refl)))
     (sole_where words_of (λ r. network_state_hash r.state ≢ r.state.net) (λ r a. IsReset (record r { state = record r.state { net = network_state_hash r.state } }) a)
     (sole_after words_of (λ r. record r { state = record r.state { net = network_state_hash r.state } }) IsReset (λ r. refl) sole_reset))
@@ -189,10 +193,10 @@ if_words : (b : Bool) (x y r : Running) → x.done.words ≡ r.done.words → y.
 if_words true x y r one other = one
 if_words false x y r one other = other
 
-network_state_words : (hash : List ℕ) (port : Port) (r : Running) → (network_state hash port r).done.words ≡ r.done.words
+pub network_state_words : (hash : List ℕ) (port : Port) (r : Running) → (network_state hash port r).done.words ≡ r.done.words
 network_state_words hash port r = if_words (asks_for_state (bytes_eq hash r.state.net) r.state.moment port) _ _ r refl refl
 
-request_node_words : (id : NodeId) (r : Running) → (request_node id r).done.words ≡ r.done.words
+pub request_node_words : (id : NodeId) (r : Running) → (request_node id r).done.words ≡ r.done.words
 request_node_words id r = if_words (is_reached id r.state.reach) _ _ r (some_answer_words (subject.NodeData id) (state_item true r.state id) r) refl
 
 sole_network_request : IsSole IsNetworkRequest
@@ -203,7 +207,8 @@ sole_network_request =
 
 sole_taken : HasLaws → (carried : PlainState) (how : Took) → IsSole (IsTaken carried how)
 sole_taken laws carried took.Own = sole_after words_of (noted (note.Own carried.number)) (IsClaim carried.number) (λ r. refl) (sole_claim laws carried.number)
-sole_taken laws carried took.Ask = sole_plain words_of (λ r. with_answer (subject.NodeRequest (record { 0 = carried.node })) (item.RequestNode carried.node []) (took_noted carried took.Ask r)) (λ r. refl)
+sole_taken laws carried took.Ask = sole_plain words_of (λ r.
+    with_answer (subject.NodeRequest (record { 0 = carried.node })) (item.RequestNode carried.node []) (took_noted carried took.Ask r)) (λ r. refl)
 sole_taken laws carried how = sole_plain words_of (took_noted carried how) (λ r. refl)
 
 with_table : Running → Nodes → Running
@@ -225,7 +230,8 @@ sole_item laws from (item.NodeEndpoint node endpoint subs) =
     (λ port. sole_plain words_of (node_endpoint from (record { 0 = node }) (record { 0 = endpoint }) port) (node_endpoint_words from (record { 0 = node }) (record { 0 = endpoint }) port))
 sole_item laws from (item.RequestNetwork subs) = sole_network_request
 sole_item laws from (item.RequestNode node subs) = sole_plain words_of (request_node (record { 0 = node })) (request_node_words (record { 0 = node }))
-sole_item laws from (item.NetworkState hash subs) = sole_at from.endpoint (λ port b a. a ≡ network_state hash port b) (λ port. sole_plain words_of (network_state hash port) (network_state_words hash port))
+sole_item laws from (item.NetworkState hash subs) = sole_at from.endpoint (λ port b a. a ≡ network_state hash port b)
+    (λ port. sole_plain words_of (network_state hash port) (network_state_words hash port))
 sole_item laws from (item.NodeState node number age hash body) = sole_node_state laws (record { node = node; number = number; age = age; hash = hash; body = body })
 sole_item laws from _ = sole_plain words_of (λ r. r) (λ r. refl)
 
@@ -242,7 +248,8 @@ sole_tlvs laws from tlvs = sole_each words_of (λ tlv. Then (IsTlvRule from tlv)
 sole_answering : HasLaws → (from : Origin) → IsSole (IsAnswering from)
 sole_answering laws from =
     sole_given words_of (IsAnswering from) (λ r a h. ap (λ (x : Running). x.done.words) h.gives)
-    (λ r a b h k. h.gives ∙ ap (λ (datagrams : List (List ℕ)). record r { done = record r.done { sends = r.done.sends ++ map (λ bytes. record { endpoint = from.endpoint; to = Some from.from; bytes = bytes }) datagrams } })
+    (λ r a b h k. h.gives ∙ ap (λ (datagrams : List (List ℕ)).
+    record r { done = record r.done { sends = r.done.sends ++ map (λ bytes. record { endpoint = from.endpoint; to = Some from.from; bytes = bytes }) datagrams } })
     (laws.one_packing r.state.id from.endpoint (map (λ a. a.tlv) r.answers) h.datagrams k.datagrams h.packed k.packed) ∙ sym k.gives)
 
 pub sole_arrival : HasLaws → (from : Origin) (tlvs : List PlainTlv) → IsSole (IsArrival from tlvs)
@@ -263,7 +270,8 @@ sole_port_expiry port =
     (λ r a b h k. h.gives ∙ ap (λ (peers : List Neighbour). with_port (record port { peers = peers }) r) (one_without (IsExpired r.state) port.peers h.peers k.peers h.without k.without) ∙ sym k.gives)
 
 pub sole_expiry : IsSole IsExpiry
-sole_expiry = sole_start words_of (λ s. Each (λ at. AtPort at IsPortExpiry) (endpoints_of s.state.ports)) (λ s. sole_each words_of (λ at. AtPort at IsPortExpiry) (λ at. sole_at at IsPortExpiry sole_port_expiry) (endpoints_of s.state.ports))
+sole_expiry = sole_start words_of (λ s. Each (λ at. AtPort at IsPortExpiry) (endpoints_of s.state.ports))
+    (λ s. sole_each words_of (λ at. AtPort at IsPortExpiry) (λ at. sole_at at IsPortExpiry sole_port_expiry) (endpoints_of s.state.ports))
 
 sole_port_moving : (port : Port) → IsSole (IsPortMoving port)
 sole_port_moving port =
@@ -273,7 +281,8 @@ sole_port_moving port =
 sole_state_sending : HasLaws → (at : EpId) → IsSole (IsStateSending at)
 sole_state_sending laws at =
     sole_given words_of (IsStateSending at) (λ r a h. ap (λ (x : Running). x.done.words) h.gives)
-    (λ r a b h k. h.gives ∙ ap (λ (datagrams : List (List ℕ)). record r { done = record r.done { sends = r.done.sends ++ map (λ bytes. record { endpoint = at; to = None; bytes = bytes }) datagrams } })
+    (λ r a b h k. h.gives ∙ ap (λ (datagrams : List (List ℕ)).
+    record r { done = record r.done { sends = r.done.sends ++ map (λ bytes. record { endpoint = at; to = None; bytes = bytes }) datagrams } })
     (laws.one_packing r.state.id at (spelling (tlv_of (item.NetworkState r.state.net [])) ∷ []) h.datagrams k.datagrams h.packed k.packed) ∙ sym k.gives)
 
 sole_port_sending : HasLaws → (port : Port) → IsSole (IsPortSending port)
@@ -286,7 +295,8 @@ sole_port_sending laws port =
 pub sole_ports_tick : HasLaws → IsSole IsPortsTick
 sole_ports_tick laws =
     sole_start words_of (λ s. Each (λ at. AtPort at IsPortTick) (endpoints_of s.state.ports))
-    (λ s. sole_each words_of (λ at. AtPort at IsPortTick) (λ at. sole_at at IsPortTick (λ port. sole_both words_of (IsPortMoving port) (IsPortSending port) (sole_port_moving port) (sole_port_sending laws port))) (endpoints_of s.state.ports))
+    (λ s. sole_each words_of (λ at. AtPort at IsPortTick) (λ at.
+    sole_at at IsPortTick (λ port. sole_both words_of (IsPortMoving port) (IsPortSending port) (sole_port_moving port) (sole_port_sending laws port))) (endpoints_of s.state.ports))
 
 -- ---- prefixes are assigned
 

@@ -28,6 +28,7 @@ use Rattle.hn_own.specs.Own.{PlainData, IsOwnData}
 use Rattle.hn_own.specs.OwnPrefixes.{AreOwnPrefixes}
 use Rattle.hn_own.specs.HeldPairs.{AreHeldPairs, no_pairs}
 use Rattle.hn_rules.specs.Router.{IfThere, IsNodePast, IsWell}
+use Rattle.hn_rules.proofs.RangedParts.{IsRangedState}
 use Rattle.hn_rules.proofs.Known.{KnownLaws, held_all}
 use Rattle.hn_rules.proofs.Finding.{find-none_filter}
 use Rattle.hn_rules.proofs.PortFacts.{IsPortWell}
@@ -86,8 +87,8 @@ made_from s well = record {
   posts = record { are = well.addresses; addressed = well.posted.addressed; of_length = well.posted.of_length; linked = well.posted.linked };
 }
 
-pub well_from : (s : State) → IsMade s → IsWell s
-well_from s made = record {
+pub well_from : (s : State) → IsMade s → IsRangedState s → IsWell s
+well_from s made ranged = record {
   ports = made.ports.are;
   peers = All-weaker (IsPortWell s.moment) _ (λ port well. well.peers) s.ports made.ports.each;
   table = made.table.table;
@@ -109,6 +110,9 @@ well_from s made = record {
     nodes = All-weaker (IsNodeWell s.moment) _ (λ node well. well.past) s.table.entries made.table.each;
     assigned = made.held.past;
   };
+  ranged = ranged.0;
+  private = ranged.1;
+  near = ranged.2;
 }
 
 -- ---- endpoints

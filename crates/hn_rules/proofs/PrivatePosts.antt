@@ -51,7 +51,8 @@ not_private ports e are there =
 
 pub links_some : (ports : List Port) → ArePorts ports → All (λ link. 0 < link.endpoint.0) (links_of ports)
 links_some ports are =
-    All-weaker (Contains (links_of ports)) (λ link. 0 < link.endpoint.0) (λ link there. not_private ports link.endpoint are (links_are ports link there)) (links_of ports) (All-contains_itself (links_of ports))
+    All-weaker (Contains (links_of ports)) (λ link. 0 < link.endpoint.0)
+    (λ link there. not_private ports link.endpoint are (links_are ports link there)) (links_of ports) (All-contains_itself (links_of ports))
 
 pub own_peers : ReadLaws → OwnPeersAreOfEndpoints
 own_peers laws s link router said =

@@ -138,7 +138,8 @@ module _ (laws : TableLaws) (published : List Publication) where
         → Holds next
     all_held nodes next holds brought one id stored is = by_case (brought id stored is)
       where
-        by_case : WasHeld nodes id stored ⊎ ((id ≡ carried.node) × (stored.number ≡ carried.number) × (BroughtData carried stored ⊎ BroughtNumber nodes carried stored)) → WasPublished published id stored.number stored.body
+        by_case : WasHeld nodes id stored ⊎ ((id ≡ carried.node) × (stored.number ≡ carried.number) × (BroughtData carried stored ⊎ BroughtNumber nodes carried stored))
+            → WasPublished published id stored.number stored.body
         by_case (inl was) = was_held nodes holds id stored was
         by_case (inr (same, number, how)) =
             subst (λ (node : ℕ). WasPublished published node stored.number stored.body) (sym same) (one stored (subst (λ (node : ℕ). held next.entries node ≡ Some stored) same is))

@@ -62,7 +62,8 @@ module _ (s : State) where
   IsHeld m n x = (node : HeldNode) × Contains s.table.entries node × (held_entry m node ≡ x) × Contains (nodes_at n) (held_entry n node)
 
   pub own_there : (moment : ℕ) → Contains (nodes_at moment) (own_at moment)
-  own_there moment = Contains-append_right (filter lower (held_at moment)) (own_at moment ∷ filter greater (held_at moment)) (own_at moment) (Contains-head (own_at moment) (filter greater (held_at moment)))
+  own_there moment = Contains-append_right (filter lower (held_at moment)) (own_at moment ∷ filter greater (held_at moment)) (own_at moment)
+      (Contains-head (own_at moment) (filter greater (held_at moment)))
 
   -- a node at one moment is the own one or a held one, which is there at the other moment
   pub own_or_held : (m n : ℕ) (x : Entry) → Contains (nodes_at m) x → (x ≡ own_at m) ⊎ IsHeld m n x
@@ -86,46 +87,50 @@ module _ (s : State) where
       by_part (inl old) = inr (held lower (λ node passes. passes) (λ y there. Contains-append_left (filter lower (held_at n)) (own_at n ∷ filter greater (held_at n)) y there) old)
       by_part (inr rest) = above (Contains-cases (own_at m) (filter greater (held_at m)) x rest)
 
-  module _ (moment : ℕ) (past : moment ≤ s.moment) (is_reach : IsReach (record s { moment = moment }) s.reach) (marked : All (IsMarked s.reach) s.table.entries)
-      (young : s.moment - s.own.born < 2 ^ 32 - 2 ^ 16) (leads : All (LeadsOn s.moment) s.table.entries) where
-    own_like : (x : Entry) → x ≡ own_at moment → IsLike x (own_at s.moment)
-    own_like x is = subst (λ (y : Entry). IsLike y (own_at s.moment)) (sym is) (record { id = refl; body = refl; recent = λ _. omega arith })
-
-    own_was : (y : Entry) → y ≡ own_at s.moment → IsLike y (own_at moment)
-    own_was y is = subst (λ (x : Entry). IsLike x (own_at moment)) (sym is) (record { id = refl; body = refl; recent = λ recent. omega arith })
-
-    held_like : (x : Entry) (node : HeldNode) → IsReachable s.id.0 (nodes_at moment) x.id.0 → Contains s.table.entries node → held_entry moment node ≡ x → IsLike x (held_entry s.moment node)
-    held_like x node reachable there is =
-        let among : is_among s.reach node.id.0 ≡ true = among_reach s.reach x.id node.id.0 ((is_reach.exactly x.id).1 reachable) (sym (ap (λ (n : Entry). n.id.0) is)) in
-        let mark = All-contains (IsMarked s.reach) s.table.entries node marked there in
-        let recent = All-contains (LeadsOn s.moment) s.table.entries node leads there (from_is_none node.stored.lost (sym mark ∙ among)) in
-        subst (λ (y : Entry). IsLike y (held_entry s.moment node)) is (record { id = refl; body = refl; recent = λ _. recent })
-
-    held_was : (y : Entry) (node : HeldNode) → held_entry s.moment node ≡ y → IsLike y (held_entry moment node)
-    held_was y node is = subst (λ (x : Entry). IsLike x (held_entry moment node)) is (record { id = refl; body = refl; recent = λ recent. omega arith })
-
-    keeps : KeepsReach s.id.0 (nodes_at moment) (nodes_at s.moment)
+  -- later the same nodes are reachable, where paths lead on from the own node and from those that were reachable
+  module _ (m n : ℕ) (goes : m ≤ n) (is_reach : IsReach (record s { moment = m }) s.reach) (own_like : IsLike (own_at m) (own_at n))
+      (held_like : (node : HeldNode) → Contains s.table.entries node → Contains s.reach node.id → IsLike (held_entry m node) (held_entry n node)) where
+    keeps : KeepsReach s.id.0 (nodes_at m) (nodes_at n)
     keeps = record {
-      kept = λ x there reachable. still x reachable (own_or_held moment s.moment x there);
-      known = λ y there. was y (own_or_held s.moment moment y there);
+      kept = λ x there reachable. still x reachable (own_or_held m n x there);
+      known = λ y there. was y (own_or_held n m y there);
     }
       where
-        still : (x : Entry) → IsReachable s.id.0 (nodes_at moment) x.id.0 → (x ≡ own_at moment) ⊎ IsHeld moment s.moment x → (y : Entry) × Contains (nodes_at s.moment) y × IsLike x y
-        still x reachable (inl is) = (own_at s.moment, own_there s.moment, own_like x is)
-        still x reachable (inr (node, there, is, other)) = (held_entry s.moment node, other, held_like x node reachable there is)
+        still : (x : Entry) → IsReachable s.id.0 (nodes_at m) x.id.0 → (x ≡ own_at m) ⊎ IsHeld m n x → (y : Entry) × Contains (nodes_at n) y × IsLike x y
+        still x reachable (inl is) = (own_at n, own_there n, subst (λ (z : Entry). IsLike z (own_at n)) (sym is) own_like)
+        still x reachable (inr (node, there, is, other)) =
+            let reached : IsReachable s.id.0 (nodes_at m) node.id.0 = subst (λ (z : Entry). IsReachable s.id.0 (nodes_at m) z.id.0) (sym is) reachable in
+            (held_entry n node, other, subst (λ (z : Entry). IsLike z (held_entry n node)) is (held_like node there ((is_reach.exactly node.id).1 reached)))
 
-        was : (y : Entry) → (y ≡ own_at s.moment) ⊎ IsHeld s.moment moment y → (x : Entry) × Contains (nodes_at moment) x × IsLike y x
-        was y (inl is) = (own_at moment, own_there moment, own_was y is)
-        was y (inr (node, there, is, other)) = (held_entry moment node, other, held_was y node is)
+        was : (y : Entry) → (y ≡ own_at n) ⊎ IsHeld n m y → (x : Entry) × Contains (nodes_at m) x × IsLike y x
+        was y (inl is) =
+            let like : IsLike (own_at n) (own_at m) = record { id = refl; body = refl; recent = λ recent. omega (arith, recent, goes) } in
+            (own_at m, own_there m, subst (λ (z : Entry). IsLike z (own_at m)) (sym is) like)
+        was y (inr (node, there, is, other)) =
+            let like : IsLike (held_entry n node) (held_entry m node) = record { id = refl; body = refl; recent = λ recent. omega (arith, recent, goes) } in
+            (held_entry m node, other, subst (λ (z : Entry). IsLike z (held_entry m node)) is like)
 
-    pub same_reach : ReachabilityStays → IsReach s s.reach
-    same_reach reach_stays = record {
+    pub reach_later : ReachabilityStays → IsReach (record s { moment = n }) s.reach
+    reach_later stays = record {
       ascending = is_reach.ascending;
       exactly = λ id.
-          let same = reach_stays s.id.0 _ _ keeps id.0 in
+          let same = stays s.id.0 (nodes_at m) (nodes_at n) keeps id.0 in
           let there = is_reach.exactly id in
           (λ old. same.0 (there.0 old), λ reachable. there.1 (same.1 reachable));
     }
+
+  -- so it is where no age is due
+  pub same_reach : (moment : ℕ) → moment ≤ s.moment → IsReach (record s { moment = moment }) s.reach → All (IsMarked s.reach) s.table.entries
+      → s.moment - s.own.born < 2 ^ 32 - 2 ^ 16 → All (LeadsOn s.moment) s.table.entries → ReachabilityStays → IsReach s s.reach
+  same_reach moment past is_reach marked young leads =
+      reach_later moment s.moment past is_reach (record { id = refl; body = refl; recent = λ _. omega (arith, young) }) held_like
+    where
+      held_like : (node : HeldNode) → Contains s.table.entries node → Contains s.reach node.id → IsLike (held_entry moment node) (held_entry s.moment node)
+      held_like node there reached =
+          let among : is_among s.reach node.id.0 ≡ true = among_reach s.reach node.id node.id.0 reached refl in
+          let mark = All-contains (IsMarked s.reach) s.table.entries node marked there in
+          let leading = All-contains (LeadsOn s.moment) s.table.entries node leads there (from_is_none node.stored.lost (sym mark ∙ among)) in
+          record { id = refl; body = refl; recent = λ _. leading }
 
 -- where no age is due, what a refresh made is so now
 pub recent_fresh : ReachabilityStays → (s : State) → IsRefreshed s → s.moment - s.own.born < 2 ^ 32 - 2 ^ 16 → All (LeadsOn s.moment) s.table.entries → IsFresh s

@@ -122,7 +122,8 @@ Kept start r = IsKept start r.state
 pub kept_self : (s : State) → ArePorts s.ports → IsKept s s
 kept_self s are = record { ports = are; untouched = untouched_self s }
 
-pub kept_port : (start : State) (at : EpId) (port next : Port) (r : Running) → port_at at r.state.ports ≡ Some port → next.id ≡ port.id → links_at next ≡ links_at port → Kept start r → Kept start (with_port next r)
+pub kept_port : (start : State) (at : EpId) (port next : Port) (r : Running) → port_at at r.state.ports ≡ Some port → next.id ≡ port.id
+    → links_at next ≡ links_at port → Kept start r → Kept start (with_port next r)
 kept_port start at port next r found same_id same_links kept =
     let ports : List Port = put_port next r.state.ports in
     record {
@@ -208,7 +209,8 @@ fresh_hashing r a (inl (same, is)) are reached = subst (λ (x : Running). IsFres
 fresh_hashing r a (inr (other, resets)) are reached =
     let hashed : Running = record r { state = record r.state { net = network_state_hash r.state } } in
     let start : IsFresh hashed.state = with_hash r.state (network_state_hash r.state) reached refl in
-    let kept : Kept hashed.state a = keeps_each (Kept hashed.state) (λ at. AtPort at IsPortReset) (λ at. keeps_kept_at hashed.state at IsPortReset reset_keeps) (endpoints_of r.state.ports) hashed a resets (kept_self hashed.state are) in
+    let kept : Kept hashed.state a = keeps_each (Kept hashed.state) (λ at. AtPort at IsPortReset)
+    (λ at. keeps_kept_at hashed.state at IsPortReset reset_keeps) (endpoints_of r.state.ports) hashed a resets (kept_self hashed.state are) in
     fresh_untouched hashed.state a.state kept.untouched start
 
 ports_after : (r a : Running) → IsPublishing r a → a.state.ports ≡ r.state.ports
@@ -245,7 +247,8 @@ router_refresh each r a refreshes well =
 
 pub router_ticks : EachKeeps [] Well → Keeps Router IsPortsTick
 router_ticks each r a ticks router =
-    let kept : Kept r.state a = keeps_each (Kept r.state) (λ at. AtPort at IsPortTick) (λ at. keeps_kept_at r.state at IsPortTick tick_keeps) (endpoints_of r.state.ports) r a ticks (kept_self r.state router.well.ports) in
+    let kept : Kept r.state a = keeps_each (Kept r.state) (λ at. AtPort at IsPortTick) (λ at. keeps_kept_at r.state at IsPortTick tick_keeps)
+    (endpoints_of r.state.ports) r a ticks (kept_self r.state router.well.ports) in
     record {
       well = ports_walk [] Well each r a ticks router.well;
       refreshed = refreshed_untouched r.state a.state kept.untouched router.refreshed;

@@ -31,7 +31,8 @@ publishing_words before after (inl (_, same)) = ap (λ (r : Running). r.done.wor
 publishing_words before after (inr (_, published)) = ap (λ (r : Running). r.done.words) published.gives
 
 -- a refresh in three steps
-pub ran_refresh : (told told_after : Option (ℕ → ℕ)) (before published reached after : Running) → IsPublishing before published → IsReaching published reached → Ran IsHashing told told_after reached after → Ran IsRefresh told told_after before after
+pub ran_refresh : (told told_after : Option (ℕ → ℕ)) (before published reached after : Running) → IsPublishing before published
+    → IsReaching published reached → Ran IsHashing told told_after reached after → Ran IsRefresh told told_after before after
 ran_refresh told told_after before published reached after publishing reaching hashing =
     let words : reached.done.words ≡ before.done.words = ap (λ (r : Running). r.done.words) reaching.gives ∙ publishing_words before published publishing in
     record {

@@ -23,7 +23,8 @@ restart_one at ports port now word told told_after before between after attached
 }
   where
     whole : after ≡ with_words (word ∷ []) (with_port (attached_port at before.state.moment word) before)
-    whole = gives ∙ ap (with_port port) began ∙ ap (λ (p : Port). with_port p (with_words (word ∷ []) before)) (is ∙ ap (λ (n : ℕ). attached_port at n word) (present ∙ ap (λ (r : Running). r.state.moment) began))
+    whole = gives ∙ ap (with_port port) began ∙ ap (λ (p : Port). with_port p (with_words (word ∷ []) before))
+        (is ∙ ap (λ (n : ℕ). attached_port at n word) (present ∙ ap (λ (r : Running). r.state.moment) began))
 
     by_port : (found : Option Port) → found ≡ port_at at ports → is_some found ≡ true → AtPort at IsPortRestart before after
     by_port None here some = cc

@@ -34,15 +34,24 @@ use Rattle.hn_rules.specs.NetworkState.{compared}
 use Rattle.hn_rules.specs.NodeEndpoint.{greeting_port, met, named}
 use Rattle.hn_rules.specs.NodeState.{TakesState}
 use Rattle.hn_rules.specs.Nodes.{own_leaf}
-use Rattle.hn_rules.specs.Rules.{AtPort, with_port, with_words}
+use Rattle.hn_rules.specs.Rules.{Rule, AtPort, IsSole, with_port, with_words}
 use Rattle.hn_rules.specs.Still.{AreHeard}
 use Rattle.hn_rules.specs.Tick.{IsExpired, IsPortExpiry, IsExpiry, IsPortMoving, IsPortTick, IsPortsTick}
+use Rattle.hn_base.specs.Words.{Begins}
+use Rattle.std.proofs.Common.{get_or}
 use Rattle.hn_rules.proofs.Touched.{none_expire, put_found}
 
 -- a rule that changes nothing at any element
 each_rests : {S A : Type 0} (rule : A → RuleOf S) (xs : List A) (s : S) → ((x : A) → rule x s s) → Each rule xs s s
 each_rests rule [] s rests = refl
 each_rests rule (x ∷ xs) s rests = (s, rests x, each_rests rule xs s rests)
+
+-- where a rule may leave all as it was, it does
+pub only : (rule : Rule) → IsSole rule → (r a : Running) → rule r a → rule r r → a ≡ r
+only rule sole r a holds rests =
+    let stream : ℕ → ℕ = λ i. get_or a.done.words i 0 in
+    let begins : Begins a.done.words stream = λ i within. refl in
+    sole.one stream r a r holds rests begins (sole.grows stream r a holds begins)
 
 -- what holds of each endpoint holds of one that is found
 found_of : (P : Port → Type 0) (at : EpId) (ports : List Port) (port : Port) → All P ports → port_at at ports ≡ Some port → P port
@@ -86,7 +95,8 @@ hashed_stays : (r : Running) (port : Port) → may_ask r.state.moment port.asked
 hashed_stays r port not_now = ap (λ (a : Option ℕ). let p : Port = record port { asked = a } in p) (cond-false (may_ask r.state.moment port.asked) (Some r.state.moment) port.asked not_now)
 
 -- another hash than the local one, while the endpoint may not ask
-pub compared_stays : (at : EpId) (same : Bool) (port : Port) (r : Running) → same ≡ false → may_ask r.state.moment port.asked ≡ false → ArePorts r.state.ports → port_at at r.state.ports ≡ Some port → r ≡ compared same port r
+pub compared_stays : (at : EpId) (same : Bool) (port : Port) (r : Running) → same ≡ false → may_ask r.state.moment port.asked ≡ false
+    → ArePorts r.state.ports → port_at at r.state.ports ≡ Some port → r ≡ compared same port r
 compared_stays at true port r other not_now are found = absurd cc
 compared_stays at false port r other not_now are found =
     let after = with_port (hashed false r.sender r.state.moment port) r in
@@ -101,7 +111,8 @@ met_stays false true port r is passes = absurd cc
 met_stays false false port r is passes = cond-false (may_ask r.state.moment port.asked) (with_answer subject.NetworkRequest (item.RequestNetwork []) (with_port (asked r.state.moment port) r)) r is
 
 -- by multicast, from a peer or while the endpoint may not ask
-pub named_stays : (from : Origin) (node : NodeId) (endpoint : EpId) (port : Port) (r : Running) → from.multicast ≡ true → (has_peer node endpoint port.peers || not (may_ask r.state.moment port.asked)) ≡ true
+pub named_stays : (from : Origin) (node : NodeId) (endpoint : EpId) (port : Port) (r : Running) → from.multicast ≡ true
+    → (has_peer node endpoint port.peers || not (may_ask r.state.moment port.asked)) ≡ true
     → ArePorts r.state.ports → port_at from.endpoint r.state.ports ≡ Some port → named from node endpoint port r ≡ record r { sender = Some (node, endpoint) }
 named_stays from node endpoint port r multicast passes are found =
     ap (λ (p : Port). met greet p (with_port p start)) same

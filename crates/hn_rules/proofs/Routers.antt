@@ -12,6 +12,7 @@ use Rattle.hn_rules.specs.declared.running.Origin.{Origin}
 use Rattle.hn_rules.specs.declared.state.State.{State}
 use Rattle.hn_rules.specs.Arrival.{IsTlvRule, IsTlvs, IsArrival}
 use Rattle.hn_rules.specs.Changes.{EachKeeps}
+use Rattle.hn_rules.specs.Given.{IsPrivateLength}
 use Rattle.hn_rules.specs.Delegating.{withdrawing, ending}
 use Rattle.hn_rules.specs.Events.{detaching, setting_caps, setting_private, IsRestarting}
 use Rattle.hn_rules.specs.Laws.{ChangesKeepWell, KeepsRouter, KeepsWell, RefreshMakesRouter, RouterStaysLater, AssigningKeeps, DelegatingKeeps, AttachingKeeps, AddressingKeeps}
@@ -24,14 +25,16 @@ use Rattle.hn_rules.proofs.Leads.{Keeps, keeps_plain, keeps_each}
 use Rattle.hn_rules.proofs.Parts.{made_from, well_from, made-later}
 use Rattle.hn_rules.proofs.Refreshes.{Router, Well, router_refresh, router_ticks, refreshed-later}
 use Rattle.hn_rules.proofs.Walk.{tlv_walk, expiry_walk, ending_walk, forgetting_walk, assigning_walk, delegating_walk, withdrawing_walk, caps_walk, private_walk, addressing_walk, restarting_walk}
-use Rattle.hn_rules.proofs.Wells.{Made, keeps_attaching, made_detaching}
+use Rattle.hn_rules.proofs.RangedParts.{ranged_from, ranged_later, ranged_attaching, ranged_detaching}
+use Rattle.hn_rules.proofs.Wells.{keeps_attaching, made_detaching}
 
 -- ---- time passes
 
 pub stays_later : RouterStaysLater
 stays_later now s router rises =
     let later : State = record s { moment = now } in
-    record { well = well_from later (made-later now s rises (made_from s router.well)); refreshed = refreshed-later now s rises router.refreshed }
+    let well = well_from later (made-later now s rises (made_from s router.well)) (ranged_later now s rises (ranged_from s router.well)) in
+    record { well = well; refreshed = refreshed-later now s rises router.refreshed }
 
 module _ (keeps : ChangesKeepWell) where
   each : EachKeeps [] Well
@@ -85,7 +88,7 @@ module _ (keeps : ChangesKeepWell) where
   pub caps_keep : (caps : Caps) → KeepsWell (λ b a. a ≡ setting_caps caps b)
   caps_keep = caps_walk [] Well each
 
-  pub private_keeps : (private : Option ℕ) → KeepsWell (λ b a. a ≡ setting_private private b)
+  pub private_keeps : (private : Option ℕ) → IsPrivateLength private → KeepsWell (λ b a. a ≡ setting_private private b)
   private_keeps = private_walk [] Well each
 
   pub addressing_keeps : AddressingKeeps
@@ -96,11 +99,10 @@ module _ (keeps : ChangesKeepWell) where
 
 -- ---- endpoints come and go
 
-keeps_well : (rule : Rule) → Keeps Made rule → KeepsWell rule
-keeps_well rule keeps before after holds well = well_from after.state (keeps before after holds (made_from before.state well))
-
 pub attaching_keeps : AttachingKeeps
-attaching_keeps at before after some fits room is well = well_from after.state (keeps_attaching at before after some fits room is (made_from before.state well))
+attaching_keeps at before after some fits room is well =
+    well_from after.state (keeps_attaching at before after some fits room is (made_from before.state well)) (ranged_attaching at before after is (ranged_from before.state well))
 
 pub detaching_keeps : AddressesStay → (at : EpId) → KeepsWell (λ b a. a ≡ detaching at b)
-detaching_keeps stay at = keeps_well (λ b a. a ≡ detaching at b) (keeps_plain Made (detaching at) (made_detaching stay at))
+detaching_keeps stay at =
+    keeps_plain Well (detaching at) (λ r well. well_from (detaching at r).state (made_detaching stay at r (made_from r.state well)) (ranged_detaching at r (ranged_from r.state well)))

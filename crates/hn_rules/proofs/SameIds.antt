@@ -37,4 +37,4 @@ tick_id r a (lost, (expired, expiry, (ended, ends, refresh)), (forgetful, forget
     ∙ ap (λ (x : Running). x.state.id) forgets
     ∙ refresh_id ended lost refresh
     ∙ ap (λ (x : Running). x.state.id) ends
-    ∙ ap (λ (x : Running). x.state.id) (expiry_ports r expired expiry)
+    ∙ ap (λ (x : State). x.id) (expiry_ports r expired expiry)

@@ -1,5 +1,6 @@
 -- What is answered and sent says what was published.
-use Rattle.std.proofs.Common.{◌≡◌, ◌≢◌, ◌≤◌, ◌<◌, ◌-◌, ◌^◌, ◌⊎◌, ℕ, Bool, true, false, cond, List, [], ◌∷◌, ◌++◌, length, map, Option, Some, None, inl, inr, lit≤, refl, sym, subst, arith, length-append}
+use Rattle.std.proofs.Common.{◌≡◌, ◌≢◌, ◌≤◌, ◌<◌, ◌-◌, ◌^◌, ◌⊎◌, ℕ, Bool, true, false, cond, List, [], ◌∷◌, ◌++◌, length, map, Option, Some, None, inl, inr, lit≤, refl, sym, subst, arith}
+use Rattle.std.proofs.Common.{length-append}
 use Rattle.std.specs.Prelude.{All, ◌==◌}
 use Rattle.std.specs.Option.{option_map}
 use Rattle.std.proofs.lemmas.List.Elements.{All-nil, All-cons, All-head, All-tail, All-append, All-map, All-contains, Contains-append_left, Contains-append_right, Contains-append_cases}
@@ -162,7 +163,8 @@ module _ (published : List Publication) where
 
     answer_item : (about : Subject) (s : State) (i : PlainItem) → IsHashed s → IsGenuine published s → IsAnswerAbout about s i → IsGenuineItem i
     answer_item subject.NetworkRequest s i hashed genuine is = subst IsGenuineItem (sym is) (request_tlv, other_kind (tlv_of (RequestNetwork [])) (λ (e : 1 ≡ 5). absurd (omega arith)))
-    answer_item subject.NetworkState s i hashed genuine is = subst IsGenuineItem (sym is) (network_tlv s.net hashed.hash, other_kind (tlv_of (NetworkState s.net [])) (λ (e : 4 ≡ 5). absurd (omega arith)))
+    answer_item subject.NetworkState s i hashed genuine is =
+        subst IsGenuineItem (sym is) (network_tlv s.net hashed.hash, other_kind (tlv_of (NetworkState s.net [])) (λ (e : 4 ≡ 5). absurd (omega arith)))
     answer_item (subject.NodeRequest id) s i hashed genuine is = subst IsGenuineItem (sym is.0) (node_request_tlv id.0, other_kind (tlv_of (RequestNode id.0 [])) (λ (e : 2 ≡ 5). absurd (omega arith)))
     answer_item (subject.NodeState id) s i hashed genuine is = item_genuine false s id i hashed.well genuine is
     answer_item (subject.NodeData id) s i hashed genuine is = item_genuine true s id i hashed.well genuine is
@@ -200,7 +202,8 @@ module _ (published : List Publication) where
         written_cons one.tlv a.tlv (map (λ (x : Answer). x.tlv) answers) one.is_tlv one.spelled one.says (answers_written answers (All-tail (IsGenuineAnswer published) a answers all))
 
     -- a datagram that is read as a sender and TLVs that say what was published
-    datagram_says : (own : NodeId) (endpoint : EpId) (group : List PlainTlv) (bytes : List ℕ) → IsTlvList (sender_tlv own endpoint ∷ group) bytes → TlvsSayPublished published group → BytesSayPublished published bytes
+    datagram_says : (own : NodeId) (endpoint : EpId) (group : List PlainTlv) (bytes : List ℕ) → IsTlvList (sender_tlv own endpoint ∷ group) bytes
+        → TlvsSayPublished published group → BytesSayPublished published bytes
     datagram_says own endpoint group bytes list say tlvs are =
         subst (TlvsSayPublished published) (laws.one_list (sender_tlv own endpoint ∷ group) tlvs bytes list are) whole
       where
@@ -217,7 +220,8 @@ module _ (published : List Publication) where
               | inr later ↦ say tlv later
             ]
 
-    datagrams_say : (own : NodeId) (endpoint : EpId) (datagrams : List (List ℕ)) (tlvs : List PlainTlv) → AreRead own endpoint tlvs datagrams → TlvsSayPublished published tlvs → All (BytesSayPublished published) datagrams
+    datagrams_say : (own : NodeId) (endpoint : EpId) (datagrams : List (List ℕ)) (tlvs : List PlainTlv) → AreRead own endpoint tlvs datagrams
+        → TlvsSayPublished published tlvs → All (BytesSayPublished published) datagrams
     datagrams_say own endpoint [] tlvs is say = All-nil (BytesSayPublished published)
     datagrams_say own endpoint (datagram ∷ datagrams) tlvs (group, rest, is, list, more) say =
         let all : TlvsSayPublished published (group ++ rest) = subst (TlvsSayPublished published) is say in
@@ -229,10 +233,12 @@ module _ (published : List Publication) where
     sends_say r sends hash answers packed =
         let all : TlvsSayPublished published written.tlvs = λ tlv there. All-contains (TlvSaysPublished published) written.tlvs tlv written.say there in
         let read : AreRead r.state.id packed.endpoint written.tlvs packed.datagrams =
-        laws.packing r.state.id packed.endpoint written.tlvs packed.datagrams written.each (subst (λ (tlvs : List (List ℕ)). IsPacking r.state.id packed.endpoint tlvs packed.datagrams) written.are packed.packed) in
+        laws.packing r.state.id packed.endpoint written.tlvs packed.datagrams written.each
+        (subst (λ (tlvs : List (List ℕ)). IsPacking r.state.id packed.endpoint tlvs packed.datagrams) written.are packed.packed) in
         let each : All (BytesSayPublished published) packed.datagrams = datagrams_say r.state.id packed.endpoint packed.datagrams written.tlvs read all in
         subst (All (λ (o : Outgoing). BytesSayPublished published o.bytes)) (sym packed.sends_are)
-        (All-map (λ (o : Outgoing). BytesSayPublished published o.bytes) (λ (bytes : List ℕ). let o : Outgoing = record { endpoint = packed.endpoint; to = packed.to; bytes = bytes } in o) packed.datagrams each)
+        (All-map (λ (o : Outgoing). BytesSayPublished published o.bytes)
+        (λ (bytes : List ℕ). let o : Outgoing = record { endpoint = packed.endpoint; to = packed.to; bytes = bytes } in o) packed.datagrams each)
       where
         by_case : (packed.tlvs ≡ map (λ a. a.tlv) r.answers) ⊎ (packed.tlvs ≡ spelling (tlv_of (NetworkState r.state.net [])) ∷ []) → AreWritten packed.tlvs
         by_case (inl are) = subst AreWritten (sym are) (answers_written r.answers answers)

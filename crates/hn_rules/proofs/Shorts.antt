@@ -97,16 +97,20 @@ datagram_short tlvs short datagram (inr (tlv, there, is)) =
     let one : length tlv ≤ most_answer = All-contains (λ (tlv : List ℕ). length tlv ≤ most_answer) tlvs tlv short there in
     omega arith
 
-sends_short : PackingIsShort → (r : Running) (sends : List Outgoing) → IsHash r.state.net → All (λ a. length a.tlv ≤ most_answer) r.answers → ArePacked r sends → All (λ o. length o.bytes ≤ most_datagram) sends
+sends_short : PackingIsShort → (r : Running) (sends : List Outgoing) → IsHash r.state.net → All (λ a. length a.tlv ≤ most_answer) r.answers
+    → ArePacked r sends → All (λ o. length o.bytes ≤ most_datagram) sends
 sends_short packing r sends hash short packed =
     let each : All (λ datagram. length datagram ≤ most_datagram) packed.datagrams =
-    All-weaker (IsShortDatagram packed.tlvs) _ (datagram_short packed.tlvs (tlvs_short packed.tlvs_are)) packed.datagrams (packing r.state.id packed.endpoint packed.tlvs packed.datagrams packed.packed) in
+    All-weaker (IsShortDatagram packed.tlvs) _ (datagram_short packed.tlvs (tlvs_short packed.tlvs_are)) packed.datagrams
+    (packing r.state.id packed.endpoint packed.tlvs packed.datagrams packed.packed) in
     subst (All (λ (o : Outgoing). length o.bytes ≤ most_datagram)) (sym packed.sends_are)
-    (All-map (λ (o : Outgoing). length o.bytes ≤ most_datagram) (λ (bytes : List ℕ). let o : Outgoing = record { endpoint = packed.endpoint; to = packed.to; bytes = bytes } in o) packed.datagrams each)
+    (All-map (λ (o : Outgoing). length o.bytes ≤ most_datagram)
+    (λ (bytes : List ℕ). let o : Outgoing = record { endpoint = packed.endpoint; to = packed.to; bytes = bytes } in o) packed.datagrams each)
   where
     tlvs_short : (packed.tlvs ≡ map (λ a. a.tlv) r.answers) ⊎ (packed.tlvs ≡ spelling (tlv_of (NetworkState r.state.net [])) ∷ []) → AreShortTlvs packed.tlvs
     tlvs_short (inl answers) = subst AreShortTlvs (sym answers) (All-map (λ (tlv : List ℕ). length tlv ≤ most_answer) (λ (a : Answer). a.tlv) r.answers short)
-    tlvs_short (inr state) = subst AreShortTlvs (sym state) (All-cons (λ (tlv : List ℕ). length tlv ≤ most_answer) _ [] (network_short r.state.net hash.0) (All-nil (λ (tlv : List ℕ). length tlv ≤ most_answer)))
+    tlvs_short (inr state) = subst AreShortTlvs (sym state) (All-cons (λ (tlv : List ℕ). length tlv ≤ most_answer) _ []
+        (network_short r.state.net hash.0) (All-nil (λ (tlv : List ℕ). length tlv ≤ most_answer)))
 
 pub each_short : ChangesKeepHashed → HeldIsOfAnEntry → HashHasEightBytes → PackingIsShort → ChangesKeepShort
 each_short keeps held_of_entry eight packing tlvs (AddAnswer about i) r is (hashed, short) =

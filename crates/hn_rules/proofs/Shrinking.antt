@@ -1,28 +1,24 @@
--- Where as many peers are left as there were, none has expired.
-use Rattle.std.proofs.Common.{◌≡◌, ◌≢◌, ◌∙◌, ℕ, ◌<◌, ◌≤◌, ◌+◌, Bool, true, false, cond, List, [], ◌∷◌, map, length, length-append, Option, Some, None, inl, inr, refl, sym, ap, subst, arith}
-use Rattle.std.specs.Prelude.{All, Contains, find}
-use Rattle.std.specs.Cmp.{ranked}
+-- Where a router says the same of its peers after expiry, none of them had expired.
+use Rattle.std.proofs.Common.{◌≡◌, ◌≢◌, ◌∙◌, ◌≤◌, Bool, true, false, cond, List, [], ◌∷◌, ◌++◌, map, filter, length, Some, inl, inr, refl, sym, ap, subst, arith}
+use Rattle.std.specs.Prelude.{All, Contains, find, ◌==◌}
 use Rattle.std.specs.List.Sorted.{IsStrictlySortedBy}
 use Rattle.std.specs.Ordering.{nat_cmp}
-use Rattle.std.specs.declared.cmp.Ordering.TheVariants.{Less}
-use Rattle.std.proofs.lemmas.Bool.{cond_both, eqb-true, eqb-false, eq-eqb, ne_eqb}
-use Rattle.std.proofs.lemmas.List.{length-map}
-use Rattle.std.proofs.lemmas.List.Elements.{All-nil, All-cons}
-use Rattle.hn_base.proofs.AscendingLists.{below_head, nothing_in, Contains-head, Contains-tail, Contains-cases, Contains-map}
-use Rattle.hn_base.specs.Rules.{Each, OnSome}
+use Rattle.std.proofs.lemmas.Bool.{eqb-true, ne_eqb}
+use Rattle.std.proofs.lemmas.List.{append-nil, length-map}
+use Rattle.std.proofs.lemmas.List.Elements.{All-nil, All-cons, filter-append}
+use Rattle.hn_base.proofs.AscendingLists.{Contains-head, Contains-tail, Contains-map}
+use Rattle.hn_base.proofs.Elements.{all_of}
 use Rattle.hn_base.specs.declared.ids.EpId.{EpId}
+use Rattle.hn_data.specs.declared.said.PeerLink.{PeerLink}
 use Rattle.hn_dncp.specs.declared.peers.Neighbour.{Neighbour}
 use Rattle.hn_dncp.specs.declared.port.Port.{Port}
 use Rattle.hn_own.specs.Own.{link_at, links_at, links_of}
-use Rattle.hn_own.specs.Ports.{number, ArePorts, is_port, port_at, put_port, endpoints_of}
+use Rattle.hn_own.specs.Ports.{number, ArePorts, is_port, port_at, endpoints_of}
 use Rattle.hn_rules.specs.declared.running.Running.{Running}
 use Rattle.hn_rules.specs.declared.state.State.{State}
-use Rattle.hn_rules.specs.Rules.{AtPort}
+use Rattle.hn_rules.specs.Still.{AreHeard}
 use Rattle.hn_rules.specs.Tick.{IsExpired, Without, IsPortExpiry, IsExpiry}
-use Rattle.hn_rules.proofs.Leads.{keeps_each, keeps_option}
-use Rattle.hn_rules.proofs.Parts.{are-put}
-use Rattle.hn_rules.proofs.Refreshes.{found_number, only_one}
-use Rattle.hn_rules.proofs.Touched.{put_same}
+use Rattle.hn_rules.proofs.PortsInTurn.{Puts, apart, are_ports, found_itself, none_above, ports_alone, ran_at, with_ports}
 
 -- ---- a list without some of its elements
 
@@ -41,154 +37,63 @@ module _ {A : Type 0} (P : A → Type 0) where
       let tail = as_many xs rest more same in
       (All-cons (λ y. ¬ (P y)) x xs stays tail.0, is ∙ ap (λ (l : List A). x ∷ l) tail.1)
 
--- ---- how many peers there are
+-- ---- what is said of the peers of one endpoint
 
-size : List Port → ℕ
-size [] = 0
-size (p ∷ ports) = length p.peers + size ports
+abbrev is_of : EpId → PeerLink → Bool
+is_of at link = link.endpoint.0 == at.0
 
-links_size : (ports : List Port) → length (links_of ports) ≡ size ports
-unfolding size
-links_size [] = refl
-links_size (p ∷ ports) =
-    let all = length-append (links_at p) (links_of ports) in
-    let here = length-map p.peers (link_at p) in
-    let more = links_size ports in
-    omega (arith, all, here, more)
+links_there : (at : EpId) (p : Port) (peers : List Neighbour) (b : Bool) → is_port at p ≡ b → filter (is_of at) (map (link_at p) peers) ≡ cond b (map (link_at p) peers) []
+links_there at p [] true is = refl
+links_there at p [] false is = refl
+links_there at p (x ∷ peers) true is = let more = links_there at p peers true is in rw (is, more) refl
+links_there at p (x ∷ peers) false is = rw is (links_there at p peers false is)
 
--- no other endpoint has the number of the first
-none_above : (p : Port) (ports : List Port) → IsStrictlySortedBy nat_cmp (map number (p ∷ ports)) → (q : Port) → Contains ports q → q.id.0 ≢ p.id.0
-none_above p ports up q there same =
-    let less : nat_cmp p.id.0 q.id.0 ≡ Less = below_head nat_cmp p.id.0 (map number ports) up q.id.0 (Contains-map number ports q there) in
-    let before : p.id.0 < q.id.0 = ranked p.id.0 q.id.0 Less (sym less) in
-    omega (arith, before, same)
+none_there : (at : EpId) (ports : List Port) → ((q : Port) → Contains ports q → q.id.0 ≢ at.0) → filter (is_of at) (links_of ports) ≡ []
+none_there at [] none = refl
+none_there at (p ∷ ports) none =
+    filter-append (is_of at) (links_at p) (links_of ports)
+    ∙ ap (λ (links : List PeerLink). links ++ filter (is_of at) (links_of ports)) (links_there at p p.peers false (ne_eqb p.id.0 at.0 (none p (Contains-head p ports))))
+    ∙ none_there at ports (λ q there. none q (Contains-tail p ports q there))
 
--- where none has its number, nothing is changed
-put_none : (next : Port) (ports : List Port) → ((q : Port) → Contains ports q → q.id.0 ≢ next.id.0) → put_port next ports ≡ ports
-put_none next [] none = refl
-put_none next (p ∷ ports) none =
-    let here = cond_both (is_port next.id p) next p (λ (q : Port). q ≡ p) (λ is. absurd (none p (Contains-head p ports) (eqb-true p.id.0 next.id.0 is))) (λ _. refl) in
-    let more = put_none next ports (λ q there. none q (Contains-tail p ports q there)) in
-    cc
-
--- an endpoint with other peers: so many are there then
-resized : (at : EpId) (ports : List Port) (port : Port) (peers : List Neighbour) → IsStrictlySortedBy nat_cmp (map number ports) → port_at at ports ≡ Some port
-    → size (put_port (record port { peers = peers }) ports) + length port.peers ≡ size ports + length peers
-unfolding size IsStrictlySortedBy
-resized at [] port peers up found = absurd cc
-resized at (p ∷ ports) port peers up found = by_test (is_port at p) refl found (resized at ports port peers up.1)
+links_found : (at : EpId) (ports : List Port) (port : Port) → IsStrictlySortedBy nat_cmp (map number ports) → port_at at ports ≡ Some port
+    → filter (is_of at) (links_of ports) ≡ links_at port
+unfolding IsStrictlySortedBy
+links_found at [] port up found = absurd cc
+links_found at (p ∷ ports) port up found = filter-append (is_of at) (links_at p) (links_of ports) ∙ by_test (is_port at p) refl found (links_found at ports port up.1)
   where
-    next : Port
-    next = record port { peers = peers }
-
-    here : p ≡ port → size (put_port next (p ∷ ports)) + length port.peers ≡ size (p ∷ ports) + length peers
-    here same =
-        let is : is_port next.id p ≡ true = eq-eqb p.id.0 next.id.0 (ap number same) in
-        let tail : put_port next ports ≡ ports = put_none next ports (λ q there. subst (λ (x : Port). q.id.0 ≢ x.id.0) same (none_above p ports up q there)) in
-        let head : cond (is_port next.id p) next p ≡ next = ap (λ (b : Bool). cond b next p) is in
-        let whole : put_port next (p ∷ ports) ≡ next ∷ ports = cc in
-        let sizes : size (put_port next (p ∷ ports)) ≡ length peers + size ports = ap size whole in
-        let many = ap (λ (q : Port). length q.peers) same in
-        omega (arith, sizes, many)
-
-    there : p.id.0 ≢ next.id.0 → size (put_port next ports) + length port.peers ≡ size ports + length peers → size (put_port next (p ∷ ports)) + length port.peers ≡ size (p ∷ ports) + length peers
-    there other more =
-        let is : is_port next.id p ≡ false = ne_eqb p.id.0 next.id.0 other in
-        let head : cond (is_port next.id p) next p ≡ p = ap (λ (b : Bool). cond b next p) is in
-        let whole : put_port next (p ∷ ports) ≡ p ∷ put_port next ports = cc in
-        let sizes : size (put_port next (p ∷ ports)) ≡ length p.peers + size (put_port next ports) = ap size whole in
-        omega (arith, sizes, more)
-
-    by_test : (b : Bool) → is_port at p ≡ b → cond b (Some p) (find (is_port at) ports) ≡ Some port → (port_at at ports ≡ Some port → size (put_port next ports) + length port.peers ≡ size ports + length peers)
-        → size (put_port next (p ∷ ports)) + length port.peers ≡ size (p ∷ ports) + length peers
-    by_test true is found more = here cc
-    by_test false is found more = there (λ same. eqb-false p.id.0 at.0 is (same ∙ found_number at ports port found)) (more found)
+    by_test : (b : Bool) → is_port at p ≡ b → cond b (Some p) (find (is_port at) ports) ≡ Some port
+        → (port_at at ports ≡ Some port → filter (is_of at) (links_of ports) ≡ links_at port)
+        → filter (is_of at) (links_at p) ++ filter (is_of at) (links_of ports) ≡ links_at port
+    by_test true is found more =
+        let same : p ≡ port = cc in
+        let none = none_there at ports (λ q there one. none_above p ports up q there (one ∙ sym (eqb-true p.id.0 at.0 is))) in
+        ap (λ (links : List PeerLink). links ++ filter (is_of at) (links_of ports)) (links_there at p p.peers true is)
+        ∙ ap (λ (links : List PeerLink). links_at p ++ links) none ∙ append-nil (links_at p) ∙ ap links_at same
+    by_test false is found more = ap (λ (links : List PeerLink). links ++ filter (is_of at) (links_of ports)) (links_there at p p.peers false is) ∙ more found
 
 -- ---- expiry
 
--- none of the peers of an endpoint has expired
-abbrev pub NoneExpired : State → EpId → Type 0
-NoneExpired s at = (port : Port) → port_at at s.ports ≡ Some port → All (λ peer. ¬ (IsExpired s peer)) port.peers
-
--- No more peers are there than before; and where as many are, nothing happened, and none of them has expired.
-record Shrinks (at : EpId) (r a : Running) : Type 0 where
-  are : ArePorts a.state.ports
-  most : size a.state.ports ≤ size r.state.ports
-  none : size a.state.ports ≡ size r.state.ports → (a ≡ r) × NoneExpired r.state at
-
-abbrev pub with_ports : Running → List Port → Running
-with_ports r ports = record r { state = record r.state { ports = ports } }
-
-shrinks : (at : EpId) (r a : Running) → ArePorts r.state.ports → AtPort at IsPortExpiry r a → Shrinks at r a
-shrinks at r a are is = by_port (port_at at r.state.ports) refl is
-  where
-    sizes : (x y : Running) → x ≡ y → size x.state.ports ≡ size y.state.ports
-    sizes x y same = ap (λ (z : Running). size z.state.ports) same
-
-    by_port : (o : Option Port) → port_at at r.state.ports ≡ o → OnSome IsPortExpiry o r a → Shrinks at r a
-    by_port None found is = record {
-      are = subst (λ (x : Running). ArePorts x.state.ports) (sym is) are;
-      most = (let same = sizes a r is in omega (arith, same));
-      none = λ _. (is, λ port here. absurd cc);
-    }
-    by_port (Some port) found is =
-        let next : Port = record port { peers = is.peers } in
-        let gone = sizes a (with_ports r (put_port next r.state.ports)) is.gives in
-        let re = resized at r.state.ports port is.peers are.ascending found in
-        record {
-          are = subst (λ (x : Running). ArePorts x.state.ports) (sym is.gives) (are-put next r.state.ports are);
-          most = (let less = fewer (IsExpired r.state) port.peers is.peers is.without in omega (arith, gone, re, less));
-          none = λ same.
-              let many : length is.peers ≡ length port.peers = omega (arith, gone, re, same) in
-              let stays = as_many (IsExpired r.state) port.peers is.peers is.without many in
-              let put : put_port port r.state.ports ≡ r.state.ports = put_same port r.state.ports (only_one at r.state.ports port are.ascending found) in (
-                is.gives ∙ ap (λ (l : List Neighbour). with_ports r (put_port (record port { peers = l }) r.state.ports)) stays.1 ∙ ap (with_ports r) put,
-                λ other here. let one : port ≡ other = cc in subst (λ (q : Port). All (λ peer. ¬ (IsExpired r.state peer)) q.peers) one stays.0,
-              );
-        }
-
-most_of_each : (ats : List EpId) (r a : Running) → ArePorts r.state.ports → Each (λ at. AtPort at IsPortExpiry) ats r a → size a.state.ports ≤ size r.state.ports
-most_of_each [] r a are is = let same = ap (λ (x : Running). size x.state.ports) is in omega (arith, same)
-most_of_each (at ∷ ats) r a are (between, here, rest) =
-    let one = shrinks at r between are here in
-    let more = most_of_each ats between a one.are rest in
-    let less = one.most in
-    omega (arith, more, less)
-
-none_of_each : (ats : List EpId) (r a : Running) → ArePorts r.state.ports → Each (λ at. AtPort at IsPortExpiry) ats r a → size a.state.ports ≡ size r.state.ports
-    → (a ≡ r) × ((at : EpId) → Contains ats at → NoneExpired r.state at)
-none_of_each [] r a are is same = (is, λ at there. absurd (nothing_in at there))
-none_of_each (at ∷ ats) r a are (between, here, rest) same =
-    let one = shrinks at r between are here in
-    let less = one.most in
-    let after = most_of_each ats between a one.are rest in
-    let now = one.none (omega (arith, less, after, same)) in
-    let more = none_of_each ats between a one.are rest (let first = ap (λ (x : Running). size x.state.ports) now.0 in omega (arith, first, same)) in (
-      more.0 ∙ now.0,
-      λ other there. elim (Contains-cases at ats other there) [
-        | inl is ↦ subst (NoneExpired r.state) is now.1
-        | inr later ↦ subst (λ (x : Running). NoneExpired x.state other) now.0 (more.1 other later)
-      ],
-    )
-
--- where the router says the same of its peers, nothing happened
-pub none_expired : (r a : Running) → ArePorts r.state.ports → IsExpiry r a → links_of a.state.ports ≡ links_of r.state.ports
-    → (a ≡ r) × ((at : EpId) → Contains (endpoints_of r.state.ports) at → NoneExpired r.state at)
-none_expired r a are expiry same =
-    let before = links_size r.state.ports in
-    let after = links_size a.state.ports in
-    let links = ap length same in
-    none_of_each (endpoints_of r.state.ports) r a are expiry (omega (arith, before, after, links))
+abbrev expiry_puts : (port : Port) (x y : Running) → IsPortExpiry port x y → Puts port x y
+expiry_puts port x y is = record { next = record port { peers = is.peers }; same = refl; gives = ap (λ (r : Running). r.state) is.gives }
 
 -- expiry changes endpoints alone
-abbrev IsOf : Running → Running → Type 0
-IsOf r x = x ≡ with_ports r x.state.ports
+pub expiry_ports : (r a : Running) → IsExpiry r a → a.state ≡ (with_ports r a.state.ports).state
+expiry_ports r a expiry = ports_alone IsPortExpiry expiry_puts (endpoints_of r.state.ports) r a expiry
 
-one_of : (r : Running) (port : Port) (x y : Running) → IsPortExpiry port x y → IsOf r x → IsOf r y
-one_of r port x y is was =
-    let next : Port = record port { peers = is.peers } in
-    subst (IsOf r) (sym is.gives) (ap (λ (z : Running). with_ports z (put_port next x.state.ports)) was)
+pub none_expired : (r a : Running) → ArePorts r.state.ports → IsExpiry r a → links_of a.state.ports ≡ links_of r.state.ports → AreHeard r.state.moment r.state
+none_expired r a are expiry same = all_of (λ (port : Port). All (λ (peer : Neighbour). ¬ (IsExpired r.state peer)) port.peers) r.state.ports here
+  where
+    after : ArePorts a.state.ports
+    after = are_ports IsPortExpiry expiry_puts (endpoints_of r.state.ports) r a expiry are
 
-pub expiry_ports : (r a : Running) → IsExpiry r a → a ≡ with_ports r a.state.ports
-expiry_ports r a expiry =
-    keeps_each (IsOf r) (λ at. AtPort at IsPortExpiry) (λ at. keeps_option (IsOf r) at IsPortExpiry (λ port x y found. one_of r port x y)) (endpoints_of r.state.ports) r a expiry refl
+    here : (port : Port) → Contains r.state.ports port → All (λ (peer : Neighbour). ¬ (IsExpired r.state peer)) port.peers
+    here port there =
+        let found = found_itself r.state.ports port are there in
+        let ran = ran_at IsPortExpiry expiry_puts (endpoints_of r.state.ports) (apart r.state.ports are.ascending) port
+        (Contains-map (λ (p : Port). p.id) r.state.ports port there) r a found expiry in
+        let left = ran.holds.peers in
+        let said = sym (links_found port.id a.state.ports (record port { peers = left }) after.ascending ran.left) ∙ ap (filter (is_of port.id)) same
+        ∙ links_found port.id r.state.ports port are.ascending found in
+        let many : length left ≡ length port.peers = sym (length-map left (link_at port)) ∙ ap length said ∙ length-map port.peers (link_at port) in
+        subst (λ (s : State). All (λ (peer : Neighbour). ¬ (IsExpired s peer)) port.peers) ran.alone
+        (as_many (IsExpired ran.before.state) port.peers left ran.holds.without many).0

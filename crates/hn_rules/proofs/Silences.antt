@@ -53,7 +53,8 @@ silent_walk rule walk before after holds silent =
     let done = before.done in
     let same : GrowsFrom done before = record { sends = itself done.sends; notes = itself done.notes; published = itself done.published; words = itself done.words } in
     let grows = walk (GrowsFrom done) (only_add [] done) before after holds same in
-    same_done done nothing (none_grown done.sends after.done.sends grows.sends (ap (λ (d : Done). d.sends) silent)) (none_grown done.notes after.done.notes grows.notes (ap (λ (d : Done). d.notes) silent))
+    same_done done nothing (none_grown done.sends after.done.sends grows.sends (ap (λ (d : Done). d.sends) silent))
+    (none_grown done.notes after.done.notes grows.notes (ap (λ (d : Done). d.notes) silent))
     (none_grown done.published after.done.published grows.published (ap (λ (d : Done). d.published) silent)) (none_grown done.words after.done.words grows.words (ap (λ (d : Done). d.words) silent))
   where
     itself : {A : Type 0} (list : List A) → BeginsWith list list

@@ -1,5 +1,5 @@
 -- A router for which nothing is due stays so until something is.
-use Rattle.std.proofs.Common.{◌≡◌, ◌∙◌, ◌↔◌, ◌⊎◌, ℕ, ◌+◌, ◌-◌, ◌*◌, ◌^◌, ◌<◌, ◌≤◌, Bool, true, false, List, [], map, Some, None, Contains, nat_lt, nat_le, inl, inr, refl, sym, ap, subst, arith}
+use Rattle.std.proofs.Common.{◌≡◌, ◌∙◌, ◌↔◌, ℕ, ◌+◌, ◌-◌, ◌*◌, ◌^◌, ◌<◌, ◌≤◌, Bool, true, false, List, [], map, Some, None, Contains, nat_lt, nat_le, inl, inr, refl, sym, ap, arith}
 use Rattle.std.specs.Prelude.{All, ◌==◌}
 use Rattle.std.specs.List.{list_any}
 use Rattle.std.specs.Option.{option_map}
@@ -11,7 +11,6 @@ use Rattle.hn_base.proofs.AscendingLists.{sorted_parts}
 use Rattle.hn_base.proofs.Elements.{all_of, found_passes, in_filter_map, passing_found}
 use Rattle.hn_base.proofs.PartsAtPlaces.{one_of_ascending, part_at, part_stands}
 use Rattle.hn_data.specs.View.{PlainView}
-use Rattle.hn_data.specs.declared.view.Entry.{Entry}
 use Rattle.hn_dncp.specs.Due.{IsPortStill}
 use Rattle.hn_dncp.specs.Laws.{StillPortStays}
 use Rattle.hn_dncp.specs.declared.peers.Neighbour.{Neighbour}
@@ -23,8 +22,7 @@ use Rattle.hn_store.specs.Laws.{HeldIsOfAnEntry, ForgettingIsAMoment}
 use Rattle.hn_store.specs.Loss.{is_forgotten}
 use Rattle.hn_store.specs.Nodes.{held}
 use Rattle.hn_store.specs.declared.stored.HeldNode.{HeldNode}
-use Rattle.hn_graph.specs.Laws.{IsLike, KeepsReach, ReachabilityStays}
-use Rattle.hn_graph.specs.Path.{IsReachable}
+use Rattle.hn_graph.specs.Laws.{IsLike, ReachabilityStays}
 use Rattle.hn_data.specs.Later.{IsLater}
 use Rattle.hn_deleg.specs.Due.{IsLifetimeEnd}
 use Rattle.hn_deleg.specs.Later.{aged_delegated}
@@ -47,7 +45,7 @@ use Rattle.hn_rules.specs.Still.{at_moment, AreHeard}
 use Rattle.hn_rules.specs.Tick.{IsExpired}
 use Rattle.hn_rules.proofs.Entries.{entry_held}
 use Rattle.hn_rules.proofs.Laters.{view_later}
-use Rattle.hn_rules.proofs.Recent.{own_at, nodes_at, IsHeld, own_there, own_or_held, same_reach}
+use Rattle.hn_rules.proofs.Recent.{reach_later, same_reach}
 
 -- the laws of the crates below that it stands on
 pub record StillLaws : Type 0 where
@@ -96,7 +94,8 @@ module _ (laws : StillLaws) (s : State) (now later : ℕ) (goes : now ≤ later)
   heard_stays heard =
       all_of (λ (port : Port). All (λ (peer : Neighbour). ¬ (IsExpired (at_moment later s) peer)) port.peers) s.ports
       (λ port attached.
-      let here : All (λ (peer : Neighbour). ¬ (IsExpired (at_moment now s) peer)) port.peers = All-contains (λ (p : Port). All (λ (peer : Neighbour). ¬ (IsExpired (at_moment now s) peer)) p.peers) s.ports port heard attached in
+      let here : All (λ (peer : Neighbour). ¬ (IsExpired (at_moment now s) peer)) port.peers =
+      All-contains (λ (p : Port). All (λ (peer : Neighbour). ¬ (IsExpired (at_moment now s) peer)) p.peers) s.ports port heard attached in
       all_of (λ (peer : Neighbour). ¬ (IsExpired (at_moment later s) peer)) port.peers
       (λ peer there. peer_heard port peer attached there (All-contains (λ (p : Neighbour). ¬ (IsExpired (at_moment now s) p)) port.peers peer here there)))
 
@@ -142,50 +141,21 @@ module _ (laws : StillLaws) (s : State) (now later : ℕ) (goes : now ≤ later)
             let nobody : held s.table.entries node.id.0 ≡ None = ap (held s.table.entries) own ∙ well.other in
             absurd cc
 
-    module _ (is_reach : IsReach (at_moment now s) s.reach) (young : now - s.own.born < 2 ^ 32 - 2 ^ 16) where
-      own_like : IsLike (own_at s now) (own_at s later)
-      own_like = record { id = refl; body = refl; recent = λ recent. let stays = young_stays young in omega (arith, stays) }
-
-      node_like : (node : HeldNode) → Contains s.table.entries node → IsReachable s.id.0 (nodes_at s now) node.id.0 → IsLike (held_entry now node) (held_entry later node)
-      node_like node there reachable = record {
-        id = refl;
-        body = refl;
-        recent = λ recent.
-            let seen : Contains (view_of (at_moment now s)) (held_entry now node) =
-            in_filter_map (entry_of (at_moment now s)) s.reach node.id (held_entry now node) ((is_reach.exactly node.id).1 reachable) (seen_of node there) in
-            let limit = now + (2 ^ 32 - 2 ^ 15 - (held_entry now node).age) in
-            let after : later < limit = none limit (inr (inr (inr (held_entry now node, seen, refl)))) (omega (arith, recent)) in
-            omega (arith, after, recent, goes);
-      }
-
-      keeps : KeepsReach s.id.0 (nodes_at s now) (nodes_at s later)
-      keeps = record {
-        kept = λ x there reachable. still x reachable (own_or_held s now later x there);
-        known = λ y there. was y (own_or_held s later now y there);
-      }
-        where
-          still : (x : Entry) → IsReachable s.id.0 (nodes_at s now) x.id.0 → (x ≡ own_at s now) ⊎ IsHeld s now later x → (y : Entry) × Contains (nodes_at s later) y × IsLike x y
-          still x reachable (inl is) = (own_at s later, own_there s later, subst (λ (z : Entry). IsLike z (own_at s later)) (sym is) own_like)
-          still x reachable (inr (node, there, is, other)) =
-              let reached : IsReachable s.id.0 (nodes_at s now) node.id.0 = subst (λ (z : Entry). IsReachable s.id.0 (nodes_at s now) z.id.0) (sym is) reachable in
-              (held_entry later node, other, subst (λ (z : Entry). IsLike z (held_entry later node)) is (node_like node there reached))
-
-          was : (y : Entry) → (y ≡ own_at s later) ⊎ IsHeld s later now y → (x : Entry) × Contains (nodes_at s now) x × IsLike y x
-          was y (inl is) =
-              let like : IsLike (own_at s later) (own_at s now) = record { id = refl; body = refl; recent = λ recent. omega (arith, recent, goes) } in
-              (own_at s now, own_there s now, subst (λ (z : Entry). IsLike z (own_at s now)) (sym is) like)
-          was y (inr (node, there, is, other)) =
-              let like : IsLike (held_entry later node) (held_entry now node) = record { id = refl; body = refl; recent = λ recent. omega (arith, recent, goes) } in
-              (held_entry now node, other, subst (λ (z : Entry). IsLike z (held_entry now node)) is like)
-
-      reached_stays : IsReach (at_moment later s) s.reach
-      reached_stays = record {
-        ascending = is_reach.ascending;
-        exactly = λ id.
-            let same = laws.reach s.id.0 (nodes_at s now) (nodes_at s later) keeps id.0 in
-            let there = is_reach.exactly id in
-            (λ old. same.0 (there.0 old), λ reachable. there.1 (same.1 reachable));
-      }
+    reached_stays : IsReach (at_moment now s) s.reach → now - s.own.born < 2 ^ 32 - 2 ^ 16 → IsReach (at_moment later s) s.reach
+    reached_stays is_reach young =
+        reach_later s now later goes is_reach (record { id = refl; body = refl; recent = λ recent. let stays = young_stays young in omega (arith, stays) }) node_like laws.reach
+      where
+        node_like : (node : HeldNode) → Contains s.table.entries node → Contains s.reach node.id → IsLike (held_entry now node) (held_entry later node)
+        node_like node there reached = record {
+          id = refl;
+          body = refl;
+          recent = λ recent.
+              let seen : Contains (view_of (at_moment now s)) (held_entry now node) =
+              in_filter_map (entry_of (at_moment now s)) s.reach node.id (held_entry now node) reached (seen_of node there) in
+              let limit = now + (2 ^ 32 - 2 ^ 15 - (held_entry now node).age) in
+              let after : later < limit = none limit (inr (inr (inr (held_entry now node, seen, refl)))) (omega (arith, recent)) in
+              omega (arith, after, recent, goes);
+        }
 
     -- ---- the assignment of prefixes
 

@@ -15,7 +15,8 @@ pub ran_losing : (told told_after : Option (ℕ → ℕ)) (before expired ended 
     → IsExpiry before expired → ended ≡ ending expired → Ran IsRefresh told told_after ended after → Ran IsLosing told told_after before after
 ran_losing told told_after before expired ended after expiry ends refresh =
     let first = ran_plain words_of IsExpiry told before expired expiry (each_words words_of (λ at. AtPort at IsPortExpiry) (endpoints_of before.state.ports) before expired none expiry) in
-    ran_both words_of IsExpiry (Then (λ b a. a ≡ ending b) IsRefresh) told told told_after before expired after first (ran_after words_of ending IsRefresh told told_after expired ended after ends refl refresh)
+    ran_both words_of IsExpiry (Then (λ b a. a ≡ ending b) IsRefresh) told told told_after before expired after first
+    (ran_after words_of ending IsRefresh told told_after expired ended after ends refl refresh)
   where
     none : (at : EpId) (b a : Running) → AtPort at IsPortExpiry b a → a.done.words ≡ b.done.words
     none at b a = on_some_words words_of IsPortExpiry (port_at at b.state.ports) b a (λ port b a expiry. ap (λ (r : Running). r.done.words) expiry.gives)

@@ -16,7 +16,8 @@ pub port_moves : (now : ℕ) (port moved : Port) (words taken : List ℕ) (told 
     → between ≡ with_words taken before → after ≡ with_port moved between
     → Ran (IsPortMoving port) told told_after before after
 port_moves now port moved words taken told told_after before between after present is count took same began gives =
-    let all : after.done.words ≡ before.done.words ++ words = ap (λ (r : Running). r.done.words) gives ∙ ap (λ (r : Running). r.done.words) began ∙ ap (λ (ws : List ℕ). before.done.words ++ ws) same in
+    let all : after.done.words ≡ before.done.words ++ words =
+    ap (λ (r : Running). r.done.words) gives ∙ ap (λ (r : Running). r.done.words) began ∙ ap (λ (ws : List ℕ). before.done.words ++ ws) same in
     record {
       holds = record {
         words = words;
@@ -41,7 +42,10 @@ port_ticks at port copy ports told told_after before moved after here same_ports
     }
   where
     sending : (IsStateSending at moved after × IsTrue (tick_sends moved.state.moment copy)) ⊎ ((after ≡ moved) × (tick_sends moved.state.moment copy ≡ false)) → IsPortSending port moved after
-    sending (inl (sent, due)) = inl (subst (λ (p : Port). IsTrue (tick_sends moved.state.moment p)) same due, subst (λ (e : EpId). IsStateSending e moved after) (sym (found_id at port ports here)) sent)
+    sending (inl (sent, due)) = inl (
+      subst (λ (p : Port). IsTrue (tick_sends moved.state.moment p)) same due,
+      subst (λ (e : EpId). IsStateSending e moved after) (sym (found_id at port ports here)) sent,
+    )
     sending (inr (gives, not_due)) = inr (subst (λ (p : Port). tick_sends moved.state.moment p ≡ false) same not_due, gives)
 
     words : (IsStateSending at moved after × IsTrue (tick_sends moved.state.moment copy)) ⊎ ((after ≡ moved) × (tick_sends moved.state.moment copy ≡ false)) → after.done.words ≡ moved.done.words

@@ -79,14 +79,16 @@ renewed_links port peer peers =
     (λ other. cond_both (is_peer peer.node peer.endpoint other) peer other (λ (p : Neighbour). link_at port p ≡ link_at port other) (same_peer port peer other) (λ _. refl)) peers
 
 met_links : (port : Port) (peer : Neighbour) (peers : List Neighbour) (known multicast full : Bool) → cond known Known (cond multicast Unknown (cond full Full Added)) ≢ Added
-    → map (link_at port) (cond multicast peers (cond known (map (λ other. cond (is_peer peer.node peer.endpoint other) peer other) peers) (cond full peers (peers ++ peer ∷ [])))) ≡ map (link_at port) peers
+    → map (link_at port) (cond multicast peers (cond known (map (λ other. cond (is_peer peer.node peer.endpoint other) peer other) peers) (cond full peers (peers ++ peer ∷ [])))) ≡ map
+    (link_at port) peers
 met_links port peer peers known true full other = refl
 met_links port peer peers true false full other = renewed_links port peer peers
 met_links port peer peers false false true other = refl
 met_links port peer peers false false false other = absurd (other refl)
 
 -- an endpoint that greets a sender and adds no peer says the same of its peers
-greeted_links : (from : Origin) (node : NodeId) (endpoint : EpId) (now : ℕ) (port : Port) → greeting node endpoint from.multicast port.peers ≢ Added → links_at (greeting_port from node endpoint now port) ≡ links_at port
+greeted_links : (from : Origin) (node : NodeId) (endpoint : EpId) (now : ℕ) (port : Port) → greeting node endpoint from.multicast port.peers ≢ Added
+    → links_at (greeting_port from node endpoint now port) ≡ links_at port
 greeted_links from node endpoint now port other =
     let peer : Neighbour = record { node = node; endpoint = endpoint; contact = now; addr = from.from } in
     met_links port peer port.peers (has_peer node endpoint port.peers) from.multicast (length port.peers == 64) other
@@ -107,7 +109,8 @@ put_twice first second same (p ∷ ports) =
         let there : is_port second.id p ≡ true = eq-eqb p.id.0 second.id.0 (eqb-true p.id.0 first.id.0 is ∙ ap (λ (id : EpId). id.0) (sym same)) in
         cc
 
-kept_met : (start : State) (greet : Greet) (at : EpId) (port next : Port) (r : Running) → port_at at r.state.ports ≡ Some port → next.id ≡ port.id → links_at next ≡ links_at port → Kept start r → Kept start (rule.met greet next (with_port next r))
+kept_met : (start : State) (greet : Greet) (at : EpId) (port next : Port) (r : Running) → port_at at r.state.ports ≡ Some port → next.id ≡ port.id
+    → links_at next ≡ links_at port → Kept start r → Kept start (rule.met greet next (with_port next r))
 kept_met start Full at port next r found same_id same_links kept = kept_port start at port next r found same_id same_links kept
 kept_met start Known at port next r found same_id same_links kept = kept_port start at port next r found same_id same_links kept
 kept_met start Added at port next r found same_id same_links kept = kept_port start at port next r found same_id same_links kept
@@ -115,12 +118,14 @@ kept_met start Unknown at port next r found same_id same_links kept =
     let asks = asked r.state.moment next in
     let put : Running = with_port next r in
     let once : Kept start (with_port asks r) = kept_port start at port asks r found same_id same_links kept in
-    let twice : Kept start (with_port asks put) = subst (λ (ports : List Port). Kept start (record r { state = record r.state { ports = ports } })) (sym (put_twice next asks refl r.state.ports)) once in
+    let twice : Kept start (with_port asks put) = subst (λ (ports : List Port). Kept start (record r { state = record r.state { ports = ports } }))
+    (sym (put_twice next asks refl r.state.ports)) once in
     cond_both (may_ask r.state.moment next.asked) (with_answer subject.NetworkRequest (item.RequestNetwork []) (with_port asks put)) put (Kept start)
     (λ _. twice) (λ _. kept_port start at port next r found same_id same_links kept)
 
 -- the sender is named, and no peer is added
-pub named_untouched : (from : Origin) (node : NodeId) (endpoint : EpId) (port copy : Port) (ports : List Port) (r a : Running) → ArePorts ports → Some port ≡ port_at from.endpoint ports → ports ≡ r.state.ports → copy ≡ port
+pub named_untouched : (from : Origin) (node : NodeId) (endpoint : EpId) (port copy : Port) (ports : List Port) (r a : Running) → ArePorts ports
+    → Some port ≡ port_at from.endpoint ports → ports ≡ r.state.ports → copy ≡ port
     → greeting node endpoint from.multicast copy.peers ≢ Added → a ≡ named from node endpoint copy r → IsUntouched r.state a.state
 named_untouched from node endpoint port copy ports r a are here same_ports same_port other is =
     let start : Running = record r { sender = Some (node, endpoint) } in
@@ -132,11 +137,13 @@ named_untouched from node endpoint port copy ports r a are here same_ports same_
 
 -- ---- a Network State
 
-pub network_state_untouched : (from : Origin) (hash : List ℕ) (r a : Running) → ArePorts r.state.ports → AtPort from.endpoint (λ port b a. a ≡ network_state hash port b) r a → IsUntouched r.state a.state
+pub network_state_untouched : (from : Origin) (hash : List ℕ) (r a : Running) → ArePorts r.state.ports
+    → AtPort from.endpoint (λ port b a. a ≡ network_state hash port b) r a → IsUntouched r.state a.state
 network_state_untouched from hash r a are holds =
     (keeps_kept_at r.state from.endpoint (λ port b a. a ≡ network_state hash port b) one r a holds (kept_self r.state are)).untouched
   where
-    one : (start : State) (port : Port) (r a : Running) → a ≡ network_state hash port r → ((next : Port) → next.id ≡ port.id → links_at next ≡ links_at port → Kept start (with_port next r)) → Kept start r → Kept start a
+    one : (start : State) (port : Port) (r a : Running) → a ≡ network_state hash port r
+        → ((next : Port) → next.id ≡ port.id → links_at next ≡ links_at port → Kept start (with_port next r)) → Kept start r → Kept start a
     one start port r a is changed kept =
         let same = bytes_eq hash r.state.net in
         let next = hashed same r.sender r.state.moment port in
@@ -169,7 +176,8 @@ same_table carried took.TooLong now nodes next none after = after
 same_table carried took.Full now nodes next none after = after
 
 -- an answer that changes nothing of what is held
-pub node_state_untouched : (carried : PlainState) (how : Took) (r between a : Running) → touches how ≡ false → TakesState carried how r between → IsTaken carried how between a → IsUntouched r.state a.state
+pub node_state_untouched : (carried : PlainState) (how : Took) (r between a : Running) → touches how ≡ false → TakesState carried how r between
+    → IsTaken carried how between a → IsUntouched r.state a.state
 node_state_untouched carried how r between a none takes taken =
     let state : a.state ≡ between.state = taken_state carried how between a none taken in
     let table : takes.table ≡ r.state.table = same_table carried how r.state.moment r.state.table takes.table none takes.accepts.after in
@@ -210,7 +218,8 @@ put_found at port r are found =
     ap (λ (ports : List Port). record r { state = record r.state { ports = ports } }) (put_same port r.state.ports (only_one at r.state.ports port are.ascending found))
 
 -- where no peer of an endpoint is expired, nothing happens
-pub none_expire : (at : EpId) (r : Running) → ArePorts r.state.ports → ((port : Port) → port_at at r.state.ports ≡ Some port → All (λ peer. ¬ (IsExpired r.state peer)) port.peers) → AtPort at IsPortExpiry r r
+pub none_expire : (at : EpId) (r : Running) → ArePorts r.state.ports
+    → ((port : Port) → port_at at r.state.ports ≡ Some port → All (λ peer. ¬ (IsExpired r.state peer)) port.peers) → AtPort at IsPortExpiry r r
 none_expire at r are none = by_port (port_at at r.state.ports) refl
   where
     by_port : (o : Option Port) → port_at at r.state.ports ≡ o → OnSome IsPortExpiry o r r

@@ -88,12 +88,14 @@ hashing_leaves : (r a : Running) → ArePorts r.state.ports → IsHashing r a �
 hashing_leaves r a are (inl (same, is)) = record { net = r.state.net; untouched = untouched_same r.state a.state (ap (λ (x : Running). x.state) is) }
 hashing_leaves r a are (inr (other, resets)) =
     let hashed : Running = record r { state = record r.state { net = network_state_hash r.state } } in
-    let kept : Kept hashed.state a = keeps_each (Kept hashed.state) (λ at. AtPort at IsPortReset) (λ at. keeps_kept_at hashed.state at IsPortReset reset_keeps) (endpoints_of r.state.ports) hashed a resets (kept_self hashed.state are) in
+    let kept : Kept hashed.state a = keeps_each (Kept hashed.state) (λ at. AtPort at IsPortReset)
+    (λ at. keeps_kept_at hashed.state at IsPortReset reset_keeps) (endpoints_of r.state.ports) hashed a resets (kept_self hashed.state are) in
     record { net = network_state_hash r.state; untouched = kept.untouched }
 
 ticks_leave : (r a : Running) → ArePorts r.state.ports → IsPortsTick r a → IsUntouched r.state a.state
 ticks_leave r a are ticks =
-    let kept : Kept r.state a = keeps_each (Kept r.state) (λ at. AtPort at IsPortTick) (λ at. keeps_kept_at r.state at IsPortTick tick_keeps) (endpoints_of r.state.ports) r a ticks (kept_self r.state are) in
+    let kept : Kept r.state a = keeps_each (Kept r.state) (λ at. AtPort at IsPortTick) (λ at. keeps_kept_at r.state at IsPortTick tick_keeps)
+    (endpoints_of r.state.ports) r a ticks (kept_self r.state are) in
     kept.untouched
 
 -- ---- what a tick publishes
@@ -155,7 +157,8 @@ module _ (laws : UsedLaws) (s : State) (now : ℕ) (router : IsRouter s) (begun 
   after_is after (lost, losing, (forgetful, forgets, (settled, (assigned, assigns, (published, publishes, (reached, reaches, hashing))), ticks))) =
       let r = start laws.calm s now router begun quiet in
       let none : forgetful ≡ forgetting r = forgets ∙ ap forgetting (nothing_lost laws.calm s now router begun quiet lost losing) in
-      let assigned_is : assigned.state ≡ record before { held = assigns.ran.held } = ap (λ (x : Running). x.state) assigns.gives ∙ ap (λ (x : Running). let y : State = record x.state { held = assigns.ran.held } in y) none in
+      let assigned_is : assigned.state ≡ record before { held = assigns.ran.held } =
+      ap (λ (x : Running). x.state) assigns.gives ∙ ap (λ (x : Running). let y : State = record x.state { held = assigns.ran.held } in y) none in
       let forgetful_router : IsRouter forgetful.state = subst (λ (x : Running). IsRouter x.state) (sym none) before_router in
       let assigned_well = laws.assigning forgetful assigned assigns forgetful_router in
       let refresh : IsRefresh assigned settled = (published, publishes, (reached, reaches, hashing)) in
@@ -179,7 +182,8 @@ module _ (laws : UsedLaws) (s : State) (now : ℕ) (router : IsRouter s) (begun 
         id = ap (λ (x : State). x.id) whole ∙ ap (λ (x : State). x.id) reached_is ∙ ap (λ (x : State). x.id) published_is;
         moment = ap (λ (x : State). x.moment) whole ∙ ap (λ (x : State). x.moment) reached_is ∙ ap (λ (x : State). x.moment) published_is;
         links = ap (λ (x : PlainData). x.items.links) own_is ∙ by_links assigned.state published.state (ap (λ (x : State). x.own) assigned_is) (ap (λ (x : State). x.ports) assigned_is) from.when;
-        delegated = ap (λ (x : PlainData). x.items.delegated) own_is ∙ by_delegated assigned.state published.state (ap (λ (x : State). x.own) assigned_is) (ap (λ (x : State). x.delegated) assigned_is) from.when;
+        delegated = ap (λ (x : PlainData). x.items.delegated) own_is
+            ∙ by_delegated assigned.state published.state (ap (λ (x : State). x.own) assigned_is) (ap (λ (x : State). x.delegated) assigned_is) from.when;
         reach = reaches.reach;
         table =
             ap (λ (x : State). x.table.entries) whole ∙ table_is
@@ -195,7 +199,8 @@ module _ (laws : UsedLaws) (s : State) (now : ℕ) (router : IsRouter s) (begun 
       by_links m p own ports (inl same) = ap (λ (x : PlainData). x.items.links) (same ∙ own)
       by_links m p own ports (inr (born, items)) = ap (λ (x : OwnItems). x.links) items ∙ ap links_of ports ∙ ap (λ (x : OwnItems). x.links) router.refreshed.published
 
-      by_delegated : (m p : State) → m.own ≡ s.own → m.delegated ≡ s.delegated → (p.own ≡ m.own) ⊎ ((p.own.born ≡ m.moment) × (p.own.items ≡ own_items m)) → p.own.items.delegated ≡ s.own.items.delegated
+      by_delegated : (m p : State) → m.own ≡ s.own → m.delegated ≡ s.delegated → (p.own ≡ m.own)
+          ⊎ ((p.own.born ≡ m.moment) × (p.own.items ≡ own_items m)) → p.own.items.delegated ≡ s.own.items.delegated
       by_delegated m p own delegated (inl same) = ap (λ (x : PlainData). x.items.delegated) (same ∙ own)
       by_delegated m p own delegated (inr (born, items)) = ap (λ (x : OwnItems). x.delegated) items ∙ delegated ∙ ap (λ (x : OwnItems). x.delegated) router.refreshed.published
 
@@ -210,7 +215,12 @@ module _ (laws : UsedLaws) (s : State) (now : ℕ) (router : IsRouter s) (begun 
       moment = is.moment;
       links = is.links;
       delegated = is.delegated;
-      holds = λ node there. (marked_node is.reach now node, subst (λ (nodes : List HeldNode). Contains nodes (marked_node is.reach now node)) (sym is.table) (Contains-map (marked_node is.reach now) before.table.entries node there), refl);
+      holds = λ node there. (
+        marked_node is.reach now node,
+        subst (λ (nodes : List HeldNode). Contains nodes (marked_node is.reach now node))
+            (sym is.table) (Contains-map (marked_node is.reach now) before.table.entries node there),
+        refl,
+      );
     }
 
     twins_back : AreTwins after before
@@ -232,7 +242,8 @@ module _ (laws : UsedLaws) (s : State) (now : ℕ) (router : IsRouter s) (begun 
     born_before = let past = router.well.past.born in omega (arith, past, begun)
 
     own_lasts : (own : OwnPrefix) → Contains s.own.items.delegated own → has_ended now own.valid_until ≡ false
-    own_lasts own there = none_ended now s.delegated quiet.lasting own (subst (λ (list : List OwnPrefix). Contains list own) (sym (ap (λ (x : OwnItems). x.delegated) router.refreshed.published)) there)
+    own_lasts own there = none_ended now s.delegated quiet.lasting own
+        (subst (λ (list : List OwnPrefix). Contains list own) (sym (ap (λ (x : OwnItems). x.delegated) router.refreshed.published)) there)
 
     -- where the data are the same
     same_left : (end : OwnPrefix → Option ℕ) → after.own ≡ s.own → (own : OwnPrefix)
@@ -242,7 +253,8 @@ module _ (laws : UsedLaws) (s : State) (now : ℕ) (router : IsRouter s) (begun 
         ∙ ap (λ (x : PlainData). remaining (now - x.born) (seconds_left x.born (end own))) same
 
     -- where they are of this moment
-    new_left : (end : OwnPrefix → Option ℕ) → after.own.born ≡ now → (own : OwnPrefix) → remaining (after.moment - after.own.born) (seconds_left after.own.born (end own)) ≡ remaining 0 (seconds_left now (end own))
+    new_left : (end : OwnPrefix → Option ℕ) → after.own.born ≡ now → (own : OwnPrefix)
+        → remaining (after.moment - after.own.born) (seconds_left after.own.born (end own)) ≡ remaining 0 (seconds_left now (end own))
     new_left end born own =
         let none : after.moment - after.own.born ≡ 0 = (let moment = is.moment in omega (arith, moment, born)) in
         ap (λ (age : ℕ). remaining age (seconds_left after.own.born (end own))) none ∙ ap (λ (b : ℕ). remaining 0 (seconds_left b (end own))) born
@@ -287,7 +299,8 @@ module _ (laws : UsedLaws) (s : State) (now : ℕ) (router : IsRouter s) (begun 
       still_ended u v u_in v_in prefix ended = elim (cases_lt 0 v.preferred) [
         | inl some ↦
             let later = (laws.preferred (seen_by (at_moment now s)) at v are_at v_in).0 some in
-            let early : IsPreferred (seen_by s) v.prefix = laws.was (seen_by s) (seen_by (at_moment now s)) v.prefix (view_later laws.announcing.known s s.moment now router.well.past (omega arith) begun) later in
+            let early : IsPreferred (seen_by s) v.prefix = laws.was (seen_by s) (seen_by (at_moment now s)) v.prefix
+            (view_later laws.announcing.known s s.moment now router.well.past (omega arith) begun) later in
             let left = (laws.preferred (seen_by s) was u are_was u_in).1 (subst (IsPreferred (seen_by s)) prefix early) in
             absurd (omega (arith, left, ended))
         | inr none ↦ omega (arith, none)

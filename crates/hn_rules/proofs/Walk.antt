@@ -1,9 +1,10 @@
 -- The one walk over the rules: what each elementary change keeps, each rule keeps.
 use Rattle.std.proofs.Common.{◌≡◌, ◌<◌, ◌+◌, ◌%◌, ◌^◌, ℕ, Bool, true, false, cond, List, [], ◌∷◌, map, Option, Some, None, inl, inr, refl, sym, subst, arith}
-use Rattle.std.specs.Prelude.{Contains, is_some, find, nat_eq, ◌==◌}
+use Rattle.std.specs.Prelude.{All, Contains, is_some, find, nat_eq, ◌==◌}
 use Rattle.std.specs.Option.{option_eq}
 use Rattle.std.specs.Str.{bytes_eq}
 use Rattle.std.proofs.lemmas.Bool.{cond_both, eqb-false, eq-eqb}
+use Rattle.std.proofs.lemmas.List.Elements.{All-nil}
 use Rattle.hn_base.specs.declared.caps.Caps.{Caps}
 use Rattle.hn_base.specs.declared.ids.NodeId.{NodeId}
 use Rattle.hn_base.specs.declared.ids.EpId.{EpId}
@@ -24,6 +25,7 @@ use Rattle.hn_store.specs.Acceptance.{PlainState}
 use Rattle.hn_own.specs.Ports.{is_port, port_at, put_port, endpoints_of}
 use Rattle.hn_own.specs.Addresses.{OwnAddress, may_address}
 use Rattle.hn_own.specs.OwnPrefixes.{may_delegate}
+use Rattle.hn_own.specs.Ranges.{IsRangedAddress}
 use Rattle.hn_rules.specs.declared.running.Running.{Running}
 use Rattle.hn_rules.specs.declared.running.Origin.{Origin}
 use Rattle.hn_rules.specs.declared.done.Note.TheVariants as note
@@ -39,6 +41,7 @@ use Rattle.hn_rules.specs.NetworkState.{network_state}
 use Rattle.hn_rules.specs.Claim.{IsFirstClaim, IsSecondClaim, IsClaim}
 use Rattle.hn_rules.specs.NodeState.{took_noted, IsTaken, IsNodeState}
 use Rattle.hn_rules.specs.Arrival.{IsItemRule, IsTlvRule, IsTlvs, IsAnswering, IsArrival}
+use Rattle.hn_rules.specs.Given.{IsRangedDelegation, IsPrivateLength}
 use Rattle.hn_rules.specs.Delegating.{delegating, withdrawing, ending}
 use Rattle.hn_rules.specs.Assigning.{IsAssigning}
 use Rattle.hn_rules.specs.Tick.{IsPortExpiry, IsExpiry, forgetting, IsPortMoving, IsPortSending, IsPortTick, IsPortsTick}
@@ -88,7 +91,7 @@ module _ (tlvs : List PlainTlv) (P : Running → Type 0) (each : EachKeeps tlvs 
   by : (cs : List Change) (r a : Running) → Leads tlvs cs r a → P r → P a
   by = leads_keep tlvs P each
 
-  abbrev AtEach : (Port → Rule) → Type 0
+  abbrev pub AtEach : (Port → Rule) → Type 0
   AtEach rule = (port : Port) (r a : Running) → port_at port.id r.state.ports ≡ Some port → rule port r a → P r → P a
 
   -- the rule of an endpoint
@@ -96,7 +99,7 @@ module _ (tlvs : List PlainTlv) (P : Running → Type 0) (each : EachKeeps tlvs 
   at_port rule one at = keeps_option P at rule (λ port r a found. one port r a (found_own at port r.state.ports found))
 
   -- and of each
-  at_ports : (rule : Port → Rule) → AtEach rule → (ats : List EpId) → Keeps P (Each (λ at. AtPort at rule) ats)
+  pub at_ports : (rule : Port → Rule) → AtEach rule → (ats : List EpId) → Keeps P (Each (λ at. AtPort at rule) ats)
   at_ports rule one = keeps_each P (λ at. AtPort at rule) (at_port rule one)
 
   -- ---- a refresh
@@ -105,7 +108,7 @@ module _ (tlvs : List PlainTlv) (P : Running → Type 0) (each : EachKeeps tlvs 
   publishes number fits r a is =
       by (Publish number is.own ∷ []) r a (record { fits = fits; data_is = is.data_is; items_are = is.items_are; born_is = is.born_is }, is.gives)
 
-  publishing : Keeps P IsPublishing
+  pub publishing : Keeps P IsPublishing
   publishing r a (inl (same, is)) = by [] r a is
   publishing r a (inr (other, is)) = publishes (next_number r.state.number) (omega arith) r a is
 
@@ -266,8 +269,9 @@ module _ (tlvs : List PlainTlv) (P : Running → Type 0) (each : EachKeeps tlvs 
 
   -- ---- events beside arrivals and ticks
 
-  pub delegating_walk : (prefix : PlainPrefix) (valid preferred : ℕ) (r : Running) → may_delegate prefix r.state.delegated ≡ true → P r → P (delegating prefix valid preferred r)
-  delegating_walk prefix valid preferred r may = each (ChangePrefixes (Delegate prefix valid preferred)) r may
+  pub delegating_walk : (prefix : PlainPrefix) (valid preferred : ℕ) (r : Running) → IsRangedDelegation prefix valid preferred
+      → may_delegate prefix r.state.delegated ≡ true → P r → P (delegating prefix valid preferred r)
+  delegating_walk prefix valid preferred r fits may = each (ChangePrefixes (Delegate prefix valid preferred)) r (fits, may)
 
   pub withdrawing_walk : (prefix : PlainPrefix) → Keeps P (λ r a. a ≡ withdrawing prefix r)
   withdrawing_walk prefix r a is = by (ChangePrefixes (Withdraw prefix) ∷ []) r a (tt, is)
@@ -275,21 +279,23 @@ module _ (tlvs : List PlainTlv) (P : Running → Type 0) (each : EachKeeps tlvs 
   pub caps_walk : (caps : Caps) → Keeps P (λ r a. a ≡ setting_caps caps r)
   caps_walk caps r a is = by (PutCaps caps ∷ []) r a (tt, is)
 
-  pub private_walk : (private : Option ℕ) → Keeps P (λ r a. a ≡ setting_private private r)
-  private_walk private r a is p = subst P (sym is) (by_test (option_eq nat_eq private r.state.private))
+  pub private_walk : (private : Option ℕ) → IsPrivateLength private → Keeps P (λ r a. a ≡ setting_private private r)
+  private_walk private fits r a is p = subst P (sym is) (by_test (option_eq nat_eq private r.state.private))
     where
       by_test : (same : Bool) → P (cond same r (change (PutPrivate private) r))
       by_test true = p
-      by_test false = each (PutPrivate private) r tt p
+      by_test false = each (PutPrivate private) r fits p
 
-  pub addressing_walk : (list : List OwnAddress) (r : Running) → may_address list r.state.ports ≡ true → P r → P (setting_addresses list r)
-  addressing_walk list = each (PutAddresses list)
+  pub addressing_walk : (list : List OwnAddress) (r : Running) → All IsRangedAddress list → may_address list r.state.ports ≡ true → P r → P (setting_addresses list r)
+  addressing_walk list r fit may = each (PutAddresses list) r (fit, may)
 
-  beginning : AtEach IsPortRestart
+  pub emptied_walk : (r : Running) → P r → P (emptied r)
+  emptied_walk r = by (ChangeTable Empty ∷ ForgetPairs ∷ PutClaimed false ∷ PutAddresses [] ∷ []) r (emptied r) (tt, (tt, (tt, ((All-nil IsRangedAddress, refl), refl))))
+
+  pub beginning : AtEach IsPortRestart
   beginning port r a here is = by (ChangePort port (Begin is.word) ∷ TakeWords (is.word ∷ []) ∷ []) r a ((here, tt), (tt, is.gives))
 
   pub restarting_walk : Keeps P IsRestarting
   restarting_walk r a h p =
       keeps_both P (Each (λ at. AtPort at IsPortRestart) (endpoints_of r.state.ports)) (Publishes 1)
-      (at_ports IsPortRestart beginning (endpoints_of r.state.ports)) (publishes 1 (omega arith)) (emptied r) a h
-      (by (ChangeTable Empty ∷ ForgetPairs ∷ PutClaimed false ∷ PutAddresses [] ∷ []) r (emptied r) (tt, (tt, (tt, (refl, refl)))) p)
+      (at_ports IsPortRestart beginning (endpoints_of r.state.ports)) (publishes 1 (omega arith)) (emptied r) a h (emptied_walk r p)

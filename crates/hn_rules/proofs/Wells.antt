@@ -12,7 +12,7 @@ use Rattle.hn_store.specs.Nodes.{held}
 use Rattle.hn_store.specs.declared.stored.Stored.{Stored}
 use Rattle.hn_assign.specs.declared.assigned.Assigned.{Assigned}
 use Rattle.hn_assign.specs.Facts.{IsAssignedPast}
-use Rattle.hn_assign.specs.Laws.{SubroutineKeepsLengths}
+use Rattle.hn_assign.specs.Laws.{SubroutineKeepsLengths, SubroutineKeepsPrefixes, SubroutineKeepsSoon}
 use Rattle.hn_own.specs.declared.own.OwnItems.{OwnItems}
 use Rattle.hn_own.specs.Laws.{AddingKeepsOwnPrefixes, LeavingKeepsOwnPrefixes, HeldStays, AddressesStay, AddressesMayBe}
 use Rattle.hn_own.specs.Lifetimes.{has_ended}
@@ -35,6 +35,7 @@ use Rattle.hn_rules.proofs.Parts.{IsTableWell, IsOwnWell, IsMade, made_from, wel
 use Rattle.hn_rules.proofs.LawPublished.{ReadLaws}
 use Rattle.hn_rules.proofs.PostParts.{posts-put, posts-attached, posts-detached, posts-addressed, posts-assigned, posts-private, posts-published}
 use Rattle.hn_rules.proofs.PrivatePosts.{links_some, of_length}
+use Rattle.hn_rules.proofs.RangedParts.{each_ranged, ranged_from}
 use Rattle.hn_rules.proofs.PortFacts.{IsPortWell, well-begun, well-started, well-without, well-asked, well-greeted, well-hashed, well-ticked}
 
 -- the facts of the router
@@ -51,6 +52,8 @@ pub record RuleLaws : Type 0 where
   pub lengths : SubroutineKeepsLengths
   pub stays : HeldStays
   pub may_be : AddressesMayBe
+  pub prefix : SubroutineKeepsPrefixes
+  pub soon : SubroutineKeepsSoon
 
 none_held : (o : Option Stored) → is_some o ≡ false → o ≡ None
 none_held None is = refl
@@ -73,7 +76,7 @@ module _ (laws : RuleLaws) (tlvs : List PlainTlv) where
   table_well Empty s may well = table-emptied laws.known.none s.id.0 s.moment s.table well
 
   prefixes_well : (how : PrefixChange) (s : State) → MayChangePrefixes how s → AreOwnPrefixes s.delegated → AreOwnPrefixes (prefixes_after how s)
-  prefixes_well (Delegate prefix valid preferred) s may are = laws.added (own_prefix s.moment prefix valid preferred) s.delegated may are
+  prefixes_well (Delegate prefix valid preferred) s (fits, may) are = laws.added (own_prefix s.moment prefix valid preferred) s.delegated may are
   prefixes_well (Withdraw prefix) s may are = laws.some (λ (p : OwnPrefix). not (is_prefix prefix p)) s.delegated are
   prefixes_well End s may are = laws.some (λ (p : OwnPrefix). not (has_ended s.moment p.valid_until)) s.delegated are
 
@@ -116,7 +119,7 @@ module _ (laws : RuleLaws) (tlvs : List PlainTlv) where
         held = record { are = laws.stays r.state.held made.held.are; past = All-filter (λ (c : Assigned). not (c.endpoint.0 == 0)) (IsAssignedPast r.state.moment) r.state.held.assigned made.held.past };
         posts = posts-private r.state.private r.state.ports r.state.addresses r.state.held.assigned r.state.own.items.links made.posts private;
       }
-  each_made (PutAddresses list) r may made =
+  each_made (PutAddresses list) r (fit, may) made =
       record {
         ports = made.ports;
         table = made.table;
@@ -155,7 +158,9 @@ module _ (laws : RuleLaws) (tlvs : List PlainTlv) where
   each_made _ r may made = made
 
 pub each_well : RuleLaws → ChangesKeepWell
-each_well laws tlvs c r may well = well_from (change c r).state (each_made laws tlvs c r may (made_from r.state well))
+each_well laws tlvs c r may well =
+    let ranged = each_ranged (record { prefix = laws.prefix; wished = laws.assigns.wished; soon = laws.soon }) tlvs c r may well.ports (ranged_from r.state well) in
+    well_from (change c r).state (each_made laws tlvs c r may (made_from r.state well)) ranged
 
 -- ---- what is no list of changes: endpoints come and go
 

@@ -1,5 +1,6 @@
 -- The wishes of a router, as they are added one after another.
-use Rattle.std.proofs.Common.{◌≡◌, ◌∙◌, ◌<◌, ◌≤◌, ◌+◌, ◌↔◌, ◌⊎◌, ℕ, Bool, true, false, List, [], ◌∷◌, ◌++◌, length, take, get_or, Contains, Option, Some, Decides, sym, ap, subst, inl, inr, refl, ⊎_elim, arith}
+use Rattle.std.proofs.Common.{◌≡◌, ◌∙◌, ◌<◌, ◌≤◌, ◌+◌, ◌↔◌, ◌⊎◌, ℕ, Bool, true, false, List, [], ◌∷◌, ◌++◌, length, take, get_or, Contains, Option, Some, Decides, sym, ap, subst, inl, inr, refl}
+use Rattle.std.proofs.Common.{⊎_elim, arith}
 use Rattle.std.specs.List.{slice_get}
 use Rattle.std.specs.List.Sorted.{IsStrictlySortedBy}
 use Rattle.std.specs.Option.{option_map}
@@ -71,7 +72,8 @@ module _ (private : Option ℕ) (view : PlainView) (usable : List Delegated) whe
         let within : q < length (prefixes_of usable) = omega (arith, slice_get_within usable q b at_q, length-map usable (λ (v : Delegated). v.prefix)) in
         let less = Less-from_sorted prefix_cmp (prefixes_of usable) p q b.prefix up before within in
         let first : get_or (prefixes_of usable) p b.prefix ≡ a.prefix = ap (get_or (prefixes_of usable) p) (sym same) ∙ prefix_at p a at_p in
-        let here : prefix_cmp a.prefix b.prefix ≡ Less = ap (λ (x : PlainPrefix). prefix_cmp x b.prefix) (sym first) ∙ ap (prefix_cmp (get_or (prefixes_of usable) p b.prefix)) (sym (prefix_at q b at_q)) ∙ less in
+        let here : prefix_cmp a.prefix b.prefix ≡ Less = ap (λ (x : PlainPrefix). prefix_cmp x b.prefix) (sym first)
+        ∙ ap (prefix_cmp (get_or (prefixes_of usable) p b.prefix)) (sym (prefix_at q b at_q)) ∙ less in
         not_below_itself prefix_cmp prefix_total a.prefix b.prefix same here
 
     same_place : (p q : ℕ) (a b : Delegated) → slice_get usable p ≡ Some a → slice_get usable q ≡ Some b → a.prefix ≡ b.prefix → p ≡ q

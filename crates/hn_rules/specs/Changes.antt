@@ -1,6 +1,6 @@
 -- What a rule does to a router in the middle of an event is a list of elementary changes. What they take from a datagram
 -- its TLVs say; beside an arrival there are none.
-use Rattle.std.specs.Prelude.{◌≡◌, ◌≢◌, ℕ, ◌^◌, ◌<◌, ◌⊎◌, Bool, true, false, List, [], ◌∷◌, ◌++◌, map, length, Contains, Option, Some}
+use Rattle.std.specs.Prelude.{◌≡◌, ◌≢◌, ℕ, ◌^◌, ◌<◌, ◌⊎◌, Bool, true, false, List, [], ◌∷◌, ◌++◌, map, length, Contains, Option, Some, All}
 use Rattle.std.specs.Str.{bytes_eq}
 use Rattle.hn_base.specs.Prefix.{PlainPrefix}
 use Rattle.hn_base.specs.declared.addr.Addr.{Addr}
@@ -32,6 +32,7 @@ use Rattle.hn_own.specs.HeldPairs.{no_pairs, without_private}
 use Rattle.hn_own.specs.OwnPrefixes.{own_prefix, may_delegate, delegated_with, delegated_without, delegated_after}
 use Rattle.hn_own.specs.declared.own_prefixes.OwnPrefix.{OwnPrefix}
 use Rattle.hn_own.specs.Ports.{port_at}
+use Rattle.hn_own.specs.Ranges.{IsRangedAddress}
 use Rattle.hn_rules.specs.declared.answers.Subject.{Subject}
 use Rattle.hn_rules.specs.declared.answers.Subject.TheVariants.{NetworkRequest, NetworkState, NodeRequest, NodeState, NodeData}
 use Rattle.hn_rules.specs.declared.done.Note.{Note}
@@ -41,6 +42,7 @@ use Rattle.hn_rules.specs.declared.state.State.{State}
 use Rattle.hn_rules.specs.Answers.{with_answer}
 use Rattle.hn_rules.specs.Assigning.{IsRunAssigned}
 use Rattle.hn_rules.specs.Claim.{is_taken}
+use Rattle.hn_rules.specs.Given.{IsRangedDelegation, IsPrivateLength}
 use Rattle.hn_rules.specs.Nodes.{own_leaf, IsReach}
 use Rattle.hn_rules.specs.Refresh.{own_items, network_state_hash}
 use Rattle.hn_rules.specs.Requests.{state_item}
@@ -128,7 +130,7 @@ prefixes_after End s = delegated_after s.moment s.delegated
 
 -- when they change so
 abbrev pub MayChangePrefixes : PrefixChange → State → Type 0
-MayChangePrefixes (Delegate prefix valid preferred) s = may_delegate prefix s.delegated ≡ true
+MayChangePrefixes (Delegate prefix valid preferred) s = IsRangedDelegation prefix valid preferred × (may_delegate prefix s.delegated ≡ true)
 MayChangePrefixes _ s = Unit {0}
 
 -- ---- what is published, answered and sent
@@ -211,15 +213,16 @@ change (AddSends sends) r = record r { done = record r.done { sends = r.done.sen
 change (TakeNote note) r = noted note r
 change (TakeWords words) r = with_words words r
 
--- when a rule makes it: an endpoint is one that is attached, what is reachable is so, own addresses may be such, and an
--- identifier is free
+-- when a rule makes it: an endpoint is one that is attached, what is reachable is so, a private length fits, own addresses
+-- may be such and fit, and an identifier is free
 abbrev pub IsAllowed : List PlainTlv → Change → Running → Type 0
 IsAllowed tlvs (ChangePort port how) r = (port_at port.id r.state.ports ≡ Some port) × MayChangePort tlvs how r port
 IsAllowed tlvs (ChangeTable how) r = MayChangeTable tlvs how r.state
 IsAllowed tlvs (ChangePrefixes how) r = MayChangePrefixes how r.state
 IsAllowed tlvs (PutReach reach) r = IsReach r.state reach
 IsAllowed tlvs (PutPairs ran) r = IsRunAssigned r.state ran
-IsAllowed tlvs (PutAddresses list) r = may_address list r.state.ports ≡ true
+IsAllowed tlvs (PutPrivate private) r = IsPrivateLength private
+IsAllowed tlvs (PutAddresses list) r = All IsRangedAddress list × (may_address list r.state.ports ≡ true)
 IsAllowed tlvs (PutId id number own) r = (id.0 < 2 ^ 32) × (is_taken id.0 r.state ≡ false) × IsPublishable r.state number own
 IsAllowed tlvs (Publish number own) r = IsPublishable r.state number own
 IsAllowed tlvs (NameSender node endpoint) r = IsSender tlvs r.state node endpoint

@@ -1,10 +1,11 @@
 -- Laws of the rules, and of what holds of a router.
-use Rattle.std.specs.Prelude.{◌≡◌, ◌↔◌, ℕ, ◌^◌, ◌<◌, ◌≤◌, true, List, [], length, Contains, Some}
+use Rattle.std.specs.Prelude.{◌≡◌, ◌↔◌, ℕ, ◌^◌, ◌<◌, ◌≤◌, true, List, [], length, Contains, Some, All}
 use Rattle.hn_base.specs.declared.ids.EpId.{EpId}
 use Rattle.hn_base.specs.declared.ids.NodeId.{NodeId}
-use Rattle.hn_base.specs.Prefix.{PlainPrefix}
+use Rattle.hn_base.specs.Exists.{Some! }
+use Rattle.hn_base.specs.Prefix.{PlainPrefix, IsPrefix}
 use Rattle.hn_hash.specs.Network.{network_hash, AreNumbered}
-use Rattle.hn_tlv.specs.Grammar.{PlainTlv}
+use Rattle.hn_tlv.specs.Grammar.{PlainTlv, IsTlv}
 use Rattle.hn_typed.specs.Item.{PlainItem}
 use Rattle.hn_data.specs.Items.{HasItems}
 use Rattle.hn_data.specs.Peers.{HasPeer}
@@ -13,33 +14,41 @@ use Rattle.hn_data.specs.View.{IsNetwork}
 use Rattle.hn_data.specs.declared.said.AssignedPrefix.{AssignedPrefix}
 use Rattle.hn_data.specs.declared.said.PeerLink.{PeerLink}
 use Rattle.hn_data.specs.declared.view.Entry.{Entry}
+use Rattle.hn_deleg.specs.declared.delegated.Delegated.{Delegated}
+use Rattle.hn_deleg.specs.Used.{AreUsable}
 use Rattle.hn_link.specs.CommonLink.{IsOnCommonLink}
+use Rattle.hn_assign.specs.declared.assigned.Wish.{Wish}
+use Rattle.hn_assign.specs.Facts.{IsFitting}
 use Rattle.hn_own.specs.Addresses.{OwnAddress, may_address}
 use Rattle.hn_own.specs.HeldPairs.{published_in}
 use Rattle.hn_own.specs.Own.{items_of}
 use Rattle.hn_own.specs.OwnPrefixes.{may_delegate}
 use Rattle.hn_own.specs.Ports.{ArePorts, endpoints_of}
+use Rattle.hn_own.specs.Ranges.{IsRangedAddress}
 use Rattle.hn_own.specs.Posts.{private_post}
 use Rattle.hn_store.specs.Nodes.{held}
 use Rattle.hn_store.specs.declared.stored.Stored.{Stored}
 use Rattle.hn_rules.specs.declared.done.Done.{Done}
 use Rattle.hn_rules.specs.declared.done.Publication.{Publication}
+use Rattle.hn_rules.specs.declared.running.Origin.{Origin}
 use Rattle.hn_rules.specs.declared.running.Running.{Running}
 use Rattle.hn_rules.specs.declared.state.State.{State}
-use Rattle.hn_rules.specs.Assigning.{IsAssigning}
+use Rattle.hn_rules.specs.Arrival.{IsArrival}
+use Rattle.hn_rules.specs.Assigning.{AreAsked, IsAssigning}
 use Rattle.hn_rules.specs.Changes.{IsOfChanges, EachKeeps}
 use Rattle.hn_rules.specs.Delegating.{delegating}
 use Rattle.hn_rules.specs.Done.{nothing}
 use Rattle.hn_rules.specs.Due.{IsDueAt, IsNextDue}
 use Rattle.hn_rules.specs.Events.{IsAttaching, setting_addresses}
 use Rattle.hn_rules.specs.Genuine.{TlvsSayPublished, IsGenuineOrCollides}
+use Rattle.hn_rules.specs.Given.{IsRangedDelegation}
 use Rattle.hn_rules.specs.Grows.{GrowsFrom}
 use Rattle.hn_rules.specs.Idle.{IsIdleTick, IsLeft}
 use Rattle.hn_rules.specs.Lengths.{AreShort}
 use Rattle.hn_rules.specs.Nodes.{held_entry, own_entry, entry_of, leaves_of, view_of, IsReach}
 use Rattle.hn_rules.specs.Refresh.{IsRefresh}
 use Rattle.hn_rules.specs.Router.{IsWell, IsHashed, IsRouter}
-use Rattle.hn_rules.specs.Rules.{Rule, begun_at}
+use Rattle.hn_rules.specs.Rules.{Rule, IsTotal, begun_at}
 use Rattle.hn_rules.specs.Seen.{seen_by}
 use Rattle.hn_rules.specs.Still.{at_moment, IsUneventful, IsStill}
 use Rattle.hn_rules.specs.Ticks.{IsTick}
@@ -178,10 +187,11 @@ RefreshRests = (before after : Running) → ArePorts before.state.ports → IsRe
 abbrev pub AssigningKeeps : Type 0
 AssigningKeeps = (before after : Running) → IsAssigning before after → IsRouter before.state → IsWell after.state
 
--- A delegated prefix may be added where it is there already, or there are fewer than 8.
+-- A delegated prefix that fits may be added where it is there already, or there are fewer than 8.
 abbrev pub DelegatingKeeps : Type 0
 DelegatingKeeps =
-    (prefix : PlainPrefix) (valid preferred : ℕ) (before : Running) → may_delegate prefix before.state.delegated ≡ true
+    (prefix : PlainPrefix) (valid preferred : ℕ) (before : Running) → IsRangedDelegation prefix valid preferred
+    → may_delegate prefix before.state.delegated ≡ true
     → IsWell before.state → IsWell (delegating prefix valid preferred before).state
 
 -- An endpoint of a number of 4 bytes other than 0 may be attached where there are fewer than 16.
@@ -190,10 +200,10 @@ AttachingKeeps =
     (at : EpId) (before after : Running) → 0 < at.0 → at.0 < 2 ^ 32 → length before.state.ports < 16 → IsAttaching at before after
     → IsWell before.state → IsWell after.state
 
--- A list may be set as the own addresses where it may be such.
+-- A list of addresses that fit may be set as the own addresses where it may be such.
 abbrev pub AddressingKeeps : Type 0
 AddressingKeeps =
-    (list : List OwnAddress) (before : Running) → may_address list before.state.ports ≡ true
+    (list : List OwnAddress) (before : Running) → All IsRangedAddress list → may_address list before.state.ports ≡ true
     → IsWell before.state → IsWell (setting_addresses list before).state
 
 -- ---- elementary changes
@@ -202,16 +212,17 @@ AddressingKeeps =
 abbrev pub MakesChanges : List PlainTlv → Rule → Type 0
 MakesChanges tlvs rule = (before after : Running) → rule before after → IsOfChanges tlvs before after
 
--- A delegated prefix is added so, where it may be.
+-- A delegated prefix that fits is added so, where it may be.
 abbrev pub DelegatingMakesChanges : Type 0
 DelegatingMakesChanges =
-    (prefix : PlainPrefix) (valid preferred : ℕ) (before : Running) → may_delegate prefix before.state.delegated ≡ true
+    (prefix : PlainPrefix) (valid preferred : ℕ) (before : Running) → IsRangedDelegation prefix valid preferred
+    → may_delegate prefix before.state.delegated ≡ true
     → IsOfChanges [] before (delegating prefix valid preferred before)
 
--- A list is set as the own addresses so, where it may be such.
+-- A list of addresses that fit is set as the own addresses so, where it may be such.
 abbrev pub AddressingMakesChanges : Type 0
 AddressingMakesChanges =
-    (list : List OwnAddress) (before : Running) → may_address list before.state.ports ≡ true
+    (list : List OwnAddress) (before : Running) → All IsRangedAddress list → may_address list before.state.ports ≡ true
     → IsOfChanges [] before (setting_addresses list before)
 
 -- Each elementary change keeps what holds of a router beside what a refresh makes.
@@ -242,3 +253,31 @@ ChangesKeepShort = (tlvs : List PlainTlv) → EachKeeps tlvs (λ r. IsHashed r.s
 abbrev pub ChangesKeepGenuine : Type 0
 ChangesKeepGenuine =
     (past : List Publication) (tlvs : List PlainTlv) → TlvsSayPublished past tlvs → EachKeeps tlvs (IsGenuineOrCollides past)
+
+-- ---- a rule has a result
+
+-- Over each stream of words a rule has a result: it cannot be that there is none.
+abbrev pub HasAResult : Rule → Type 0
+HasAResult rule = IsTotal (λ r. IsWell r.state) rule
+
+-- So it is where the TLVs of a datagram arrive.
+abbrev pub ArrivalHasAResult : Type 0
+ArrivalHasAResult = (from : Origin) (tlvs : List PlainTlv) → All IsTlv tlvs → HasAResult (IsArrival from tlvs)
+
+-- And where a router assigns prefixes.
+abbrev pub AssigningHasAResult : Type 0
+AssigningHasAResult = IsTotal (λ r. IsRouter r.state) IsAssigning
+
+-- ---- what is asked is there
+
+-- what a router asks for: the delegated prefixes that it uses, with a wish for each pair, which fits
+pub record HasWishes (s : State) (wishes : List Wish) : Type 0 where
+  pub usable : List Delegated
+  pub are_usable : AreUsable (seen_by s) usable
+  pub are_asked : AreAsked s usable wishes
+  pub fitting : All IsFitting wishes
+  pub prefixes : All (λ wish. IsPrefix wish.delegated) wishes
+
+-- A list of what a router asks for cannot be missing.
+abbrev pub WishesExist : Type 0
+WishesExist = (s : State) → IsRouter s → Some! (HasWishes s)

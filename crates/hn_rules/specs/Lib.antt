@@ -11,6 +11,7 @@ pub mod NetworkState
 pub mod Claim
 pub mod NodeState
 pub mod Arrival
+pub mod Given
 pub mod Delegating
 pub mod Assigning
 pub mod Tick

@@ -1,5 +1,5 @@
 -- What holds of a router after each event.
-use Rattle.std.specs.Prelude.{◌≡◌, ℕ, ◌-◌, ◌^◌, ◌<◌, ◌≤◌, is_none, IsTrue, Option, None, Some, All}
+use Rattle.std.specs.Prelude.{◌≡◌, ℕ, ◌+◌, ◌-◌, ◌*◌, ◌^◌, ◌<◌, ◌≤◌, is_none, IsTrue, Option, None, Some, List, All}
 use Rattle.hn_typed.specs.Fields.{IsHash}
 use Rattle.hn_dncp.specs.Peers.{ArePeers}
 use Rattle.hn_dncp.specs.declared.port.Port.{Port}
@@ -7,12 +7,16 @@ use Rattle.hn_store.specs.Nodes.{held, IsTable}
 use Rattle.hn_store.specs.Loss.{is_among}
 use Rattle.hn_store.specs.declared.stored.HeldNode.{HeldNode}
 use Rattle.hn_rules.specs.declared.state.State.{State}
-use Rattle.hn_assign.specs.Facts.{IsAssignedPast}
+use Rattle.hn_assign.specs.Facts.{IsAssignedPast, IsSoonDue}
+use Rattle.hn_assign.specs.declared.held.Held.{Held}
+use Rattle.hn_own.specs.declared.own_prefixes.OwnPrefix.{OwnPrefix}
 use Rattle.hn_own.specs.Addresses.{AreAddresses}
 use Rattle.hn_own.specs.Own.{IsOwnData, links_of}
 use Rattle.hn_own.specs.OwnPrefixes.{AreOwnPrefixes}
 use Rattle.hn_own.specs.HeldPairs.{AreHeldPairs}
 use Rattle.hn_own.specs.Ports.{ArePorts, is_attached}
+use Rattle.hn_own.specs.Ranges.{IsRangedOwn}
+use Rattle.hn_rules.specs.Given.{IsPrivateLength}
 use Rattle.hn_rules.specs.Nodes.{IsReach}
 use Rattle.hn_rules.specs.Refresh.{own_items, network_state_hash}
 
@@ -56,7 +60,19 @@ pub record IsPosted (s : State) : Type 0 where
   pub of_length : All (λ c. c.endpoint.0 ≡ 0 → Some c.prefix.len ≡ s.private) s.held.assigned
   pub linked : All (λ link. 0 < link.endpoint.0) s.own.items.links
 
--- What each rule keeps: the containers' facts, the own identifier is not held, and moments and numbers are in range.
+-- the lifetimes of an own delegated prefix end within 2^32 s, where they end
+pub record EndsSoon (now : ℕ) (own : OwnPrefix) : Type 0 where
+  pub valid : IfThere (λ moment. moment ≤ now + 1000 * 2 ^ 32) own.valid_until
+  pub preferred : IfThere (λ moment. moment ≤ now + 1000 * 2 ^ 32) own.preferred_until
+
+-- Moments to come are near: each backoff is due within 4,000 ms, and the lifetimes of own delegated prefixes end within
+-- 2^32 s. So they are below 2^49, where the router's moment is at most 2^48.
+pub record IsNear (now : ℕ) (delegated : List OwnPrefix) (held : Held) : Type 0 where
+  pub backoffs : All (IsSoonDue now) held.backoffs
+  pub ends : All (EndsSoon now) delegated
+
+-- What each rule keeps: the containers' facts, the own identifier is not held, moments and numbers are in range, the
+-- numbers of the own items and of the private link fit, and moments to come are near.
 pub record IsWell (s : State) : Type 0 where
   pub ports : ArePorts s.ports
   pub peers : All (λ port. ArePeers port.peers) s.ports
@@ -69,6 +85,9 @@ pub record IsWell (s : State) : Type 0 where
   pub posted : IsPosted s
   pub numbered : IsNumbered s
   pub past : IsPast s
+  pub ranged : IsRangedOwn s.ports s.delegated s.held s.addresses
+  pub private : IsPrivateLength s.private
+  pub near : IsNear s.moment s.delegated s.held
 
 -- What each rule keeps, and the network state hash is one of 8 bytes.
 pub record IsHashed (s : State) : Type 0 where

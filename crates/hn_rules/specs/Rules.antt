@@ -1,6 +1,6 @@
 -- Rules of a router.
 use Rattle.std.specs.Prelude.{ℕ, List, [], ◌∷◌, ◌++◌, Option, None}
-use Rattle.hn_base.specs.Rules.{RuleOf, OnSome, RanBy, IsSoleBy}
+use Rattle.hn_base.specs.Rules.{RuleOf, OnSome, RanBy, IsSoleBy, IsTotalBy}
 use Rattle.hn_base.specs.declared.ids.EpId.{EpId}
 use Rattle.hn_dncp.specs.declared.port.Port.{Port}
 use Rattle.hn_rules.specs.declared.done.Note.{Note}
@@ -32,6 +32,10 @@ Ran = RanBy words_of
 -- a rule gives no word back, and over one stream of words it has at most one result
 abbrev pub IsSole : Rule → Type 0
 IsSole = IsSoleBy words_of
+
+-- where a fact holds before, it cannot be that a rule has no result over a stream of words that begins with those taken
+abbrev pub IsTotal : (Running → Type 0) → Rule → Type 0
+IsTotal = IsTotalBy words_of
 
 -- with more words taken
 abbrev pub with_words : List ℕ → Running → Running

@@ -35,7 +35,8 @@ impl Running {
         item: &Item<'_>,
         draw: &mut D,
     ) -> Result<bool, NoMemory>
-        ensures ran { OnOk result (Ran (IsItemRule from.now (plain_item item.now)) (D.words draw.old) (D.words draw.new) self.old self.new) }
+        ensures ran { OnOk result (Ran (IsItemRule from.now (plain_item item.now))
+            (D.words draw.old) (D.words draw.new) self.old self.new) }
         ensures untouched { IfOk result (λ touched. touched ≡ false → IsUntouched self.old.state self.new.state) }
     {
         let _kept = self.state.ports.get().as_slice();
@@ -83,7 +84,8 @@ impl Running {
         tlv: &Tlv<'_>,
         draw: &mut D,
     ) -> Result<bool, NoMemory>
-        ensures ran { OnOk result (Ran (IsTlvRule from.now (plain tlv.now)) (D.words draw.old) (D.words draw.new) self.old self.new) }
+        ensures ran { OnOk result (Ran (IsTlvRule from.now (plain tlv.now))
+            (D.words draw.old) (D.words draw.new) self.old self.new) }
         ensures untouched { IfOk result (λ touched. touched ≡ false → IsUntouched self.old.state self.new.state) }
     {
         match read(tlv) {
@@ -110,7 +112,8 @@ impl Running {
     ) -> Result<(), NoMemory>
         requires refreshed { IsRefreshed self.old.state }
         requires fresh { fresh ≡ true → IsFresh self.old.state }
-        ensures ran { OnOk result (Ran (Then (IsTlvRule from.now (plain tlv.now)) IsRefresh) (D.words draw.old) (D.words draw.new) self.old self.new) }
+        ensures ran { OnOk result (Ran (Then (IsTlvRule from.now (plain tlv.now)) IsRefresh)
+            (D.words draw.old) (D.words draw.new) self.old self.new) }
         ensures fresh { OnOk result (IsFresh self.new.state) }
     {
         let touched = self.tlv(alloc, from, tlv, draw)?;
@@ -130,7 +133,8 @@ impl Running {
     ) -> Result<(), NoMemory>
         requires list { HasTlvs bytes.now }
         requires refreshed { IsRefreshed self.old.state }
-        ensures { OnOk result ((tlvs : List PlainTlv) → IsTlvList tlvs bytes.now → Ran (IsTlvs from.now tlvs) (D.words draw.old) (D.words draw.new) self.old self.new) }
+        ensures { OnOk result ((tlvs : List PlainTlv) → IsTlvList tlvs bytes.now
+            → Ran (IsTlvs from.now tlvs) (D.words draw.old) (D.words draw.new) self.old self.new) }
     {
         list_grows();
         list_is_unique();
@@ -179,7 +183,8 @@ impl Running {
     ) -> Result<(), NoMemory>
         requires list { HasTlvs bytes.now }
         requires refreshed { IsRefreshed self.old.state }
-        ensures { OnOk result ((tlvs : List PlainTlv) → IsTlvList tlvs bytes.now → Ran (IsArrival from.now tlvs) (D.words draw.old) (D.words draw.new) self.old self.new) }
+        ensures { OnOk result ((tlvs : List PlainTlv) → IsTlvList tlvs bytes.now
+            → Ran (IsArrival from.now tlvs) (D.words draw.old) (D.words draw.new) self.old self.new) }
     {
         self.tlvs(alloc, from, bytes, draw)?;
         self.send_answers(alloc, from)

@@ -17,7 +17,7 @@ ghost use Rattle.hn_rules.specs.Posts.{HasCommonLink, endpoints_at};
 use crate::laws::view_is_a_network;
 use crate::running::Running;
 use crate::state::State;
-use hn_assign::{Wish, Wishes, pairs_are_ordered, subroutine, subroutine_leaves};
+use hn_assign::{Held, Wish, Wishes, pairs_are_ordered, subroutine, subroutine_leaves};
 use hn_base::{Endpoints, EpId, LinkLength, NoMemory, Shared};
 use hn_data::View;
 use hn_deleg::{Delegated, used, wanted};
@@ -87,9 +87,12 @@ fn add_wishes(
     requires there { place < length usable.now }
     requires usable { AreUsable (plain_view view.now) usable.now }
     requires common { All (HasCommonLink (plain_view view.now)) posts.now }
-    requires asked { (wish : Wish) → Contains wishes.old wish → (other : ℕ) × IsWishAt private.now (plain_view view.now) usable.now other wish }
+    requires asked { (wish : Wish) → Contains wishes.old wish
+        → (other : ℕ) × IsWishAt private.now (plain_view view.now) usable.now other wish }
     ensures { OnOk result ((wish : Wish) → Contains wishes.new wish
-        ↔ (Contains wishes.old wish ⊎ (IsWishAt private.now (plain_view view.entry.now) usable.now place wish × Contains (endpoints_at posts.now) wish.endpoint))) }
+        ↔ (Contains wishes.old wish
+        ⊎ (IsWishAt private.now (plain_view view.entry.now) usable.now place wish
+        × Contains (endpoints_at posts.now) wish.endpoint))) }
 {
     common_link_is_unique();
     for post in posts {
@@ -110,7 +113,8 @@ fn all_wishes(
     requires usable { AreUsable (plain_view view.now) usable.now }
     requires network { IsNetwork view.now.own.0 view.now.nodes.now }
     ensures { IfOk result (λ wishes. (wish : Wish) → Contains wishes wish
-        ↔ ((place : ℕ) × IsWishAt private.now (plain_view view.entry.now) usable.now place wish × Contains endpoints.now wish.endpoint)) }
+        ↔ ((place : ℕ) × IsWishAt private.now (plain_view view.entry.now) usable.now place wish
+        × Contains endpoints.now wish.endpoint)) }
 {
     let mut wishes = Wishes::new(alloc);
     if usable.is_empty() {
@@ -175,6 +179,20 @@ impl State {
 }
 
 impl Running {
+    /// Holds what the assignment subroutine left, where the router does not hold it already: whether an assignment differs.
+    fn hold(&mut self, alloc: Global, held: Held) -> Result<bool, NoMemory>
+        requires { AreHeldPairs held }
+        ensures held { OnOk result (self.new ≡ record self.old { state = record self.old.state { held = held } }) }
+        ensures untouched { IfOk result (λ touched. touched ≡ false → held.assigned ≡ self.old.state.held.assigned) }
+    {
+        let touched = !self.state.has_assigned(&held);
+        if !touched && self.state.has_backoffs(&held) {
+            return Ok(false);
+        }
+        self.state.held = Shared::new(alloc, HeldPairs::of(held))?;
+        Ok(touched)
+    }
+
     /// The assignment of prefixes: whether it made, changed or destroyed an assignment.
     pub fn assign<D: Draw>(&mut self, alloc: Global, draw: &mut D) -> Result<bool, NoMemory>
         requires { IsRouter self.old.state }
@@ -182,9 +200,8 @@ impl Running {
         ensures untouched { IfOk result (λ touched. touched ≡ false → IsRefreshed self.new.state) }
     {
         let hn_assign::Ran { held, words } = self.state.assigned(alloc, draw)?;
+        let touched = self.hold(alloc, held)?;
         self.took_words(words.as_slice())?;
-        let touched = held.assigned.as_slice() != self.state.held.get().get().assigned.as_slice();
-        self.state.held = Shared::new(alloc, HeldPairs::of(held))?;
         Ok(touched)
     }
 }

@@ -7,7 +7,8 @@ ghost use Rattle.hn_own.specs.Addresses.{may_address};
 ghost use Rattle.hn_own.specs.Ports.{is_attached, endpoints_of};
 ghost use Rattle.hn_base.specs.Rules.{Each};
 ghost use Rattle.hn_rules.specs.Rules.{AtPort, Ran};
-ghost use Rattle.hn_rules.specs.Events.{IsAttaching, detaching, setting_caps, setting_private, setting_addresses, IsPortRestart, emptied, IsRestarting};
+ghost use Rattle.hn_rules.specs.Events.{IsAttaching, detaching, setting_caps, setting_private, setting_addresses};
+ghost use Rattle.hn_rules.specs.Events.{IsPortRestart, emptied, IsRestarting};
 
 use crate::running::Running;
 use hn_base::{Caps, EpId, LinkLength, NoMemory, Shared};
@@ -122,7 +123,9 @@ impl Running {
 
     /// The endpoints begin anew, in ascending order.
     fn restart_ports<D: Draw>(&mut self, alloc: Global, draw: &mut D) -> Result<(), NoMemory>
-        ensures { OnOk result (Ran (λ before after. Each (λ at. AtPort at IsPortRestart) (endpoints_of before.state.ports) before after) (D.words draw.old) (D.words draw.new) self.old self.new) }
+        ensures { OnOk result (Ran
+            (λ before after. Each (λ at. AtPort at IsPortRestart) (endpoints_of before.state.ports) before after)
+            (D.words draw.old) (D.words draw.new) self.old self.new) }
     {
         let endpoints = self.state.ports.get().endpoints(alloc)?;
         for at in &endpoints {

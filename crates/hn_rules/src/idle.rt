@@ -1,7 +1,6 @@
 //! Whether a tick did nothing.
 
-ghost use Rattle.std.specs.Prelude.{◌≡◌, ◌↔◌, ◌≤◌, All, IsTrue};
-ghost use Rattle.hn_dncp.specs.Due.{IsPortStill};
+ghost use Rattle.std.specs.Prelude.{◌≡◌, ◌↔◌, ◌≤◌, IsTrue};
 ghost use Rattle.hn_rules.specs.Done.{nothing};
 ghost use Rattle.hn_rules.specs.Idle.{IsLeft};
 ghost use Rattle.hn_rules.specs.Router.{IsRouter};
@@ -12,8 +11,8 @@ ghost use Rattle.hn_rules.specs.Ticks.{IsTick};
 use crate::laws::{idle_is_still, rules_have_one_result, silent_tick_is_still, still_is_idle};
 use crate::running::Running;
 use crate::state::State;
-use hn_assign::{Assigned, Backoff};
-use hn_base::{Moment, NodeId};
+use hn_assign::{Assigned, Backoff, Held};
+use hn_base::{Moment, NodeId, NodeIds};
 
 /// Whether two lists have the same identifiers.
 fn same_nodes(a: &[NodeId], b: &[NodeId]) -> bool
@@ -37,22 +36,27 @@ fn same_backoffs(a: &[Backoff], b: &[Backoff]) -> bool
 }
 
 impl State {
-    /// Whether nothing is due at any endpoint.
-    fn has_still_ports(&self, now: Moment) -> bool
-        ensures { IsTrue result ↔ All (IsPortStill now) self.now.ports }
+    /// Whether these are the router's reachable nodes.
+    pub(crate) fn reaches(&self, reach: &NodeIds) -> bool
+        ensures { IsTrue result ↔ (reach.now ≡ self.now.reach) }
     {
-        self.ports
-            .get()
-            .as_slice()
-            .iter()
-            .all(|port| port.is_still(now))
+        same_nodes(reach.as_slice(), self.reach.get().as_slice())
     }
 
-    /// Whether another state has the same reachable nodes.
-    fn reaches_as(&self, other: &State) -> bool
-        ensures { IsTrue result ↔ (self.now.reach ≡ other.now.reach) }
+    /// Whether these are the router's assignments.
+    pub(crate) fn has_assigned(&self, held: &Held) -> bool
+        ensures { IsTrue result ↔ (held.now.assigned ≡ self.now.held.assigned) }
     {
-        same_nodes(self.reach.get().as_slice(), other.reach.get().as_slice())
+        let kept = self.held.get().get();
+        same_assigned(held.assigned.as_slice(), kept.assigned.as_slice())
+    }
+
+    /// Whether these are the router's backoffs.
+    pub(crate) fn has_backoffs(&self, held: &Held) -> bool
+        ensures { IsTrue result ↔ (held.now.backoffs ≡ self.now.held.backoffs) }
+    {
+        let kept = self.held.get().get();
+        same_backoffs(held.backoffs.as_slice(), kept.backoffs.as_slice())
     }
 
     /// Whether another state has the same assignments and backoffs.
@@ -60,9 +64,8 @@ impl State {
         ensures { IsTrue result ↔ (self.now.held ≡ other.now.held) }
     {
         let held = self.held.get().get();
-        let others = other.held.get().get();
-        let assigned = same_assigned(held.assigned.as_slice(), others.assigned.as_slice());
-        let backoffs = same_backoffs(held.backoffs.as_slice(), others.backoffs.as_slice());
+        let assigned = other.has_assigned(held);
+        let backoffs = other.has_backoffs(held);
         assigned && backoffs
     }
 
@@ -70,10 +73,10 @@ impl State {
     fn is_left(&self, before: &State, now: Moment) -> bool
         ensures { IsTrue result ↔ IsLeft now before.now self.now }
     {
-        self.reaches_as(before)
+        before.reaches(self.reach.get())
             && self.holds_as(before)
             && !before.table.get().needs_forget(now)
-            && before.has_still_ports(now)
+            && before.are_ports_still(now)
     }
 }
 

@@ -11,8 +11,9 @@ ghost use Rattle.hn_rules.specs.declared.running.Origin.{Origin};
 ghost use Rattle.hn_rules.specs.Arrival.{IsArrival};
 ghost use Rattle.hn_rules.specs.Assigning.{IsAssigning};
 ghost use Rattle.hn_rules.specs.Delegating.{delegating, withdrawing, ending};
+ghost use Rattle.hn_rules.specs.Given.{IsPrivateLength};
 ghost use Rattle.hn_rules.specs.Events.{IsAttaching, detaching, setting_caps, setting_private, setting_addresses, IsRestarting};
-ghost use Rattle.hn_rules.specs.Laws.{HashIsOfLeaves, AssignedIsPublished, ItemsArePublished, OwnVersionIsSaid, OwnAddressesAreSaid, ViewIsNetwork, OwnPeersAreOfEndpoints, PrivatePostIsAlone, EntriesAreAsKnown, RouterStaysLater, NextDueIsOne, NextDueStays, UneventfulReaches, StillStays, KeepsRouter, KeepsWell, KeepsEndpoints, RefreshMakesRouter, AssigningKeeps, DelegatingKeeps, AttachingKeeps, AddressingKeeps, MakesChanges, DelegatingMakesChanges, AddressingMakesChanges, ChangesKeepWell, ChangesKeepLimit, ChangesOnlyAdd, StillIsIdle, IdleIsStill, IdleUntilDue, RefreshRests, RouterIsHashed, ChangesKeepHashed, ChangesKeepShort, ChangesKeepGenuine, SilentTickIsStill};
+ghost use Rattle.hn_rules.specs.Laws.{HashIsOfLeaves, AssignedIsPublished, ItemsArePublished, OwnVersionIsSaid, OwnAddressesAreSaid, ViewIsNetwork, OwnPeersAreOfEndpoints, PrivatePostIsAlone, EntriesAreAsKnown, RouterStaysLater, NextDueIsOne, NextDueStays, UneventfulReaches, StillStays, KeepsRouter, KeepsWell, KeepsEndpoints, RefreshMakesRouter, AssigningKeeps, DelegatingKeeps, AttachingKeeps, AddressingKeeps, MakesChanges, DelegatingMakesChanges, AddressingMakesChanges, ChangesKeepWell, ChangesKeepLimit, ChangesOnlyAdd, StillIsIdle, IdleIsStill, IdleUntilDue, RefreshRests, RouterIsHashed, ChangesKeepHashed, ChangesKeepShort, ChangesKeepGenuine, SilentTickIsStill, HasAResult, ArrivalHasAResult, AssigningHasAResult, WishesExist};
 ghost use Rattle.hn_rules.specs.Refresh.{IsRefresh};
 ghost use Rattle.hn_rules.specs.Rested.{KeepsId, RestfulTick, UsedWhereAssigned, ViewOfLater};
 ghost use Rattle.hn_rules.specs.Rules.{IsSole};
@@ -20,26 +21,29 @@ ghost use Rattle.hn_rules.specs.Tick.{IsExpiry, forgetting, IsPortsTick};
 ghost use Rattle.hn_rules.specs.Ticks.{IsTick};
 
 use hn_assign::{
-    pairs_are_ordered, still_run_stays, subroutine_has_one_result, subroutine_keeps,
-    subroutine_leaves,
+    pairs_are_ordered, still_run_stays, subroutine_has_a_result, subroutine_has_one_result,
+    subroutine_keeps, subroutine_leaves,
 };
 use hn_base::{NodeId, ascending_is_unique};
 use hn_data::items_are_unique;
-use hn_deleg::{ends_of_later, usable_is_unique, usable_of_later, used_by_candidates};
-use hn_dncp::{
-    packing_is_not_empty, packing_is_read, packing_is_short, packing_is_unique, peers_stay,
-    still_port, still_port_stays,
+use hn_deleg::{
+    ends_of_later, usable_are_prefixes, usable_exists, usable_is_unique, usable_of_later,
+    used_by_candidates,
 };
-use hn_graph::{own_is_reachable, reachability_follows, reachability_stays};
+use hn_dncp::{
+    packing_exists, packing_is_not_empty, packing_is_read, packing_is_short, packing_is_unique,
+    peers_stay, still_port, still_port_stays,
+};
+use hn_graph::{own_is_reachable, reachability_follows, reachability_stays, reachable_is_a_node};
 use hn_hash::hash_has_eight_bytes;
-use hn_link::common_link_of_later;
+use hn_link::{common_link_exists, common_link_is_unique, common_link_of_later};
 use hn_own::{
-    addresses_stay, ending_is_a_moment, ending_leaves, held_without_private, own_data_is_unique,
-    own_prefixes_stay, posts_ascend,
+    addresses_stay, ending_is_a_moment, ending_leaves, held_without_private, own_data_exists,
+    own_data_is_unique, own_items_fit, own_prefixes_stay, posts_ascend,
 };
 use hn_store::{
-    acceptance_is_unique, acceptance_keeps_table, forgetting_is_a_moment, forgetting_leaves,
-    held_is_of_an_entry, held_was_brought, loss_keeps_table, own_stays,
+    acceptance_exists, acceptance_is_unique, acceptance_keeps_table, forgetting_is_a_moment,
+    forgetting_leaves, held_is_of_an_entry, held_was_brought, loss_keeps_table, own_stays,
 };
 use hn_timers::expiry_is_a_moment;
 use hn_tlv::{first_fault_is_unique, list_is_of_bytes, list_is_unique, spelling_is_prefix_free};
@@ -124,6 +128,18 @@ pub fn view_is_a_network()
     ensures { ViewIsNetwork }
 {
     own_is_reachable();
+}
+
+/// A list of what a router asks for cannot be missing: the delegated prefixes that it uses, and a wish for each pair.
+pub fn wishes_exist()
+    ensures { WishesExist }
+{
+    usable_exists();
+    usable_are_prefixes();
+    common_link_exists();
+    common_link_is_unique();
+    pairs_are_ordered();
+    view_is_a_network();
 }
 
 /// Of its own identifier a router knows its own node, and of another that it holds what it holds of it. What it knows
@@ -279,7 +295,7 @@ pub fn rules_make_changes()
     ensures delegating { DelegatingMakesChanges }
     ensures withdrawing { (prefix : PlainPrefix) → MakesChanges [] (λ b a. a ≡ withdrawing prefix b) }
     ensures caps { (caps : Caps) → MakesChanges [] (λ b a. a ≡ setting_caps caps b) }
-    ensures private { (private : Option ℕ) → MakesChanges [] (λ b a. a ≡ setting_private private b) }
+    ensures private { (private : Option ℕ) → IsPrivateLength private → MakesChanges [] (λ b a. a ≡ setting_private private b) }
     ensures addressing { AddressingMakesChanges }
     ensures restarting { MakesChanges [] IsRestarting }
 {}
@@ -334,7 +350,7 @@ pub fn rules_keep_the_rest()
     ensures attaching { AttachingKeeps }
     ensures detaching { (at : EpId) → KeepsWell (λ b a. a ≡ detaching at b) }
     ensures caps { (caps : Caps) → KeepsWell (λ b a. a ≡ setting_caps caps b) }
-    ensures private { (private : Option ℕ) → KeepsWell (λ b a. a ≡ setting_private private b) }
+    ensures private { (private : Option ℕ) → IsPrivateLength private → KeepsWell (λ b a. a ≡ setting_private private b) }
     ensures addressing { AddressingKeeps }
     ensures restarting { KeepsWell IsRestarting }
 {
@@ -364,6 +380,36 @@ pub fn rules_have_one_result()
     usable_is_unique();
     pairs_are_ordered();
     subroutine_has_one_result();
+}
+
+/// Over each stream of words each rule has a result: it cannot be that there is none. With `rules_have_one_result` there is
+/// exactly one.
+pub fn rules_have_a_result()
+    ensures refresh { HasAResult IsRefresh }
+    ensures arrival { ArrivalHasAResult }
+    ensures expiry { HasAResult IsExpiry }
+    ensures assigning { AssigningHasAResult }
+    ensures ports { HasAResult IsPortsTick }
+    ensures tick { HasAResult IsTick }
+    ensures attaching { (at : EpId) → HasAResult (IsAttaching at) }
+    ensures restarting { HasAResult IsRestarting }
+{
+    changes_keep_the_rest();
+    own_items_fit();
+    own_data_exists();
+    reachable_is_a_node();
+    acceptance_exists();
+    packing_exists();
+    item_or_fault();
+    usable_exists();
+    usable_are_prefixes();
+    common_link_exists();
+    common_link_is_unique();
+    pairs_are_ordered();
+    subroutine_has_a_result();
+    view_is_a_network();
+    refresh_makes_a_router();
+    rules_keep_a_router();
 }
 
 /// These rules keep the moment, and which endpoints are attached.

@@ -4,7 +4,8 @@ ghost use Rattle.std.specs.Prelude.{◌≡◌, ◌++◌, ◌∷◌, [], ◌-◌,
 ghost use Rattle.std.specs.List.{filter_map};
 ghost use Rattle.std.specs.Option.{option_copied, option_map};
 ghost use Rattle.hn_data.specs.View.{IsNetwork};
-ghost use Rattle.hn_rules.specs.Nodes.{age_at, held_entry, own_entry, held_entries, nodes_of, entry_of, leaf_of, leaves_of, own_leaf, part_of, parts_of, IsReach};
+ghost use Rattle.hn_rules.specs.Nodes.{age_at, held_entry, own_entry, held_entries, nodes_of, entry_of, leaf_of, leaves_of};
+ghost use Rattle.hn_rules.specs.Nodes.{own_leaf, part_of, parts_of, IsReach};
 
 use crate::state::State;
 use hn_base::{Bytes, Moment, NoMemory, NodeId, NodeIds};
@@ -49,7 +50,8 @@ impl State {
 
     /// Adds the held nodes with lower identifiers than the own one.
     fn add_lower(&self, nodes: &mut Vec<Entry>) -> Result<(), NoMemory>
-        ensures { OnOk result (nodes.new.items ≡ nodes.old.items ++ filter (λ n. nat_lt n.id.0 self.now.id.0) (held_entries self.now)) }
+        ensures { OnOk result (nodes.new.items ≡ nodes.old.items
+            ++ filter (λ n. nat_lt n.id.0 self.now.id.0) (held_entries self.now)) }
     {
         for node in self.table.get().entries() {
             if node.id < self.id {
@@ -61,7 +63,8 @@ impl State {
 
     /// Adds the held nodes with greater identifiers than the own one.
     fn add_greater(&self, nodes: &mut Vec<Entry>) -> Result<(), NoMemory>
-        ensures { OnOk result (nodes.new.items ≡ nodes.old.items ++ filter (λ n. nat_lt self.now.id.0 n.id.0) (held_entries self.now)) }
+        ensures { OnOk result (nodes.new.items ≡ nodes.old.items
+            ++ filter (λ n. nat_lt self.now.id.0 n.id.0) (held_entries self.now)) }
     {
         for node in self.table.get().entries() {
             if self.id < node.id {

@@ -6,18 +6,19 @@ ghost use Rattle.hn_base.specs.Rules.{Each};
 ghost use Rattle.hn_rules.specs.Rules.{Ran, AtPort};
 ghost use Rattle.hn_rules.specs.Nodes.{age_at};
 ghost use Rattle.hn_rules.specs.Router.{IsRefreshed, IsFresh};
-ghost use Rattle.hn_rules.specs.Refresh.{own_items, Publishes, IsPublished, IsPublishing, IsReaching, network_state_hash, IsPortReset, IsReset, IsHashing, IsRefresh};
+ghost use Rattle.hn_rules.specs.Refresh.{own_items, Publishes, IsPublished, IsPublishing, IsReaching, network_state_hash};
+ghost use Rattle.hn_rules.specs.Refresh.{IsPortReset, IsReset, IsHashing, IsRefresh};
 
 use crate::done::Publication;
 use crate::nodes::age_at;
 use crate::running::Running;
 use crate::state::State;
-use hn_base::{EpId, NoMemory, Shared};
+use hn_base::{EpId, NoMemory, NodeIds, Shared};
 use hn_graph::{AGE_LIMIT, reachability_stays};
 use hn_hash::{network_of, same_hash};
 use hn_io::Draw;
 use hn_own::{OwnData, OwnItems};
-use hn_timers::{SHORTEST_INTERVAL, Trickle};
+use hn_timers::SHORTEST_INTERVAL;
 use std::alloc::Global;
 
 /// The age from which own node data is published again, in milliseconds: 2^16 before it can no longer be sent (RFC
@@ -51,7 +52,9 @@ impl State {
     /// Whether each held node without a moment of loss is one from which paths lead on. Each node is looked at only where
     /// one of them may be old. Never allocates.
     fn leads_on(&self) -> bool
-        ensures { IsTrue result → All (λ node. node.stored.lost ≡ None → age_at self.now.moment node.stored < 2 ^ 32 - 2 ^ 15) self.now.table.entries }
+        ensures { IsTrue result
+            → All (λ node. node.stored.lost ≡ None → age_at self.now.moment node.stored < 2 ^ 32 - 2 ^ 15)
+            self.now.table.entries }
     {
         let now = self.moment.get();
         if self.table.get().is_young(now) {
@@ -69,7 +72,9 @@ impl State {
     /// Never allocates.
     fn is_recent(&self) -> bool
         ensures young { IsTrue result → self.now.moment - self.now.own.born < 2 ^ 32 - 2 ^ 16 }
-        ensures leads { IsTrue result → All (λ node. node.stored.lost ≡ None → age_at self.now.moment node.stored < 2 ^ 32 - 2 ^ 15) self.now.table.entries }
+        ensures leads { IsTrue result
+            → All (λ node. node.stored.lost ≡ None → age_at self.now.moment node.stored < 2 ^ 32 - 2 ^ 15)
+            self.now.table.entries }
     {
         self.own_age() < OLDEST_OWN_DATA && self.leads_on()
     }
@@ -120,6 +125,17 @@ impl Running {
         self.publish_items(alloc, self.state.number.wrapping_add(1), items)
     }
 
+    /// These nodes are reachable. Where they were so before, what is kept of them stays.
+    fn put_reach(&mut self, alloc: Global, reach: NodeIds) -> Result<(), NoMemory>
+        ensures { OnOk result (self.new ≡ record self.old { state = record self.old.state { reach = reach } }) }
+    {
+        if self.state.reaches(&reach) {
+            return Ok(());
+        }
+        self.state.reach = Shared::new(alloc, reach)?;
+        Ok(())
+    }
+
     /// Reachability, and moments of loss.
     fn find_reach(&mut self, alloc: Global) -> Result<(), NoMemory>
         ensures { OnOk result (IsReaching self.old self.new) }
@@ -129,8 +145,7 @@ impl Running {
         if self.state.table.get().needs_mark(reach.as_slice()) {
             self.state.table.edit()?.mark(reach.as_slice(), now);
         }
-        self.state.reach = Shared::new(alloc, reach)?;
-        Ok(())
+        self.put_reach(alloc, reach)
     }
 
     /// Resets Trickle of an endpoint.
@@ -146,7 +161,7 @@ impl Running {
         }
         let mut port = port.clone()?;
         let word = self.take(draw)?;
-        port.trickle = Trickle::start(now, SHORTEST_INTERVAL, word);
+        port.trickle.reset(now, word);
         self.put_port(alloc, port)
     }
 

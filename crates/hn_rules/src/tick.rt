@@ -1,6 +1,6 @@
 //! The parts of a tick: silent peers and lost nodes go, and each endpoint sends what is due.
 
-ghost use Rattle.std.specs.Prelude.{◌≡◌, IsTrue, ◌↔◌, All, IfOk, OnOk, true, false, Some};
+ghost use Rattle.std.specs.Prelude.{◌≡◌, IsTrue, ◌↔◌, All, IfOk, OnOk, false, Some};
 ghost use Rattle.hn_dncp.specs.Due.{IsPortStill};
 ghost use Rattle.hn_dncp.specs.Tick.{tick_sends};
 ghost use Rattle.hn_store.specs.Nodes.{held};
@@ -9,11 +9,12 @@ ghost use Rattle.hn_own.specs.Ports.{port_at};
 ghost use Rattle.hn_rules.specs.Rules.{AtPort, Ran};
 ghost use Rattle.hn_rules.specs.Router.{IsRefreshed};
 ghost use Rattle.hn_rules.specs.Still.{AreHeard};
-ghost use Rattle.hn_rules.specs.Tick.{HasInterval, IsExpired, Without, IsPortExpiry, IsExpiry, forgetting, IsStateSending, IsPortMoving, IsPortTick, IsPortsTick};
+ghost use Rattle.hn_rules.specs.Tick.{HasInterval, IsExpired, Without, IsPortExpiry, IsExpiry, forgetting, IsStateSending};
+ghost use Rattle.hn_rules.specs.Tick.{IsPortMoving, IsPortTick, IsPortsTick};
 
 use crate::running::Running;
 use crate::state::State;
-use hn_base::{EpId, KEEP_ALIVE_INTERVAL, NoMemory};
+use hn_base::{EpId, KEEP_ALIVE_INTERVAL, Moment, NoMemory};
 use hn_data::{encode, items_are_unique, keep_alive};
 use hn_dncp::{Neighbour, Peers, Port, pack, still_port};
 use hn_io::Draw;
@@ -55,7 +56,8 @@ impl State {
 
     /// Whether the keep-alives of a peer of an endpoint have stopped. Never allocates.
     fn has_expired(&self, at: EpId) -> bool
-        ensures { result ≡ false → (port : Port) → port_at at self.now.ports ≡ Some port → All (λ peer. ¬ (IsExpired self.now peer)) port.peers }
+        ensures { result ≡ false → (port : Port) → port_at at self.now.ports ≡ Some port
+            → All (λ peer. ¬ (IsExpired self.now peer)) port.peers }
     {
         match self.ports.get().find(at) {
             Some(port) => self.is_some_expired(port.peers.as_slice()),
@@ -92,16 +94,14 @@ impl State {
     }
 
     /// Whether nothing is due at any endpoint. Never allocates.
-    fn are_ports_still(&self) -> bool
-        ensures { result ≡ true → All (IsPortStill self.now.moment) self.now.ports }
+    pub(crate) fn are_ports_still(&self, now: Moment) -> bool
+        ensures { IsTrue result ↔ All (IsPortStill now) self.now.ports }
     {
-        let now = self.moment.get();
-        for port in self.ports.get().as_slice() {
-            if !port.is_still(now) {
-                return false;
-            }
-        }
-        true
+        self.ports
+            .get()
+            .as_slice()
+            .iter()
+            .all(|port| port.is_still(now))
     }
 }
 
@@ -210,7 +210,8 @@ impl Running {
     {
         still_port();
         let _kept = self.state.ports.get().as_slice();
-        if self.state.are_ports_still() {
+        let now = self.state.moment.get();
+        if self.state.are_ports_still(now) {
             return Ok(());
         }
         let endpoints = self.state.ports.get().endpoints(alloc)?;

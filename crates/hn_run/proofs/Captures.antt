@@ -34,7 +34,8 @@ fed_malformed (d ∷ ds) malformed shown datagram (inr q) none = inr (q.0 + 1, q
 one_more : (datagrams : List (List ℕ)) (datagram : List ℕ) (count : ℕ) → count ≡ length datagrams → count + 1 ≡ length (datagrams ++ datagram ∷ [])
 one_more datagrams datagram count is = let long = length-append datagrams (datagram ∷ []) in omega arith
 
-fed_more : ListsShow → HeldAfterMalformed → (datagrams : List (List ℕ)) (datagram : List ℕ) (old new : Watch) → HasFed datagrams old → IsLineFed datagram old new → HasFed (datagrams ++ datagram ∷ []) new
+fed_more : ListsShow → HeldAfterMalformed → (datagrams : List (List ℕ)) (datagram : List ℕ) (old new : Watch) → HasFed datagrams old
+    → IsLineFed datagram old new → HasFed (datagrams ++ datagram ∷ []) new
 fed_more shows still datagrams datagram old new has (inl s) =
     let more = shows datagram s.list in
     record {
@@ -80,7 +81,8 @@ none_read bytes watch fed malformed holds = record {
   within = omega arith;
 }
 
-pub read_more : ListsShow → HeldAfterMalformed → (bytes rest others text datagram : List ℕ) (line : ℕ) (old new : Watch) → IsReadTo bytes rest line old → lines_of rest ≡ text ∷ lines_of others → length others < length rest
+pub read_more : ListsShow → HeldAfterMalformed → (bytes rest others text datagram : List ℕ) (line : ℕ) (old new : Watch)
+    → IsReadTo bytes rest line old → lines_of rest ≡ text ∷ lines_of others → length others < length rest
     → IsCaptureLine datagram text → IsLineFed datagram old new → IsReadTo bytes others (line + 1) new
 read_more shows still bytes rest others text datagram line old new read parts shorter is fed =
     let long = length-append read.front (text ∷ []) in

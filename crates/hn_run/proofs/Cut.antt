@@ -22,7 +22,8 @@ goes_on law bytes lines at count many so_far =
     (told.0, subst Told many.2 told.1)
 
 -- the writing was cut in the lines of the next TLV
-pub cut_among_lines : PiecesAppend → LinesGoOn → (bytes lines : List ℕ) (at count : ℕ) → AreSoMany bytes count → IsTextTo bytes at lines → (fault : IoFault) (a b c : Option (List ℕ)) → Appends a b (tlvs_line count ++ lines)
+pub cut_among_lines : PiecesAppend → LinesGoOn → (bytes lines : List ℕ) (at count : ℕ) → AreSoMany bytes count → IsTextTo bytes at lines
+    → (fault : IoFault) (a b c : Option (List ℕ)) → Appends a b (tlvs_line count ++ lines)
     → (after : ℕ) × (more : List ℕ) × ((lines : List ℕ) → IsTextTo bytes at lines → IsTextTo bytes after (lines ++ more)) × AppendsCut fault b c more
     → (text : List ℕ) × IsDecodeText bytes text × AppendsCut fault a c text
 cut_among_lines append law bytes lines at count many so_far fault a b c written cut =
@@ -35,7 +36,8 @@ cut_among_lines append law bytes lines at count many so_far fault a b c written 
     (front ++ ((lines ++ more) ++ rest), told.1, AppendsCut-more append fault a b c (front ++ lines) more rest _ written cut.3 parts)
 
 -- the writing was cut in the first line
-pub cut_in_first_line : PiecesAppend → LinesGoOn → (bytes : List ℕ) (count : ℕ) → AreSoMany bytes count → IsTextTo bytes 0 [] → (fault : IoFault) (a b : Option (List ℕ)) → AppendsCut fault a b (tlvs_line count)
+pub cut_in_first_line : PiecesAppend → LinesGoOn → (bytes : List ℕ) (count : ℕ) → AreSoMany bytes count → IsTextTo bytes 0 []
+    → (fault : IoFault) (a b : Option (List ℕ)) → AppendsCut fault a b (tlvs_line count)
     → (text : List ℕ) × IsDecodeText bytes text × AppendsCut fault a b text
 cut_in_first_line append law bytes count many begins fault a b cut =
     let told = goes_on law bytes [] 0 count many begins in
@@ -59,7 +61,8 @@ written_statuses (Err Failed) = (2, lit< tt, refl)
 written_statuses (Err NoMemory) = (3, lit< tt, refl)
 
 -- a text of which no fault came was written whole
-pub written_whole : (written : Result (Unit {0}) IoFault) (whole : ℕ) (P : Type 0) → OnOk written P → (written_status written whole ≡ 0) ⊎ (written_status written whole ≡ 2) → (written_status written whole ≡ whole) × P
+pub written_whole : (written : Result (Unit {0}) IoFault) (whole : ℕ) (P : Type 0) → OnOk written P → (written_status written whole ≡ 0)
+    ⊎ (written_status written whole ≡ 2) → (written_status written whole ≡ whole) × P
 written_whole (Ok _) whole P holds status = (refl, holds)
 written_whole (Err Failed) whole P holds status = absurd (⊎_elim (λ zero. omega arith) (λ two. omega arith) status)
 written_whole (Err NoMemory) whole P holds status = absurd (⊎_elim (λ zero. omega arith) (λ two. omega arith) status)

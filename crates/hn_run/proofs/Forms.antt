@@ -1,5 +1,6 @@
 -- The words of the command line ask for one form.
-use Rattle.std.proofs.Common.{◌≡◌, ◌≢◌, ◌⊎◌, inl, inr, ℕ, ◌-◌, ◌^◌, ◌<◌, ◌≤◌, List, [], ◌∷◌, length, get_or, drop, take, zero, suc, map, codes, refl, Bool, true, false, not, nat_eq, Option, None, Some, sym, ap, subst, ◌∙◌, arith}
+use Rattle.std.proofs.Common.{◌≡◌, ◌≢◌, ◌⊎◌, inl, inr, ℕ, ◌-◌, ◌^◌, ◌<◌, ◌≤◌, List, [], ◌∷◌, length, get_or, drop, take, zero, suc, map, codes, refl, Bool, true, false, not, nat_eq, Option, None}
+use Rattle.std.proofs.Common.{Some, sym, ap, subst, ◌∙◌, arith}
 use Rattle.std.specs.Prelude.{IfNone}
 use Rattle.std.specs.Cmp.Lexicographic.{pointwise, same_text}
 use Rattle.std.proofs.lemmas.Bool.{false≢true}
@@ -11,7 +12,8 @@ use Rattle.hn_run.specs.declared.words.NodeCall.{NodeCall}
 use Rattle.hn_run.specs.declared.words.Form.TheVariants.{Lab, Udp, Node, Decode, Watch, Soak}
 
 -- the text of the word at a place
-pub word_at : {A : Type 0} (text : A → List ℕ) (words : List A) (i : ℕ) (word : A) (found : List ℕ) → i < length words → word ≡ get_or words i word → found ≡ text word → get_or (map text words) i [] ≡ found
+pub word_at : {A : Type 0} (text : A → List ℕ) (words : List A) (i : ℕ) (word : A) (found : List ℕ) → i < length words → word ≡ get_or words i word
+    → found ≡ text word → get_or (map text words) i [] ≡ found
 word_at text words i word found within is found_is = get_or-map text words i word [] within ∙ ap text (sym is) ∙ sym found_is
 
 plain_word : (form : Form) (words : List (List ℕ)) → length words < 3 → IsFormOf form words → IsPlainWord form (get_or words 1 [])
@@ -63,7 +65,8 @@ pub no_counted_form : (r : Option Form) (word count chance : List ℕ) (words : 
 no_counted_form None word count chance words many first second third none = λ form h.
     let P : List ℕ → List ℕ → List ℕ → Type 0 = AreCountedWords form in
     let asks = counted_words form words many h in
-    none form (subst (λ (w : List ℕ). P word count w) third (subst (λ (w : List ℕ). P word w (get_or words 3 [])) second (subst (λ (w : List ℕ). P w (get_or words 2 []) (get_or words 3 [])) first asks)))
+    none form (subst (λ (w : List ℕ). P word count w) third (subst (λ (w : List ℕ). P word w (get_or words 3 [])) second
+    (subst (λ (w : List ℕ). P w (get_or words 2 []) (get_or words 3 [])) first asks)))
 no_counted_form (Some found) word count chance words many first second third none = tt
 
 -- ---- the numbers of a soak
@@ -97,7 +100,8 @@ take_all (suc n) (x ∷ xs) all = ap (λ (rest : List _). x ∷ rest) (take_all 
 
 -- six words and those after these
 pub six_first : {A : Type 0} (text : A → List ℕ) (words : List A) → 6 ≤ length words →
-    map text words ≡ get_or (map text words) 0 [] ∷ get_or (map text words) 1 [] ∷ get_or (map text words) 2 [] ∷ get_or (map text words) 3 [] ∷ get_or (map text words) 4 [] ∷ get_or (map text words) 5 [] ∷ map text (take (length words - 6) (drop 6 words))
+    map text words ≡ get_or (map text words) 0 [] ∷ get_or (map text words) 1 [] ∷ get_or (map text words) 2 [] ∷ get_or
+    (map text words) 3 [] ∷ get_or (map text words) 4 [] ∷ get_or (map text words) 5 [] ∷ map text (take (length words - 6) (drop 6 words))
 six_first text [] many = absurd (omega arith)
 six_first text (a ∷ []) many = absurd (omega arith)
 six_first text (a ∷ b ∷ []) many = absurd (omega arith)
@@ -115,7 +119,8 @@ node_alone words two three four none Decode h = two (ap length h.1)
 node_alone words two three four none Watch h = two (ap length h.1)
 node_alone words two three four none (Soak n seed) h = four (ap length h.3)
 
-pub no_other_form : (r : Option Form) (words : List (List ℕ)) → length words < 2 ⊎ 4 < length words → IfNone r ((call : NodeCall) → IsFormOf (Node call) words → ⊥) → IfNone r ((form : Form) → IsFormOf form words → ⊥)
+pub no_other_form : (r : Option Form) (words : List (List ℕ)) → length words < 2 ⊎ 4 < length words
+    → IfNone r ((call : NodeCall) → IsFormOf (Node call) words → ⊥) → IfNone r ((form : Form) → IsFormOf form words → ⊥)
 no_other_form None words (inl few) none = node_alone words (λ h. omega arith) (λ h. omega arith) (λ h. omega arith) none
 no_other_form None words (inr many) none = node_alone words (λ h. omega arith) (λ h. omega arith) (λ h. omega arith) none
 no_other_form (Some found) words other none = tt

@@ -1,5 +1,6 @@
 -- Hexadecimal digits, read one after another.
-use Rattle.std.proofs.Common.{◌≡◌, ◌∙◌, ◌<◌, ◌+◌, ◌*◌, ◌%◌, ◌≤◌, ℕ, true, false, List, [], ◌∷◌, ◌++◌, Option, None, Some, Result, Ok, Err, length, take, drop, set, get_or, inl, inr, refl, sym, ap, arith, append-nil}
+use Rattle.std.proofs.Common.{◌≡◌, ◌∙◌, ◌<◌, ◌+◌, ◌*◌, ◌%◌, ◌≤◌, ℕ, true, false, List, [], ◌∷◌, ◌++◌, Option, None, Some, Result, Ok, Err, length, take, drop, set, get_or, inl, inr, refl, sym, ap}
+use Rattle.std.proofs.Common.{arith, append-nil}
 use Rattle.std.specs.Prelude.{IsErr, slice_get}
 use Rattle.std.proofs.lemmas.Bool.{cases_eq}
 use Rattle.std.specs.Option.{is_some}
@@ -62,7 +63,8 @@ unblanked-digit : (byte : ℕ) (rest : List ℕ) → is_blank byte ≡ false →
 unblanked-digit byte rest digit = rw digit refl
 
 -- a high digit is kept
-reads_high : (whole octets : List ℕ) (byte value : ℕ) (rest : List ℕ) → is_blank byte ≡ false → hex_digit_value byte ≡ Some value → IsReadTo whole octets None (byte ∷ rest) → IsReadTo whole octets (Some value) rest
+reads_high : (whole octets : List ℕ) (byte value : ℕ) (rest : List ℕ) → is_blank byte ≡ false → hex_digit_value byte ≡ Some value
+    → IsReadTo whole octets None (byte ∷ rest) → IsReadTo whole octets (Some value) rest
 reads_high whole octets byte value rest digit is read = (read.0, byte, is, rw (unblanked-digit byte rest digit) at read.1)
 
 -- the octet of two digits
@@ -70,7 +72,8 @@ pair_of : (high low h l place : ℕ) → hex_digit_value high ≡ Some h → hex
 pair_of high low h l place is_high is_low = rw (is_high, is_low) refl
 
 -- a low digit ends an octet
-reads_low : (whole octets : List ℕ) (first byte value : ℕ) (rest : List ℕ) → is_blank byte ≡ false → hex_digit_value byte ≡ Some value → IsReadTo whole octets (Some first) (byte ∷ rest) → IsReadTo whole (octets ++ (first * 16 + value) ∷ []) None rest
+reads_low : (whole octets : List ℕ) (first byte value : ℕ) (rest : List ℕ) → is_blank byte ≡ false → hex_digit_value byte ≡ Some value
+    → IsReadTo whole octets (Some first) (byte ∷ rest) → IsReadTo whole (octets ++ (first * 16 + value) ∷ []) None rest
 reads_low whole octets first byte value rest digit is read =
     let octet = first * 16 + value in
     let both = rw (unblanked-digit byte rest digit) at read.3 in
@@ -122,7 +125,8 @@ ends_even whole octets read =
     decode_of-even (unblanked whole) (omega arith) ∙ is
 
 -- the text has at this place the byte that it had, and what comes after is as it was
-same_byte : (whole text : List ℕ) (at byte : ℕ) → at < length text → byte ≡ get_or text at byte → length text ≡ length whole → drop at text ≡ drop at whole → (drop at whole ≡ byte ∷ drop (at + 1) whole) × (drop (at + 1) text ≡ drop (at + 1) whole)
+same_byte : (whole text : List ℕ) (at byte : ℕ) → at < length text → byte ≡ get_or text at byte → length text ≡ length whole
+    → drop at text ≡ drop at whole → (drop at whole ≡ byte ∷ drop (at + 1) whole) × (drop (at + 1) text ≡ drop (at + 1) whole)
 same_byte whole text at byte within is size rest =
     let a = drop_more text at byte within in
     let b = drop_more whole at byte (omega arith) in
@@ -130,7 +134,8 @@ same_byte whole text at byte within is size rest =
     let there : get_or whole at byte ≡ byte = cc in
     (b ∙ ap (λ x. x ∷ drop (at + 1) whole) there, cc)
 
-pub goes_on_high : (whole text : List ℕ) (count at byte value : ℕ) → at < length text → byte ≡ get_or text at byte → hex_digit_value byte ≡ Some value → IsProgress whole text count None at → IsProgress whole text count (Some value) (at + 1)
+pub goes_on_high : (whole text : List ℕ) (count at byte value : ℕ) → at < length text → byte ≡ get_or text at byte → hex_digit_value byte ≡ Some value
+    → IsProgress whole text count None at → IsProgress whole text count (Some value) (at + 1)
 goes_on_high whole text count at byte value within is value_is so_far =
     let digit = digit_is_no_blank byte value value_is in
     let same = same_byte whole text at byte within is so_far.size so_far.rest in
@@ -141,7 +146,8 @@ goes_on_high whole text count at byte value within is value_is so_far =
       read = reads_high whole (take count text) byte value (drop (at + 1) whole) digit value_is (rw same.0 at so_far.read);
     }
 
-pub goes_on_low : (whole text : List ℕ) (count at byte first value : ℕ) → at < length text → byte ≡ get_or text at byte → hex_digit_value byte ≡ Some value → IsProgress whole text count (Some first) at → IsProgress whole (set text count (first * 16 + value)) (count + 1) None (at + 1)
+pub goes_on_low : (whole text : List ℕ) (count at byte first value : ℕ) → at < length text → byte ≡ get_or text at byte
+    → hex_digit_value byte ≡ Some value → IsProgress whole text count (Some first) at → IsProgress whole (set text count (first * 16 + value)) (count + 1) None (at + 1)
 goes_on_low whole text count at byte first value within is value_is so_far =
     let digit = digit_is_no_blank byte value value_is in
     let octet = first * 16 + value in
@@ -155,7 +161,8 @@ goes_on_low whole text count at byte first value within is value_is so_far =
       read = rw (take_more_set text count octet (omega arith)) read;
     }
 
-pub stops_bad : (whole text : List ℕ) (count : ℕ) (high : Option ℕ) (at byte : ℕ) → at < length text → byte ≡ get_or text at byte → is_blank byte ≡ false → hex_digit_value byte ≡ None → IsProgress whole text count high at → IsNoHexText whole
+pub stops_bad : (whole text : List ℕ) (count : ℕ) (high : Option ℕ) (at byte : ℕ) → at < length text → byte ≡ get_or text at byte
+    → is_blank byte ≡ false → hex_digit_value byte ≡ None → IsProgress whole text count high at → IsNoHexText whole
 stops_bad whole text count high at byte within is digit bad so_far =
     let same = same_byte whole text at byte within is so_far.size so_far.rest in
     reads_bad whole (take count text) high byte (drop (at + 1) whole) digit bad (rw same.0 at so_far.read)

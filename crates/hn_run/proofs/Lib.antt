@@ -10,6 +10,7 @@ mod WatchTexts
 mod WatchSources
 mod Outcomes
 mod Setups
+mod NinthPrefix
 mod Nodes
 mod Ported
 mod NodeSources

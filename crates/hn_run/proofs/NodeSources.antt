@@ -15,16 +15,18 @@ long_fault : (fault : ScriptFault) (whole read : List ℕ) → 2 ^ 24 < length r
 long_fault fault whole read long front (inl is) = inl (omega arith, is.1, is.2)
 long_fault fault whole read long front (inr is) = let short = is.0 in absurd (omega arith)
 
-long_refusal : (call : PlainCall) (number code : ℕ) (whole read : List ℕ) → 2 ^ 24 < length read → length read ≤ length whole → IsNodeRefusal call read number code → IsNodeRefusal call whole number code
-long_refusal call number code whole read long front (inl is) = inl (is.0, long_fault is.0 whole read long front is.1, is.2, is.3)
-long_refusal call number code whole read long front (inr is) = let short = is.2.small in absurd (omega arith)
+long_refusal : (call : PlainCall) (number code : ℕ) (readings rest : Option (List ℕ)) (whole read : List ℕ) → 2 ^ 24 < length read → length read ≤ length whole
+    → IsNodeRefusal call read number code readings rest → IsNodeRefusal call whole number code readings rest
+long_refusal call number code readings rest whole read long front (inl is) = inl (is.0, long_fault is.0 whole read long front is.1, is.2, is.3, is.4)
+long_refusal call number code readings rest whole read long front (inr is) = let short = is.2.small in absurd (omega arith)
 
-long_makes : (call : PlainCall) (status : ℕ) (served : Option Served) (before after : Outside) (text whole read : List ℕ) → 2 ^ 24 < length read → length read ≤ length whole → MakesNode call read status served before after text
+long_makes : (call : PlainCall) (status : ℕ) (served : Option Served) (before after : Outside) (text whole read : List ℕ) → 2 ^ 24 < length read
+    → length read ≤ length whole → MakesNode call read status served before after text
     → MakesNode call whole status served before after text
 long_makes call status served before after text whole read long front (inl is) = inl (record {
   number = is.number;
   code = is.code;
-  refused = long_refusal call is.number is.code whole read long front is.refused;
+  refused = long_refusal call is.number is.code before.readings after.readings whole read long front is.refused;
   status_is = is.status_is;
   unserved = is.unserved;
   unsent = is.unsent;
@@ -36,6 +38,7 @@ long_makes call status served before after text whole read long front (inr (inr 
 long_status : (call : PlainCall) (status : ℕ) (whole read : List ℕ) → 2 ^ 24 < length read → length read ≤ length whole → StatusOfNode call read status → StatusOfNode call whole status
 long_status call status whole read long front only = record {
   no_file = λ fault is. only.no_file (record { line = 0; code = 15 }) (inl (long, refl, refl));
+  overfull = λ lines now number file full. let short = file.small in absurd (omega arith);
   done = λ lines file free. let short = file.small in absurd (omega arith);
 }
 
@@ -52,7 +55,8 @@ holds_longer : (call : PlainCall) (status : ℕ) (served : Option Served) (befor
 holds_longer call status served before after a b whole read long front (made, only) =
     ((made.0, long_makes call status served before after made.0 whole read long front made.1, made.2), long_status call status whole read long front only)
 
-node_from : (call : PlainCall) (left : Option (List ℕ)) (status : ℕ) (served : Option Served) (before after : Outside) (a b : Option (List ℕ)) → (bytes : List ℕ) × IsWhole left bytes × NodeHolds call status served before after a b bytes
+node_from : (call : PlainCall) (left : Option (List ℕ)) (status : ℕ) (served : Option Served) (before after : Outside) (a b : Option (List ℕ))
+    → (bytes : List ℕ) × IsWhole left bytes × NodeHolds call status served before after a b bytes
     → IsNodeRun call left status served before after a b
 node_from call left status served before after a b h = record {
   bytes = h.0;
@@ -65,14 +69,16 @@ node_from call left status served before after a b h = record {
   appends = h.2.0.2.2;
 }
 
-pub node_read : (call : PlainCall) (left rest : Option (List ℕ)) (read : List ℕ) (status : ℕ) (served : Option Served) (before after : Outside) (a b : Option (List ℕ)) → Consumes left rest read → (length read ≤ 2 ^ 24 → IsWhole left read)
+pub node_read : (call : PlainCall) (left rest : Option (List ℕ)) (read : List ℕ) (status : ℕ) (served : Option Served) (before after : Outside) (a b : Option (List ℕ))
+    → Consumes left rest read → (length read ≤ 2 ^ 24 → IsWhole left read)
     → ((text : List ℕ) × MakesNode call read status served before after text × ((written : List ℕ) × LineHolds status text written × Appends a b written)) → StatusOfNode call read status
     → IsNodeRun call left status served before after a b
 node_read call left rest read status served before after a b consumed whole made only =
     node_from call left status served before after a b
     (some_source (NodeHolds call status served before after a b) (holds_longer call status served before after a b) left rest read consumed whole (made, only))
 
-pub node_unread : (call : PlainCall) (left : Option (List ℕ)) (status : ℕ) (served : Option Served) (before after : Outside) (held : Option (List ℕ)) → status ≡ 6 → served ≡ None → IsNodeRun call left status served before after held held
+pub node_unread : (call : PlainCall) (left : Option (List ℕ)) (status : ℕ) (served : Option Served) (before after : Outside) (held : Option (List ℕ))
+    → status ≡ 6 → served ≡ None → IsNodeRun call left status served before after held held
 node_unread call left status served before after held six none =
     node_from call left status served before after held held
     (any_source (NodeHolds call status served before after held held) (λ bytes. (unserved call bytes status served before after held six none, nothing_excluded call bytes status six)) left)

@@ -1,11 +1,13 @@
 -- What `node` comes to, and what it is asked for.
-use Rattle.std.proofs.Common.{◌≡◌, ◌≢◌, ◌∙◌, ◌⊎◌, ◌<◌, ◌≤◌, ◌^◌, ◌-◌, min, zero-add, ℕ, zero, suc, List, [], ◌∷◌, Option, Some, None, Result, Ok, Err, length, take, inl, inr, refl, sym, ap, subst, arith, lit<}
-use Rattle.std.specs.Prelude.{OnOk, OnErr, Contains, All}
+use Rattle.std.proofs.Common.{◌≡◌, ◌≢◌, ◌∙◌, ◌⊎◌, ◌<◌, ◌≤◌, ◌^◌, ◌-◌, min, zero-add, ℕ, zero, suc, List, [], ◌∷◌, Option, Some, None, Result, Ok, Err, length, take, inl, inr, refl, sym, ap, subst}
+use Rattle.std.proofs.Common.{arith, lit<}
+use Rattle.std.specs.Prelude.{OnOk, OnErr, IfSome, Contains, All}
 use Rattle.std.specs.Io.KnownBytes.{Appends}
 use Rattle.std.specs.List.{AllZip}
 use Rattle.std.proofs.lemmas.List.Elements.{All-nil, All-cons}
 use Rattle.hn_base.specs.Words.{Took, Begins}
 use Rattle.hn_base.specs.declared.ids.NodeId.{NodeId}
+use Rattle.hn_base.specs.declared.version.Version.TheVariants.{One}
 use Rattle.hn_io.specs.declared.fault.IoFault.{IoFault}
 use Rattle.hn_io.specs.declared.fault.IoFault.TheVariants.{Failed, NoMemory}
 use Rattle.hn_lab.specs.Output.{AppendsPart}
@@ -15,10 +17,11 @@ use Rattle.hn_node.specs.declared.served.ServeEnd.TheVariants as ending
 use Rattle.hn_node.specs.declared.served.Served.{Served}
 use Rattle.hn_script.specs.Field.{IsNumberText}
 use Rattle.hn_wire.specs.declared.datagram.Datagram.{Datagram}
+use Rattle.hn_world.specs.Within.{IsWithinLimits}
 use Rattle.hn_run.specs.Decode.{written_status}
 use Rattle.hn_run.specs.Form.{ArePeerPorts, IsNodeCall, IsFormOf}
 use Rattle.hn_run.specs.declared.words.Form.TheVariants.{Node}
-use Rattle.hn_run.specs.Node.{LineHolds, PlainCall, plain_call, IsCall, Outside, node_line, line_of, site_of, EndsServing, MakesNode, StatusOfNode}
+use Rattle.hn_run.specs.Node.{LineHolds, PlainCall, plain_call, IsCall, Outside, node_line, line_of, site_of, IsStatusOf, EndsServing, MakesNode, StatusOfNode}
 use Rattle.hn_run.proofs.Streams.{Appends-none}
 use Rattle.hn_run.specs.declared.words.NodeCall.{NodeCall}
 
@@ -112,7 +115,8 @@ as_called P a b words h k holds =
 
 -- ---- the line on a router that was served
 
-pub line_is : (s : Served) (id : NodeId) (number : ℕ) (reach : List NodeId) (line : List ℕ) → id ≡ s.router.id → number ≡ s.router.number → reach ≡ s.router.reach → line ≡ node_line id number (length reach) s.taken s.sent → line ≡ line_of s
+pub line_is : (s : Served) (id : NodeId) (number : ℕ) (reach : List NodeId) (line : List ℕ) → id ≡ s.router.id → number ≡ s.router.number
+    → reach ≡ s.router.reach → line ≡ node_line id number (length reach) s.taken s.sent → line ≡ line_of s
 line_is s id number reach line ids numbers reaches is =
     is
     ∙ ap (λ (x : NodeId). node_line x number (length reach) s.taken s.sent) ids
@@ -120,7 +124,8 @@ line_is s id number reach line ids numbers reaches is =
     ∙ ap (λ (x : List NodeId). node_line s.router.id s.router.number (length x) s.taken s.sent) reaches
 
 -- what is told of it
-pub told_of : (written : Result (Unit {0}) IoFault) (status : ℕ) (a b : Option (List ℕ)) (line : List ℕ) → status ≡ written_status written 0 → OnOk written (Appends a b line) → OnErr written (AppendsPart a b line)
+pub told_of : (written : Result (Unit {0}) IoFault) (status : ℕ) (a b : Option (List ℕ)) (line : List ℕ) → status ≡ written_status written 0
+    → OnOk written (Appends a b line) → OnErr written (AppendsPart a b line)
     → (held : List ℕ) × LineHolds status line held × Appends a b held × Contains (0 ∷ 4 ∷ 6 ∷ []) status
 told_of written status a b line is ok cut =
     let told = line_written written 0 a b line (lit< tt) ok cut in
@@ -129,24 +134,22 @@ told_of written status a b line is ok cut =
 
 -- ---- statuses
 
-pub of_refusal : (status : ℕ) → Contains (2 ∷ 4 ∷ 6 ∷ []) status → (status ≡ 2) ⊎ ((status ≡ 4) ⊎ (status ≡ 6))
-of_refusal status (zero, within, is) = inl (sym is)
-of_refusal status (suc zero, within, is) = inr (inl (sym is))
-of_refusal status (suc (suc zero), within, is) = inr (inr (sym is))
-of_refusal status (suc (suc (suc k)), within, is) = absurd (omega arith)
+pub status_of : (whole status : ℕ) → Contains (whole ∷ 4 ∷ 6 ∷ []) status → IsStatusOf whole status
+status_of whole status (zero, within, is) = inl (sym is)
+status_of whole status (suc zero, within, is) = inr (inl (sym is))
+status_of whole status (suc (suc zero), within, is) = inr (inr (sym is))
+status_of whole status (suc (suc (suc k)), within, is) = absurd (omega arith)
 
 pub not_done : (status : ℕ) → Contains (2 ∷ 4 ∷ 6 ∷ []) status → (status ≢ 0) × (status ≢ 5)
-not_done status among = elim (of_refusal status among) [
+not_done status among = elim (status_of 2 status among) [
   | inl two ↦ ((λ none. omega arith), (λ five. omega arith))
   | inr (inl four) ↦ ((λ none. omega arith), (λ five. omega arith))
   | inr (inr six) ↦ ((λ none. omega arith), (λ five. omega arith))
 ]
 
-unbroken : (status : ℕ) → Contains (0 ∷ 4 ∷ 6 ∷ []) status → status ≢ 5
-unbroken status (zero, within, is) five = omega arith
-unbroken status (suc zero, within, is) five = omega arith
-unbroken status (suc (suc zero), within, is) five = omega arith
-unbroken status (suc (suc (suc k)), within, is) five = omega arith
+-- out of memory
+pub starved : (status : ℕ) → status ≡ 6 → (status ≢ 0) × (status ≢ 5)
+starved status six = ((λ none. omega arith), (λ five. omega arith))
 
 pub ended : (e : ServeEnd) → (e ≡ ending.Turns) ⊎ (e ≡ ending.WireFault)
 ended ending.Turns = inl refl
@@ -160,7 +163,8 @@ unserved call bytes status served before after held six none = ([], inr (inr (si
 
 pub nothing_excluded : (call : PlainCall) (bytes : List ℕ) (status : ℕ) → status ≡ 6 → StatusOfNode call bytes status
 nothing_excluded call bytes status six = record {
-  no_file = λ fault is. ((λ none. omega arith), (λ five. omega arith));
+  no_file = λ fault is. starved status six;
+  overfull = λ lines now number file full. starved status six;
   done = λ lines file free two. omega arith;
 }
 
@@ -184,11 +188,17 @@ told_served call status s first last readings rest a b turns cut told untold = e
   | inl all ↦
       let made = turns all in
       let held = told all in
-      record { text = line_of s; ends = inl (all, made.0, made.1, unbroken status held.3, refl); written = held.0; holds = held.1; appends = held.2 }
+      record { text = line_of s; ends = inl (all, made.0, made.1, status_of 0 status held.3, refl); written = held.0; holds = held.1; appends = held.2 }
   | inr fails ↦
       let five = (untold fails).0 in
       record { text = []; ends = inr (fails, cut fails, five, refl); written = []; holds = inr (inr ((λ four. omega arith), (λ six. omega arith), refl)); appends = (untold fails).1 }
 ]
+
+-- what is told is within its limits
+pub within_told : (status : ℕ) (told : Option Served) (s : Served) → IsWithinLimits One s.router → ((status ≡ 6) × (told ≡ None)) ⊎ ((status ≢ 6) × (told ≡ Some s))
+    → IfSome told (λ (t : Served). IsWithinLimits One t.router)
+within_told status told s within (inl none) = rw none.1 tt
+within_told status told s within (inr some) = rw some.1 within
 
 -- its words begin those of the seed
 pub begins_seed : (stream : ℕ → ℕ) (after : Option (ℕ → ℕ)) (words : List ℕ) → Took (Some stream) words after → Begins words stream

@@ -27,12 +27,17 @@ by_status status W B S (suc (suc (suc (suc k))), within, is) written broken star
 abbrev DecodesSo : ℕ → Option (List ℕ) → Option (List ℕ) → List ℕ → Type 0
 DecodesSo status before after bytes = DecodeHolds bytes status before after × (SpellsTlvs bytes → status ≢ 2)
 
-decodes_longer : (status : ℕ) (before after : Option (List ℕ)) (whole read : List ℕ) → 2 ^ 24 < length read → length read ≤ length whole → DecodesSo status before after read → DecodesSo status before after whole
-decodes_longer status before after whole read long front (inl written, only) = (inl (written.0, decode_longer status before after whole read long front written.1), λ spells. let short = spells.short in absurd (omega arith))
-decodes_longer status before after whole read long front (inr (inl broken), only) = (inr (inl (broken.0, cut_longer Failed before after whole read long front broken.1)), λ spells. let short = spells.short in absurd (omega arith))
-decodes_longer status before after whole read long front (inr (inr starved), only) = (inr (inr (starved.0, cut_longer NoMemory before after whole read long front starved.1)), λ spells. let short = spells.short in absurd (omega arith))
+decodes_longer : (status : ℕ) (before after : Option (List ℕ)) (whole read : List ℕ) → 2 ^ 24 < length read → length read ≤ length whole
+    → DecodesSo status before after read → DecodesSo status before after whole
+decodes_longer status before after whole read long front (inl written, only) =
+    (inl (written.0, decode_longer status before after whole read long front written.1), λ spells. let short = spells.short in absurd (omega arith))
+decodes_longer status before after whole read long front (inr (inl broken), only) =
+    (inr (inl (broken.0, cut_longer Failed before after whole read long front broken.1)), λ spells. let short = spells.short in absurd (omega arith))
+decodes_longer status before after whole read long front (inr (inr starved), only) =
+    (inr (inr (starved.0, cut_longer NoMemory before after whole read long front starved.1)), λ spells. let short = spells.short in absurd (omega arith))
 
-decode_from : (left : Option (List ℕ)) (status : ℕ) (before after : Option (List ℕ)) → (bytes : List ℕ) × IsWhole left bytes × DecodesSo status before after bytes → IsDecodeRun left status before after
+decode_from : (left : Option (List ℕ)) (status : ℕ) (before after : Option (List ℕ)) → (bytes : List ℕ) × IsWhole left bytes
+    × DecodesSo status before after bytes → IsDecodeRun left status before after
 decode_from left status before after h = record { bytes = h.0; are_whole = h.1; holds = h.2.0; only = h.2.1 }
 
 -- of the bytes that were read
@@ -42,7 +47,8 @@ decode_read left rest read status before after consumed whole holds only =
     decode_from left status before after (some_source (DecodesSo status before after) (decodes_longer status before after) left rest read consumed whole (holds, only))
 
 -- of a source that was not read
-pub decode_unread : ((bytes : List ℕ) → (status : ℕ) × (text : List ℕ) × IsDecodeOf bytes status text) → (left : Option (List ℕ)) (status : ℕ) (held : Option (List ℕ)) → status ≡ 6 → IsDecodeRun left status held held
+pub decode_unread : ((bytes : List ℕ) → (status : ℕ) × (text : List ℕ) × IsDecodeOf bytes status text)
+    → (left : Option (List ℕ)) (status : ℕ) (held : Option (List ℕ)) → status ≡ 6 → IsDecodeRun left status held held
 decode_unread decodes left status held is =
     decode_from left status held held
     (any_source (DecodesSo status held held) (λ bytes. let told = decodes bytes in (inr (inr (is, (told.0, told.1, told.2, AppendsFront-none held told.1))), λ spells two. absurd (omega arith))) left)
@@ -52,10 +58,14 @@ decode_unread decodes left status held is =
 abbrev WatchesSo : ℕ → Option (List ℕ) → Option (List ℕ) → List ℕ → Type 0
 WatchesSo status before after bytes = WatchHolds bytes status before after × ((datagrams : List (List ℕ)) → IsCapture bytes datagrams → status ≢ 2)
 
-watches_longer : (status : ℕ) (before after : Option (List ℕ)) (whole read : List ℕ) → 2 ^ 24 < length read → length read ≤ length whole → WatchesSo status before after read → WatchesSo status before after whole
-watches_longer status before after whole read long front (inl written, only) = (inl (written.0, written_longer status before after whole read long front written.1), capture_longer status whole read long front only)
-watches_longer status before after whole read long front (inr (inl broken), only) = (inr (inl (broken.0, cut_watch_longer Failed before after whole read long front broken.1)), capture_longer status whole read long front only)
-watches_longer status before after whole read long front (inr (inr starved), only) = (inr (inr (starved.0, starved_longer before after whole read long front starved.1)), capture_longer status whole read long front only)
+watches_longer : (status : ℕ) (before after : Option (List ℕ)) (whole read : List ℕ) → 2 ^ 24 < length read → length read ≤ length whole
+    → WatchesSo status before after read → WatchesSo status before after whole
+watches_longer status before after whole read long front (inl written, only) =
+    (inl (written.0, written_longer status before after whole read long front written.1), capture_longer status whole read long front only)
+watches_longer status before after whole read long front (inr (inl broken), only) =
+    (inr (inl (broken.0, cut_watch_longer Failed before after whole read long front broken.1)), capture_longer status whole read long front only)
+watches_longer status before after whole read long front (inr (inr starved), only) =
+    (inr (inr (starved.0, starved_longer before after whole read long front starved.1)), capture_longer status whole read long front only)
 
 watch_from : (left : Option (List ℕ)) (status : ℕ) (before after : Option (List ℕ)) → (bytes : List ℕ) × IsWhole left bytes × WatchesSo status before after bytes → IsWatchRun left status before after
 watch_from left status before after h = record { bytes = h.0; are_whole = h.1; holds = h.2.0; only = h.2.1 }

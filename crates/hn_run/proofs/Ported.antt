@@ -23,13 +23,15 @@ more (w ∷ words) i [] port within there were is = absurd (omega arith)
 more (w ∷ words) zero (p ∷ ports) port within there were is = (is, tt)
 more (w ∷ words) (suc i) (p ∷ ports) port within there were is = (were.0, more words i ports port (omega arith) (omega arith) were.1 is)
 
-pub one_more : (words : List (List ℕ)) (i : ℕ) (ports : List ℕ) (port : ℕ) (word : List ℕ) → i < length words → i < 8 → get_or words i [] ≡ word → IsPort word port → ArePorted words i ports → ArePorted words (i + 1) (slice_set ports i port)
+pub one_more : (words : List (List ℕ)) (i : ℕ) (ports : List ℕ) (port : ℕ) (word : List ℕ) → i < length words → i < 8 → get_or words i [] ≡ word
+    → IsPort word port → ArePorted words i ports → ArePorted words (i + 1) (slice_set ports i port)
 one_more words i ports port word within there at is were =
     let long = were.long in
     let next : suc i ≡ i + 1 = omega arith in
     record {
       long = length-set ports i port ∙ were.long;
-      are = subst (λ (k : ℕ). AllZip IsPort (take k words) (take k (slice_set ports i port))) next (more words i ports port within (omega arith) were.are (subst (λ (w : List ℕ). IsPort w port) (sym at) is));
+      are = subst (λ (k : ℕ). AllZip IsPort (take k words) (take k (slice_set ports i port))) next
+          (more words i ports port within (omega arith) were.are (subst (λ (w : List ℕ). IsPort w port) (sym at) is));
     }
 
 not_all : (words : List (List ℕ)) (ports : List ℕ) (i : ℕ) → i < length words → ((n : ℕ) → IsPort (get_or words i []) n → ⊥) → AllZip IsPort words ports → ⊥
@@ -38,7 +40,8 @@ not_all (w ∷ words) [] i within none are = are
 not_all (w ∷ words) (p ∷ ports) zero within none are = none p are.0
 not_all (w ∷ words) (p ∷ ports) (suc i) within none are = not_all words ports i (omega arith) none are.1
 
-pub no_peers : (words : List (List ℕ)) (i : ℕ) (word : List ℕ) → i < length words → get_or words i [] ≡ word → ((n : ℕ) → IsNumberText 1024 65534 word n → ⊥) → (count : ℕ) (ports : List ℕ) → ArePeerPorts words count ports → ⊥
+pub no_peers : (words : List (List ℕ)) (i : ℕ) (word : List ℕ) → i < length words → get_or words i [] ≡ word
+    → ((n : ℕ) → IsNumberText 1024 65534 word n → ⊥) → (count : ℕ) (ports : List ℕ) → ArePeerPorts words count ports → ⊥
 no_peers words i word within at none count ports are = not_all words (take count ports) i within (λ n is. none n (subst (λ (w : List ℕ). IsPort w n) at is)) are.are
 
 whole : (words : List (List ℕ)) → take (length words) words ≡ words

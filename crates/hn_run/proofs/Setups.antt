@@ -8,7 +8,7 @@ use Rattle.hn_base.specs.declared.ids.NodeId.{NodeId}
 use Rattle.hn_dncp.specs.declared.port.Port.{Port}
 use Rattle.hn_own.specs.Ports.{endpoints_of, is_attached}
 use Rattle.hn_router.specs.Act.{PlainEvent, Attach, Happened, is_refused}
-use Rattle.hn_router.specs.Laws.{EndpointsFollow, endpoints_by}
+use Rattle.hn_router.specs.Laws.{EndpointsFollow, LimitStays, endpoints_by}
 use Rattle.hn_router.specs.New.{IsNew}
 use Rattle.hn_rules.specs.declared.done.Done.{Done}
 use Rattle.hn_rules.specs.declared.state.State.{State}
@@ -48,7 +48,8 @@ ends_of_line follow l now before after done happened =
 -- ---- lines one after another
 
 -- one more line
-lines_more : (now : ℕ) (lines : List (ℕ × NodeLine)) (l : ℕ × NodeLine) (words : List ℕ) (before between after : State) (done : Done) → LinesHappen now lines words before between → is_too_many between l.1 ≡ false → Happened now (event_of l.1) between after done
+lines_more : (now : ℕ) (lines : List (ℕ × NodeLine)) (l : ℕ × NodeLine) (words : List ℕ) (before between after : State) (done : Done)
+    → LinesHappen now lines words before between → is_too_many between l.1 ≡ false → Happened now (event_of l.1) between after done
     → LinesHappen now (lines ++ l ∷ []) (words ++ done.words) before after
 lines_more now [] l words before between after done h room happened = (
   after,
@@ -83,7 +84,8 @@ set_up_first id now new after done is happened = record {
 }
 
 -- one line more
-pub set_up_more : (id : NodeId) (lines : List (ℕ × NodeLine)) (l : ℕ × NodeLine) (now : ℕ) (words : List ℕ) (router after : State) (done : Done) → IsSetUp id lines now words router → is_too_many router l.1 ≡ false → Happened now (event_of l.1) router after done
+pub set_up_more : (id : NodeId) (lines : List (ℕ × NodeLine)) (l : ℕ × NodeLine) (now : ℕ) (words : List ℕ) (router after : State) (done : Done)
+    → IsSetUp id lines now words router → is_too_many router l.1 ≡ false → Happened now (event_of l.1) router after done
     → IsSetUp id (lines ++ l ∷ []) now (words ++ done.words) after
 set_up_more id lines l now words router after done up room happened = record {
   new = up.new;
@@ -112,3 +114,14 @@ overfull_at id lines i l now number words router within is same up full = record
   set_up = up;
   full = full;
 }
+
+-- ---- the limit of its table
+
+lines_limit : LimitStays → (now : ℕ) (lines : List (ℕ × NodeLine)) (words : List ℕ) (before after : State) → LinesHappen now lines words before after → after.table.limit ≡ before.table.limit
+lines_limit stays now [] words before after h = ap (λ (s : State). s.table.limit) h.1
+lines_limit stays now (l ∷ lines) words before after h = lines_limit stays now lines h.2 h.0 after h.6 ∙ stays now (event_of l.1) before h.0 h.1 h.4
+
+pub limit_of_set_up : LimitStays → (id : NodeId) (lines : List (ℕ × NodeLine)) (now : ℕ) (words : List ℕ) (router : State) → IsSetUp id lines now words router → router.table.limit ≡ 256
+limit_of_set_up stays id lines now words router up =
+    let begins : up.new.table.limit ≡ 256 = rw up.is_new.table_is refl in
+    lines_limit stays now lines up.rest up.attached router up.happen ∙ stays now (Attach one) up.new up.attached up.done up.attaches ∙ begins

@@ -27,16 +27,19 @@ text_longer status text whole read long front decoded =
       | inr contents ↦ let short = contents.short in absurd (omega arith)
     ]
 
-pub decode_longer : (status : ℕ) (before after : Option (List ℕ)) (whole read : List ℕ) → 2 ^ 24 < length read → length read ≤ length whole → WritesDecode read status before after → WritesDecode whole status before after
+pub decode_longer : (status : ℕ) (before after : Option (List ℕ)) (whole read : List ℕ) → 2 ^ 24 < length read → length read ≤ length whole
+    → WritesDecode read status before after → WritesDecode whole status before after
 decode_longer status before after whole read long front decoded =
     (decoded.0, text_longer status decoded.0 whole read long front decoded.1, decoded.2)
 
-pub cut_longer : (fault : IoFault) (before after : Option (List ℕ)) (whole read : List ℕ) → 2 ^ 24 < length read → length read ≤ length whole → CutsDecode read fault before after → CutsDecode whole fault before after
+pub cut_longer : (fault : IoFault) (before after : Option (List ℕ)) (whole read : List ℕ) → 2 ^ 24 < length read → length read ≤ length whole
+    → CutsDecode read fault before after → CutsDecode whole fault before after
 cut_longer fault before after whole read long front cut =
     (cut.0, cut.1, text_longer cut.0 cut.1 whole read long front cut.2, cut.3)
 
 -- of a source that was not read nothing was written
-pub cut_of_unread : ((bytes : List ℕ) → (status : ℕ) × (text : List ℕ) × IsDecodeOf bytes status text) → (left before : Option (List ℕ)) → IfSome left (λ bytes. CutsDecode bytes NoMemory before before)
+pub cut_of_unread : ((bytes : List ℕ) → (status : ℕ) × (text : List ℕ) × IsDecodeOf bytes status text) → (left before : Option (List ℕ))
+    → IfSome left (λ bytes. CutsDecode bytes NoMemory before before)
 cut_of_unread decodes None before = tt
 cut_of_unread decodes (Some bytes) before =
     let told = decodes bytes in

@@ -38,7 +38,8 @@ AppendsPart-more append a b c front piece back whole before cut is =
     )
 
 -- after a fault
-pub AppendsCut-more : PiecesAppend → (fault : IoFault) (a b c : Option (List ℕ)) (front piece back whole : List ℕ) → Appends a b front → AppendsCut fault b c piece → whole ≡ front ++ (piece ++ back) → AppendsCut fault a c whole
+pub AppendsCut-more : PiecesAppend → (fault : IoFault) (a b c : Option (List ℕ)) (front piece back whole : List ℕ) → Appends a b front
+    → AppendsCut fault b c piece → whole ≡ front ++ (piece ++ back) → AppendsCut fault a c whole
 AppendsCut-more append Failed a b c front piece back whole before cut is = AppendsPart-more append a b c front piece back whole before cut is
 AppendsCut-more append NoMemory a b c front piece back whole before cut is = AppendsFront-more append a b c front piece back whole before cut is
 

@@ -8,7 +8,8 @@ use Rattle.hn_io.specs.declared.fault.IoFault.TheVariants.{NoMemory}
 use Rattle.hn_run.specs.Watch.{IsCapture, IsWatchOf, WritesWatch, CutsWatch, StarvesWatch}
 
 -- a source that tells its bytes has them, and of another any are possible
-pub some_source : (R : List ℕ → Type 0) → ((whole read : List ℕ) → 2 ^ 24 < length read → length read ≤ length whole → R read → R whole) → (left after : Option (List ℕ)) (read : List ℕ) → Consumes left after read
+pub some_source : (R : List ℕ → Type 0) → ((whole read : List ℕ) → 2 ^ 24 < length read → length read ≤ length whole → R read → R whole)
+    → (left after : Option (List ℕ)) (read : List ℕ) → Consumes left after read
     → (length read ≤ 2 ^ 24 → IsWhole left read) → R read → (bytes : List ℕ) × IsWhole left bytes × R bytes
 some_source R longer None after read consumed whole holds = (read, tt, holds)
 some_source R longer (Some left) after read consumed whole holds = (left, refl, of_source R longer (Some left) after read consumed whole holds)
@@ -24,10 +25,12 @@ watch_longer status text whole read long front (inl watched) = let short = watch
 watch_longer status text whole read long front (inr (is, inl refused)) = inr (is, inl (omega arith, refused.1))
 watch_longer status text whole read long front (inr (is, inr faulty)) = let short = faulty.short in absurd (omega arith)
 
-pub written_longer : (status : ℕ) (before after : Option (List ℕ)) (whole read : List ℕ) → 2 ^ 24 < length read → length read ≤ length whole → WritesWatch read status before after → WritesWatch whole status before after
+pub written_longer : (status : ℕ) (before after : Option (List ℕ)) (whole read : List ℕ) → 2 ^ 24 < length read → length read ≤ length whole
+    → WritesWatch read status before after → WritesWatch whole status before after
 written_longer status before after whole read long front written = (written.0, watch_longer status written.0 whole read long front written.1, written.2)
 
-pub cut_watch_longer : (fault : IoFault) (before after : Option (List ℕ)) (whole read : List ℕ) → 2 ^ 24 < length read → length read ≤ length whole → CutsWatch read fault before after → CutsWatch whole fault before after
+pub cut_watch_longer : (fault : IoFault) (before after : Option (List ℕ)) (whole read : List ℕ) → 2 ^ 24 < length read → length read ≤ length whole
+    → CutsWatch read fault before after → CutsWatch whole fault before after
 cut_watch_longer fault before after whole read long front cut = (cut.0, cut.1, watch_longer cut.0 cut.1 whole read long front cut.2, cut.3)
 
 pub starved_longer : (before after : Option (List ℕ)) (whole read : List ℕ) → 2 ^ 24 < length read → length read ≤ length whole → StarvesWatch read before after → StarvesWatch whole before after

@@ -39,16 +39,19 @@ text_all datagrams malformed seen i past = ap (λ xs. watch_line datagrams malfo
 
 -- ---- a sink
 
-pub grows : PiecesAppend → (datagrams malformed : ℕ) (seen : List Seen) (i : ℕ) (d : Seen) (a b c : Option (List ℕ)) → i < length seen → Appends a b (text_to datagrams malformed seen i) → Appends b c (seen_line (get_or seen i d))
+pub grows : PiecesAppend → (datagrams malformed : ℕ) (seen : List Seen) (i : ℕ) (d : Seen) (a b c : Option (List ℕ)) → i < length seen
+    → Appends a b (text_to datagrams malformed seen i) → Appends b c (seen_line (get_or seen i d))
     → Appends a c (text_to datagrams malformed seen (i + 1))
 grows append datagrams malformed seen i d a b c within before more =
     subst (λ (xs : List ℕ). Appends a c xs) (text_more datagrams malformed seen i d within) (append a b c (text_to datagrams malformed seen i) (seen_line (get_or seen i d)) before more)
 
-pub cut_first : PiecesAppend → (datagrams malformed : ℕ) (seen : List Seen) (fault : IoFault) (a c : Option (List ℕ)) → AppendsCut fault a c (watch_line datagrams malformed) → AppendsCut fault a c (watch_text datagrams malformed seen)
+pub cut_first : PiecesAppend → (datagrams malformed : ℕ) (seen : List Seen) (fault : IoFault) (a c : Option (List ℕ))
+    → AppendsCut fault a c (watch_line datagrams malformed) → AppendsCut fault a c (watch_text datagrams malformed seen)
 cut_first append datagrams malformed seen fault a c cut =
     AppendsCut-more append fault a a c [] (watch_line datagrams malformed) (flat_map seen_line seen) (watch_text datagrams malformed seen) (Appends-none a) cut refl
 
-pub cut_later : PiecesAppend → (datagrams malformed : ℕ) (seen : List Seen) (i : ℕ) (d : Seen) (fault : IoFault) (a b c : Option (List ℕ)) → i < length seen → Appends a b (text_to datagrams malformed seen i)
+pub cut_later : PiecesAppend → (datagrams malformed : ℕ) (seen : List Seen) (i : ℕ) (d : Seen) (fault : IoFault) (a b c : Option (List ℕ))
+    → i < length seen → Appends a b (text_to datagrams malformed seen i)
     → AppendsCut fault b c (seen_line (get_or seen i d)) → AppendsCut fault a c (watch_text datagrams malformed seen)
 cut_later append datagrams malformed seen i d fault a b c within before cut =
     AppendsCut-more append fault a b c (text_to datagrams malformed seen i) (seen_line (get_or seen i d)) (flat_map seen_line (drop (i + 1) seen)) (watch_text datagrams malformed seen) before cut

@@ -106,11 +106,16 @@ node_line id number reach taken sent =
 abbrev pub line_of : Served → List ℕ
 line_of s = node_line s.router.id s.router.number (length s.router.reach) s.taken s.sent
 
--- how the turns ended, and the text: all were made; or the wire failed, and nothing is written
+-- the status of a line that was to be written: this one where it was written whole, 4 where the sink failed, 6 where memory
+-- ended
+abbrev pub IsStatusOf : ℕ → ℕ → Type 0
+IsStatusOf whole status = (status ≡ whole) ⊎ ((status ≡ 4) ⊎ (status ≡ 6))
+
+-- how the turns ended, the status, and the text: all were made; or the wire failed, and nothing is written
 abbrev pub EndsServing : PlainCall → ℕ → Served → Serving → Serving → Option (List ℕ) → Option (List ℕ) → List ℕ → Type 0
 EndsServing call status s first last readings rest text =
     ((s.end ≡ ending.Turns) × Turns (site_of call) call.turns s.log first last readings rest
-    × (s.sent ≡ min (length (handed_in (site_of call) s.log)) (2 ^ 64 - 1)) × (status ≢ 5) × (text ≡ line_of s))
+    × (s.sent ≡ min (length (handed_in (site_of call) s.log)) (2 ^ 64 - 1)) × IsStatusOf 0 status × (text ≡ line_of s))
     ⊎ ((s.end ≡ ending.WireFault)
     × ((handed : List Datagram) × CutTurns (site_of call) call.turns s.log handed first last readings rest × (s.sent ≡ min (length handed) (2 ^ 64 - 1)))
     × (status ≡ 5) × (text ≡ []))
@@ -129,17 +134,18 @@ pub record IsServed (call : PlainCall) (bytes : List ℕ) (status : ℕ) (s : Se
   pub taken_is : s.taken ≡ arrivals_in s.log
   pub ends : EndsServing call status s (serving router before.waiting) (serving s.router after.waiting) readings after.readings text
 
--- a file that is refused: by its first fault, or at a ninth prefix; nothing is sent
-abbrev pub IsNodeRefusal : PlainCall → List ℕ → ℕ → ℕ → Type 0
-IsNodeRefusal call bytes number code =
-    ((fault : ScriptFault) × IsFirstNodeFault fault bytes × (number ≡ fault.line) × (code ≡ fault.code))
-    ⊎ ((lines : List (ℕ × NodeLine)) × (now : ℕ) × IsNodeFile lines bytes × IsOverfull call.id lines now number × (code ≡ 9))
+-- a file that is refused: by its first fault, and the clock is not read; or at a ninth prefix, at the clock's first reading
+abbrev pub IsNodeRefusal : PlainCall → List ℕ → ℕ → ℕ → Option (List ℕ) → Option (List ℕ) → Type 0
+IsNodeRefusal call bytes number code readings rest =
+    ((fault : ScriptFault) × IsFirstNodeFault fault bytes × (number ≡ fault.line) × (code ≡ fault.code) × (rest ≡ readings))
+    ⊎ ((lines : List (ℕ × NodeLine)) × (now : ℕ) × IsNodeFile lines bytes × ReadsClock readings now rest × IsOverfull call.id lines now number × (code ≡ 9))
 
+-- its line is the text, and nothing is sent
 pub record IsRefusedNode (call : PlainCall) (bytes : List ℕ) (status : ℕ) (served : Option Served) (before after : Outside) (text : List ℕ) : Type 0 where
   pub number : ℕ
   pub code : ℕ
-  pub refused : IsNodeRefusal call bytes number code
-  pub status_is : (status ≡ 2) ⊎ ((status ≡ 4) ⊎ (status ≡ 6))
+  pub refused : IsNodeRefusal call bytes number code before.readings after.readings
+  pub status_is : IsStatusOf 2 status
   pub unserved : served ≡ None
   pub unsent : after.waiting ≡ before.waiting
   pub text_is : text ≡ refused_line number code
@@ -164,9 +170,10 @@ abbrev pub LineHolds : ℕ → List ℕ → List ℕ → Type 0
 LineHolds status line written =
     ((status ≡ 4) × IsPart written line) ⊎ (((status ≡ 6) × IsFrontOf written line) ⊎ ((status ≢ 4) × (status ≢ 6) × (written ≡ line)))
 
--- what excludes a status
+-- what excludes a status: a first fault, a ninth prefix, and that the file has neither
 pub record StatusOfNode (call : PlainCall) (bytes : List ℕ) (status : ℕ) : Type 0 where
   pub no_file : (fault : ScriptFault) → IsFirstNodeFault fault bytes → (status ≢ 0) × (status ≢ 5)
+  pub overfull : (lines : List (ℕ × NodeLine)) (now number : ℕ) → IsNodeFile lines bytes → IsOverfull call.id lines now number → (status ≢ 0) × (status ≢ 5)
   pub done : (lines : List (ℕ × NodeLine)) → IsNodeFile lines bytes → ((now number : ℕ) → ¬ IsOverfull call.id lines now number) → status ≢ 2
 
 -- what `node` comes to, by the bytes that its source has left, where it tells them

@@ -1,12 +1,14 @@
 //! `node`: a router that is set up by its file, and served.
 
-ghost use Rattle.std.specs.Prelude.{◌≡◌, ◌≢◌, ◌≤◌, ◌^◌, ◌⊎◌, ◌+◌, ℕ, List, [], ◌∷◌, Err, OnOk, OnErr, IfOk, Contains, None, Some, length, string_bytes};
+ghost use Rattle.std.specs.Prelude.{◌≡◌, ◌≢◌, ◌≤◌, ◌^◌, ◌⊎◌, ◌+◌, ℕ, List, [], ◌∷◌, Err, OnOk, OnErr, IfOk, IfSome, Contains, None, Some, length, string_bytes};
 ghost use Rattle.std.specs.Io.KnownBytes.{Appends, Consumes};
 ghost use Rattle.hn_io.specs.Faults.{IsCaused};
 ghost use Rattle.hn_lab.specs.Output.{AppendsPart};
 ghost use Rattle.hn_lab.specs.Reports.{refused_line};
 ghost use Rattle.hn_node.specs.declared.served.ServeEnd.{ServeEnd};
 ghost use Rattle.hn_script.specs.NodeFile.{IsNodeFile};
+ghost use Rattle.hn_base.specs.declared.version.Version.TheVariants.{One};
+ghost use Rattle.hn_world.specs.Within.{IsWithinLimits};
 ghost use Rattle.hn_run.specs.Node.{IsCall, IsOverfull, IsNodeRun, MakesNode, StatusOfNode, LineHolds, line_of, plain_call};
 
 use crate::outcome::Outcome;
@@ -19,10 +21,12 @@ use hn_base::NoMemory;
 use hn_io::{IoFault, Pcg, Sink, Source, words_join};
 use hn_lab::{read_all, write_piece, write_refusal};
 use hn_node::{ServeEnd, Served, serve};
+use hn_router::limit_stays;
 use hn_script::{
     NodeLine, ParseFault, fault_excludes_node_file, node_file_is_unique, parse_node_file,
 };
 use hn_wire::{Clock, Wire};
+use hn_world::router_is_within_limits;
 use std::alloc::{AllocError, Global};
 
 /// The code of a ninth delegated prefix.
@@ -105,7 +109,9 @@ fn serve_lines<K: Sink, W: Wire, C: Clock>(
     ensures node { (bytes : List ℕ) → IsNodeFile lines.now bytes → (text : List ℕ) × MakesNode (plain_call call.now) bytes result.status result.served
         (record { waiting = W.waiting wire.old; readings = C.readings clock.old }) (record { waiting = W.waiting wire.new; readings = C.readings clock.new }) text
         × ((written : List ℕ) × LineHolds result.status text written × Appends (K.held out.old) (K.held out.new) written) }
+    ensures overfull { (now number : ℕ) → IsOverfull call.now.id lines.now now number → (result.status ≢ DONE) × (result.status ≢ WIRE_FAILED) }
     ensures done { ((now number : ℕ) → ¬ IsOverfull call.now.id lines.now now number) → result.status ≢ REFUSED }
+    ensures within { IfSome result.served (λ s. IsWithinLimits One s.router) }
     ensures no_world { result.world ≡ None }
     ensures nothing { result.status ≡ NO_MEMORY → result.served ≡ None }
     ensures statuses { Contains (DONE ∷ REFUSED ∷ SINK_FAILED ∷ WIRE_FAILED ∷ NO_MEMORY ∷ []) result.status }
@@ -115,6 +121,8 @@ fn serve_lines<K: Sink, W: Wire, C: Clock>(
         (W.never_fails wire.old) (W.never_fails wire.new) }
 {
     words_join();
+    limit_stays();
+    router_is_within_limits();
     let now = clock.now();
     let mut draw = Pcg::new(call.seed);
     let router = match set_up(alloc, call.id, lines, now, &mut draw) {
@@ -126,7 +134,10 @@ fn serve_lines<K: Sink, W: Wire, C: Clock>(
     match serve(
         alloc, router, call.port, peers, wire, clock, &mut draw, call.turns,
     ) {
-        Ok(served) => tell(alloc, served, out),
+        Ok(served) => {
+            served.router.is_router();
+            tell(alloc, served, out)
+        }
         Err(NoMemory) => Outcome::of(NO_MEMORY),
     }
 }
@@ -145,6 +156,7 @@ fn node_of<K: Sink, W: Wire, C: Clock>(
         (record { waiting = W.waiting wire.old; readings = C.readings clock.old }) (record { waiting = W.waiting wire.new; readings = C.readings clock.new }) text
         × ((written : List ℕ) × LineHolds result.status text written × Appends (K.held out.old) (K.held out.new) written) }
     ensures only { StatusOfNode (plain_call call.now) bytes.now result.status }
+    ensures within { IfSome result.served (λ s. IsWithinLimits One s.router) }
     ensures no_world { result.world ≡ None }
     ensures nothing { result.status ≡ NO_MEMORY → result.served ≡ None }
     ensures statuses { Contains (DONE ∷ REFUSED ∷ SINK_FAILED ∷ WIRE_FAILED ∷ NO_MEMORY ∷ []) result.status }
@@ -175,10 +187,11 @@ pub fn node<S: Source, K: Sink, W: Wire, C: Clock>(
     ensures node { result.status ≢ SOURCE_FAILED → IsNodeRun (plain_call call.now) (S.left src.old) result.status result.served
         (record { waiting = W.waiting wire.old; readings = C.readings clock.old }) (record { waiting = W.waiting wire.new; readings = C.readings clock.new })
         (K.held out.old) (K.held out.new) }
+    ensures within { IfSome result.served (λ s. IsWithinLimits One s.router) }
     ensures no_world { result.world ≡ None }
     ensures nothing { (result.status ≡ SOURCE_FAILED) ⊎ (result.status ≡ NO_MEMORY) → result.served ≡ None }
     ensures statuses { Contains (DONE ∷ REFUSED ∷ SOURCE_FAILED ∷ SINK_FAILED ∷ WIRE_FAILED ∷ NO_MEMORY ∷ []) result.status }
-    ensures unwritten { result.status ≡ SOURCE_FAILED → out.new ≡ out.old }
+    ensures unstarted { result.status ≡ SOURCE_FAILED → (out.new ≡ out.old) × (clock.new ≡ clock.old) }
     ensures source_caused { IsCaused (result.status ≡ SOURCE_FAILED) (S.faults src.old) (S.faults src.new)
         (S.never_fails src.old) (S.never_fails src.new) }
     ensures sink_caused { IsCaused (result.status ≡ SINK_FAILED) (K.faults out.old) (K.faults out.new)

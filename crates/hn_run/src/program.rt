@@ -4,7 +4,8 @@ ghost use Rattle.hn_io.specs.Faults.{IsCaused};
 ghost use Rattle.hn_world.specs.Replay.{IsReplayed, Always, Throughout};
 ghost use Rattle.hn_world.specs.Authentic.{AuthenticUnlessInjected};
 ghost use Rattle.hn_world.specs.Leaves.{EqualHashesAgree};
-ghost use Rattle.hn_world.specs.Within.{AreWithinLimits};
+ghost use Rattle.hn_base.specs.declared.version.Version.TheVariants.{One};
+ghost use Rattle.hn_world.specs.Within.{IsWithinLimits, AreWithinLimits};
 ghost use Rattle.hn_audit.specs.Laws.{SettledAreSound};
 ghost use Rattle.hn_audit.specs.Staying.{QuietStays};
 ghost use Rattle.hn_lab.specs.Lab.{IsLabRun};
@@ -119,7 +120,10 @@ pub fn run<S: Source, K: Sink, W: Wire, C: Clock>(
     ensures within_limits { IfSome result.world (Always AreWithinLimits) }
     ensures authentic { IfSome result.world (Always AuthenticUnlessInjected) }
 
-    // Where each status comes from. After 3 nothing was written. Reading ends after 2^24 + 1 bytes.
+    // A router that was served is within the limits of version 1.
+    ensures served_within { IfSome result.served (λ s. IsWithinLimits One s.router) }
+
+    // Where each status comes from. After 3 nothing was written, and no clock was read. Reading ends after 2^24 + 1 bytes.
     ensures statuses { Contains (DONE ∷ BAD_USAGE ∷ REFUSED ∷ SOURCE_FAILED ∷ SINK_FAILED ∷ WIRE_FAILED ∷ NO_MEMORY ∷ []) result.status }
     ensures nothing { (result.status ≡ BAD_USAGE) ⊎ ((result.status ≡ SOURCE_FAILED) ⊎ (result.status ≡ NO_MEMORY)) → (result.world ≡ None) × (result.served ≡ None) }
     ensures sourced { result.status ≡ SOURCE_FAILED → (form : Form) → IsFormOf form (map string_bytes words.now) → HasSource form }
@@ -127,7 +131,7 @@ pub fn run<S: Source, K: Sink, W: Wire, C: Clock>(
     ensures source { IsCaused (result.status ≡ SOURCE_FAILED) (S.faults src.old) (S.faults src.new) (S.never_fails src.old) (S.never_fails src.new) }
     ensures sink { IsCaused (result.status ≡ SINK_FAILED) (K.faults out.old) (K.faults out.new) (K.never_fails out.old) (K.never_fails out.new) }
     ensures wire { IsCaused (result.status ≡ WIRE_FAILED) (W.faults wire.old) (W.faults wire.new) (W.never_fails wire.old) (W.never_fails wire.new) }
-    ensures unwritten { result.status ≡ SOURCE_FAILED → out.new ≡ out.old }
+    ensures unstarted { result.status ≡ SOURCE_FAILED → (out.new ≡ out.old) × (clock.new ≡ clock.old) }
     ensures bounded { (read : List ℕ) × (length read ≤ 2 ^ 24 + 1) × Consumes (S.left src.old) (S.left src.new) read }
 {
     match Form::of(words) {

@@ -47,7 +47,8 @@ push_map : (said : List Saying) (s : Saying) → map answer_of said ++ answer_of
 push_map [] s = refl
 push_map (x ∷ said) s = ap (λ rest. answer_of x ∷ rest) (push_map said s)
 
-pub with_more : (P : Saying → Type 0) (said : List Saying) (about : Subject) (i : PlainItem) (r : Running) → AnswersAre r said → All P said → P (record { about = about; item = i }) → More P said about i (with_answer about i r)
+pub with_more : (P : Saying → Type 0) (said : List Saying) (about : Subject) (i : PlainItem) (r : Running) → AnswersAre r said → All P said
+    → P (record { about = about; item = i }) → More P said about i (with_answer about i r)
 with_more P said about i r are all is = by_test (is_answered about (map answer_of said)) refl
   where
     now : answered about i r.answers ≡ answered about i (map answer_of said)

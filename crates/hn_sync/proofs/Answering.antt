@@ -115,7 +115,8 @@ request_sends_nothing before after h =
 
 node_sends_nothing : (id : NodeId) (r : Running) → sends (request_node id r) ≡ sends r
 node_sends_nothing id r =
-    either (is_reached id r.state.reach) (with_some_answer (subject.NodeData id) (state_item true r.state id) r) r (sends r) (some_sends_nothing (subject.NodeData id) (state_item true r.state id) r) refl
+    either (is_reached id r.state.reach) (with_some_answer (subject.NodeData id) (state_item true r.state id) r) r (sends r)
+    (some_sends_nothing (subject.NodeData id) (state_item true r.state id) r) refl
 
 state_sends_nothing : (hash : List ℕ) (port : Port) (r : Running) → sends (network_state hash port r) ≡ sends r
 state_sends_nothing hash port r = either _ _ _ (sends r) refl refl
@@ -164,7 +165,8 @@ GoesBack from send = (send.endpoint ≡ from.endpoint) × (send.to ≡ Some from
 back_to : (from : Origin) (datagrams : List (List ℕ)) → All (GoesBack from) (map (λ bytes. record { endpoint = from.endpoint; to = Some from.from; bytes = bytes }) datagrams)
 back_to from datagrams =
     let made : List ℕ → Outgoing = λ bytes. record { endpoint = from.endpoint; to = Some from.from; bytes = bytes } in
-    all_of (GoesBack from) (map made datagrams) (λ send there. let one = Contains-from_map made datagrams send there in (sym (ap (λ (o : Outgoing). o.endpoint) one.2), sym (ap (λ (o : Outgoing). o.to) one.2)))
+    all_of (GoesBack from) (map made datagrams) (λ send there. let one = Contains-from_map made datagrams send there in
+    (sym (ap (λ (o : Outgoing). o.endpoint) one.2), sym (ap (λ (o : Outgoing). o.to) one.2)))
 
 arrival_goes_back : (from : Origin) (tlvs : List PlainTlv) (before after : Running) → sends before ≡ [] → IsArrival from tlvs before after → All (GoesBack from) (sends after)
 arrival_goes_back from tlvs before after none h =

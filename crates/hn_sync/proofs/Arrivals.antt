@@ -31,7 +31,8 @@ pub record HasArrived (now : ℕ) (from : Origin) (tlvs : List PlainTlv) (s next
   pub packed : IsPacking last.state.id from.endpoint (map (λ a. a.tlv) last.answers) datagrams
   pub sends : done.sends ≡ sends_of from datagrams
 
-pub has_arrived : ListIsUnique → ListHasNoFirstFault → (now : ℕ) (from : Origin) (bytes : List ℕ) (tlvs : List PlainTlv) (s next : State) (done : Done) → IsLinkLocal from.from.ip → is_attached from.endpoint s.ports ≡ true
+pub has_arrived : ListIsUnique → ListHasNoFirstFault → (now : ℕ) (from : Origin) (bytes : List ℕ) (tlvs : List PlainTlv) (s next : State) (done : Done)
+    → IsLinkLocal from.from.ip → is_attached from.endpoint s.ports ≡ true
     → IsTlvList tlvs bytes → Happened now (Arrive from bytes) s next done → HasArrived now from tlvs s next done
 unfolding Happened
 has_arrived one no_fault now from bytes tlvs s next done near attached list h = by_event h.1

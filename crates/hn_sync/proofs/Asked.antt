@@ -94,7 +94,8 @@ there_are a b w one two is_one is_two none =
 
 pub question_is : (a b : Name) (w : Parts) (one two : Member) → IsSound w → member_named (name_text a) w ≡ Some one → member_named (name_text b) w ≡ Some two → unless_exchange a b w ≡ None
     → (e f : EpId) (place : ℕ) → joint_of one two ≡ Some (e, f) → router_place (name_text b) w ≡ Some place
-    → (from : Addr) → from ≡ address_of (record { place = place; endpoint = f }) → (bytes : List ℕ) → bytes ≡ datagram_of two.router.id f (request ∷ []) → IsQuestion a b w (event.Inject a e from false bytes)
+    → (from : Addr) → from ≡ address_of (record { place = place; endpoint = f }) → (bytes : List ℕ)
+    → bytes ≡ datagram_of two.router.id f (request ∷ []) → IsQuestion a b w (event.Inject a e from false bytes)
 question_is a b w one two sound is_one is_two none e f place joint is_place from is_from bytes are_bytes =
     let so = there_are a b w one two is_one is_two none in
     record {

@@ -30,7 +30,8 @@ module _ (read : ReadLaws) (sole : IsSole IsRefresh) (of_entry : HeldIsOfAnEntry
     pub are : AnswersAre a next
     pub all : All (Says start) next
     pub keeps : (y : Saying) → Contains said y → Contains next y
-    pub answered : (s : Saying) (id : NodeId) (n : Entry) → Contains asked s → s.about ≡ NodeRequest id → Contains start.reach id → Knows start id n → (x : Saying) × Contains next x × (x.about ≡ NodeData id)
+    pub answered : (s : Saying) (id : NodeId) (n : Entry) → Contains asked s → s.about ≡ NodeRequest id → Contains start.reach id → Knows start id n
+        → (x : Saying) × Contains next x × (x.about ≡ NodeData id)
 
   by_about : (about : Subject) (i : PlainItem) (said : List Saying) (r b : Running) → IsAsked about i → IsItemRule from i r b → IsStill start r.state → AnswersAre r said → All (Says start) said
       → Replies (record { about = about; item = i } ∷ []) said b
@@ -60,7 +61,8 @@ module _ (read : ReadLaws) (sole : IsSole IsRefresh) (of_entry : HeldIsOfAnEntry
           | inl here ↦
               let same : NodeRequest id ≡ NodeRequest x = ap (λ (y : Saying). y.about) here ∙ about in
               let one : x ≡ id = cc in
-              subst (λ (y : NodeId). (z : Saying) × Contains got.next z × (z.about ≡ NodeData y)) (sym one) (got.answered n (subst (Contains start.reach) one reached) (subst (λ (y : NodeId). Knows start y n) one knows))
+              subst (λ (y : NodeId). (z : Saying) × Contains got.next z × (z.about ≡ NodeData y)) (sym one)
+              (got.answered n (subst (Contains start.reach) one reached) (subst (λ (y : NodeId). Knows start y n) one knows))
           | inr later ↦ absurd (nothing_in s later)
         ];
       }
@@ -82,7 +84,8 @@ module _ (read : ReadLaws) (sole : IsSole IsRefresh) (of_entry : HeldIsOfAnEntry
       let first = All-head Asks s asked asks in
       let one = by_about s.about s.item said r h.1.0 first (rule_of read from s.item r h.1.0 (can_ask s.about s.item first) h.1.1) still are all in
       let rests : h.0 ≡ h.1.0 = quiet_rests sole h.1.0 h.0 (still_quiet start (h.1.0).state one.still quiet) h.1.2 in
-      let rest = replies asked (All-tail Asks s asked asks) one.next h.0 a (subst (λ (x : Running). IsStill start x.state) (sym rests) one.still) (ap (λ (x : Running). x.answers) rests ∙ one.are) one.all h.2 in
+      let rest = replies asked (All-tail Asks s asked asks) one.next h.0 a (subst (λ (x : Running). IsStill start x.state) (sym rests) one.still)
+      (ap (λ (x : Running). x.answers) rests ∙ one.are) one.all h.2 in
       record {
         still = rest.still;
         next = rest.next;

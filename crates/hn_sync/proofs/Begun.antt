@@ -1,5 +1,6 @@
 -- What an exchange is after the question.
-use Rattle.std.proofs.Common.{◌≡◌, ◌≢◌, ◌∙◌, ◌⊎◌, ◌<◌, ◌+◌, ◌^◌, ◌==◌, ℕ, suc, Bool, true, false, List, [], ◌∷◌, ◌++◌, length, map, slice_get, position, Contains, Some, None, sym, ap, subst, refl, inl, inr, arith}
+use Rattle.std.proofs.Common.{◌≡◌, ◌≢◌, ◌∙◌, ◌⊎◌, ◌<◌, ◌+◌, ◌^◌, ◌==◌, ℕ, suc, Bool, true, false, List, [], ◌∷◌, ◌++◌, length, map, slice_get, position, Contains, Some, None, sym, ap, subst, refl}
+use Rattle.std.proofs.Common.{inl, inr, arith}
 use Rattle.std.specs.List.{list_any}
 use Rattle.std.proofs.lemmas.Bool.{eq-eqb, eqb-true}
 use Rattle.std.proofs.lemmas.List.{append-nil}
@@ -43,7 +44,8 @@ use Rattle.hn_sync.proofs.Turns.{question, IsQuestioned, question_arrives}
 use Rattle.hn_sync.specs.Exchange.{request}
 
 -- the datagram of a question is read
-question_read : (node : NodeId) (endpoint : EpId) → node.0 < 2 ^ 32 → endpoint.0 < 2 ^ 32 → IsTlvList (sender_tlv node endpoint ∷ map tlv_said (question ∷ [])) (datagram_of node endpoint (request ∷ []))
+question_read : (node : NodeId) (endpoint : EpId) → node.0 < 2 ^ 32 → endpoint.0 < 2 ^ 32
+    → IsTlvList (sender_tlv node endpoint ∷ map tlv_said (question ∷ [])) (datagram_of node endpoint (request ∷ []))
 question_read node endpoint fits too = (_, (can_say_endpoint node.0 endpoint.0 fits too).is_tlv, refl, (_, can_say_request.is_tlv, refl, refl))
 
 -- the two routers are at these endpoints, and both run in a world before the question
@@ -65,12 +67,14 @@ module _ (laws : GoingLaws) (here there : Target) (link : ℕ) (one two : Member
   abbrev origin : Origin
   origin = record { endpoint = here.endpoint; from = address_of there; multicast = false }
 
-  pub questioned : (next : State) (done : Done) → IsRouter next → Happened w.moment (Arrive origin (datagram_of two.router.id there.endpoint (request ∷ []))) one.router next done → IsQuestioned w.moment origin one.router next done
+  pub questioned : (next : State) (done : Done) → IsRouter next
+      → Happened w.moment (Arrive origin (datagram_of two.router.id there.endpoint (request ∷ []))) one.router next done → IsQuestioned w.moment origin one.router next done
   questioned next done router happened =
       let id_fits = h.router_two.well.numbered.own_id in
       let far = let within = slice_get_within w.members there.place two h.is_two in let few = few_routers w h.replayed in near there (omega (arith, within, few)) h.there_fits in
       question_arrives laws.turns w.moment origin two.router.id there.endpoint one.router next done id_fits h.there_fits refl h.router_one.well.ports h.knows_one
-      (has_arrived laws.one_list laws.no_fault w.moment origin (datagram_of two.router.id there.endpoint (request ∷ [])) _ one.router next done far (known_attached here.endpoint two.router.id there.endpoint one.router.ports h.knows_one)
+      (has_arrived laws.one_list laws.no_fault w.moment origin (datagram_of two.router.id there.endpoint (request ∷ [])) _ one.router next done far
+      (known_attached here.endpoint two.router.id there.endpoint one.router.ports h.knows_one)
       (question_read two.router.id there.endpoint id_fits h.there_fits) happened) router
 
   pub pair_of : (next : State) (done : Done) (q : IsQuestioned w.moment origin one.router next done) → IsPair here there link q.start two.router
@@ -88,7 +92,8 @@ module _ (laws : GoingLaws) (here there : Target) (link : ℕ) (one two : Member
   }
 
   -- what is said of the own identifier
-  own_said : (start : State) (fit : IsFit start) → ((x : NodeId) × ((n : Entry) × Contains start.reach x × Knows start x n × (x.0 ≡ two.router.id.0))) ⊎ ((n : Entry) → IsGiven start n → n.id.0 ≢ two.router.id.0)
+  own_said : (start : State) (fit : IsFit start) → ((x : NodeId) × ((n : Entry) × Contains start.reach x × Knows start x n × (x.0 ≡ two.router.id.0)))
+      ⊎ ((n : Entry) → IsGiven start n → n.id.0 ≢ two.router.id.0)
   own_said start fit = by_any (list_any (λ (r : NodeId). r.0 == two.router.id.0) start.reach) refl
     where
       by_any : (b : Bool) → list_any (λ (r : NodeId). r.0 == two.router.id.0) start.reach ≡ b
@@ -103,7 +108,8 @@ module _ (laws : GoingLaws) (here there : Target) (link : ℕ) (one two : Member
                 let knows = subst (λ (y : NodeId). Knows start y n) one_id given.knows in
                 let clash : None ≡ Some n = sym none.entry ∙ knows.entry in absurd (cc))
           ]
-      by_any false is = inr (λ n given same. let clash : true ≡ false = sym (any_from (λ (r : NodeId). r.0 == two.router.id.0) start.reach n.id given.reached (eq-eqb n.id.0 two.router.id.0 same)) ∙ is in absurd (cc))
+      by_any false is = inr (λ n given same. let clash : true ≡ false = sym (any_from (λ (r : NodeId). r.0 == two.router.id.0) start.reach n.id given.reached (eq-eqb n.id.0 two.router.id.0 same))
+          ∙ is in absurd (cc))
 
   pub begun : (words : List ℕ) (notes : List Note) (between : Parts) (acts : ActsAt (λ m. m) here.place (Arrive origin (datagram_of two.router.id there.endpoint (request ∷ []))) words notes w between)
       → position (is_named name) w.members ≡ Some here.place → position (is_named other_name) w.members ≡ Some there.place
@@ -113,10 +119,12 @@ module _ (laws : GoingLaws) (here there : Target) (link : ℕ) (one two : Member
       let member : acts.member ≡ one = same_Some acts.member one (sym acts.is_member ∙ h.is_one) in
       let ports = λ (x : Member). λ (there_x : Contains w.members x). (All-contains (IsSoundMember w.moment) w.members x (laws.world.sound w h.replayed) there_x).router.well.ports in
       let q_there : Contains (on_link link 0 w.members) there =
-      (let got = on_link_there link 0 w.members there.place two there.endpoint h.is_two (known_there there.endpoint one.router.id here.endpoint two.router.ports h.knows_other) (on_from_link link two there.endpoint h.link_two) in
+      (let got = on_link_there link 0 w.members there.place two there.endpoint h.is_two
+      (known_there there.endpoint one.router.id here.endpoint two.router.ports h.knows_other) (on_from_link link two there.endpoint h.link_two) in
       let zero_place : 0 + there.place ≡ there.place = omega arith in
       subst (λ (k : ℕ). Contains (on_link link 0 w.members) (record { place = k; endpoint = there.endpoint })) zero_place got) in
-      let mail : IsSent w.members here there one link true h.link_one q_there ports h.there_fits q.start.id q.said q.datagrams = sent w.members here there one link true h.link_one q_there ports h.there_fits q.start.id q.said q.datagrams q.are_said in
+      let mail : IsSent w.members here there one link true h.link_one q_there ports h.there_fits q.start.id q.said q.datagrams =
+      sent w.members here there one link true h.link_one q_there ports h.there_fits q.start.id q.said q.datagrams q.are_said in
       let more : copies_of w.members here.place acts.member acts.done.sends ≡ map copy_of mail.letters = (λ i. copies_of w.members here.place (member i) (q.sends i)) ∙ mail.copies in
       record {
         moment = q.moment;
@@ -154,7 +162,10 @@ module _ (laws : GoingLaws) (here there : Target) (link : ℕ) (one two : Member
           each = λ roomy n given apart.
               let x = q.each n.id n given.reached given.knows in
               let put = mail.each x.0 x.1 in
-              inr (before_same two.router two.router (record two.router { moment = w.moment }) n refl (before_self two.router n), inl (put.0, put.1, inl ((mail.good put.0 put.1).side, (x.0, put.2, inl x.2))));
+              inr (
+                before_same two.router two.router (record two.router { moment = w.moment }) n refl (before_self two.router n),
+                inl (put.0, put.1, inl ((mail.good put.0 put.1).side, (x.0, put.2, inl x.2))),
+              );
           owned = elim (own_said q.start q.fit) [
             | inl (x, (n, reached, knows, own)) ↦
                 let got = q.each x n reached knows in
@@ -169,7 +180,13 @@ module _ (laws : GoingLaws) (here there : Target) (link : ℕ) (one two : Member
                     lists = λ l new. ((mail.good l new).side, ascends_part l.group q.said (mail.good l new).part q.ascends);
                     one = put.0;
                     there_one = put.1;
-                    own = (n, record { reached = subst (Contains q.start.reach) named reached; knows = subst (λ (y : NodeId). Knows q.start y n) named knows }, ap (λ (y : NodeId). y.0) knows.named ∙ own, (got.0, put.2, got.2 ∙ ap NodeState named));
+                    own = (
+                      n,
+                      record { reached = subst (Contains q.start.reach) named reached; knows = subst (λ (y : NodeId). Knows q.start y n) named knows },
+                      ap (λ (y : NodeId). y.0) knows.named
+                          ∙ own,
+                      (got.0, put.2, got.2 ∙ ap NodeState named),
+                    );
                   }),
                 )
             | inr none ↦ inl (λ n given own. absurd (none n given own))

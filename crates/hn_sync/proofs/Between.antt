@@ -1,5 +1,6 @@
 -- The copies of an exchange go to and fro between its two endpoints.
-use Rattle.std.proofs.Common.{◌≡◌, ◌≢◌, ◌∙◌, ◌⊎◌, ◌<◌, ◌≤◌, ◌+◌, ◌-◌, ◌^◌, ◌==◌, ◌&&◌, ℕ, suc, Bool, true, false, not, cond, List, [], ◌∷◌, ◌++◌, length, filter, slice_get, slice_set, Contains, is_some, Option, Some, None, sym, ap, subst, refl, inl, inr, arith}
+use Rattle.std.proofs.Common.{◌≡◌, ◌≢◌, ◌∙◌, ◌⊎◌, ◌<◌, ◌≤◌, ◌+◌, ◌-◌, ◌^◌, ◌==◌, ◌&&◌, ℕ, suc, Bool, true, false, not, cond, List, [], ◌∷◌, ◌++◌, length, filter, slice_get, slice_set, Contains}
+use Rattle.std.proofs.Common.{is_some, Option, Some, None, sym, ap, subst, refl, inl, inr, arith}
 use Rattle.std.specs.Option.{option_or}
 use Rattle.std.proofs.lemmas.Bool.{cases_lt, eqb-true, eq-eqb}
 use Rattle.std.proofs.lemmas.Bool.Decides.{eqb_tells}
@@ -100,7 +101,8 @@ up_fits : (ms : List Member) (t : Target) → ((m : Member) → Contains ms m �
 up_fits ms t ports up = endpoint_fits up.m t.endpoint (ports up.m (contains_at ms t.place up.m up.is)) up.there
 
 -- where it is refused what arrives, that is for lack of room
-room_at : (r s x y : Bool) (code : ℕ) → r ≡ true → s ≡ true → option_or (option_or (code_if 12 (not r)) (option_or (code_if 11 (not s)) (code_if 9 x))) (code_if 16 y) ≡ Some code → (code ≡ 9) ⊎ (code ≡ 16)
+room_at : (r s x y : Bool) (code : ℕ) → r ≡ true → s ≡ true → option_or (option_or (code_if 12 (not r)) (option_or (code_if 11 (not s)) (code_if 9 x))) (code_if 16 y) ≡ Some code
+    → (code ≡ 9) ⊎ (code ≡ 16)
 room_at true true true y code runs there h = inl (sym (same_Some 9 code h))
 room_at true true false true code runs there h = inr (sym (same_Some 16 code h))
 room_at true true false false code runs there h = absurd (cc)
@@ -158,10 +160,12 @@ module _ (follow : EndpointsFollow) (t peer : Target) (multicast : Bool) (bytes 
       sender : Target
       sender = record { place = t.place; endpoint = send.endpoint }
 
-      by_link : (link : Option ℕ) → Contains (copies_on before.members (record { place = t.place; endpoint = send.endpoint }) (record send { to = Some (address_of peer) }) link) c → (c.to ≡ peer) × (c.from ≡ address_of t)
+      by_link : (link : Option ℕ) → Contains (copies_on before.members (record { place = t.place; endpoint = send.endpoint }) (record send { to = Some (address_of peer) }) link) c
+          → (c.to ≡ peer) × (c.from ≡ address_of t)
       by_link None k = absurd (nothing_in c k)
       by_link (Some link) k =
-          let made = Contains-from_map (copy_for (record { place = t.place; endpoint = send.endpoint }) (Some (address_of peer)) send.bytes) (filter (gets (record { place = t.place; endpoint = send.endpoint }) (Some (address_of peer))) (on_link link 0 before.members)) c k in
+          let made = Contains-from_map (copy_for (record { place = t.place; endpoint = send.endpoint }) (Some (address_of peer)) send.bytes)
+          (filter (gets (record { place = t.place; endpoint = send.endpoint }) (Some (address_of peer))) (on_link link 0 before.members)) c k in
           let got = from_filter (gets (record { place = t.place; endpoint = send.endpoint }) (Some (address_of peer))) (on_link link 0 before.members) made.0 made.1 in
           let same = has_this ((address_of made.0).port == (address_of peer).port) (address_of made.0).ip (address_of peer).ip got.1 in
           let is_peer = same_address made.0 peer (target_fits link 0 before.members made.0 ports got.0) peer_fits same in (
@@ -175,7 +179,8 @@ module _ (follow : EndpointsFollow) (t peer : Target) (multicast : Bool) (bytes 
     | inl old ↦ inl old
     | inr new ↦
         let sent = flat_there (copies_of_send before.members t.place h.member) h.done.sends c new in
-        let back = All-contains (GoesBack (record { endpoint = t.endpoint; from = address_of peer; multicast = multicast })) h.done.sends sent.0 (answers_go_back before.moment (record { endpoint = t.endpoint; from = address_of peer; multicast = multicast }) bytes h.member.router h.next h.done h.happened) sent.1 in
+        let back = All-contains (GoesBack (record { endpoint = t.endpoint; from = address_of peer; multicast = multicast })) h.done.sends sent.0
+        (answers_go_back before.moment (record { endpoint = t.endpoint; from = address_of peer; multicast = multicast }) bytes h.member.router h.next h.done h.happened) sent.1 in
         inr (copy_goes_back sent.0 c back sent.2)
   ]
 
@@ -187,7 +192,8 @@ pub record HasLaws : Type 0 where
   pub version : WorldHasItsVersion
   pub endpoints : EndpointsFollow
 
-pub replays_step : (version : Version) (ts : List Traced) (t : Traced) (before after : Parts) → Replays version ts before → (notes : List Note) × Step t notes before after → Replays version (ts ++ t ∷ []) after
+pub replays_step : (version : Version) (ts : List Traced) (t : Traced) (before after : Parts) → Replays version ts before → (notes : List Note)
+    × Step t notes before after → Replays version (ts ++ t ∷ []) after
 unfolding Replays
 replays_step version ts t before after h step = goes_more (empty_world version) before after ts t h step
 
@@ -219,11 +225,13 @@ module _ (laws : HasLaws) (here there : Target) (count : ℕ) where
     holds_by t peer up to from between mail =
         let acts : ActsAt (λ m. m) t.place (Arrive (record { endpoint = t.endpoint; from = address_of peer; multicast = h.mail.multicast }) h.mail.bytes) words notes before h.between
         = subst (λ (x : Target). ActsAt (λ m. m) x.place (Arrive (record { endpoint = x.endpoint; from = address_of peer; multicast = h.mail.multicast }) h.mail.bytes) words notes before h.between) to
-        (subst (λ (x : Addr). ActsAt (λ m. m) h.mail.to.place (Arrive (record { endpoint = h.mail.to.endpoint; from = x; multicast = h.mail.multicast }) h.mail.bytes) words notes before h.between) from h.acts) in
+        (subst (λ (x : Addr). ActsAt (λ m. m) h.mail.to.place
+        (Arrive (record { endpoint = h.mail.to.endpoint; from = x; multicast = h.mail.multicast }) h.mail.bytes) words notes before h.between) from h.acts) in
         let ports = ports_in before replayed in
         let fits = up_fits before.members peer ports up in
         let made : after ≡ taken n h.mail (acted (λ m. m) t.place acts.member acts.next acts.done before) = h.gives ∙ ap (λ (w : Parts). taken n h.mail w) acts.gives in
-        let all : Holds (slice_set before.members t.place (record acts.member { router = acts.next })) (slice_set (before.copies ++ copies_of before.members t.place acts.member acts.done.sends) (n - 1) (record h.mail { waiting = false })) = record {
+        let all : Holds (slice_set before.members t.place (record acts.member { router = acts.next }))
+        (slice_set (before.copies ++ copies_of before.members t.place acts.member acts.done.sends) (n - 1) (record h.mail { waiting = false })) = record {
           one = up_then laws.endpoints t peer h.mail.multicast h.mail.bytes words notes before h.between ports fits acts here holds.one;
           other = up_then laws.endpoints t peer h.mail.multicast h.mail.bytes words notes before h.between ports fits acts there holds.other;
           news = λ k c since at. elim (set_cases (before.copies ++ copies_of before.members t.place acts.member acts.done.sends) (n - 1) k c (record h.mail { waiting = false }) at) [
@@ -303,7 +311,8 @@ module _ (laws : HasLaws) (a b : Name) (code : ℕ) (before : Parts) (replayed :
 
   -- after it, the two endpoints are up, and its copies go back
   module _ (t : Traced) (notes : List Note) (then : Parts) (is : t.event ≡ question) (step : Step t notes before then) where
-    does_ask : Acts (λ m. m) a (Arrive (record { endpoint = asks.e; from = address_of asker; multicast = false }) (datagram_of asks.two.router.id asks.f (request ∷ []))) t.words notes before step.between
+    does_ask : Acts (λ m. m) a (Arrive (record { endpoint = asks.e; from = address_of asker; multicast = false })
+        (datagram_of asks.two.router.id asks.f (request ∷ []))) t.words notes before step.between
     does_ask = subst (λ (e : WEvent). Does e t.words notes before step.between) (is ∙ asks.gives) step.does
 
     abbrev asked_at : Target
@@ -327,7 +336,8 @@ module _ (laws : HasLaws) (a b : Name) (code : ℕ) (before : Parts) (replayed :
           there = endpoint_there asks.two.router asks.f asks.one.router.id asks.e asks.least.joined.of_other;
         } in
         let fits = up_fits before.members asker ports other in
-        let all : Holds laws asked_at asker (length before.copies) (slice_set before.members does_ask.place (record acts.member { router = acts.next })) (before.copies ++ copies_of before.members does_ask.place acts.member acts.done.sends) = record {
+        let all : Holds laws asked_at asker (length before.copies)
+        (slice_set before.members does_ask.place (record acts.member { router = acts.next })) (before.copies ++ copies_of before.members does_ask.place acts.member acts.done.sends) = record {
           one = up_then laws.endpoints asked_at asker false bytes t.words notes before step.between ports fits acts asked_at one;
           other = up_then laws.endpoints asked_at asker false bytes t.words notes before step.between ports fits acts asker other;
           news = λ k c since at. elim (copies_go_back laws.endpoints asked_at asker false bytes t.words notes before step.between ports fits acts k c at) [

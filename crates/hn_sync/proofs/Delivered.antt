@@ -104,7 +104,8 @@ module _ (copies delivered : ℕ) (told told_after : Option (ℕ → ℕ)) (befo
   came_cut more = (h.ts, event.Deliver (delivered + 1), came_next more)
 
 -- where the next delivery failed, the world is as before it
-module _ (copies delivered : ℕ) (told told_after : Option (ℕ → ℕ)) (before after end : Parts) (same : end ≡ after) (h : Came copies delivered told told_after before after) (more : delivered < length after.copies) where
+module _ (copies delivered : ℕ) (told told_after : Option (ℕ → ℕ)) (before after end : Parts) (same : end ≡ after)
+    (h : Came copies delivered told told_after before after) (more : delivered < length after.copies) where
   pub refused_then : (told_end : Option (ℕ → ℕ)) → told_end ≡ told_after → (code : ℕ) → refusal after (event.Deliver (delivered + 1)) ≡ Some code
       → (ts : List Traced) × (next : WEvent) × AreDelivered (copies + 1) ts (Some next) before end × (refusal end next ≡ Some code) × Took told (words_of ts) told_end
   refused_then told_end undrawn code is =

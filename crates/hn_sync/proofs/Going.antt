@@ -1,5 +1,6 @@
 -- An exchange as it goes: what its two routers and its copies are before each delivery.
-use Rattle.std.proofs.Common.{◌≡◌, ◌≢◌, ◌∙◌, ◌<◌, ◌+◌, ◌-◌, ◌^◌, ◌==◌, ℕ, suc, true, false, List, [], ◌∷◌, ◌++◌, length, map, slice_get, slice_set, position, is_some, Contains, Option, Some, None, sym, ap, subst, refl, arith, length-append}
+use Rattle.std.proofs.Common.{◌≡◌, ◌≢◌, ◌∙◌, ◌<◌, ◌+◌, ◌-◌, ◌^◌, ◌==◌, ℕ, suc, true, false, List, [], ◌∷◌, ◌++◌, length, map, slice_get, slice_set, position, is_some, Contains, Option, Some, None}
+use Rattle.std.proofs.Common.{sym, ap, subst, refl, arith, length-append}
 use Rattle.std.specs.Option.{option_map_or}
 use Rattle.std.proofs.lemmas.Bool.{eq-eqb}
 use Rattle.std.proofs.lemmas.List.Elements.{All-contains}
@@ -105,15 +106,18 @@ module _ (laws : GoingLaws) (here there : Target) (link : ℕ) (start before : S
     pub learns : LearnsIn queue (begun_at w.moment two.router) []
 
   -- the copies after a delivery
-  pub copies_taken : (n : ℕ) (front : List MailCopy) (l : Letter) (tail new : List Letter) (copies more : List MailCopy) (c : MailCopy) → suc (length front) ≡ n → copies ≡ front ++ map copy_of (l ∷ tail) → more ≡ map copy_of new
+  pub copies_taken : (n : ℕ) (front : List MailCopy) (l : Letter) (tail new : List Letter) (copies more : List MailCopy) (c : MailCopy)
+      → suc (length front) ≡ n → copies ≡ front ++ map copy_of (l ∷ tail) → more ≡ map copy_of new
       → slice_set (copies ++ more) (n - 1) c ≡ (front ++ c ∷ []) ++ map copy_of (tail ++ new)
   copies_taken n front l tail new copies more c size is is_more =
       let place : n - 1 ≡ length front = omega (arith, size) in
-      (λ i. slice_set (is i ++ is_more i) (place i) c) ∙ (set_after front l.copy (map copy_of tail) (map copy_of new) c ∙ ap (λ (xs : List MailCopy). (front ++ c ∷ []) ++ xs) (sym (map_letters tail new)))
+      (λ i. slice_set (is i ++ is_more i) (place i) c) ∙ (set_after front l.copy (map copy_of tail) (map copy_of new) c
+      ∙ ap (λ (xs : List MailCopy). (front ++ c ∷ []) ++ xs) (sym (map_letters tail new)))
 
   -- the letter that is delivered
   pub first_letter : (n : ℕ) (w : Parts) (h : IsGoing n w) (mail : MailCopy) → slice_get w.copies (n - 1) ≡ Some mail → (l : Letter) × ((tail : List Letter) × (h.queue ≡ l ∷ tail) × (mail ≡ l.copy))
-  first_letter n w h mail at = by_queue h.queue refl (sym (ap (λ (xs : List MailCopy). slice_get xs (n - 1)) h.copies ∙ (ap (slice_get (h.front ++ map copy_of h.queue)) place ∙ get_after h.front (map copy_of h.queue))) ∙ at)
+  first_letter n w h mail at = by_queue h.queue refl (sym (ap (λ (xs : List MailCopy). slice_get xs (n - 1)) h.copies
+      ∙ (ap (slice_get (h.front ++ map copy_of h.queue)) place ∙ get_after h.front (map copy_of h.queue))) ∙ at)
     where
       place : n - 1 ≡ length h.front
       place = let size = h.size in omega (arith, size)
@@ -140,7 +144,8 @@ module _ (laws : GoingLaws) (here there : Target) (link : ℕ) (start before : S
   pub ports_of : (w : Parts) → IsReplayed w → (m : Member) → Contains w.members m → HasPorts m
   ports_of w replayed m there_m = (All-contains (IsSoundMember w.moment) w.members m (laws.world.sound w replayed) there_m).router.well.ports
 
-  pub on_link_of : (w : Parts) (t : Target) (m : Member) → slice_get w.members t.place ≡ Some m → Contains (endpoints_of m.router.ports) t.endpoint → link_of t.endpoint m ≡ Some link → Contains (on_link link 0 w.members) t
+  pub on_link_of : (w : Parts) (t : Target) (m : Member) → slice_get w.members t.place ≡ Some m → Contains (endpoints_of m.router.ports) t.endpoint
+      → link_of t.endpoint m ≡ Some link → Contains (on_link link 0 w.members) t
   on_link_of w t m at ends is =
       let got = on_link_there link 0 w.members t.place m t.endpoint at ends (on_from_link link m t.endpoint is) in
       let place : 0 + t.place ≡ t.place = omega arith in
@@ -164,20 +169,24 @@ module _ (laws : GoingLaws) (here there : Target) (link : ℕ) (start before : S
     pub is_front : suc (length (h.front ++ (record l.copy { waiting = false }) ∷ [])) ≡ suc n
     is_front = let size = h.size in let more = length-append h.front ((record l.copy { waiting = false }) ∷ []) in omega (arith, size, more)
 
-    pub asked_then : ToAsked here there start before l → (next : State) (done : Done) → Happened w.moment (Arrive (record { endpoint = here.endpoint; from = address_of there; multicast = false }) l.copy.bytes) h.one.router next done
+    pub asked_then : ToAsked here there start before l → (next : State) (done : Done)
+        → Happened w.moment (Arrive (record { endpoint = here.endpoint; from = address_of there; multicast = false }) l.copy.bytes) h.one.router next done
         → IsReplied start (record { endpoint = here.endpoint; from = address_of there; multicast = false }) l.group next done
     asked_then letter next done happened =
-        requests_arrive laws.turns start pair.fit pair.quiet w.moment (record { endpoint = here.endpoint; from = address_of there; multicast = false }) before.id there.endpoint l.group h.one.router next done h.moment
+        requests_arrive laws.turns start pair.fit pair.quiet w.moment
+        (record { endpoint = here.endpoint; from = address_of there; multicast = false }) before.id there.endpoint l.group h.one.router next done h.moment
         pair.id_fits pair.there_fits refl (ports_of w replayed h.one (contains_at w.members here.place h.one h.is_one)).ascending knows_one letter.all h.still
         (has_arrived laws.one_list laws.no_fault w.moment (record { endpoint = here.endpoint; from = address_of there; multicast = false }) l.copy.bytes _ h.one.router next done
         (near_at w replayed there h.two h.is_two pair.there_fits) (known_attached here.endpoint before.id there.endpoint h.one.router.ports knows_one) letter.says happened)
 
     pub taught_then : ToAsker here there start before l → l.to_asker ≡ true → (next : State) (done : Done) → next.id ≡ before.id
         → Happened w.moment (Arrive (record { endpoint = there.endpoint; from = address_of here; multicast = false }) l.copy.bytes) h.two.router next done
-        → IsTaught laws.turns start before before.ports (PendingIn here there start before tail) (WaitingIn here there start before tail) pair.fit pair.table pair.up (record { endpoint = there.endpoint; from = address_of here; multicast = false }) next done
+        → IsTaught laws.turns start before before.ports (PendingIn here there start before tail)
+        (WaitingIn here there start before tail) pair.fit pair.table pair.up (record { endpoint = there.endpoint; from = address_of here; multicast = false }) next done
     taught_then letter goes next done named happened =
         states_arrive laws.turns start before before.ports (PendingIn here there start before tail) (WaitingIn here there start before tail) pair.fit pair.table pair.up w.moment
-        (record { endpoint = there.endpoint; from = address_of here; multicast = false }) start.id here.endpoint l.group h.two.router next done pair.fit.numbered.own_id pair.here_fits refl pair.knows_other letter.all
+        (record { endpoint = there.endpoint; from = address_of here; multicast = false }) start.id here.endpoint l.group h.two.router next done
+        pair.fit.numbered.own_id pair.here_fits refl pair.knows_other letter.all
         (opened here there start before laws.turns.tables.of_entry laws.turns.tables.marks l tail (begun_at w.moment h.two.router) goes refl learns_here) named
         (has_arrived laws.one_list laws.no_fault w.moment (record { endpoint = there.endpoint; from = address_of here; multicast = false }) l.copy.bytes _ h.two.router next done
         (near_at w replayed here h.one h.is_one pair.here_fits) (known_attached there.endpoint start.id here.endpoint h.two.router.ports knows_two) letter.says happened)

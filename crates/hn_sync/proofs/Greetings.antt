@@ -46,7 +46,8 @@ heard_self r = record { ports = r.state.ports; gives = refl; signed = refl }
 named_heard : (from : Origin) (node : NodeId) (endpoint : EpId) (port : Port) (r : Running) → from.multicast ≡ false → Ascend r.state.ports → port_at from.endpoint r.state.ports ≡ Some port
     → has_peer node endpoint port.peers ≡ true → IsHeard r (named from node endpoint port r)
 named_heard from node endpoint port r unicast up found known =
-    subst (λ (b : Bool). IsHeard r (met (cond b Known (cond from.multicast Unknown (cond (length port.peers == 64) Full Added))) after (with_port after (record r { sender = Some (node, endpoint) })))) (sym known)
+    subst (λ (b : Bool). IsHeard r (met (cond b Known (cond from.multicast Unknown (cond (length port.peers == 64) Full Added))) after
+    (with_port after (record r { sender = Some (node, endpoint) })))) (sym known)
     (record { ports = _; gives = refl; signed = signs_put from.endpoint r.state.ports port after up found same })
   where
     after : Port

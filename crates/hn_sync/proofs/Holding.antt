@@ -193,7 +193,11 @@ module _ (before : State) where
 
         by_body : (body : List ℕ) → n.body ≡ body → hash_of n.body ≡ hash_of [] → with_data ≡ false → IsRepaired before t n
         by_body [] empty one none = inl (record { stored = stored; is_held = holds; number = refl; body = ap (λ (b : Bool). sent_data b n.body) none ∙ sym empty })
-        by_body (x ∷ xs) some one none = inr (inr (record { other = []; was_held = inr refl; collide = record { differ = (λ e. absurd (let clash : x ∷ xs ≡ [] = sym some ∙ e in cc)); one_hash = one } }))
+        by_body (x ∷ xs) some one none = inr (inr (record {
+          other = [];
+          was_held = inr refl;
+          collide = record { differ = (λ e. absurd (let clash : x ∷ xs ≡ [] = sym some ∙ e in cc)); one_hash = one };
+        }))
 
         by_data : (b : Bool) → with_data ≡ b → CarriesData (state_said with_data n) → IsRepaired before t n
         by_data true all c = inl (record { stored = stored; is_held = holds; number = refl; body = ap (λ (b : Bool). sent_data b n.body) all })
@@ -229,7 +233,8 @@ module _ (before : State) where
         by_line (inr (h, inr (k, rest))) = by_last (last_lines rest)
 
     -- something was
-    some_settles : IsTable before.table → (stored : Stored) (was : held before.table.entries n.id.0 ≡ Some stored) (lost : Option ℕ) (is : held s.table.entries n.id.0 ≡ Some (record stored { lost = lost })) → Outcome
+    some_settles : IsTable before.table → (stored : Stored) (was : held before.table.entries n.id.0 ≡ Some stored) (lost : Option ℕ)
+        (is : held s.table.entries n.id.0 ≡ Some (record stored { lost = lost })) → Outcome
     unfolding IsAnswer
     some_settles table stored was lost is = by_line accepts.answer
       where
@@ -244,7 +249,8 @@ module _ (before : State) where
         again : how ≡ took.Renumbered → held t.table.entries n.id.0 ≡ Some (stored_renumbered (state_said with_data n) now (record stored { lost = lost }))
         again how_is =
             held_next ∙ (ap (λ (h : Took). held (entries_after s.table.entries (state_said with_data n) now h) n.id.0) how_is
-            ∙ (ap (λ (o : Option Stored). held (entries_changed n.id.0 (stored_renumbered (state_said with_data n) now) o s.table.entries) n.id.0) is ∙ is_put (stored_renumbered (state_said with_data n) now (record stored { lost = lost }))))
+            ∙ (ap (λ (o : Option Stored). held (entries_changed n.id.0 (stored_renumbered (state_said with_data n) now) o s.table.entries) n.id.0) is
+            ∙ is_put (stored_renumbered (state_said with_data n) now (record stored { lost = lost }))))
 
         one_hash : ¬ (stored.hash ≢ hash_of n.body) → hash_of n.body ≡ hash_of stored.body
         one_hash twice = elim (one_or_not stored.hash (hash_of n.body)) [ inl same ↦ sym same ∙ hashed | inr differ ↦ absurd (twice differ) ]

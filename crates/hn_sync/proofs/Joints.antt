@@ -41,7 +41,8 @@ module _ (a b : Member) (e f : EpId) where
       let first = both (on_one_link (link_of e a) (link_of f b)) (has_peer_at a.router e b.router.id f) last.0 in
       by_links (link_of e a) (link_of f b) refl refl first.0 (peer_from a.router e b.router.id f first.1) (peer_from b.router f a.router.id e last.1)
     where
-      by_links : (here there : Option ℕ) → link_of e a ≡ here → link_of f b ≡ there → on_one_link here there ≡ true → HasPeerAt a.router e b.router.id f → HasPeerAt b.router f a.router.id e → AreJoined a e b f
+      by_links : (here there : Option ℕ) → link_of e a ≡ here → link_of f b ≡ there → on_one_link here there ≡ true
+          → HasPeerAt a.router e b.router.id f → HasPeerAt b.router f a.router.id e → AreJoined a e b f
       by_links None there is_here is_there same one other = absurd (cc)
       by_links (Some link) None is_here is_there same one other = absurd (cc)
       by_links (Some link) (Some l) is_here is_there same one other =

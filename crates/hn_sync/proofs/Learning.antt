@@ -71,7 +71,8 @@ module _ (of_entry : HeldIsOfAnEntry) (marks : MarksKeepTable) (start before : S
     pub said : List Saying
     pub are : AnswersAre r said
     pub all : All Asks said
-    pub each : HasRoomFor before start.reach → (n : Entry) → IsGiven start n → n.id.0 ≢ before.id.0 → IsRepaired before r.state n ⊎ (AsBefore before r.state n × (Elsewhere n ⊎ (InRest rest n ⊎ InAsked said n)))
+    pub each : HasRoomFor before start.reach → (n : Entry) → IsGiven start n → n.id.0 ≢ before.id.0 → IsRepaired before r.state n
+        ⊎ (AsBefore before r.state n × (Elsewhere n ⊎ (InRest rest n ⊎ InAsked said n)))
     pub owned : IsOwned r.state rest
 
   -- ---- a refresh
@@ -82,7 +83,8 @@ module _ (of_entry : HeldIsOfAnEntry) (marks : MarksKeepTable) (start before : S
       there : option_map (held_after reach s.moment id) (held s.table.entries id) ≡ Some stored
       there = sym (ap (λ (x : Nodes). held x.entries id) table ∙ held_marked reach s.moment s.table.entries id) ∙ is
 
-      by_held : (o : Option Stored) → held s.table.entries id ≡ o → ((old : Stored) × (held before.table.entries id ≡ Some old)) ⊎ ((x : NodeId) × Contains start.reach x × (x.0 ≡ id) × (is_news before x ≡ true))
+      by_held : (o : Option Stored) → held s.table.entries id ≡ o → ((old : Stored) × (held before.table.entries id ≡ Some old))
+          ⊎ ((x : NodeId) × Contains start.reach x × (x.0 ≡ id) × (is_news before x ≡ true))
       by_held None none = absurd (let clash : None ≡ Some stored = sym (ap (option_map (held_after reach s.moment id)) none) ∙ there in cc)
       by_held (Some old) some = both id old some
 
@@ -215,7 +217,8 @@ module _ (of_entry : HeldIsOfAnEntry) (marks : MarksKeepTable) (start before : S
                 waits.0,
                 elim waits.1 [
                   | inl elsewhere ↦ inl elsewhere
-                  | inr (inl there) ↦ inr (inl (in_rest s rest n (λ e. absurd (let clash : NetworkState ≡ NodeState n.id = sym about ∙ e in cc)) (λ e. absurd (let clash : NetworkState ≡ NodeData n.id = sym about ∙ e in cc)) there))
+                  | inr (inl there) ↦ inr (inl (in_rest s rest n (λ e. absurd (let clash : NetworkState ≡ NodeState n.id = sym about ∙ e in cc))
+                      (λ e. absurd (let clash : NetworkState ≡ NodeData n.id = sym about ∙ e in cc)) there))
                   | inr (inr old) ↦ inr (inr old)
                 ],
               )

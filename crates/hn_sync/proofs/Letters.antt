@@ -1,5 +1,6 @@
 -- The copies of what the two routers of an exchange send each other, with what they say.
-use Rattle.std.proofs.Common.{◌≡◌, ◌∙◌, ◌<◌, ◌+◌, ◌^◌, ◌==◌, ◌&&◌, ℕ, zero, suc, Bool, true, false, List, [], ◌∷◌, ◌++◌, map, filter, slice_get, Contains, Some, sym, ap, subst, refl, inl, inr, arith, append_assoc}
+use Rattle.std.proofs.Common.{◌≡◌, ◌∙◌, ◌<◌, ◌+◌, ◌^◌, ◌==◌, ◌&&◌, ℕ, zero, suc, Bool, true, false, List, [], ◌∷◌, ◌++◌, map, filter, slice_get, Contains, Some, sym, ap, subst, refl, inl, inr, arith}
+use Rattle.std.proofs.Common.{append_assoc}
 use Rattle.std.proofs.lemmas.Bool.{eq-eqb}
 use Rattle.std.proofs.lemmas.List.Elements.{Contains-append_left, Contains-append_right, Contains-append_cases}
 use Rattle.std.proofs.lemmas.Option.{same_Some}
@@ -34,9 +35,12 @@ on_link_there link k [] i m e at there on = absurd (cc)
 on_link_there link k (x ∷ ms) zero m e at there on =
     let same : x ≡ m = same_Some x m at in
     let place : k + 0 ≡ k = omega arith in
-    let one : Contains (on_link_at link k m) (record { place = k; endpoint = e }) = Contains-map (λ (y : EpId). let t : Target = record { place = k; endpoint = y } in t) (filter (is_on link m) (endpoints_of m.router.ports)) e (in_filter (is_on link m) (endpoints_of m.router.ports) e there on) in
+    let one : Contains (on_link_at link k m) (record { place = k; endpoint = e }) =
+    Contains-map (λ (y : EpId). let t : Target = record { place = k; endpoint = y } in t) (filter (is_on link m) (endpoints_of m.router.ports)) e
+    (in_filter (is_on link m) (endpoints_of m.router.ports) e there on) in
     subst (λ (n : ℕ). Contains (on_link link k (x ∷ ms)) (record { place = n; endpoint = e })) (sym place)
-    (Contains-append_left (on_link_at link k x) (on_link link (suc k) ms) (record { place = k; endpoint = e }) (subst (λ (y : Member). Contains (on_link_at link k y) (record { place = k; endpoint = e })) (sym same) one))
+    (Contains-append_left (on_link_at link k x) (on_link link (suc k) ms) (record { place = k; endpoint = e })
+    (subst (λ (y : Member). Contains (on_link_at link k y) (record { place = k; endpoint = e })) (sym same) one))
 on_link_there link k (x ∷ ms) (suc i) m e at there on =
     let place : suc k + i ≡ k + suc i = omega arith in
     Contains-append_right (on_link_at link k x) (on_link link (suc k) ms) (record { place = k + suc i; endpoint = e })
@@ -101,7 +105,12 @@ module _ (members : List Member) (p q : Target) (m : Member) (link : ℕ) (to_as
 
   pub sent : (own : NodeId) (said : List Saying) (datagrams : List (List ℕ)) → AreSaid own p.endpoint said datagrams → IsSent own said datagrams
   unfolding letters_at letter_of targets
-  sent own said [] h = record { letters = []; copies = refl; good = λ l there. absurd (nothing_in l there); each = λ s there. absurd (nothing_in s (subst (λ (xs : List Saying). Contains xs s) h there)) }
+  sent own said [] h = record {
+    letters = [];
+    copies = refl;
+    good = λ l there. absurd (nothing_in l there);
+    each = λ s there. absurd (nothing_in s (subst (λ (xs : List Saying). Contains xs s) h there));
+  }
   sent own said (d ∷ ds) h =
       let rest = sent own h.1 ds h.4 in
       record {
@@ -119,7 +128,11 @@ module _ (members : List Member) (p q : Target) (m : Member) (link : ℕ) (to_as
                 comes = k.comes;
                 unicast = k.unicast;
                 says = k.says;
-                part = record { front = h.0 ++ k.part.front; rest = k.part.rest; parts = h.2 ∙ (ap (λ (xs : List Saying). h.0 ++ xs) k.part.parts ∙ sym (append_assoc h.0 k.part.front (l.group ++ k.part.rest))) };
+                part = record {
+                  front = h.0 ++ k.part.front;
+                  rest = k.part.rest;
+                  parts = h.2 ∙ (ap (λ (xs : List Saying). h.0 ++ xs) k.part.parts ∙ sym (append_assoc h.0 k.part.front (l.group ++ k.part.rest)));
+                };
                 side = k.side;
               }
         ];

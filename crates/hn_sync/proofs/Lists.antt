@@ -1,5 +1,6 @@
 -- Elements of lists that were made of others.
-use Rattle.std.proofs.Common.{◌≡◌, ◌≢◌, ◌∙◌, ◌⊎◌, ℕ, zero, suc, Bool, true, false, cond, List, [], ◌∷◌, ◌++◌, length, find, position, slice_get, slice_set, nat_lt, Contains, Option, Some, None, sym, ap, refl, inl, inr}
+use Rattle.std.proofs.Common.{◌≡◌, ◌≢◌, ◌∙◌, ◌⊎◌, ℕ, zero, suc, Bool, true, false, cond, List, [], ◌∷◌, ◌++◌, length, find, position, slice_get, slice_set, nat_lt, Contains, Option, Some, None, sym}
+use Rattle.std.proofs.Common.{ap, refl, inl, inr}
 use Rattle.std.specs.List.{flat_map, position_or_len}
 use Rattle.std.proofs.lemmas.List.Elements.{Contains-append_cases}
 use Rattle.std.proofs.lemmas.List.Folds.{find_at}

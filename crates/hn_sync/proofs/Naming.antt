@@ -1,5 +1,6 @@
 -- The router that asks hears of its own identifier, and may draw a new one.
-use Rattle.std.proofs.Common.{◌≡◌, ◌≢◌, ◌∙◌, ◌⊎◌, ◌<◌, ◌≤◌, ◌+◌, ◌-◌, ◌%◌, ◌^◌, ◌==◌, ◌||◌, ℕ, Bool, true, false, List, [], ◌∷◌, Contains, Option, Some, None, is_some, sym, ap, subst, refl, inl, inr, arith}
+use Rattle.std.proofs.Common.{◌≡◌, ◌≢◌, ◌∙◌, ◌⊎◌, ◌<◌, ◌≤◌, ◌+◌, ◌-◌, ◌%◌, ◌^◌, ◌==◌, ◌||◌, ℕ, Bool, true, false, List, [], ◌∷◌, Contains, Option, Some, None, is_some, sym, ap, subst, refl, inl, inr}
+use Rattle.std.proofs.Common.{arith}
 use Rattle.std.proofs.lemmas.Bool.{or_parts, eqb-false, eq-eqb, cond-true}
 use Rattle.hn_base.proofs.AscendingLists.{Contains-head, Contains-tail}
 use Rattle.hn_base.specs.declared.ids.NodeId.{NodeId}
@@ -45,7 +46,8 @@ own_is nodes own s (inr (h, inr (k, inr (l, inr (m, inr (o, inr (p, inr (q, inr 
 
 -- of the own identifier, the state is stale, or it is a claim
 pub own_answer : (nodes : Nodes) (own : OwnLeaf) (with_data : Bool) (n : Entry) (how : Took) → IsEntry n → n.id.0 ≡ own.id.0 → IsAnswer nodes own (state_said with_data n) how
-    → (IsStale (Some (record { number = own.number; hash = own.hash })) (state_of n) × (how ≡ took.Stale)) ⊎ ((¬ (IsStale (Some (record { number = own.number; hash = own.hash })) (state_of n))) × (how ≡ took.Own))
+    → (IsStale (Some (record { number = own.number; hash = own.hash })) (state_of n) × (how ≡ took.Stale))
+    ⊎ ((¬ (IsStale (Some (record { number = own.number; hash = own.hash })) (state_of n))) × (how ≡ took.Own))
 unfolding IsAnswer
 own_answer nodes own with_data n how fits is = by_line
   where
@@ -53,7 +55,8 @@ own_answer nodes own with_data n how fits is = by_line
     known = cond-true (n.id.0 == own.id.0) _ _ (eq-eqb n.id.0 own.id.0 is)
 
     by_line : IsAnswer nodes own (state_said with_data n) how
-        → (IsStale (Some (record { number = own.number; hash = own.hash })) (state_of n) × (how ≡ took.Stale)) ⊎ ((¬ (IsStale (Some (record { number = own.number; hash = own.hash })) (state_of n))) × (how ≡ took.Own))
+        → (IsStale (Some (record { number = own.number; hash = own.hash })) (state_of n) × (how ≡ took.Stale))
+        ⊎ ((¬ (IsStale (Some (record { number = own.number; hash = own.hash })) (state_of n))) × (how ≡ took.Own))
     by_line (inl h) = inl (subst (λ (o : Option Part). IsStale o (state_said with_data n)) known h.0, h.1)
     by_line (inr (h, inl k)) = absurd (let clash : None ≡ Some (record { number = own.number; hash = own.hash }) = sym k.0.0 ∙ known in cc)
     by_line (inr (h, inr (k, inl l))) = absurd (let long = l.0 in let less = said_short with_data n fits in omega arith)
@@ -124,11 +127,13 @@ renamed_refreshed me b c rest h refresh =
     }
 
 -- and another node's state is passed
-pub renamed_state : (me : NodeId) (s : Saying) (rest : List Saying) (carried : PlainState) (id : NodeId) (r b : Running) → s.about ≡ NodeState id → carried.node ≡ id.0 → IsNodeState carried r b → IsRenamed me r (s ∷ rest)
+pub renamed_state : (me : NodeId) (s : Saying) (rest : List Saying) (carried : PlainState) (id : NodeId) (r b : Running) → s.about ≡ NodeState id
+    → carried.node ≡ id.0 → IsNodeState carried r b → IsRenamed me r (s ∷ rest)
     → IsRenamed me b rest
 renamed_state me s rest carried id r b about node rule h = by_how rule.how refl
   where
-    passed : (x : Running) → x.state.id ≡ r.state.id → x.state.ports ≡ r.state.ports → ((x.state.claimed ≡ false) ⊎ ((y : Saying) (z : NodeId) → Contains rest y → y.about ≡ NodeState z → x.state.id.0 < z.0)) → IsRenamed me x rest
+    passed : (x : Running) → x.state.id ≡ r.state.id → x.state.ports ≡ r.state.ports
+        → ((x.state.claimed ≡ false) ⊎ ((y : Saying) (z : NodeId) → Contains rest y → y.about ≡ NodeState z → x.state.id.0 < z.0)) → IsRenamed me x rest
     passed x same_id same_ports free = record {
       other = λ same. h.other (sym (ap (λ (y : NodeId). y.0) same_id) ∙ same);
       ascend = subst Ascend (sym same_ports) h.ascend;
@@ -137,7 +142,8 @@ renamed_state me s rest carried id r b about node rule h = by_how rule.how refl
       free = free;
     }
 
-    free_rest : (x : Running) → x.state.id ≡ r.state.id → x.state.claimed ≡ r.state.claimed → (x.state.claimed ≡ false) ⊎ ((y : Saying) (z : NodeId) → Contains rest y → y.about ≡ NodeState z → x.state.id.0 < z.0)
+    free_rest : (x : Running) → x.state.id ≡ r.state.id → x.state.claimed ≡ r.state.claimed → (x.state.claimed ≡ false)
+        ⊎ ((y : Saying) (z : NodeId) → Contains rest y → y.about ≡ NodeState z → x.state.id.0 < z.0)
     free_rest x same_id same_claimed = elim h.free [
       | inl none ↦ inl (same_claimed ∙ none)
       | inr above ↦ inr (λ y z there is. subst (λ (w : NodeId). w.0 < z.0) (sym same_id) (above y z (Contains-tail s rest y there) is))
@@ -175,6 +181,9 @@ renamed_state me s rest carried id r b about node rule h = by_how rule.how refl
         other same = absurd (let clash = sym is ∙ same in cc)
 
         by_taken : ((rule.how ≢ took.Ask) × (b ≡ took_noted carried rule.how (record r { state = record r.state { table = rule.table } })))
-            ⊎ ((rule.how ≡ took.Ask) × (b ≡ with_answer (NodeRequest (record { 0 = carried.node })) (RequestNode carried.node []) (took_noted carried took.Ask (record r { state = record r.state { table = rule.table } })))) → IsRenamed me b rest
-        by_taken (inl k) = passed b (ap (λ (x : Running). x.state.id) k.1) (ap (λ (x : Running). x.state.ports) k.1) (free_rest b (ap (λ (x : Running). x.state.id) k.1) (ap (λ (x : Running). x.state.claimed) k.1))
-        by_taken (inr k) = passed b (ap (λ (x : Running). x.state.id) k.1) (ap (λ (x : Running). x.state.ports) k.1) (free_rest b (ap (λ (x : Running). x.state.id) k.1) (ap (λ (x : Running). x.state.claimed) k.1))
+            ⊎ ((rule.how ≡ took.Ask) × (b ≡ with_answer (NodeRequest (record { 0 = carried.node })) (RequestNode carried.node [])
+            (took_noted carried took.Ask (record r { state = record r.state { table = rule.table } })))) → IsRenamed me b rest
+        by_taken (inl k) = passed b (ap (λ (x : Running). x.state.id) k.1) (ap (λ (x : Running). x.state.ports) k.1)
+            (free_rest b (ap (λ (x : Running). x.state.id) k.1) (ap (λ (x : Running). x.state.claimed) k.1))
+        by_taken (inr k) = passed b (ap (λ (x : Running). x.state.id) k.1) (ap (λ (x : Running). x.state.ports) k.1)
+            (free_rest b (ap (λ (x : Running). x.state.id) k.1) (ap (λ (x : Running). x.state.claimed) k.1))

@@ -1,5 +1,6 @@
 -- The least of the pairs of endpoints that pass a test, from two lists in ascending order.
-use Rattle.std.proofs.Common.{◌≡◌, ◌≤◌, ◌<◌, ◌∙◌, ◌⊎◌, ℕ, Bool, true, false, cond, List, [], ◌∷◌, map, find, is_some, option_and_then, Option, Some, None, Contains, sym, ap, subst, refl, inl, inr, arith}
+use Rattle.std.proofs.Common.{◌≡◌, ◌≤◌, ◌<◌, ◌∙◌, ◌⊎◌, ℕ, Bool, true, false, cond, List, [], ◌∷◌, map, find, is_some, option_and_then, Option, Some, None, Contains, sym, ap, subst, refl, inl, inr}
+use Rattle.std.proofs.Common.{arith}
 use Rattle.std.specs.declared.cmp.Ordering.TheVariants.{Less}
 use Rattle.std.specs.List.Sorted.{IsStrictlySortedBy}
 use Rattle.std.specs.Option.{option_map}
@@ -13,7 +14,8 @@ use Rattle.hn_base.proofs.AscendingNumbers.{lt_from_less}
 use Rattle.hn_base.proofs.Elements.{found_passes, passing_found}
 
 -- in a list that ascends by numbers, what is found is the least that passes
-found_is_least : {X : Type 0} (number : X → ℕ) (test : X → Bool) (xs : List X) (x y : X) → IsStrictlySortedBy nat_cmp (map number xs) → find test xs ≡ Some x → Contains xs y → test y ≡ true → number x ≤ number y
+found_is_least : {X : Type 0} (number : X → ℕ) (test : X → Bool) (xs : List X) (x y : X) → IsStrictlySortedBy nat_cmp (map number xs)
+    → find test xs ≡ Some x → Contains xs y → test y ≡ true → number x ≤ number y
 unfolding IsStrictlySortedBy
 found_is_least number test [] x y up found there passes = absurd (nothing_in y there)
 found_is_least {X} number test (z ∷ zs) x y up found there passes = go (found_is_least number test zs x y up.1) (test z) refl found
@@ -23,7 +25,9 @@ found_is_least {X} number test (z ∷ zs) x y up found there passes = go (found_
         let at : number z ≡ number x = ap number (same_Some z x is) in
         elim (Contains-cases z zs y there) [
           | inl here ↦ (let one : number z ≡ number y = ap number here in omega arith)
-          | inr later ↦ (let less : number z < number y = lt_from_less (number z) (number y) (All-contains (λ n. nat_cmp (number z) n ≡ Less) (map number zs) (number y) (All-from_recursion (λ n. nat_cmp (number z) n ≡ Less) (map number zs) up.0) (Contains-map number zs y later)) in omega arith)
+          | inr later ↦ (let less : number z < number y = lt_from_less (number z) (number y)
+              (All-contains (λ n. nat_cmp (number z) n ≡ Less) (map number zs) (number y)
+              (All-from_recursion (λ n. nat_cmp (number z) n ≡ Less) (map number zs) up.0) (Contains-map number zs y later)) in omega arith)
         ]
     go rest false fails is = elim (Contains-cases z zs y there) [
       | inl here ↦ absurd (let other : test z ≡ true = ap test here ∙ passes in cc)
@@ -49,7 +53,8 @@ module _ {X : Type 0} (id : X → EpId) where
           let same : id x ≡ e = same_Some (id x) e some in
           (x, passes.0, same, subst (λ (k : EpId). test k ≡ true) same passes.1)
 
-  first_least : (test : EpId → Bool) (xs : List X) (e : EpId) (y : X) → IsStrictlySortedBy nat_cmp (map (λ x. (id x).0) xs) → first_of test xs ≡ Some e → Contains xs y → test (id y) ≡ true → e.0 ≤ (id y).0
+  first_least : (test : EpId → Bool) (xs : List X) (e : EpId) (y : X) → IsStrictlySortedBy nat_cmp (map (λ x. (id x).0) xs)
+      → first_of test xs ≡ Some e → Contains xs y → test (id y) ≡ true → e.0 ≤ (id y).0
   first_least test xs e y up is there passes = by_find (find (λ x. test (id x)) xs) refl is
     where
       by_find : (o : Option X) → find (λ x. test (id x)) xs ≡ o → option_map id o ≡ Some e → e.0 ≤ (id y).0
@@ -129,7 +134,8 @@ module _ {X : Type 0} (id : X → EpId) where
         let other = first_there (test e) ys f parts.1 in
         record { x = one.0; y = other.0; here = one.1; there = other.1; is_one = one.2; is_other = other.2; passes = other.3 }
 
-    pub joint_is_first : (e f x y : EpId) → IsStrictlySortedBy nat_cmp (map (λ z. (id z).0) xs) → IsStrictlySortedBy nat_cmp (map (λ z. (id z).0) ys) → joint_in ≡ Some (e, f) → Passes x y → (e.0 < x.0) ⊎ ((e.0 ≡ x.0) × (f.0 ≤ y.0))
+    pub joint_is_first : (e f x y : EpId) → IsStrictlySortedBy nat_cmp (map (λ z. (id z).0) xs) → IsStrictlySortedBy nat_cmp (map (λ z. (id z).0) ys)
+        → joint_in ≡ Some (e, f) → Passes x y → (e.0 < x.0) ⊎ ((e.0 ≡ x.0) × (f.0 ≤ y.0))
     joint_is_first e f x y up_xs up_ys is p =
         let parts = joint_parts e f is in
         let least = first_least (λ k. is_some (partner_in k)) xs e p.x up_xs parts.0 p.here (subst (λ (k : EpId). is_some (partner_in k) ≡ true) (sym p.is_one) (has_partner x y p)) in

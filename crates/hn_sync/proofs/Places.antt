@@ -1,5 +1,6 @@
 -- A world has few routers, so the addresses of their endpoints are link-local and tell them apart.
-use Rattle.std.proofs.Common.{◌≡◌, ◌∙◌, ◌<◌, ◌≤◌, ◌^◌, ℕ, zero, suc, Bool, true, false, not, List, [], ◌∷◌, ◌++◌, length, slice_set, nat_lt, Option, Some, None, sym, ap, subst, refl, arith, length-append}
+use Rattle.std.proofs.Common.{◌≡◌, ◌∙◌, ◌<◌, ◌≤◌, ◌^◌, ℕ, zero, suc, Bool, true, false, not, List, [], ◌∷◌, ◌++◌, length, slice_set, nat_lt, Option, Some, None, sym, ap, subst, refl, arith}
+use Rattle.std.proofs.Common.{length-append}
 use Rattle.std.specs.Option.{option_or}
 use Rattle.std.proofs.lemmas.Bool.{ltb-true}
 use Rattle.hn_base.specs.Addr.{IsLinkLocal}
@@ -38,14 +39,17 @@ below_most taken count most a b h = by_tests a (nat_lt count most) refl h
     by_tests false true is k = ltb-true count most is
     by_tests false false is k = absurd (cc)
 
-acts_few : (change : Member → Member) (place : ℕ) (e : PlainEvent) (words : List ℕ) (notes : List Note) (before after : Parts) → ActsAt change place e words notes before after → length after.members ≡ length before.members
+acts_few : (change : Member → Member) (place : ℕ) (e : PlainEvent) (words : List ℕ) (notes : List Note) (before after : Parts)
+    → ActsAt change place e words notes before after → length after.members ≡ length before.members
 acts_few change place e words notes before after h = ap (λ (w : Parts). length w.members) h.gives ∙ length_set before.members place (change (record h.member { router = h.next }))
 
-else_few : (e : WEvent) (words : List ℕ) (notes : List Note) (before after : Parts) → refusal before e ≡ None → routed e ≡ None → DoesElse e words notes before after → length before.members ≤ 128 → length after.members ≤ 128
+else_few : (e : WEvent) (words : List ℕ) (notes : List Note) (before after : Parts) → refusal before e ≡ None → routed e ≡ None
+    → DoesElse e words notes before after → length before.members ≤ 128 → length after.members ≤ 128
 else_few (event.Router name id) words notes before after accepted none h few =
     let less = below_most 0 (length before.members) (most_routers before.version) _ _ accepted in
     let top = most before.version in
-    let made : length after.members ≡ length (before.members ++ record { name = name; running = true; router = h.router; attachments = [] } ∷ []) = ap (λ (w : Parts). length w.members) h.quietly.gives in
+    let made : length after.members ≡ length (before.members ++ record { name = name; running = true; router = h.router; attachments = [] } ∷ []) =
+    ap (λ (w : Parts). length w.members) h.quietly.gives in
     let more = length-append before.members (record { name = name; running = true; router = h.router; attachments = [] } ∷ []) in
     omega (arith, less, top, made, more)
 else_few (event.Link name) words notes before after accepted none h few = subst (λ (w : Parts). length w.members ≤ 128) (sym h.gives) few

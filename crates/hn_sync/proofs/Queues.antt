@@ -1,5 +1,6 @@
 -- The copies of an exchange that are not delivered yet, and what they give hope for.
-use Rattle.std.proofs.Common.{◌≡◌, ◌∙◌, ◌⊎◌, ℕ, zero, suc, Bool, true, false, cond, List, [], ◌∷◌, ◌++◌, length, map, slice_get, slice_set, nat_lt, position, All, Contains, Some, None, sym, ap, subst, refl, inl, inr, append_assoc}
+use Rattle.std.proofs.Common.{◌≡◌, ◌∙◌, ◌⊎◌, ℕ, zero, suc, Bool, true, false, cond, List, [], ◌∷◌, ◌++◌, length, map, slice_get, slice_set, nat_lt, position, All, Contains, Some, None, sym, ap, subst}
+use Rattle.std.proofs.Common.{refl, inl, inr, append_assoc}
 use Rattle.std.specs.List.{position_or_len}
 use Rattle.std.proofs.lemmas.List.Elements.{All-nil, Contains-append_left}
 use Rattle.std.proofs.lemmas.Option.{same_Some}
@@ -39,7 +40,8 @@ no_answers (x ∷ xs) is = absurd (cc)
 
 -- ---- a router keeps its name
 
-pub place_set : (text : List ℕ) (ms : List Member) (i : ℕ) (m : Member) (s : State) → slice_get ms i ≡ Some m → position (is_named text) (slice_set ms i (record m { router = s })) ≡ position (is_named text) ms
+pub place_set : (text : List ℕ) (ms : List Member) (i : ℕ) (m : Member) (s : State) → slice_get ms i ≡ Some m
+    → position (is_named text) (slice_set ms i (record m { router = s })) ≡ position (is_named text) ms
 place_set text ms i m s at = λ k. cond (nat_lt (first ms i at k) (size ms i k)) (Some (first ms i at k)) None
   where
     first : (ms : List Member) (i : ℕ) → slice_get ms i ≡ Some m → position_or_len (is_named text) (slice_set ms i (record m { router = s })) ≡ position_or_len (is_named text) ms
@@ -132,7 +134,8 @@ module _ (here there : Target) (start before : State) where
     abbrev pub LearnsBy : List Letter → Running → List Saying → Type 0
     LearnsBy queue r rest = Learns of_entry marks start before before.ports (PendingIn queue) (WaitingIn queue) r rest
 
-    pub relearn : (queue other : List Letter) (r t : Running) (rest left said : List Saying) (h : LearnsBy queue r rest) → AnswersAre t said → All Asks said → t.state.id ≡ r.state.id → signs t.state.ports ≡ signs r.state.ports
+    pub relearn : (queue other : List Letter) (r t : Running) (rest left said : List Saying) (h : LearnsBy queue r rest) → AnswersAre t said
+        → All Asks said → t.state.id ≡ r.state.id → signs t.state.ports ≡ signs r.state.ports
         → t.state.table ≡ r.state.table → ((n : Entry) → IsGiven start n → PendingIn queue n ⊎ (InRest rest n ⊎ InAsked h.said n) → PendingIn other n ⊎ (InRest left n ⊎ InAsked said n))
         → IsOwned of_entry marks start before before.ports (PendingIn other) (WaitingIn other) t.state left → LearnsBy other t left
     relearn queue other r t rest left said h are all same_id same_signs same_table hope owned = record {
@@ -169,7 +172,8 @@ module _ (here there : Target) (start before : State) where
         hope n given (inr (inl (x, there_x, is))) = absurd (nothing_in x there_x)
         hope n given (inr (inr (x, there_x, is))) = absurd (nothing_in x (subst (λ (xs : List Saying). Contains xs x) no_said there_x))
 
-        owned : IsOwned of_entry marks start before before.ports (PendingIn (l ∷ tail)) (WaitingIn (l ∷ tail)) r.state [] → IsOwned of_entry marks start before before.ports (PendingIn tail) (WaitingIn tail) r.state l.group
+        owned : IsOwned of_entry marks start before before.ports (PendingIn (l ∷ tail)) (WaitingIn (l ∷ tail)) r.state []
+            → IsOwned of_entry marks start before before.ports (PendingIn tail) (WaitingIn tail) r.state l.group
         owned (inl safe) = inl safe
         owned (inr (up, inl none_own)) = absurd (nothing_in none_own.3.0 none_own.3.1)
         owned (inr (up, inr waits)) = let k = waiting_taken l tail waits in inr (k.1, k.2)

@@ -47,7 +47,8 @@ reset_rehashes at r a up h = by_port (port_at at r.state.ports) refl h
     by_port : (o : Option Port) → port_at at r.state.ports ≡ o → OnSome IsPortReset o r a → IsRehashed r a
     by_port None found is = subst (IsRehashed r) (sym is) (rehashed_self r)
     by_port (Some port) found (inl is) = subst (IsRehashed r) (sym is.1) (rehashed_self r)
-    by_port (Some port) found (inr is) = subst (IsRehashed r) (sym is.1.1) (record { done = record r.done { words = r.done.words ++ is.1.0 ∷ [] }; gives = refl; sends = refl; published = refl; signed = signs_put at r.state.ports port _ up found refl })
+    by_port (Some port) found (inr is) = subst (IsRehashed r) (sym is.1.1)
+        (record { done = record r.done { words = r.done.words ++ is.1.0 ∷ [] }; gives = refl; sends = refl; published = refl; signed = signs_put at r.state.ports port _ up found refl })
 
 resets_rehash : (ends : List EpId) (r a : Running) → Ascend r.state.ports → Each (λ at. AtPort at IsPortReset) ends r a → IsRehashed r a
 resets_rehash [] r a up h = subst (IsRehashed r) (sym h) (rehashed_self r)
@@ -118,12 +119,24 @@ refresh_by r b c a reaching rehashed number own done is sends items young kept =
   kept = kept;
 }
   where
-    put : b ≡ record r { state = record r.state { number = number; own = own }; done = done } → ◌≡◌ {A = Running} (record b { state = record b.state { reach = reaching.reach; table = loss_marked reaching.reach b.state.moment b.state.table } })
+    put : b ≡ record r { state = record r.state { number = number; own = own }; done = done }
+        → ◌≡◌ {A = Running} (record b { state = record b.state { reach = reaching.reach; table = loss_marked reaching.reach b.state.moment b.state.table } })
         (record r { state = record r.state { number = number; own = own; reach = reaching.reach; table = loss_marked reaching.reach r.state.moment r.state.table }; done = done })
     put e = ap (λ (x : Running). let y : Running = record x { state = record x.state { reach = reaching.reach; table = loss_marked reaching.reach x.state.moment x.state.table } } in y) e
 
-    gives : a ≡ record r { state = record r.state { number = number; own = own; reach = reaching.reach; table = loss_marked reaching.reach r.state.moment r.state.table; net = a.state.net; ports = a.state.ports }; done = rehashed.done }
-    gives = rehashed.gives ∙ ap (λ (x : Running). let y : Running = record x { state = record x.state { net = a.state.net; ports = a.state.ports }; done = rehashed.done } in y) (reaching.gives ∙ put is)
+    gives : a ≡ record r {
+      state = record r.state {
+        number = number;
+        own = own;
+        reach = reaching.reach;
+        table = loss_marked reaching.reach r.state.moment r.state.table;
+        net = a.state.net;
+        ports = a.state.ports;
+      };
+      done = rehashed.done;
+    }
+    gives = rehashed.gives ∙ ap (λ (x : Running). let y : Running = record x { state = record x.state { net = a.state.net; ports = a.state.ports }; done = rehashed.done } in y)
+        (reaching.gives ∙ put is)
 
     same_links : links_of a.state.ports ≡ links_of r.state.ports
     same_links = links_from_signs a.state.ports r.state.ports (rehashed.signed ∙ ap (λ (x : Running). signs x.state.ports) (reaching.gives ∙ put is))

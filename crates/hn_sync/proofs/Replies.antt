@@ -75,7 +75,8 @@ module _ (of_entry : HeldIsOfAnEntry) (start : State) (fit : IsFit start) where
     pub each : (id : NodeId) (n : Entry) → Contains ids id → Knows start id n → (x : Saying) × Contains next x × (x.about ≡ NodeState id) × (x.item ≡ item_of false n)
     pub ascends : Ascends said → IsStrictlySortedBy node_cmp ids → ((s : Saying) (id : NodeId) → Contains said s → Contains ids id → Below s.about (NodeState id)) → Ascends next
 
-  pub states : (ids : List NodeId) → ((id : NodeId) → Contains ids id → Contains start.reach id) → (said : List Saying) (r a : Running) → IsStill start r.state → AnswersAre r said → All (Says start) said
+  pub states : (ids : List NodeId) → ((id : NodeId) → Contains ids id → Contains start.reach id) → (said : List Saying) (r a : Running)
+      → IsStill start r.state → AnswersAre r said → All (Says start) said
       → Each (λ id b a. a ≡ with_state id b) ids r a → States ids said r a
   states [] within said r a still are all h = record {
     state = ap (λ (x : Running). x.state) h;
@@ -90,7 +91,8 @@ module _ (of_entry : HeldIsOfAnEntry) (start : State) (fit : IsFit start) where
       elim (some_more of_entry start fit (NodeState id) false id said r (λ n there knows. (n, there, knows, refl)) still are all (within id (Contains-head id ids))) [
         | inl k ↦
             let state : (h.0).state ≡ r.state = ap (λ (x : Running). x.state) h.1 ∙ some_state (NodeState id) _ r in
-            let rest = states ids (λ x there. within x (Contains-tail id ids x there)) k.2.next h.0 a (subst (IsStill start) (sym state) still) (ap (λ (x : Running). x.answers) h.1 ∙ k.2.are) k.2.all h.2 in
+            let rest = states ids (λ x there. within x (Contains-tail id ids x there)) k.2.next h.0 a (subst (IsStill start) (sym state) still)
+            (ap (λ (x : Running). x.answers) h.1 ∙ k.2.are) k.2.all h.2 in
             record {
               state = rest.state ∙ state;
               next = rest.next;
@@ -112,13 +114,15 @@ module _ (of_entry : HeldIsOfAnEntry) (start : State) (fit : IsFit start) where
                 | inr more ↦ rest.ascends (subst Ascends (sym more) (ascends_push said _ up (λ s old. below s id old (Contains-head id ids)))) (sorted_tail node_cmp id ids sorted)
                     (λ s x old later. elim (Contains-append_cases said (record { about = NodeState id; item = item_of false k.0 } ∷ []) s (subst (λ (xs : List Saying). Contains xs s) more old)) [
                       | inl before ↦ below s x before (Contains-tail id ids x later)
-                      | inr new ↦ subst (λ (y : Saying). Below y.about (NodeState x)) (Contains-one (record { about = NodeState id; item = item_of false k.0 }) s new) (lt_from_less id.0 x.0 (below_head node_cmp id ids sorted x later))
+                      | inr new ↦ subst (λ (y : Saying). Below y.about (NodeState x))
+                          (Contains-one (record { about = NodeState id; item = item_of false k.0 }) s new) (lt_from_less id.0 x.0 (below_head node_cmp id ids sorted x later))
                     ])
               ];
             }
         | inr k ↦
             let same : h.0 ≡ r = h.1 ∙ k.1 in
-            let rest = states ids (λ x there. within x (Contains-tail id ids x there)) said h.0 a (subst (λ (x : Running). IsStill start x.state) (sym same) still) (ap (λ (x : Running). x.answers) same ∙ are) all h.2 in
+            let rest = states ids (λ x there. within x (Contains-tail id ids x there)) said h.0 a
+            (subst (λ (x : Running). IsStill start x.state) (sym same) still) (ap (λ (x : Running). x.answers) same ∙ are) all h.2 in
             record {
               state = rest.state ∙ ap (λ (x : Running). x.state) same;
               next = rest.next;
@@ -134,7 +138,8 @@ module _ (of_entry : HeldIsOfAnEntry) (start : State) (fit : IsFit start) where
       ]
 
   pub network_requested : (said : List Saying) (r a : Running) → IsStill start r.state → AnswersAre r said → All (Says start) said → IsNetworkRequest r a
-      → (first : List Saying) × ((s : Saying) → Contains said s → Contains first s) × ((said ≡ []) → first ≡ record { about = NetworkState; item = item.NetworkState start.net [] } ∷ []) × States start.reach first r a
+      → (first : List Saying) × ((s : Saying) → Contains said s → Contains first s)
+      × ((said ≡ []) → first ≡ record { about = NetworkState; item = item.NetworkState start.net [] } ∷ []) × States start.reach first r a
   network_requested said r a still are all h =
       let same_net : r.state.net ≡ start.net = ap (λ (s : State). s.net) still.gives in
       let same_reach : r.state.reach ≡ start.reach = ap (λ (s : State). s.reach) still.gives in

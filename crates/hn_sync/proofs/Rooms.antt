@@ -1,5 +1,6 @@
 -- The router that asks has room for the nodes that the other one reaches.
-use Rattle.std.proofs.Common.{◌≡◌, ◌≢◌, ◌∙◌, ◌⊎◌, ◌≤◌, ◌+◌, ◌==◌, ◌&&◌, ℕ, Bool, true, false, not, cond, List, [], ◌∷◌, ◌++◌, length, map, filter, Contains, is_none, Option, Some, None, sym, ap, subst, refl, inl, inr, arith, length-append}
+use Rattle.std.proofs.Common.{◌≡◌, ◌≢◌, ◌∙◌, ◌⊎◌, ◌≤◌, ◌+◌, ◌==◌, ◌&&◌, ℕ, Bool, true, false, not, cond, List, [], ◌∷◌, ◌++◌, length, map, filter, Contains, is_none, Option, Some, None, sym, ap}
+use Rattle.std.proofs.Common.{subst, refl, inl, inr, arith, length-append}
 use Rattle.std.specs.Option.{option_map}
 use Rattle.std.specs.Ordering.{nat_cmp}
 use Rattle.std.proofs.lemmas.Bool.{eq-eqb, ne_eqb}
@@ -23,7 +24,8 @@ no_more : (p q : NodeId → Bool) (xs : List NodeId) → length (filter (λ y. p
 no_more p q [] = omega arith
 no_more p q (z ∷ zs) = by_test (p z) (q z) (no_more p q zs)
   where
-    by_test : (a b : Bool) → length (filter (λ y. p y && q y) zs) ≤ length (filter p zs) → length (cond (a && b) (z ∷ filter (λ y. p y && q y) zs) (filter (λ y. p y && q y) zs)) ≤ length (cond a (z ∷ filter p zs) (filter p zs))
+    by_test : (a b : Bool) → length (filter (λ y. p y && q y) zs) ≤ length (filter p zs)
+        → length (cond (a && b) (z ∷ filter (λ y. p y && q y) zs) (filter (λ y. p y && q y) zs)) ≤ length (cond a (z ∷ filter p zs) (filter p zs))
     by_test true true rest = omega arith
     by_test true false rest = omega arith
     by_test false b rest = rest
@@ -76,7 +78,8 @@ module _ (of_entry : HeldIsOfAnEntry) (before : State) (reach : List NodeId) whe
       let longest = no_longer nat_cmp nat_cmp_total exact_nat (ids_of_held s.table.entries) whole table.ascending each in
       let first : length (ids_of_held s.table.entries) ≡ length s.table.entries = length-map s.table.entries (λ (n : HeldNode). n.id.0) in
       let second : length whole ≡ length before.table.entries + length (filter (λ (y : NodeId). is_news before y && not (y.0 == x.0)) reach)
-      = length-append (ids_of_held before.table.entries) _ ∙ (λ i. length-map before.table.entries (λ (n : HeldNode). n.id.0) i + length-map (filter (λ (y : NodeId). is_news before y && not (y.0 == x.0)) reach) (λ (y : NodeId). y.0) i) in
+      = length-append (ids_of_held before.table.entries) _ ∙ (λ i.
+      length-map before.table.entries (λ (n : HeldNode). n.id.0) i + length-map (filter (λ (y : NodeId). is_news before y && not (y.0 == x.0)) reach) (λ (y : NodeId). y.0) i) in
       let less = fewer (is_news before) (λ (y : NodeId). not (y.0 == x.0)) reach x there news (ap not (eq-eqb x.0 x.0 refl)) in
       omega (arith, longest, first, second, less, room, limit, full)
     where
@@ -104,5 +107,6 @@ module _ (of_entry : HeldIsOfAnEntry) (before : State) (reach : List NodeId) whe
   pub room_here : (s : State) (n : Entry) → IsTable s.table → s.table.limit ≡ before.table.limit → HasRoomFor before reach → AreOfBoth s → Contains reach n.id → n.id.0 ≢ before.id.0
       → AsBefore before s n → (held s.table.entries n.id.0 ≡ None) → length s.table.entries ≢ s.table.limit
   room_here s n table limit room both there other (NoneHeld was is) none =
-      has_room s n.id table limit room both there (both_true (not (n.id.0 == before.id.0)) (is_none (held before.table.entries n.id.0)) (ap not (ne_eqb n.id.0 before.id.0 other)) (ap (λ (o : Option Stored). is_none o) was)) none
+      has_room s n.id table limit room both there (both_true (not (n.id.0 == before.id.0)) (is_none (held before.table.entries n.id.0))
+      (ap not (ne_eqb n.id.0 before.id.0 other)) (ap (λ (o : Option Stored). is_none o) was)) none
   room_here s n table limit room both there other (SomeHeld stored was lost is) none = absurd (let clash : None ≡ Some (record stored { lost = lost }) = sym none ∙ is in cc)

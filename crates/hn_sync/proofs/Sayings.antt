@@ -154,7 +154,8 @@ splits (s ∷ said) (x ∷ xs) ys same =
       is_second = rest.is_second;
     }
 
-said_from_read : (own : NodeId) (endpoint : EpId) (said : List Saying) (tlvs : List PlainTlv) (datagrams : List (List ℕ)) → map tlv_said said ≡ tlvs → AreRead own endpoint tlvs datagrams → AreSaid own endpoint said datagrams
+said_from_read : (own : NodeId) (endpoint : EpId) (said : List Saying) (tlvs : List PlainTlv) (datagrams : List (List ℕ)) → map tlv_said said ≡ tlvs
+    → AreRead own endpoint tlvs datagrams → AreSaid own endpoint said datagrams
 said_from_read own endpoint [] tlvs [] same h = refl
 said_from_read own endpoint (s ∷ said) tlvs [] same h = absurd (cc)
 said_from_read own endpoint said tlvs (datagram ∷ datagrams) same h =
@@ -195,8 +196,15 @@ each_part own endpoint said [] h d there = absurd (nothing_in d there)
 each_part own endpoint said (datagram ∷ datagrams) h d there = elim (Contains-cases datagram datagrams d there) [
   | inl here ↦ (h.0, record { front = []; rest = h.1; parts = h.2 }, subst (SaysIn own endpoint h.0) here h.3)
   | inr later ↦
-      let more = each_part own endpoint h.1 datagrams h.4 d later in
-      (more.0, record { front = h.0 ++ more.1.front; rest = more.1.rest; parts = h.2 ∙ (ap (λ (rest : List Saying). h.0 ++ rest) more.1.parts ∙ sym (append_assoc h.0 more.1.front (more.0 ++ more.1.rest))) }, more.2)
+      let more = each_part own endpoint h.1 datagrams h.4 d later in (
+        more.0,
+        record {
+          front = h.0 ++ more.1.front;
+          rest = more.1.rest;
+          parts = h.2 ∙ (ap (λ (rest : List Saying). h.0 ++ rest) more.1.parts ∙ sym (append_assoc h.0 more.1.front (more.0 ++ more.1.rest)));
+        },
+        more.2,
+      )
 ]
 
 -- and what was said is in one of them

@@ -45,7 +45,8 @@ links_signed : (ports : List Port) → links_of ports ≡ flat_map links_by (sig
 links_signed [] = refl
 links_signed (port ∷ ports) =
     let rest = links_signed ports in
-    let one : links_at port ≡ links_by (sign port) = sym (map_map who (λ (peer : NodeId × EpId). let l : PeerLink = record { endpoint = port.id; peer = peer.0; peer_endpoint = peer.1 } in l) port.peers) in
+    let one : links_at port ≡ links_by (sign port) = sym (map_map who
+    (λ (peer : NodeId × EpId). let l : PeerLink = record { endpoint = port.id; peer = peer.0; peer_endpoint = peer.1 } in l) port.peers) in
     cc
 
 pub links_from_signs : (ports others : List Port) → signs ports ≡ signs others → links_of ports ≡ links_of others
@@ -86,7 +87,9 @@ knows_signed : (e : EpId) (node : NodeId) (f : EpId) (ports : List Port) → kno
 knows_signed e node f [] = refl
 knows_signed e node f (port ∷ ports) = by_test (is_port e port) (knows_signed e node f ports)
   where
-    by_test : (b : Bool) → knows_at e node f ports ≡ option_map_or (λ s. has_signed node f s.1) (find (is_signed e) (signs ports)) false → option_map_or (λ p. has_peer node f p.peers) (cond b (Some port) (find (is_port e) ports)) false ≡ option_map_or (λ s. has_signed node f s.1) (cond b (Some (sign port)) (find (is_signed e) (signs ports))) false
+    by_test : (b : Bool) → knows_at e node f ports ≡ option_map_or (λ s. has_signed node f s.1) (find (is_signed e) (signs ports)) false
+        → option_map_or (λ p. has_peer node f p.peers) (cond b (Some port) (find (is_port e) ports)) false ≡ option_map_or
+        (λ s. has_signed node f s.1) (cond b (Some (sign port)) (find (is_signed e) (signs ports))) false
     by_test true rest = peers_signed node f port.peers
     by_test false rest = rest
 

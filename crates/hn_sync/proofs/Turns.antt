@@ -75,7 +75,8 @@ still_fit laws start s still router = fit_with start s.ports still.due (subst Is
 
 -- ---- the sender is heard
 
-sender_heard : TurnLaws → (from : Origin) (node : NodeId) (endpoint : EpId) (r b : Running) → node.0 < 2 ^ 32 → endpoint.0 < 2 ^ 32 → from.multicast ≡ false → Ascend r.state.ports → knows_at from.endpoint node endpoint r.state.ports ≡ true
+sender_heard : TurnLaws → (from : Origin) (node : NodeId) (endpoint : EpId) (r b : Running) → node.0 < 2 ^ 32 → endpoint.0 < 2 ^ 32
+    → from.multicast ≡ false → Ascend r.state.ports → knows_at from.endpoint node endpoint r.state.ports ≡ true
     → IsTlvRule from (sender_tlv node endpoint) r b → IsHeard r b
 sender_heard laws from node endpoint r b fits too unicast up knows rule =
     endpoint_heard from node endpoint r b unicast up knows (rule_of laws.read from (item.NodeEndpoint node.0 endpoint.0 []) r b (can_say_endpoint node.0 endpoint.0 fits too) rule)
@@ -112,8 +113,10 @@ pub record IsQuestioned (now : ℕ) (from : Origin) (s next : State) (done : Don
   pub are_said : AreSaid start.id from.endpoint said datagrams
   pub sends : done.sends ≡ sends_of from datagrams
 
-pub question_arrives : TurnLaws → (now : ℕ) (from : Origin) (node : NodeId) (endpoint : EpId) (s next : State) (done : Done) → node.0 < 2 ^ 32 → endpoint.0 < 2 ^ 32 → from.multicast ≡ false → ArePorts s.ports
-    → knows_at from.endpoint node endpoint s.ports ≡ true → HasArrived now from (sender_tlv node endpoint ∷ map tlv_said (question ∷ [])) s next done → IsRouter next → IsQuestioned now from s next done
+pub question_arrives : TurnLaws → (now : ℕ) (from : Origin) (node : NodeId) (endpoint : EpId) (s next : State) (done : Done) → node.0 < 2 ^ 32
+    → endpoint.0 < 2 ^ 32 → from.multicast ≡ false → ArePorts s.ports
+    → knows_at from.endpoint node endpoint s.ports ≡ true → HasArrived now from (sender_tlv node endpoint ∷ map tlv_said (question ∷ [])) s next done
+    → IsRouter next → IsQuestioned now from s next done
 question_arrives laws now from node endpoint s next done fits too unicast ports knows h router =
     let r1 : Running = h.walked.0 in
     let b1 : Running = h.walked.1.0 in
@@ -149,7 +152,8 @@ question_arrives laws now from node endpoint s next done fits too unicast ports 
           (λ x id old there. subst (λ (y : Saying). Below y.about (NodeState id)) (Contains-one _ x (subst (λ (xs : List Saying). Contains xs x) first_is old)) tt);
       each = λ id n there known. let x = got.3.each id n there known in (x.0, x.1, x.2);
       datagrams = h.datagrams;
-      are_said = packed_said laws.read r1.state.id from.endpoint (h.last).answers got.3.next h.datagrams (ap (λ (x : Running). x.answers) last ∙ got.3.are) (can_all_say laws r1.state fit got.3.next got.3.all)
+      are_said = packed_said laws.read r1.state.id from.endpoint (h.last).answers got.3.next h.datagrams
+          (ap (λ (x : Running). x.answers) last ∙ got.3.are) (can_all_say laws r1.state fit got.3.next got.3.all)
           (subst (λ (x : NodeId). IsPacking x from.endpoint (map (λ a. a.tlv) (h.last).answers) h.datagrams) (ap (λ (x : State). x.id) last_state) h.packed);
       sends = h.sends;
     }
@@ -160,7 +164,8 @@ pub record IsReplied (start : State) (from : Origin) (asked : List Saying) (next
   pub still : IsStill start next
   pub said : List Saying
   pub all : All (Says start) said
-  pub answered : (s : Saying) (id : NodeId) (n : Entry) → Contains asked s → s.about ≡ NodeRequest id → Contains start.reach id → Knows start id n → (x : Saying) × Contains said x × (x.about ≡ NodeData id)
+  pub answered : (s : Saying) (id : NodeId) (n : Entry) → Contains asked s → s.about ≡ NodeRequest id → Contains start.reach id → Knows start id n
+      → (x : Saying) × Contains said x × (x.about ≡ NodeData id)
   pub datagrams : List (List ℕ)
   pub are_said : AreSaid start.id from.endpoint said datagrams
   pub sends : done.sends ≡ sends_of from datagrams
@@ -179,7 +184,8 @@ still_heard start r b heard h = subst (λ (x : Running). IsStill start x.state) 
   signed = heard.signed ∙ h.signed;
 })
 
-pub requests_arrive : TurnLaws → (start : State) → IsFit start → IsQuiet start → (now : ℕ) (from : Origin) (node : NodeId) (endpoint : EpId) (asked : List Saying) (s next : State) (done : Done) → start.moment ≡ now
+pub requests_arrive : TurnLaws → (start : State) → IsFit start → IsQuiet start
+    → (now : ℕ) (from : Origin) (node : NodeId) (endpoint : EpId) (asked : List Saying) (s next : State) (done : Done) → start.moment ≡ now
     → node.0 < 2 ^ 32 → endpoint.0 < 2 ^ 32 → from.multicast ≡ false → Ascend s.ports → knows_at from.endpoint node endpoint s.ports ≡ true → All Asks asked → IsStill start s
     → HasArrived now from (sender_tlv node endpoint ∷ map tlv_said asked) s next done → IsReplied start from asked next done
 requests_arrive laws start fit quiet now from node endpoint asked s next done moment fits too unicast up knows asks still h =
@@ -189,7 +195,8 @@ requests_arrive laws start fit quiet now from node endpoint asked s next done mo
     let still_b1 : IsStill start b1.state = still_heard start (begun_at now s) b1 heard (still_later start s now moment still) in
     let same : r1 ≡ b1 = quiet_rests laws.sole b1 r1 (still_quiet start b1.state still_b1 quiet) h.walked.1.2 in
     let none : AnswersAre r1 [] = ap (λ (x : Running). x.answers) same ∙ ap (λ (x : Running). x.answers) heard.gives in
-    let got = replies laws.read laws.sole laws.entries.of_entry start fit quiet from asked asks [] r1 h.last (subst (λ (x : Running). IsStill start x.state) (sym same) still_b1) none (All-nil (Says start)) h.walked.2 in
+    let got = replies laws.read laws.sole laws.entries.of_entry start fit quiet from asked asks [] r1 h.last
+    (subst (λ (x : Running). IsStill start x.state) (sym same) still_b1) none (All-nil (Says start)) h.walked.2 in
     let same_id : (h.last).state.id ≡ start.id = ap (λ (x : State). x.id) got.still.gives in
     record {
       still = subst (IsStill start) (sym h.is_next) (record {

@@ -85,10 +85,12 @@ module _ (unique : StepIsUnique) (enters : EachEventIsEntered) where
       (refl, sym same, one_code code other (delivery (copy + 0) a) a stops (subst (λ (w : Parts). Stops other (delivery (copy + 0) w) w) same halts))
   one_list copy f code other before a b [] (u ∷ us) h k are be first second stops halts =
       let at : copy + 0 ≡ copy = omega arith in
-      absurd (not_delivered code copy before (subst (λ (w : Parts). Stops code (delivery copy w) w) h (subst (λ (n : ℕ). Stops code (delivery n a) a) at stops)) (subst (λ (e : WEvent). refusal before e ≡ None) be.0 k.1.1.accepted))
+      absurd (not_delivered code copy before (subst (λ (w : Parts). Stops code (delivery copy w) w) h (subst (λ (n : ℕ). Stops code (delivery n a) a) at stops))
+      (subst (λ (e : WEvent). refusal before e ≡ None) be.0 k.1.1.accepted))
   one_list copy f code other before a b (t ∷ ts) [] h k are be first second stops halts =
       let at : copy + 0 ≡ copy = omega arith in
-      absurd (not_delivered other copy before (subst (λ (w : Parts). Stops other (delivery copy w) w) k (subst (λ (n : ℕ). Stops other (delivery n b) b) at halts)) (subst (λ (e : WEvent). refusal before e ≡ None) are.0 h.1.1.accepted))
+      absurd (not_delivered other copy before (subst (λ (w : Parts). Stops other (delivery copy w) w) k (subst (λ (n : ℕ). Stops other (delivery n b) b) at halts))
+      (subst (λ (e : WEvent). refusal before e ≡ None) are.0 h.1.1.accepted))
   one_list copy f code other before a b (t ∷ ts) (u ∷ us) h k are be first second stops halts =
       let entry = one_entry f t u h.1.0 k.1.0 before h.0 k.0 (are.0 ∙ sym be.0) (begins_front t.words (words_of ts) f first) (begins_front u.words (words_of us) f second) h.1.1 k.1.1 in
       let at : copy + suc (length ts) ≡ suc copy + length ts = omega arith in
@@ -131,10 +133,26 @@ module _ (unique : StepIsUnique) (enters : EachEventIsEntered) where
 
   ending : (a b : Name) (code : Option ℕ) (told rest : ℕ → ℕ) (before after : Parts) → ExchangeEnds a b code (Some told) (Some rest) before after → Ending a b code told rest before after
   ending a b None told rest before after h =
-      record { question = h.begun.question; asks = h.begun.asks; ts = h.ts; goes = h.begun.goes; events = h.begun.events; stops = sym h.begun.is_next; words = first_told told rest (words_of h.ts) h.drew }
+      record {
+        question = h.begun.question;
+        asks = h.begun.asks;
+        ts = h.ts;
+        goes = h.begun.goes;
+        events = h.begun.events;
+        stops = sym h.begun.is_next;
+        words = first_told told rest (words_of h.ts) h.drew;
+      }
   ending a b (Some code) told rest before after h =
       let far = h.comes in
-      record { question = far.begun.question; asks = far.begun.asks; ts = far.ts; goes = far.begun.goes; events = far.begun.events; stops = (h.next, sym far.begun.is_next, h.refused); words = first_told told rest (words_of far.ts) far.drew }
+      record {
+        question = far.begun.question;
+        asks = far.begun.asks;
+        ts = far.ts;
+        goes = far.begun.goes;
+        events = far.begun.events;
+        stops = (h.next, sym far.begun.is_next, h.refused);
+        words = first_told told rest (words_of far.ts) far.drew;
+      }
 
   pub one_end : QuestionIsUnique → ExchangeIsUnique
   one_end one_question a b code other_code told rest other_rest before after other ends halts =

@@ -1,5 +1,6 @@
 -- The states of nodes arrive at the router that asks, one after another.
-use Rattle.std.proofs.Common.{◌≡◌, ◌≢◌, ◌∙◌, ◌⊎◌, ◌<◌, ◌+◌, ◌%◌, ◌^◌, ◌==◌, ℕ, Bool, true, false, not, is_none, List, [], ◌∷◌, map, All, Contains, Option, Some, None, sym, ap, subst, refl, inl, inr, arith}
+use Rattle.std.proofs.Common.{◌≡◌, ◌≢◌, ◌∙◌, ◌⊎◌, ◌<◌, ◌+◌, ◌%◌, ◌^◌, ◌==◌, ℕ, Bool, true, false, not, is_none, List, [], ◌∷◌, map, All, Contains, Option, Some, None, sym, ap, subst, refl, inl, inr}
+use Rattle.std.proofs.Common.{arith}
 use Rattle.std.proofs.lemmas.Bool.{cases_eq, ne_eqb}
 use Rattle.std.proofs.lemmas.List.Elements.{All-head, All-tail}
 use Rattle.hn_base.proofs.AscendingLists.{Contains-head}
@@ -77,7 +78,8 @@ module _ (laws : TableLaws) (start before : State) (ports : List Port) (Elsewher
   abbrev Hope : List Saying → List Saying → Entry → Type 0
   Hope rest said m = Elsewhere m ⊎ (InRest rest m ⊎ InAsked said m)
 
-  module _ (s : Saying) (with_data : Bool) (n : Entry) (given : Given n) (about : IsAbout s with_data n) (rest : List Saying) (r b : Running) (h : Learnt r (s ∷ rest)) (rule : IsNodeState (state_said with_data n) r b) where
+  module _ (s : Saying) (with_data : Bool) (n : Entry) (given : Given n) (about : IsAbout s with_data n) (rest : List Saying) (r b : Running)
+      (h : Learnt r (s ∷ rest)) (rule : IsNodeState (state_said with_data n) r b) where
     -- with the table as it is then
     abbrev tabled : Running
     tabled = record r { state = record r.state { table = rule.table } }
@@ -104,10 +106,17 @@ module _ (laws : TableLaws) (start before : State) (ports : List Port) (Elsewher
         | inr new ↦ by_before (held before.table.entries n.id.0) refl new.0
       ]
         where
-          by_before : (o : Option Stored) → held before.table.entries n.id.0 ≡ o → id ≡ n.id.0 → ((old : Stored) × (held before.table.entries id ≡ Some old)) ⊎ ((x : NodeId) × Contains start.reach x × (x.0 ≡ id) × (is_news before x ≡ true))
+          by_before : (o : Option Stored) → held before.table.entries n.id.0 ≡ o → id ≡ n.id.0
+              → ((old : Stored) × (held before.table.entries id ≡ Some old)) ⊎ ((x : NodeId) × Contains start.reach x × (x.0 ≡ id) × (is_news before x ≡ true))
           by_before (Some old) some same = inl (old, ap (held before.table.entries) same ∙ some)
           by_before None none same =
-              inr (n.id, given.reached, sym same, both_true (not (n.id.0 == before.id.0)) (is_none (held before.table.entries n.id.0)) (ap not (ne_eqb n.id.0 before.id.0 other)) (ap (λ (o : Option Stored). is_none o) none))
+              inr (
+                n.id,
+                given.reached,
+                sym same,
+                both_true (not (n.id.0 == before.id.0)) (is_none (held before.table.entries n.id.0))
+                    (ap not (ne_eqb n.id.0 before.id.0 other)) (ap (λ (o : Option Stored). is_none o) none),
+              )
 
       not_own : n.id.0 ≢ r.state.id.0
       not_own same = other (same ∙ ap (λ (x : NodeId). x.0) h.named)
@@ -127,8 +136,10 @@ module _ (laws : TableLaws) (start before : State) (ports : List Port) (Elsewher
         where
           of_this : IsRepaired before r.state n ⊎ (AsBefore before r.state n × Hope (s ∷ rest) h.said n) → Each_after n
           of_this (inl settled) =
-              inl (stays_settled before laws.put_one laws.of_entry n given.knows.fits with_data r.state tabled.state (own_leaf r.state) r.state.moment rule.table rule.how rule.accepts refl not_own h.table settled)
-          of_this (inr waits) = elim (settles before laws.put_one laws.of_entry n given.knows.fits with_data r.state tabled.state (own_leaf r.state) r.state.moment rule.table rule.how rule.accepts refl not_own before_table
+              inl (stays_settled before laws.put_one laws.of_entry n given.knows.fits with_data r.state tabled.state
+              (own_leaf r.state) r.state.moment rule.table rule.how rule.accepts refl not_own h.table settled)
+          of_this (inr waits) = elim (settles before laws.put_one laws.of_entry n given.knows.fits with_data r.state tabled.state
+              (own_leaf r.state) r.state.moment rule.table rule.how rule.accepts refl not_own before_table
               (room_here laws.of_entry before start.reach r.state n h.table h.limit room h.both given.reached other waits.0) waits.0) [
                 | inl settled ↦ inl settled
                 | inr asks ↦ inr (asks.0, inr (asks.1, refl))
@@ -136,18 +147,25 @@ module _ (laws : TableLaws) (start before : State) (ports : List Port) (Elsewher
 
           of_others : m.id.0 ≢ n.id.0 → IsRepaired before r.state m ⊎ (AsBefore before r.state m × Hope (s ∷ rest) h.said m) → Each_after m
           of_others apart (inl settled) =
-              inl (settled_same before r.state tabled.state m (laws.others r.state.table (own_leaf r.state) (state_said with_data n) r.state.moment rule.table rule.how m.id.0 rule.accepts apart) settled)
+              inl (settled_same before r.state tabled.state m
+              (laws.others r.state.table (own_leaf r.state) (state_said with_data n) r.state.moment rule.table rule.how m.id.0 rule.accepts apart) settled)
           of_others apart (inr waits) =
-              inr (before_same before r.state tabled.state m (laws.others r.state.table (own_leaf r.state) (state_said with_data n) r.state.moment rule.table rule.how m.id.0 rule.accepts apart) waits.0, inl (other_rest m apart waits.1))
+              inr (
+                before_same before r.state tabled.state m
+                    (laws.others r.state.table (own_leaf r.state) (state_said with_data n) r.state.moment rule.table rule.how m.id.0 rule.accepts apart) waits.0,
+                inl (other_rest m apart waits.1),
+              )
 
       owned_after : IsOwned laws.of_entry laws.marks start before ports Elsewhere Later tabled.state rest
-      owned_after = by_owned (owned_rest laws.of_entry laws.marks start before ports Elsewhere Later s rest r.state (λ id e own. other (ap (λ (x : NodeId). x.0) (sym (about_id s with_data n about id (inl e))) ∙ own)) h.owned)
+      owned_after = by_owned (owned_rest laws.of_entry laws.marks start before ports Elsewhere Later s rest r.state
+          (λ id e own. other (ap (λ (x : NodeId). x.0) (sym (about_id s with_data n about id (inl e))) ∙ own)) h.owned)
         where
           by_owned : IsOwned laws.of_entry laws.marks start before ports Elsewhere Later r.state rest → IsOwned laws.of_entry laws.marks start before ports Elsewhere Later tabled.state rest
           by_owned (inl safe) = inl (λ m m_given m_own. let was = safe m m_given m_own in (record { same = was.0.same; young = was.0.young }, was.1))
           by_owned (inr waits) = inr waits
 
-      learnt_with : (HasRoomFor before start.reach → (m : Entry) → Given m → m.id.0 ≢ before.id.0 → IsRepaired before tabled.state m ⊎ (AsBefore before tabled.state m × Hope rest h.said m)) → Learnt tabled rest
+      learnt_with : (HasRoomFor before start.reach → (m : Entry) → Given m → m.id.0 ≢ before.id.0 → IsRepaired before tabled.state m ⊎ (AsBefore before tabled.state m × Hope rest h.said m))
+          → Learnt tabled rest
       learnt_with each = record {
         named = h.named;
         signed = h.signed;
@@ -199,10 +217,23 @@ module _ (laws : TableLaws) (start before : State) (ports : List Port) (Elsewher
             | inr (waits, inr asked) ↦ absurd (k asked.0)
           ])
 
-          by_taken : ((rule.how ≢ took.Ask) × (b ≡ took_noted (state_said with_data n) rule.how tabled)) ⊎ ((rule.how ≡ took.Ask) × (b ≡ with_answer (NodeRequest (record { 0 = n.id.0 })) (RequestNode n.id.0 []) (took_noted (state_said with_data n) took.Ask tabled))) → Learnt b rest
+          by_taken : ((rule.how ≢ took.Ask) × (b ≡ took_noted (state_said with_data n) rule.how tabled))
+              ⊎ ((rule.how ≡ took.Ask) × (b ≡ with_answer (NodeRequest (record { 0 = n.id.0 })) (RequestNode n.id.0 []) (took_noted (state_said with_data n) took.Ask tabled))) → Learnt b rest
           by_taken (inr k) =
               let asked = learnt_asked k.0 in
-              subst (λ (x : Running). Learnt x rest) (sym k.1) (record { named = asked.named; signed = asked.signed; table = asked.table; limit = asked.limit; both = asked.both; said = asked.said; are = asked.are; all = asked.all; each = asked.each; owned = asked.owned })
+              subst (λ (x : Running). Learnt x rest) (sym k.1)
+              (record {
+                named = asked.named;
+                signed = asked.signed;
+                table = asked.table;
+                limit = asked.limit;
+                both = asked.both;
+                said = asked.said;
+                are = asked.are;
+                all = asked.all;
+                each = asked.each;
+                owned = asked.owned;
+              })
           by_taken (inl k) = subst (λ (x : Running). Learnt x rest) (sym k.1) (noted_learnt tabled (without_ask k.0))
 
     -- the state is of the own identifier
@@ -236,7 +267,8 @@ module _ (laws : TableLaws) (start before : State) (ports : List Port) (Elsewher
       same_tabled how is same = rule.accepts.after ∙ ap (λ (es : List HeldNode). let t : Nodes = record r.state.table { entries = es } in t)
           (ap (λ (w : Took). entries_after r.state.table.entries (state_said with_data n) r.state.moment w) is ∙ same)
 
-      safe_by : (number : ℕ) (hash : List ℕ) → IsStale (Some (record { number = number; hash = hash })) (state_of n) → (m : Entry) → Given m → m.id.0 ≡ before.id.0 → IsStale (Some (record { number = number; hash = hash })) (state_of m)
+      safe_by : (number : ℕ) (hash : List ℕ) → IsStale (Some (record { number = number; hash = hash })) (state_of n) → (m : Entry) → Given m
+          → m.id.0 ≡ before.id.0 → IsStale (Some (record { number = number; hash = hash })) (state_of m)
       safe_by number hash stale m m_given m_own =
           subst (λ (x : Entry). IsStale (Some (record { number = number; hash = hash })) (state_of x)) (one_given n m given m_given (own ∙ sym m_own)) stale
 
@@ -270,7 +302,8 @@ module _ (laws : TableLaws) (start before : State) (ports : List Port) (Elsewher
               let number : b.state.number ≡ (n.number + 1000) % 2 ^ 32 = ap (λ (x : Running). x.state.number) gives in
               let published : IsPublished b.state = subst (λ (x : Running). IsPublished x.state) (sym gives) (record { same = sym items; young = omega (arith, born) }) in
               let stale = claimed_stale b.state.number n.number b.state.own.hash (hash_of n.body) given.knows.fits.number_fits number in
-              inl (stays b (ap (λ (x : Running). x.state.id) gives) (ap (λ (x : Running). signs x.state.ports) gives) (ap (λ (x : Running). x.state.table) gives ∙ table) (ap (λ (x : Running). x.answers) gives)
+              inl (stays b (ap (λ (x : Running). x.state.id) gives) (ap (λ (x : Running). signs x.state.ports) gives)
+              (ap (λ (x : Running). x.state.table) gives ∙ table) (ap (λ (x : Running). x.answers) gives)
               (inl (λ m m_given m_own. (published, safe_by b.state.number b.state.own.hash stale m m_given m_own))))
           by_claim up_rest (inr k) =
               let gives = k.publishes.gives in
@@ -302,7 +335,8 @@ module _ (laws : TableLaws) (start before : State) (ports : List Port) (Elsewher
 
   module _ (read : ReadLaws) (entry_laws : EntryLaws) (hash : IsHash start.net) (from : Origin) where
     -- one TLV
-    one_learnt : (about : Subject) (i : PlainItem) (rest : List Saying) (r b : Running) → Says start (record { about = about; item = i }) → IsPublished r.state → Learnt r (record { about = about; item = i } ∷ rest)
+    one_learnt : (about : Subject) (i : PlainItem) (rest : List Saying) (r b : Running) → Says start (record { about = about; item = i })
+        → IsPublished r.state → Learnt r (record { about = about; item = i } ∷ rest)
         → IsItemRule from i r b → Learnt b rest ⊎ IsRenamed before.id b rest
     one_learnt NetworkState i rest r b says published h rule =
         let compares = network_heard from.endpoint start.net r b (ascend_from_signs r.state.ports ports h.signed up) (subst (λ (j : PlainItem). IsItemRule from j r b) says rule) in
@@ -310,22 +344,26 @@ module _ (laws : TableLaws) (start before : State) (ports : List Port) (Elsewher
     one_learnt (NodeState id) i rest r b says published h rule =
         let named : says.0.id ≡ id = says.2.named in
         let given : Given says.0 = record { reached = subst (Contains start.reach) (sym named) says.1; knows = subst (λ (x : NodeId). Knows start x says.0) (sym named) says.2 } in
-        state_learnt (record { about = NodeState id; item = i }) false says.0 given (inl (ap NodeState (sym named), refl)) rest r b h (subst (λ (j : PlainItem). IsItemRule from j r b) says.3 rule) published
+        state_learnt (record { about = NodeState id; item = i }) false says.0 given (inl (ap NodeState (sym named), refl)) rest r b h
+        (subst (λ (j : PlainItem). IsItemRule from j r b) says.3 rule) published
     one_learnt (NodeData id) i rest r b says published h rule =
         let named : says.0.id ≡ id = says.2.named in
         let given : Given says.0 = record { reached = subst (Contains start.reach) (sym named) says.1; knows = subst (λ (x : NodeId). Knows start x says.0) (sym named) says.2 } in
-        state_learnt (record { about = NodeData id; item = i }) true says.0 given (inr (ap NodeData (sym named), refl)) rest r b h (subst (λ (j : PlainItem). IsItemRule from j r b) says.3 rule) published
+        state_learnt (record { about = NodeData id; item = i }) true says.0 given (inr (ap NodeData (sym named), refl)) rest r b h
+        (subst (λ (j : PlainItem). IsItemRule from j r b) says.3 rule) published
     one_learnt NetworkRequest i rest r b says published h rule = absurd says
     one_learnt (NodeRequest id) i rest r b says published h rule = absurd says
 
-    renamed_walk : (items : List Saying) → All (Says start) items → (r a : Running) → IsRenamed before.id r items → Each (λ tlv. Then (IsTlvRule from tlv) IsRefresh) (map tlv_said items) r a → IsRenamed before.id a []
+    renamed_walk : (items : List Saying) → All (Says start) items → (r a : Running) → IsRenamed before.id r items
+        → Each (λ tlv. Then (IsTlvRule from tlv) IsRefresh) (map tlv_said items) r a → IsRenamed before.id a []
     renamed_walk [] says r a h each = subst (λ (x : Running). IsRenamed before.id x []) (sym each) h
     renamed_walk (s ∷ items) says r a h each =
         let first = All-head (Says start) s items says in
         let rule = rule_of read from s.item r each.1.0 (can_say entry_laws start hash s.about s.item first) each.1.1 in
         let kind = h.kinds s (Contains-head s items) in
         let said = subst (λ (o : Subject). IsSaidOf start o s.item) kind.1 first in
-        let passed = renamed_state before.id s items (state_said false said.0) kind.0 r each.1.0 kind.1 (ap (λ (x : NodeId). x.0) said.2.named) (subst (λ (j : PlainItem). IsItemRule from j r each.1.0) said.3 rule) h in
+        let passed = renamed_state before.id s items (state_said false said.0) kind.0 r each.1.0 kind.1 (ap (λ (x : NodeId). x.0) said.2.named)
+        (subst (λ (j : PlainItem). IsItemRule from j r each.1.0) said.3 rule) h in
         renamed_walk items (All-tail (Says start) s items says) each.0 a (renamed_refreshed before.id each.1.0 each.0 items passed each.1.2) each.2
 
     pub walk : (items : List Saying) → All (Says start) items → (r a : Running) → IsPublished r.state → Learnt r items → Each (λ tlv. Then (IsTlvRule from tlv) IsRefresh) (map tlv_said items) r a

@@ -1,4 +1,4 @@
-mod Walks
-mod Greatests
-mod Founds
-mod Decisions
+mod GeneratedOfNodes
+mod GreatestOfNode
+mod FoundInLists
+mod OneDecision

@@ -29,8 +29,8 @@ abbrev pub HasNoneOf : List Generated → NodeId → Type 0
 HasNoneOf list node = (p : PlainPrefix) → ¬ HasOf list node p
 
 -- the greatest of a node, if it has one
-abbrev pub IsFoundOf : List Generated → NodeId → Option PlainPrefix → Type 0
-IsFoundOf list node found = MatchOption found (HasNoneOf list node) (IsGreatestOf list node)
+abbrev pub IsGreatestFound : List Generated → NodeId → Option PlainPrefix → Type 0
+IsGreatestFound list node found = MatchOption found (HasNoneOf list node) (IsGreatestOf list node)
 
 -- the list has another one for the node
 pub record HasOtherOf (list : List Generated) (node : NodeId) (p : PlainPrefix) : Type 0 where
@@ -40,7 +40,7 @@ pub record HasOtherOf (list : List Generated) (node : NodeId) (p : PlainPrefix) 
   pub other : one.prefix ≢ p
 
 -- the list has one for a greater node
-pub record HasAbove (list : List Generated) (node : NodeId) : Type 0 where
+pub record HasPrefixAbove (list : List Generated) (node : NodeId) : Type 0 where
   pub one : Generated
   pub among : Contains list one
   pub above : node.0 < one.node.0

@@ -2,11 +2,8 @@
 use Rattle.std.specs.Prelude.{◌≡◌, ◌↔◌, List, Contains}
 use Rattle.hn_base.specs.declared.ids.NodeId.{NodeId}
 use Rattle.hn_base.specs.Prefix.{PlainPrefix}
-use Rattle.hn_data.specs.Delegations.{HasDelegation}
-use Rattle.hn_data.specs.Said.{HasVersion}
 use Rattle.hn_data.specs.View.{PlainView}
 use Rattle.hn_data.specs.declared.said.Delegation.{Delegation}
-use Rattle.hn_data.specs.declared.view.Entry.{Entry}
 use Rattle.hn_ula.specs.Ula.{IsLocal, IsGenerated}
 use Rattle.hn_ula.specs.declared.generated.Generated.{Generated}
 
@@ -20,19 +17,6 @@ pub record IsOfDelegation (node : NodeId) (d : Delegation) (g : Generated) : Typ
   pub node_is : node ≡ g.node
   pub prefix_is : d.prefix ≡ g.prefix
   pub generated : IsLocalSite g.prefix
-
--- the node has an HNCP-Version and that generated prefix
-pub record IsOfNode (node : Entry) (g : Generated) : Type 0 where
-  pub version : HasVersion node.body
-  pub delegation : Delegation
-  pub says : HasDelegation node.body delegation
-  pub is : IsOfDelegation node.id delegation g
-
--- one of the elements gives it
-pub record IsOfOne {X : Type 0} (Gives : X → Generated → Type 0) (xs : List X) (g : Generated) : Type 0 where
-  pub one : X
-  pub among : Contains xs one
-  pub gives : Gives one g
 
 -- these are the generated prefixes of a view, each with its node
 abbrev pub AreGenerated : PlainView → List Generated → Type 0

@@ -98,5 +98,5 @@ Decides s ula words =
     (LineElse (IsToAnnounce s) (Announces ula words) ((ula ≡ Keep) × (words ≡ []))))
 
 -- none of these conditions holds
-abbrev pub IsStill : State → Type 0
-IsStill s = (¬ MustGo s) × (¬ HasTwo s) × (¬ IsToAnnounce s)
+abbrev pub IsUlaStill : State → Type 0
+IsUlaStill s = (¬ MustGo s) × (¬ HasTwo s) × (¬ IsToAnnounce s)

@@ -1,9 +1,9 @@
-//! Whether a router announces a ULA prefix of its own making, withdraws one, or does neither.
+//! Whether a router announces a ULA prefix of its own making, withdraws one, or does neither (RFC 7788, section 6.5).
 
 ghost use Rattle.std.specs.Prelude.{◌≡◌, ◌↔◌, [], ◌∷◌, ℕ, List, IsTrue, IfOk};
 ghost use Rattle.hn_base.specs.Prefix.{PlainPrefix};
 ghost use Rattle.hn_base.specs.Words.{Took};
-ghost use Rattle.hn_ula.specs.Ula.{made_of, Announces, Decides, IsStill, IsOwnOf};
+ghost use Rattle.hn_ula.specs.Ula.{made_of, Announces, Decides, IsUlaStill, IsOwnOf};
 
 use crate::found::{find, own};
 use crate::generated::{SITE_LENGTH, of_router};
@@ -49,22 +49,25 @@ fn announce<D: Draw>(draw: &mut D) -> Ula
     Ula::Announce(made_of(first, second))
 }
 
-/// What a router does now. A generated prefix is a Delegated-Prefix of a reachable node with an HNCP-Version, of length 48
-/// and inside fd00::/8, whatever its lifetimes are. A foreign one is a usable delegated prefix that is not inside fd00::/8
-/// and is still preferred. The first of these that holds decides:
+/// What a router does now (RFC 7788, section 6.5).
+///
+/// A generated prefix is a Delegated-Prefix of a reachable node with an HNCP-Version. It has 48 bits and is inside fd00::/8.
+/// Its lifetimes do not count. A foreign prefix is a usable delegated prefix that is not inside fd00::/8. Its preferred
+/// lifetime has not ended. The first of these that holds decides:
 ///
 /// 1. The router has a generated prefix, and there is a foreign one or a node with a greater identifier has a generated one:
 ///    it withdraws its greatest generated prefix.
 /// 2. The router has two generated prefixes: it withdraws the greatest.
 /// 3. Nobody has a generated prefix, there is no foreign one, and no reachable node has a greater identifier: it announces
-///    one. Its Global ID (RFC 4193, section 3.2) takes two words.
+///    one. Its Global ID (RFC 4193, section 3.2) takes two words. No other answer takes a word.
 /// 4. It keeps what there is.
 ///
 /// # Errors
 ///
 /// Out of memory.
 pub fn decide<D: Draw>(alloc: Global, router: &Router, draw: &mut D) -> Result<Ula, NoMemory>
-    ensures { IfOk result (λ ula. (words : List ℕ) × Decides router.now ula words × Took (D.words draw.old) words (D.words draw.new)) }
+    ensures { IfOk result
+        (λ ula. (words : List ℕ) × Decides router.now ula words × Took (D.words draw.old) words (D.words draw.new)) }
 {
     let found = find(alloc, router)?;
     match found.own {
@@ -81,7 +84,7 @@ pub fn decide<D: Draw>(alloc: Global, router: &Router, draw: &mut D) -> Result<U
 ///
 /// Out of memory.
 pub fn still(alloc: Global, router: &Router) -> Result<bool, NoMemory>
-    ensures { IfOk result (λ answer. IsTrue answer ↔ IsStill router.now) }
+    ensures { IfOk result (λ answer. IsTrue answer ↔ IsUlaStill router.now) }
 {
     let found = find(alloc, router)?;
     Ok(match found.own {

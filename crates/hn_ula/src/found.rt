@@ -4,7 +4,8 @@ ghost use Rattle.std.specs.Prelude.{◌≡◌, ◌↔◌, [], IsTrue, false, IfO
 ghost use Rattle.hn_rules.specs.Seen.{seen_by};
 ghost use Rattle.hn_ula.specs.Ula.{IsForeign, MustGo, HasTwo, IsToAnnounce};
 ghost use Rattle.hn_ula.specs.Said.{AreGenerated};
-ghost use Rattle.hn_ula.specs.Found.{IsGreater, IsFoundOf, HasOtherOf, HasAbove, IsForeignOne, HasForeign, HasGreater, IsOwnFound, IsFound};
+ghost use Rattle.hn_ula.specs.Found.{IsGreater, IsGreatestFound, HasOtherOf, HasPrefixAbove, IsForeignOne, HasForeign};
+ghost use Rattle.hn_ula.specs.Found.{HasGreater, IsOwnFound, IsFound};
 
 use crate::generated::{Generated, is_local, of_router};
 use hn_base::{NoMemory, NodeId};
@@ -34,7 +35,7 @@ fn greater(so_far: Option<Prefix>, prefix: Prefix) -> Prefix
 
 /// The greatest prefix of a node, if it has one.
 fn greatest_of(list: &[Generated], node: NodeId) -> Option<Prefix>
-    ensures { IsFoundOf list.now node result }
+    ensures { IsGreatestFound list.now node result }
 {
     let mut greatest = None;
     for one in list {
@@ -55,7 +56,7 @@ fn has_other(list: &[Generated], node: NodeId, prefix: &Prefix) -> bool
 
 /// Whether a node with a greater identifier has one.
 fn has_above(list: &[Generated], node: NodeId) -> bool
-    ensures { IsTrue result ↔ HasAbove list.now node }
+    ensures { IsTrue result ↔ HasPrefixAbove list.now node }
 {
     list.iter().any(|one| node < one.node)
 }

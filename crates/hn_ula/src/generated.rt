@@ -1,13 +1,13 @@
 //! The generated prefixes that a router sees.
 
-ghost use Rattle.std.specs.Prelude.{◌≡◌, ◌↔◌, ◌⊎◌, Contains, IsTrue, IfOk, OnOk};
+ghost use Rattle.std.specs.Prelude.{◌≡◌, ◌↔◌, IsTrue, IfOk};
 ghost use Rattle.hn_rules.specs.Seen.{seen_by};
 ghost use Rattle.hn_ula.specs.Ula.{local_block, IsLocal};
-ghost use Rattle.hn_ula.specs.Said.{IsLocalSite, IsOfDelegation, IsOfNode, IsOfOne, AreGenerated};
-ghost use Rattle.hn_ula.specs.declared.generated.Generated.{Generated};
+ghost use Rattle.hn_ula.specs.Said.{IsLocalSite, AreGenerated};
 
+use hn_addr::{OfNode, from_nodes};
 use hn_base::{NoMemory, NodeId};
-use hn_data::{Delegation, Entry, version};
+use hn_data::{Delegation, NodeData};
 use hn_prefix::Prefix;
 use hn_router::Router;
 use std::alloc::Global;
@@ -46,51 +46,35 @@ fn is_local_site(prefix: &Prefix) -> bool
     prefix.len() == SITE_LENGTH && is_local(prefix)
 }
 
-/// Adds the generated prefixes of the delegations of a node.
-fn add_of_delegations(
-    list: &mut Vec<Generated>,
-    node: NodeId,
-    delegations: &[Delegation],
-) -> Result<(), NoMemory>
-    ensures { OnOk result ((g : Generated) → Contains list.new.items g
-        ↔ (Contains list.old.items g ⊎ IsOfOne (IsOfDelegation node) delegations.now g)) }
-{
-    for d in delegations {
-        if is_local_site(&d.prefix) {
-            list.push(Generated {
+impl OfNode for Generated {
+    ghost use Rattle.hn_data.specs.Delegations.{HasDelegation};
+    ghost use Rattle.hn_ula.specs.Said.{IsOfDelegation};
+
+    type Part = Delegation;
+
+    ghost says = { HasDelegation };
+
+    ghost makes = { IsOfDelegation };
+
+    fn parts(body: &NodeData) -> &[Delegation] {
+        body.delegations()
+    }
+
+    fn from_part(node: NodeId, part: &Delegation) -> Option<Generated> {
+        if is_local_site(&part.prefix) {
+            Some(Generated {
                 node,
-                prefix: d.prefix,
-            })?;
+                prefix: part.prefix,
+            })
+        } else {
+            None
         }
     }
-    Ok(())
-}
-
-/// Adds the generated prefixes of a node, if it has an HNCP-Version.
-fn add_of_node(list: &mut Vec<Generated>, node: &Entry) -> Result<(), NoMemory>
-    ensures { OnOk result ((g : Generated) → Contains list.new.items g ↔ (Contains list.old.items g ⊎ IsOfNode node.now g)) }
-{
-    if version(&node.body).is_none() {
-        return Ok(());
-    }
-    add_of_delegations(list, node.id, node.body.delegations())
-}
-
-/// The generated prefixes of nodes.
-fn of_nodes(alloc: Global, nodes: &[Entry]) -> Result<Vec<Generated>, NoMemory>
-    ensures { IfOk result (λ list. (g : Generated) → Contains list.items g ↔ IsOfOne IsOfNode nodes.now g) }
-{
-    let mut list = Vec::new(alloc);
-    for node in nodes {
-        add_of_node(&mut list, node)?;
-    }
-    Ok(list)
 }
 
 /// The generated prefixes of the reachable nodes, each with its node.
 pub(crate) fn of_router(alloc: Global, router: &Router) -> Result<Vec<Generated>, NoMemory>
     ensures { IfOk result (λ list. AreGenerated (seen_by router.now) list.items) }
 {
-    let nodes = router.nodes(alloc)?;
-    of_nodes(alloc, nodes.as_slice())
+    from_nodes(alloc, router)
 }

@@ -11,7 +11,9 @@ use Rattle.hn_world.specs.declared.event.WEvent.TheVariants as event
 use Rattle.hn_world.specs.declared.member.Member.{Member}
 use Rattle.hn_world.specs.declared.parts.Parts.{Parts}
 use Rattle.hn_world.specs.Names.{is_taken, member_named, link_place}
-use Rattle.hn_world.specs.Refusal.{code_if, of_router, unless_running, unless_attached, unless_free, unless_apart, unless_full_of_endpoints, unless_full_of_events, unless_full_of_mail, unless_acts, unless_detached, unless_ticked, unless_received, unless_joined, unless_new, copy_at, refusal, unless_able, unless_full_of_prefixes, unless_delegated, unless_listed, unless_addressed}
+use Rattle.hn_world.specs.Refusal.{code_if, of_router, unless_running, unless_attached, unless_free, unless_apart, unless_full_of_endpoints, unless_full_of_events, unless_full_of_mail, unless_acts}
+use Rattle.hn_world.specs.Refusal.{unless_detached, unless_ticked, unless_received, unless_joined, unless_new, copy_at, refusal, unless_able, unless_full_of_prefixes, unless_delegated, unless_listed}
+use Rattle.hn_world.specs.Refusal.{unless_addressed}
 use Rattle.hn_base.proofs.DecidingTests.{neither_given, some_there}
 
 pub not_so : (code : ℕ) (b : Bool) → code_if code b ≡ None → b ≡ false

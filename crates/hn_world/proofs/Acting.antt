@@ -1,6 +1,7 @@
 -- What was planned, and then done, is the event.
 use Rattle.std.specs.Option.{option_map}
-use Rattle.std.proofs.Common.{◌≡◌, ◌∙◌, ℕ, ◌^◌, ◌<◌, ◌≤◌, ◌-◌, ◌==◌, Bool, true, false, cond, List, [], ◌∷◌, ◌++◌, length, get_or, Option, Some, None, slice_get, slice_set, refl, sym, subst, ap, arith}
+use Rattle.std.proofs.Common.{◌≡◌, ◌∙◌, ℕ, ◌^◌, ◌<◌, ◌≤◌, ◌-◌, ◌==◌, Bool, true, false, cond, List, [], ◌∷◌, ◌++◌, length, get_or, Option, Some, None, slice_get, slice_set, refl, sym, subst, ap}
+use Rattle.std.proofs.Common.{arith}
 use Rattle.std.proofs.lemmas.List.{append-nil}
 use Rattle.std.proofs.lemmas.Option.{slice_get_within, slice_get-get_or}
 use Rattle.std.proofs.lemmas.Grind.{common_steps}
@@ -11,7 +12,7 @@ use Rattle.hn_base.specs.Name.{name_text}
 use Rattle.hn_base.specs.declared.ids.NodeId.{NodeId}
 use Rattle.hn_base.specs.declared.name.Name.{Name}
 use Rattle.hn_base.specs.Words.{Drew}
-use Rattle.hn_router.specs.Act.{PlainEvent, Arrive, Tick, Happened}
+use Rattle.hn_router.specs.Act.{PlainEvent, Arrive, Tick, IsEventInRange, Happened}
 use Rattle.hn_rules.specs.Done.{nothing}
 use Rattle.hn_rules.specs.Still.{at_moment}
 use Rattle.hn_router.specs.New.{IsNew}
@@ -33,7 +34,7 @@ use Rattle.hn_world.specs.Replay.{IsSound, IsSoundMember}
 use Rattle.hn_world.proofs.Places.{got_front, within, found_at}
 use Rattle.hn_world.proofs.Sounds.{all_at}
 use Rattle.hn_world.specs.Routed.{routed, named_by, place_by}
-use Rattle.hn_world.specs.Step.{ActsAt, Acts, DoesAt, Step, IsStep, IsInRange, acted, beside, entered, with_member, stopped, taken}
+use Rattle.hn_world.specs.Step.{ActsAt, Acts, DoesAt, Step, IsStep, IsInRange, FitsAt, acted, beside, entered, with_member, stopped, taken}
 
 -- the name in a route
 abbrev name_in : Option (Name × PlainEvent) → Option Name
@@ -86,7 +87,8 @@ IsFinished event change place before plan after =
     (m : Member) → slice_get before.members place ≡ Some m
     → after ≡ entered (record { event = event; words = plan.done.words }) (acted change place m plan.state plan.done before)
 
-module _ (change : Member → Member) (place : ℕ) (event : PlainEvent) (told told_after : Option (ℕ → ℕ)) (before : Parts) (plan : PlainPlan) (h : IsPlanned place event told told_after before plan) where
+module _ (change : Member → Member) (place : ℕ) (event : PlainEvent) (told told_after : Option (ℕ → ℕ)) (before : Parts) (plan : PlainPlan)
+    (h : IsPlanned place event told told_after before plan) where
   -- the world after it
   abbrev did : Parts
   did = acted change place h.member plan.state plan.done before
@@ -111,9 +113,10 @@ module _ (change : Member → Member) (place : ℕ) (event : PlainEvent) (told t
     gives = ap (λ (m : Member). record did { members = slice_set before.members place m }) same;
   }
 
-  pub acted_step : (t : WEvent) (name : Name) (after : Parts) (notes : List Note) → refusal before t ≡ None → IsInRange t → routed t ≡ Some (name, event) → place_by (named_by t) before ≡ Some place
+  pub acted_step : (t : WEvent) (name : Name) (after : Parts) (notes : List Note) → refusal before t ≡ None → IsInRange t → IsEventInRange event
+      → routed t ≡ Some (name, event) → place_by (named_by t) before ≡ Some place
       → change next_member ≡ beside t before next_member → IsFinished t change place before plan after → notes ≡ plan.done.notes → IsStep t notes told told_after before after
-  acted_step t name after notes accepted in_range is found same gives noted =
+  acted_step t name after notes accepted in_range fits is found same gives noted =
       let named : place_by (named_by t) before ≡ router_place (name_text name) before = ap (λ (o : Option Name). place_by o before) (named_routed t (name, event) is) in
       let acts : Acts (beside t before) name event plan.done.words notes before did = record { place = place; is_place = sym named ∙ found; acts = acts_at (beside t before) notes same noted } in
       record {
@@ -121,6 +124,7 @@ module _ (change : Member → Member) (place : ℕ) (event : PlainEvent) (told t
         step = record {
           accepted = accepted;
           in_range = in_range;
+          fits = subst FitsAt (sym is) fits;
           between = did;
           does = subst (λ (own : Option (Name × PlainEvent)). DoesAt t own plan.done.words notes before did) (sym is) acts;
           gives = finished t after gives;
@@ -142,14 +146,16 @@ copy_there copy w c found = by_test (copy == 0) refl found
 pub receiver_within : (asked : MailCopy → Member → Option ℕ) (copy : ℕ) (w : Parts) (c : MailCopy) → of_copy (λ c. of_router (asked c) (slice_get w.members c.to.place)) (copy_at w copy) ≡ None
     → copy_at w copy ≡ Some c → c.to.place < length w.members
 receiver_within asked copy w c accepted found =
-    let accepts : of_router (asked c) (slice_get w.members c.to.place) ≡ None = subst (λ (o : Option MailCopy). of_copy (λ c. of_router (asked c) (slice_get w.members c.to.place)) o ≡ None) found accepted in
+    let accepts : of_router (asked c) (slice_get w.members c.to.place) ≡ None =
+    subst (λ (o : Option MailCopy). of_copy (λ c. of_router (asked c) (slice_get w.members c.to.place)) o ≡ None) found accepted in
     let m = some_there 7 (asked c) (slice_get w.members c.to.place) accepts in
     slice_get_within w.members c.to.place m.0 m.1
 
 abbrev pub arrival_of : MailCopy → PlainEvent
 arrival_of c = Arrive (record { endpoint = c.to.endpoint; from = c.from; multicast = c.multicast }) c.bytes
 
-module _ (copy : ℕ) (c : MailCopy) (told told_after : Option (ℕ → ℕ)) (before after : Parts) (plan : PlainPlan) (at : copy_at before copy ≡ Some c) (h : IsPlanned c.to.place (arrival_of c) told told_after before plan)
+module _ (copy : ℕ) (c : MailCopy) (told told_after : Option (ℕ → ℕ)) (before after : Parts) (plan : PlainPlan) (at : copy_at before copy ≡ Some c)
+    (h : IsPlanned c.to.place (arrival_of c) told told_after before plan)
     (gives : IsFinished (event.Deliver copy) (λ m. m) c.to.place before plan after) where
   abbrev done : Parts
   done = did (λ m. m) c.to.place (arrival_of c) told told_after before plan h
@@ -173,9 +179,17 @@ module _ (copy : ℕ) (c : MailCopy) (told told_after : Option (ℕ → ℕ)) (b
         step = record {
           accepted = accepted;
           in_range = tt;
+          fits = tt;
           between = taken copy c done;
-          does = record { mail = c; is_copy = (copy_there copy before c at).1; between = done; acts = acts_at (λ m. m) c.to.place (arrival_of c) told told_after before plan h (λ m. m) notes refl noted; gives = refl };
-          gives = ap (λ (cs : List MailCopy). record after { copies = cs }) (takes c stays_there) ∙ ap (λ (w : Parts). record w { copies = slice_set w.copies (copy - 1) (record c { waiting = false }) }) world;
+          does = record {
+            mail = c;
+            is_copy = (copy_there copy before c at).1;
+            between = done;
+            acts = acts_at (λ m. m) c.to.place (arrival_of c) told told_after before plan h (λ m. m) notes refl noted;
+            gives = refl;
+          };
+          gives = ap (λ (cs : List MailCopy). record after { copies = cs }) (takes c stays_there)
+              ∙ ap (λ (w : Parts). record w { copies = slice_set w.copies (copy - 1) (record c { waiting = false }) }) world;
         };
         drew = h.drew;
       }
@@ -187,7 +201,8 @@ pub there : {A : Type 0} (xs : List A) (i : ℕ) → i < length xs → (x : A) �
 there [] i lt = absurd (omega arith)
 there (x ∷ xs) i lt = (get_or (x ∷ xs) i x, slice_get-get_or (x ∷ xs) i x lt)
 
-pub quiet_step : (t : WEvent) (notes : List Note) (told : Option (ℕ → ℕ)) (before after : Parts) → Step (record { event = t; words = [] }) [] before after → notes ≡ [] → IsStep t notes told told before after
+pub quiet_step : (t : WEvent) (notes : List Note) (told : Option (ℕ → ℕ)) (before after : Parts)
+    → Step (record { event = t; words = [] }) [] before after → notes ≡ [] → IsStep t notes told told before after
 quiet_step t notes told before after step none = record {
   words = [];
   step = subst (λ (ns : List Note). Step (record { event = t; words = [] }) ns before after) (sym none) step;
@@ -195,9 +210,11 @@ quiet_step t notes told before after step none = record {
 }
 
 -- a new router, where the world before it was opened
-pub begun_step : (name : Name) (id : NodeId) (opened before : Parts) (limit now : ℕ) (router : State) (m : Member) (p : Publication) (members : List Member) (published : List Publication) (trace : List Traced) (t : Traced) → opened ≡ before
+pub begun_step : (name : Name) (id : NodeId) (opened before : Parts) (limit now : ℕ) (router : State) (m : Member) (p : Publication)
+    (members : List Member) (published : List Publication) (trace : List Traced) (t : Traced) → opened ≡ before
     → refusal before (event.Router name id) ≡ None → id.0 < 2 ^ 32 → limit ≡ table_limit opened.version → now ≡ opened.moment → IsNew id limit now router
-    → m ≡ record { name = name; running = true; router = router; attachments = [] } → p ≡ record { id = id; number = 1; body = router.own.body } → t ≡ record { event = event.Router name id; words = [] }
+    → m ≡ record { name = name; running = true; router = router; attachments = [] } → p ≡ record { id = id; number = 1; body = router.own.body }
+    → t ≡ record { event = event.Router name id; words = [] }
     → members ≡ opened.members ++ m ∷ [] → published ≡ opened.published ++ p ∷ [] → trace ≡ opened.trace ++ t ∷ []
     → Step (record { event = event.Router name id; words = [] }) [] before (record opened { members = members; published = published; trace = trace })
 begun_step name id opened before limit now router m p members published trace t same accepted fits sized at new is_member is_publication is_event joined added is_entered =
@@ -206,6 +223,7 @@ begun_step name id opened before limit now router m p members published trace t 
     record {
       accepted = accepted;
       in_range = fits;
+      fits = tt;
       between = record before {
         members = before.members ++ record { name = name; running = true; router = router; attachments = [] } ∷ [];
         published = before.published ++ record { id = id; number = 1; body = router.own.body } ∷ [];
@@ -234,15 +252,18 @@ dropped_step copy before copies trace t accepted event entered takes =
     record {
       accepted = accepted;
       in_range = tt;
+      fits = tt;
       between = taken copy c.0 before;
       does = record { mail = c.0; is_copy = at; quietly = record { took = refl; noted = refl; gives = refl } };
       gives = rw (takes c.0 at, entered, event) refl;
     }
 
 -- a tick before something is due
-pub passed_step : (name : Name) (place : ℕ) (before : Parts) (m : Member) (members : List Member) (trace : List Traced) (t : Traced) (notes : List Note) (told : Option (ℕ → ℕ)) → refusal before (event.Tick name) ≡ None
+pub passed_step : (name : Name) (place : ℕ) (before : Parts) (m : Member) (members : List Member) (trace : List Traced) (t : Traced) (notes : List Note) (told : Option (ℕ → ℕ))
+    → refusal before (event.Tick name) ≡ None
     → router_place (name_text name) before ≡ Some place → slice_get before.members place ≡ Some m → Happened before.moment Tick m.router (at_moment before.moment m.router) nothing
-    → members ≡ slice_set before.members place (record m { router = at_moment before.moment m.router }) → t ≡ record { event = event.Tick name; words = [] } → trace ≡ before.trace ++ t ∷ [] → notes ≡ []
+    → members ≡ slice_set before.members place (record m { router = at_moment before.moment m.router })
+    → t ≡ record { event = event.Tick name; words = [] } → trace ≡ before.trace ++ t ∷ [] → notes ≡ []
     → IsStep (event.Tick name) notes told told before (record before { members = members; trace = trace })
 passed_step name place before m members trace t notes told accepted found at happened moved is_event is_entered none =
     let entry : Traced = record { event = event.Tick name; words = [] } in
@@ -254,6 +275,7 @@ passed_step name place before m members trace t notes told accepted found at hap
     let step : Step entry [] before (record before { members = members; trace = trace }) = record {
       accepted = accepted;
       in_range = tt;
+      fits = tt;
       between = between;
       does = record {
         place = place;
@@ -264,7 +286,8 @@ passed_step name place before m members trace t notes told accepted found at hap
     } in
     quiet_step (event.Tick name) notes told before (record before { members = members; trace = trace }) step none
 
-pub stopped_step : (name : Name) (place : ℕ) (before : Parts) (members : List Member) (trace : List Traced) (t : Traced) → refusal before (event.Stop name) ≡ None → router_place (name_text name) before ≡ Some place
+pub stopped_step : (name : Name) (place : ℕ) (before : Parts) (members : List Member) (trace : List Traced) (t : Traced)
+    → refusal before (event.Stop name) ≡ None → router_place (name_text name) before ≡ Some place
     → t ≡ record { event = event.Stop name; words = [] } → trace ≡ before.trace ++ t ∷ []
     → ((m : Member) → slice_get before.members place ≡ Some m → members ≡ slice_set before.members place (stopped m))
     → Step (record { event = event.Stop name; words = [] }) [] before (record before { members = members; trace = trace })
@@ -273,6 +296,7 @@ stopped_step name place before members trace t accepted found event entered stop
     record {
       accepted = accepted;
       in_range = tt;
+      fits = tt;
       between = with_member place (stopped m.0) before;
       does = record {
         place = place;

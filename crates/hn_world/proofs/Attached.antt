@@ -1,5 +1,6 @@
 -- The endpoints of the routers of a replayed world are those of their attachments, and no two attachments are to one link.
-use Rattle.std.proofs.Common.{◌≡◌, ◌≢◌, ◌∙◌, ◌<◌, ◌⊎◌, ◌↔◌, ℕ, Bool, true, false, not, cond, List, [], ◌∷◌, ◌++◌, Option, Some, None, Contains, length, map, filter, get_or, slice_get, nat_lt, ◌==◌, ◌||◌, inl, inr, refl, sym, ap, subst, arith}
+use Rattle.std.proofs.Common.{◌≡◌, ◌≢◌, ◌∙◌, ◌<◌, ◌⊎◌, ◌↔◌, ℕ, Bool, true, false, not, cond, List, [], ◌∷◌, ◌++◌, Option, Some, None, Contains, length, map, filter, get_or, slice_get, nat_lt, ◌==◌}
+use Rattle.std.proofs.Common.{◌||◌, inl, inr, refl, sym, ap, subst, arith}
 use Rattle.std.specs.List.{list_any}
 use Rattle.std.specs.Option.{option_map_or}
 use Rattle.std.proofs.lemmas.Bool.{eqb-true, eqb-false, ltb-false}
@@ -266,13 +267,22 @@ leaves w t own is = by_event t own is
     by_event (event.Start name) own is =
         fits (event.Start name) (name, Restart) own is
         (λ place m next is_place is_member accepted here follows. let same = attached_same Restart m next (λ ends. refl) here follows in record { endpoints = same.endpoints; apart = same.apart })
-    by_event (event.External name prefix valid preferred) own is = fits (event.External name prefix valid preferred) (name, External prefix valid preferred) own is (λ place m next is_place is_member accepted here follows. attached_same (External prefix valid preferred) m next (λ ends. refl) here follows)
-    by_event (event.Withdraw name prefix) own is = fits (event.Withdraw name prefix) (name, Withdraw prefix) own is (λ place m next is_place is_member accepted here follows. attached_same (Withdraw prefix) m next (λ ends. refl) here follows)
-    by_event (event.Caps name caps) own is = fits (event.Caps name caps) (name, SetCaps caps) own is (λ place m next is_place is_member accepted here follows. attached_same (SetCaps caps) m next (λ ends. refl) here follows)
+    by_event (event.External name prefix valid preferred) own is =
+        fits (event.External name prefix valid preferred) (name, External prefix valid preferred) own is
+        (λ place m next is_place is_member accepted here follows. attached_same (External prefix valid preferred) m next (λ ends. refl) here follows)
+    by_event (event.Withdraw name prefix) own is = fits (event.Withdraw name prefix) (name, Withdraw prefix) own is
+        (λ place m next is_place is_member accepted here follows. attached_same (Withdraw prefix) m next (λ ends. refl) here follows)
+    by_event (event.Caps name caps) own is = fits (event.Caps name caps) (name, SetCaps caps) own is
+        (λ place m next is_place is_member accepted here follows. attached_same (SetCaps caps) m next (λ ends. refl) here follows)
     by_event (event.Tick name) own is = fits (event.Tick name) (name, Tick) own is (λ place m next is_place is_member accepted here follows. attached_same (Tick) m next (λ ends. refl) here follows)
-    by_event (event.Inject name endpoint from multicast bytes) own is = fits (event.Inject name endpoint from multicast bytes) (name, Arrive (record { endpoint = endpoint; from = from; multicast = multicast }) bytes) own is (λ place m next is_place is_member accepted here follows. attached_same (Arrive (record { endpoint = endpoint; from = from; multicast = multicast }) bytes) m next (λ ends. refl) here follows)
-    by_event (event.Private name length) own is = fits (event.Private name length) (name, Private length) own is (λ place m next is_place is_member accepted here follows. attached_same (Private length) m next (λ ends. refl) here follows)
-    by_event (event.Addresses name list) own is = fits (event.Addresses name list) (name, Addresses list) own is (λ place m next is_place is_member accepted here follows. attached_same (Addresses list) m next (λ ends. refl) here follows)
+    by_event (event.Inject name endpoint from multicast bytes) own is =
+        fits (event.Inject name endpoint from multicast bytes)
+        (name, Arrive (record { endpoint = endpoint; from = from; multicast = multicast }) bytes) own is
+        (λ place m next is_place is_member accepted here follows. attached_same (Arrive (record { endpoint = endpoint; from = from; multicast = multicast }) bytes) m next (λ ends. refl) here follows)
+    by_event (event.Private name length) own is = fits (event.Private name length) (name, Private length) own is
+        (λ place m next is_place is_member accepted here follows. attached_same (Private length) m next (λ ends. refl) here follows)
+    by_event (event.Addresses name list) own is = fits (event.Addresses name list) (name, Addresses list) own is
+        (λ place m next is_place is_member accepted here follows. attached_same (Addresses list) m next (λ ends. refl) here follows)
     by_event (event.Router name id) own is = absurd cc
     by_event (event.Link name) own is = absurd cc
     by_event (event.Stop name) own is = absurd cc
@@ -303,7 +313,8 @@ module _ (follow : EndpointsFollow) where
   attached_else (event.Time moment) words notes before after h all = subst AreAttached (sym h.gives) all
   attached_else (event.Deliver copy) words notes before after h all =
       subst AreAttached (sym h.gives)
-      (attached_acts_at (λ m. m) h.mail.to.place (arrival_of h.mail) words notes before h.between h.acts (λ m next at here follows. attached_same (arrival_of h.mail) m next (λ ends. refl) here follows) all)
+      (attached_acts_at (λ m. m) h.mail.to.place (arrival_of h.mail) words notes before h.between h.acts
+      (λ m next at here follows. attached_same (arrival_of h.mail) m next (λ ends. refl) here follows) all)
   attached_else (event.Drop copy) words notes before after h all = subst AreAttached (sym h.quietly.gives) all
   attached_else (event.Attach name endpoint link) words notes before after h all = absurd h
   attached_else (event.Detach name endpoint) words notes before after h all = absurd h

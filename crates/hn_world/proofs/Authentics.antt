@@ -23,7 +23,8 @@ use Rattle.hn_world.specs.declared.parts.Parts.{Parts}
 use Rattle.hn_world.specs.Authentic.{IsFromWithin, IsAuthentic, AuthenticUnlessInjected}
 use Rattle.hn_world.specs.Mail.{copies_of}
 use Rattle.hn_world.specs.Replay.{Replays, IsSoundMember, IsSound}
-use Rattle.hn_world.specs.Step.{ActsAt, RouterBegins, Delivers, Drops, Stops, Does, IsInRange, acted, beside, stopped, taken}
+use Rattle.hn_world.specs.Routed.{routed}
+use Rattle.hn_world.specs.Step.{ActsAt, RouterBegins, Delivers, Drops, Stops, Does, FitsAt, acted, beside, stopped, taken}
 use Rattle.hn_world.proofs.Copied.{copied, still_copied}
 use Rattle.hn_world.proofs.Onces.{Any, trace_of_step}
 use Rattle.hn_world.proofs.Sounds.{StayLaws, KeepsRouters, beside_keeps, sound_step, replay_keeps, all_at}
@@ -87,8 +88,10 @@ module _ (laws : AuthenticLaws) where
       by_result (inr collide) = inr collide
       by_result (inl (is, sends)) =
           inl (record {
-            routers = All-set (λ (m : Member). IsGenuine all m.router) before.members place (change next) (subst (IsGenuine all) (sym (keeps next)) is) (routers_more before.published all includes before.members genuine.routers);
-            copies = All-append (λ (c : MailCopy). BytesSayPublished all c.bytes) before.copies (copies_of before.members place h.member h.done.sends) (copies_more before.published all includes before.copies genuine.copies)
+            routers = All-set (λ (m : Member). IsGenuine all m.router) before.members place (change next)
+                (subst (IsGenuine all) (sym (keeps next)) is) (routers_more before.published all includes before.members genuine.routers);
+            copies = All-append (λ (c : MailCopy). BytesSayPublished all c.bytes) before.copies (copies_of before.members place h.member h.done.sends)
+                (copies_more before.published all includes before.copies genuine.copies)
                 (copied (BytesSayPublished all) before.members place h.member h.done.sends sends);
           })
 
@@ -118,7 +121,8 @@ module _ (laws : AuthenticLaws) where
       }
 
       routers : All (λ m. IsGenuine all m.router) (before.members ++ record { name = name; running = true; router = h.router; attachments = [] } ∷ [])
-      routers = All-push (λ (m : Member). IsGenuine all m.router) before.members (record { name = name; running = true; router = h.router; attachments = [] }) (routers_more before.published all includes before.members genuine.routers) is
+      routers = All-push (λ (m : Member). IsGenuine all m.router) before.members
+          (record { name = name; running = true; router = h.router; attachments = [] }) (routers_more before.published all includes before.members genuine.routers) is
 
       copies : All (λ c. BytesSayPublished all c.bytes) before.copies
       copies = copies_more before.published all includes before.copies genuine.copies
@@ -141,7 +145,9 @@ module _ (laws : AuthenticLaws) where
       let says : BytesSayPublished before.published h.mail.bytes = all_at (λ (c : MailCopy). BytesSayPublished before.published c.bytes) before.copies (copy - 1) h.mail h.is_copy genuine.copies in
       let more = bytes_more before.published (before.published ++ h.acts.done.published) (includes_front before.published h.acts.done.published) h.mail.bytes says in
       let then : BytesSayPublished h.between.published h.mail.bytes = subst (λ (w : Parts). BytesSayPublished w.published h.mail.bytes) (sym h.acts.gives) more in
-      subst IsGenuineOr (sym h.gives) (genuine_taken copy h.mail h.between then (genuine_at (λ m. m) (λ m. refl) h.mail.to.place (Arrive (record { endpoint = h.mail.to.endpoint; from = h.mail.from; multicast = h.mail.multicast }) h.mail.bytes) words notes before h.between tt says h.acts sound (inl genuine)))
+      subst IsGenuineOr (sym h.gives) (genuine_taken copy h.mail h.between then
+      (genuine_at (λ m. m) (λ m. refl) h.mail.to.place (Arrive
+      (record { endpoint = h.mail.to.endpoint; from = h.mail.from; multicast = h.mail.multicast }) h.mail.bytes) words notes before h.between tt says h.acts sound (inl genuine)))
 
   genuine_dropped : (copy : ℕ) (words : List ℕ) (notes : List Note) (before after : Parts) → Drops copy words notes before after → IsGenuineOr before → IsGenuineOr after
   genuine_dropped copy words notes before after h (inr collide) = subst IsGenuineOr (sym h.quietly.gives) (inr collide)
@@ -153,30 +159,41 @@ module _ (laws : AuthenticLaws) where
   genuine_stopped name words notes before after h (inr collide) = subst IsGenuineOr (sym h.quietly.gives) (inr collide)
   genuine_stopped name words notes before after h (inl genuine) =
       let here : IsGenuine before.published h.member.router = all_at (λ (m : Member). IsGenuine before.published m.router) before.members h.place h.member h.is_member genuine.routers in
-      subst IsGenuineOr (sym h.quietly.gives) (inl (record { routers = All-set (λ (m : Member). IsGenuine before.published m.router) before.members h.place (stopped h.member) here genuine.routers; copies = genuine.copies }))
+      subst IsGenuineOr (sym h.quietly.gives) (inl (record {
+        routers = All-set (λ (m : Member). IsGenuine before.published m.router) before.members h.place (stopped h.member) here genuine.routers;
+        copies = genuine.copies;
+      }))
 
   plainly : (w : Parts) (links : List Name) (moment : ℕ) (trace : List Traced) → IsGenuineOr w → IsGenuineOr (record w { links = links; moment = moment; trace = trace })
   plainly w links moment trace (inl genuine) = inl (record { routers = genuine.routers; copies = genuine.copies })
   plainly w links moment trace (inr collide) = inr collide
 
-  genuine_by : (event : WEvent) (words : List ℕ) (notes : List Note) (before after : Parts) → IsFromWithin event → IsInRange event → Does event words notes before after → IsSound before → IsGenuineOr before → IsGenuineOr after
+  genuine_by : (event : WEvent) (words : List ℕ) (notes : List Note) (before after : Parts) → IsFromWithin event → FitsAt (routed event)
+      → Does event words notes before after → IsSound before → IsGenuineOr before → IsGenuineOr after
   genuine_by (event.Router name id) words notes before after within fits h sound genuine = genuine_new name id words notes before after h genuine
   genuine_by (event.Link name) words notes before after within fits h sound genuine = subst IsGenuineOr (sym h.gives) (plainly before (before.links ++ name ∷ []) before.moment before.trace genuine)
   genuine_by (event.Attach name endpoint link) words notes before after within fits h sound genuine =
-      genuine_at (beside (event.Attach name endpoint link) before) (beside_keeps (event.Attach name endpoint link) before) h.place (Attach endpoint) words notes before after fits.1 tt h.acts sound genuine
+      genuine_at (beside (event.Attach name endpoint link) before) (beside_keeps (event.Attach name endpoint link) before) h.place
+      (Attach endpoint) words notes before after fits tt h.acts sound genuine
   genuine_by (event.Detach name endpoint) words notes before after within fits h sound genuine =
-      genuine_at (beside (event.Detach name endpoint) before) (beside_keeps (event.Detach name endpoint) before) h.place (Detach endpoint) words notes before after tt tt h.acts sound genuine
+      genuine_at (beside (event.Detach name endpoint) before) (beside_keeps (event.Detach name endpoint) before) h.place (Detach endpoint) words notes before after fits tt h.acts sound genuine
   genuine_by (event.External name prefix valid preferred) words notes before after within fits h sound genuine =
-      genuine_at (beside (event.External name prefix valid preferred) before) (beside_keeps (event.External name prefix valid preferred) before) h.place (External prefix valid preferred) words notes before after tt tt h.acts sound genuine
-  genuine_by (event.Withdraw name prefix) words notes before after within fits h sound genuine = genuine_at (beside (event.Withdraw name prefix) before) (beside_keeps (event.Withdraw name prefix) before) h.place (Withdraw prefix) words notes before after tt tt h.acts sound genuine
-  genuine_by (event.Caps name caps) words notes before after within fits h sound genuine = genuine_at (beside (event.Caps name caps) before) (beside_keeps (event.Caps name caps) before) h.place (SetCaps caps) words notes before after tt tt h.acts sound genuine
-  genuine_by (event.Private name length) words notes before after within fits h sound genuine = genuine_at (beside (event.Private name length) before) (beside_keeps (event.Private name length) before) h.place (Private length) words notes before after tt tt h.acts sound genuine
-  genuine_by (event.Addresses name list) words notes before after within fits h sound genuine = genuine_at (beside (event.Addresses name list) before) (beside_keeps (event.Addresses name list) before) h.place (Addresses list) words notes before after tt tt h.acts sound genuine
+      genuine_at (beside (event.External name prefix valid preferred) before)
+      (beside_keeps (event.External name prefix valid preferred) before) h.place (External prefix valid preferred) words notes before after fits tt h.acts sound genuine
+  genuine_by (event.Withdraw name prefix) words notes before after within fits h sound genuine =
+      genuine_at (beside (event.Withdraw name prefix) before) (beside_keeps (event.Withdraw name prefix) before) h.place (Withdraw prefix) words notes before after fits tt h.acts sound genuine
+  genuine_by (event.Caps name caps) words notes before after within fits h sound genuine =
+      genuine_at (beside (event.Caps name caps) before) (beside_keeps (event.Caps name caps) before) h.place (SetCaps caps) words notes before after fits tt h.acts sound genuine
+  genuine_by (event.Private name length) words notes before after within fits h sound genuine =
+      genuine_at (beside (event.Private name length) before) (beside_keeps (event.Private name length) before) h.place (Private length) words notes before after fits tt h.acts sound genuine
+  genuine_by (event.Addresses name list) words notes before after within fits h sound genuine =
+      genuine_at (beside (event.Addresses name list) before) (beside_keeps (event.Addresses name list) before) h.place (Addresses list) words notes before after fits tt h.acts sound genuine
   genuine_by (event.Stop name) words notes before after within fits h sound genuine = genuine_stopped name words notes before after h genuine
   genuine_by (event.Start name) words notes before after within fits h sound genuine =
-      genuine_at (beside (event.Start name) before) (beside_keeps (event.Start name) before) h.place Restart words notes before after tt tt h.acts sound genuine
+      genuine_at (beside (event.Start name) before) (beside_keeps (event.Start name) before) h.place Restart words notes before after fits tt h.acts sound genuine
   genuine_by (event.Time moment) words notes before after within fits h sound genuine = subst IsGenuineOr (sym h.gives) (plainly before before.links moment before.trace genuine)
-  genuine_by (event.Tick name) words notes before after within fits h sound genuine = genuine_at (beside (event.Tick name) before) (beside_keeps (event.Tick name) before) h.place Tick words notes before after tt tt h.acts sound genuine
+  genuine_by (event.Tick name) words notes before after within fits h sound genuine =
+      genuine_at (beside (event.Tick name) before) (beside_keeps (event.Tick name) before) h.place Tick words notes before after fits tt h.acts sound genuine
   genuine_by (event.Deliver copy) words notes before after within fits h sound genuine = genuine_delivered copy words notes before after h sound genuine
   genuine_by (event.Drop copy) words notes before after within fits h sound genuine = genuine_dropped copy words notes before after h genuine
   genuine_by (event.Inject name endpoint from multicast bytes) words notes before after within fits h sound genuine = absurd within
@@ -198,7 +215,8 @@ module _ (laws : AuthenticLaws) where
           before.trace (All-contains_itself before.trace) in
           let last : IsFromWithin t.event = All-contains (λ (t : Traced). IsFromWithin t.event) (before.trace ++ t ∷ []) t entered_all (Contains-push before.trace t) in
           subst IsGenuineOr (sym step.gives)
-          (plainly step.between step.between.links step.between.moment (step.between.trace ++ t ∷ []) (genuine_by t.event t.words notes before step.between last step.in_range step.does sound (kept front)))
+          (plainly step.between step.between.links step.between.moment (step.between.trace ++ t ∷ [])
+          (genuine_by t.event t.words notes before step.between last step.fits step.does sound (kept front)))
 
   kept_replay : (version : Version) (ts : List Traced) (w : Parts) → Replays version ts w → Kept w
   kept_replay version ts w h =

@@ -19,7 +19,8 @@ replays_none version = refl
 pub replays_more : (t : Traced) (notes : List Note) (before after : Parts) → Replays before.version before.trace before → Step t notes before after → Replays after.version after.trace after
 unfolding Replays
 replays_more t notes before after h step =
-    subst (λ (past : Version × List Traced). Goes (empty_world past.0) past.1 after) (sym (past_of_step t before after (notes, step))) (goes_more (empty_world before.version) before after before.trace t h (notes, step))
+    subst (λ (past : Version × List Traced). Goes (empty_world past.0) past.1 after) (sym (past_of_step t before after (notes, step)))
+    (goes_more (empty_world before.version) before after before.trace t h (notes, step))
 
 -- ---- each event of a trace
 

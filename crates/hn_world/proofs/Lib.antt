@@ -14,6 +14,7 @@ mod Copied
 mod Limited
 mod Authentics
 mod Grown
+mod SomeSteps
 mod Received
 mod Addressed
 mod SameNames

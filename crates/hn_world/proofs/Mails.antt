@@ -95,7 +95,8 @@ waits_not xs i c at is =
     let same : record c { waiting = false } ≡ c = ap (λ (b : Bool). record c { waiting = b }) (sym is) in
     sym (ap (slice_set xs i) same ∙ ap (slice_set xs i) (sym (get_or_from_slice_get xs i c c at)) ∙ set-get_or xs i c)
 
-fewer_wait : (xs : List MailCopy) (i : ℕ) (c : MailCopy) → slice_get xs i ≡ Some c → c.waiting ≡ true → count_by (λ c. c.waiting) (slice_set xs i (record c { waiting = false })) + 1 ≡ count_by (λ c. c.waiting) xs
+fewer_wait : (xs : List MailCopy) (i : ℕ) (c : MailCopy) → slice_get xs i ≡ Some c → c.waiting ≡ true
+    → count_by (λ c. c.waiting) (slice_set xs i (record c { waiting = false })) + 1 ≡ count_by (λ c. c.waiting) xs
 fewer_wait xs i c at is =
     let lt = slice_get_within xs i c at in
     let set = sum_by-set (λ (c : MailCopy). cond c.waiting 1 0) xs i (record c { waiting = false }) c lt in

@@ -82,7 +82,8 @@ module _ (laws : HasLaws) (stream : ℕ → ℕ) where
       let made : with_member h.place (stopped h.member) before ≡ with_member k.place (stopped k.member) before = λ i. with_member (place i) (stopped (member i)) before in
       one_quiet _ _ v w m n a b made h.quietly k.quietly
 
-  one_else : (event : WEvent) (v w : List ℕ) (m n : List Note) (before a b : Parts) → drawn.Begins v stream → drawn.Begins w stream → DoesElse event v m before a → DoesElse event w n before b → AreOne v w m n a b
+  one_else : (event : WEvent) (v w : List ℕ) (m n : List Note) (before a b : Parts) → drawn.Begins v stream → drawn.Begins w stream
+      → DoesElse event v m before a → DoesElse event w n before b → AreOne v w m n a b
   one_else (event.Router name id) v w m n before a b begins begun h k = one_begun name id v w m n before a b h k
   one_else (event.Link name) v w m n before a b begins begun h k = one_quiet _ _ v w m n a b refl h k
   one_else (event.Stop name) v w m n before a b begins begun h k = one_stopped name v w m n before a b h k
@@ -116,7 +117,8 @@ module _ (laws : HasLaws) (stream : ℕ → ℕ) where
       → Step (record { event = event; words = v }) m before a → Step (record { event = event; words = w }) n before b → AreOne v w m n a b
   one_step event v w m n before a b begins begun h k =
       let same = one_at event (routed event) v w m n before h.between k.between begins begun h.does k.does in
-      let made : entered (record { event = event; words = v }) h.between ≡ entered (record { event = event; words = w }) k.between = λ i. entered (record { event = event; words = same.words i }) (same.world i) in
+      let made : entered (record { event = event; words = v }) h.between ≡ entered (record { event = event; words = w }) k.between =
+      λ i. entered (record { event = event; words = same.words i }) (same.world i) in
       record { words = same.words; notes = same.notes; world = h.gives ∙ made ∙ sym k.gives }
 
 -- ---- from a draw that tells its words
@@ -124,7 +126,8 @@ module _ (laws : HasLaws) (stream : ℕ → ℕ) where
 told : (f g : ℕ → ℕ) (words : List ℕ) → drawn.Took (Some f) words (Some g) → drawn.IsAt (Some g) f words
 told f g words drew = drew [] f (record { begins = λ i within. absurd (omega arith); rest = ap Some (simp zero-add) })
 
-pub one_told : HasLaws → (event : WEvent) (f g h : ℕ → ℕ) (m n : List Note) (before a b : Parts) → IsStep event m (Some f) (Some g) before a → IsStep event n (Some f) (Some h) before b → (a ≡ b) × (m ≡ n) × (g ≡ h)
+pub one_told : HasLaws → (event : WEvent) (f g h : ℕ → ℕ) (m n : List Note) (before a b : Parts) → IsStep event m (Some f) (Some g) before a
+    → IsStep event n (Some f) (Some h) before b → (a ≡ b) × (m ≡ n) × (g ≡ h)
 one_told laws event f g h m n before a b x y =
     let left = told f g x.words x.drew in
     let right = told f h y.words y.drew in
@@ -168,7 +171,8 @@ past_of_else (event.Start name) words notes before after h = absurd h
 past_of_else (event.Tick name) words notes before after h = absurd h
 past_of_else (event.Inject name endpoint from multicast bytes) words notes before after h = absurd h
 
-past_of_event : (event : WEvent) (own : Option (Name × PlainEvent)) (words : List ℕ) (notes : List Note) (before after : Parts) → DoesAt event own words notes before after → past_of after ≡ past_of before
+past_of_event : (event : WEvent) (own : Option (Name × PlainEvent)) (words : List ℕ) (notes : List Note) (before after : Parts)
+    → DoesAt event own words notes before after → past_of after ≡ past_of before
 past_of_event event (Some own) words notes before after h = ap past_of h.acts.gives
 past_of_event event None words notes before after h = past_of_else event words notes before after h
 

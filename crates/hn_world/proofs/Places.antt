@@ -1,5 +1,6 @@
 -- Elements at their places.
-use Rattle.std.proofs.Common.{◌≡◌, ◌∙◌, ◌<◌, ℕ, zero, suc, Bool, true, false, List, [], ◌∷◌, ◌++◌, cond, length, get_or, map, filter, take, ◌+◌, Option, Some, None, find, position, slice_get, slice_set, nat_lt, refl, sym, subst, ap}
+use Rattle.std.proofs.Common.{◌≡◌, ◌∙◌, ◌<◌, ℕ, zero, suc, Bool, true, false, List, [], ◌∷◌, ◌++◌, cond, length, get_or, map, filter, take, ◌+◌, Option, Some, None, find, position, slice_get}
+use Rattle.std.proofs.Common.{slice_set, nat_lt, refl, sym, subst, ap}
 use Rattle.std.specs.List.{position_or_len}
 use Rattle.std.proofs.lemmas.List.Folds.{find_at}
 use Rattle.std.proofs.lemmas.List.{append-nil, length-set, map-append}

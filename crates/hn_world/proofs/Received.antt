@@ -108,7 +108,8 @@ received_else (event.Start name) words notes before after h all = absurd h
 received_else (event.Tick name) words notes before after h all = absurd h
 received_else (event.Inject name endpoint from multicast bytes) words notes before after h all = absurd h
 
-received_by : (event : WEvent) (own : Option (Name × PlainEvent)) (words : List ℕ) (notes : List Note) (before after : Parts) → DoesAt event own words notes before after → HaveReceivers before → HaveReceivers after
+received_by : (event : WEvent) (own : Option (Name × PlainEvent)) (words : List ℕ) (notes : List Note) (before after : Parts)
+    → DoesAt event own words notes before after → HaveReceivers before → HaveReceivers after
 received_by event (Some own) words notes before after h all =
     let same = as_many (beside event before) h.place own.1 words notes before after h.acts in
     for_more (length before.members) (length after.members) after.copies (omega (arith, same)) (received_at (beside event before) h.place own.1 words notes before after h.acts all)

@@ -22,7 +22,7 @@ use Rattle.hn_world.specs.Limits.{table_limit}
 use Rattle.hn_world.specs.Refusal.{code_if, refusal}
 use Rattle.hn_world.specs.Names.{link_place}
 use Rattle.hn_world.specs.Routed.{routed}
-use Rattle.hn_world.specs.Step.{ActsAt, DoesElse, DoesAt, IsInRange, attached_to, beside, stopped}
+use Rattle.hn_world.specs.Step.{ActsAt, DoesElse, DoesAt, FitsAt, IsInRange, attached_to, beside, stopped}
 use Rattle.hn_world.specs.Replay.{empty_world, Goes, Replays, IsReplayed, IsSoundMember, IsSound, Always}
 use Rattle.hn_world.proofs.Onces.{Any}
 
@@ -84,7 +84,8 @@ sound_acts_at laws change keeps place event words notes before after ranged h al
     let router : IsRouter h.next = laws.stays before.moment event h.member.router h.next h.done here.router here.past ranged h.happened in
     let moment : h.next.moment ≡ before.moment = laws.moment before.moment event h.member.router h.next h.done h.happened in
     let next : Member = record h.member { router = h.next } in
-    subst IsSound (sym h.gives) (All-set (IsSoundMember before.moment) before.members place (change next) (sound_changed before.moment change keeps next (record { router = router; past = omega arith })) all)
+    subst IsSound (sym h.gives) (All-set (IsSoundMember before.moment) before.members place (change next)
+    (sound_changed before.moment change keeps next (record { router = router; past = omega arith })) all)
 
 -- what an event changes beside a router leaves the router
 pub beside_keeps : (event : WEvent) (w : Parts) → KeepsRouters (beside event w)
@@ -122,7 +123,8 @@ limit_is_size : (version : Version) → (table_limit version ≡ 256) ⊎ (table
 limit_is_size One = inl refl
 limit_is_size Two = inr refl
 
-sound_else : StayLaws → (event : WEvent) (words : List ℕ) (notes : List Note) (before after : Parts) → refusal before event ≡ None → IsInRange event → DoesElse event words notes before after → IsSound before → IsSound after
+sound_else : StayLaws → (event : WEvent) (words : List ℕ) (notes : List Note) (before after : Parts) → refusal before event ≡ None → IsInRange event
+    → DoesElse event words notes before after → IsSound before → IsSound after
 sound_else laws (event.Router name id) words notes before after accepted fits h all =
     let moment : h.router.moment ≡ before.moment = h.is_new.moment_is in
     subst IsSound (sym h.quietly.gives) (All-push (IsSoundMember before.moment) before.members (record { name = name; running = true; router = h.router; attachments = [] }) all
@@ -148,36 +150,14 @@ sound_else laws (event.Start name) words notes before after accepted fits h all 
 sound_else laws (event.Tick name) words notes before after accepted fits h all = absurd h
 sound_else laws (event.Inject name endpoint from multicast bytes) words notes before after accepted fits h all = absurd h
 
--- the event of a router is in range where its row is
-abbrev RangedAt : Option (Name × PlainEvent) → Type 0
-RangedAt (Some own) = IsEventInRange own.1
-RangedAt None = Unit {0}
-
-pub ranged_at : (event : WEvent) → IsInRange event → RangedAt (routed event)
-ranged_at (event.Attach name endpoint link) fits = fits.1
-ranged_at (event.Router name id) fits = tt
-ranged_at (event.Link name) fits = tt
-ranged_at (event.Detach name endpoint) fits = tt
-ranged_at (event.External name prefix valid preferred) fits = tt
-ranged_at (event.Withdraw name prefix) fits = tt
-ranged_at (event.Caps name caps) fits = tt
-ranged_at (event.Private name length) fits = tt
-ranged_at (event.Addresses name list) fits = tt
-ranged_at (event.Stop name) fits = tt
-ranged_at (event.Start name) fits = tt
-ranged_at (event.Time moment) fits = tt
-ranged_at (event.Tick name) fits = tt
-ranged_at (event.Deliver copy) fits = tt
-ranged_at (event.Drop copy) fits = tt
-ranged_at (event.Inject name endpoint from multicast bytes) fits = tt
-
-sound_at : StayLaws → (event : WEvent) (own : Option (Name × PlainEvent)) (words : List ℕ) (notes : List Note) (before after : Parts) → refusal before event ≡ None → IsInRange event → RangedAt own
+sound_at : StayLaws → (event : WEvent) (own : Option (Name × PlainEvent)) (words : List ℕ) (notes : List Note) (before after : Parts) → refusal before event ≡ None → IsInRange event → FitsAt own
     → DoesAt event own words notes before after → IsSound before → IsSound after
-sound_at laws event (Some own) words notes before after accepted fits ranged h all = sound_acts_at laws (beside event before) (beside_keeps event before) h.place own.1 words notes before after ranged h.acts all
+sound_at laws event (Some own) words notes before after accepted fits ranged h all =
+    sound_acts_at laws (beside event before) (beside_keeps event before) h.place own.1 words notes before after ranged h.acts all
 sound_at laws event None words notes before after accepted fits ranged h all = sound_else laws event words notes before after accepted fits h all
 
 pub sound_step : StayLaws → (t : Traced) (before after : Parts) → Any t before after → IsSound before → IsSound after
-sound_step laws t before after h all = subst IsSound (sym h.1.gives) (sound_at laws t.event (routed t.event) t.words h.0 before h.1.between h.1.accepted h.1.in_range (ranged_at t.event h.1.in_range) h.1.does all)
+sound_step laws t before after h all = subst IsSound (sym h.1.gives) (sound_at laws t.event (routed t.event) t.words h.0 before h.1.between h.1.accepted h.1.in_range h.1.fits h.1.does all)
 
 pub sound_replay : StayLaws → (version : Version) (ts : List Traced) (w : Parts) → Replays version ts w → IsSound w
 sound_replay laws version ts w h = replay_keeps IsSound (sound_step laws) version (All-nil (IsSoundMember 0)) ts w h

@@ -10,6 +10,7 @@ pub mod Refusal
 pub mod Step
 pub mod Planned
 pub mod Replay
+pub mod Existing
 pub mod Leaves
 pub mod Within
 pub mod Authentic

@@ -17,7 +17,7 @@ use crate::plain_events::{enter, without_words};
 use crate::routed::Beside;
 use hn_base::{Name, NoMemory, Sequence};
 use hn_io::Draw;
-use hn_router::Event;
+use hn_router::{Event, event_in_range};
 use hn_rules::Note;
 use std::alloc::Global;
 
@@ -70,6 +70,7 @@ impl Parts {
         let Some((_, own)) = event.routed() else {
             unreachable!()
         };
+        event_in_range(&own);
         let beside = self.beside(alloc, &event, place)?;
         let plan = self.plan(alloc, place, &own, draw)?;
         self.finish(alloc, event, beside, place, plan)

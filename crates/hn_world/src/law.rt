@@ -7,15 +7,16 @@ ghost use Rattle.hn_world.specs.declared.parts.Parts.{Parts};
 ghost use Rattle.hn_world.specs.Names.{NamesDiffer};
 ghost use Rattle.hn_world.specs.Replay.{IsReplayed, IsSound, Always};
 ghost use Rattle.hn_world.specs.Step.{Step};
-ghost use Rattle.hn_world.specs.Within.{AreWithinLimits};
+ghost use Rattle.hn_world.specs.Within.{AreWithinLimits, RouterIsWithinLimits};
 ghost use Rattle.hn_world.specs.Authentic.{AuthenticUnlessInjected};
+ghost use Rattle.hn_world.specs.Existing.{StepExists};
 ghost use Rattle.hn_world.specs.Leaves.{EqualHashesAgree};
 ghost use Rattle.hn_world.specs.Laws.{StepIsUnique, EachEventIsEntered, EachEventIsAStep, AgreementIsUnique, AtMostOneWorld, WorldHasItsTrace, WorldHasItsVersion, WorldIsSound, AlwaysAttached, CopiesHaveReceivers};
 
 use hn_hash::equal_hashes_agree_or_collide;
 use hn_router::{
-    endpoints_follow, genuine_stays, limit_stays, moment_is_now, new_is_router, new_is_unique,
-    one_result, router_stays, sends_are_short,
+    endpoints_follow, event_has_a_result, genuine_stays, limit_stays, moment_is_now, new_exists,
+    new_is_router, new_is_unique, one_result, router_stays, sends_are_short,
 };
 use hn_rules::hash_is_of_leaves;
 
@@ -25,6 +26,15 @@ pub fn step_is_unique()
 {
     one_result();
     new_is_unique();
+}
+
+/// Over each stream of random words an accepted event has a result: it cannot be that there is none. With `step_is_unique`
+/// there is exactly one.
+pub fn step_exists()
+    ensures { StepExists }
+{
+    event_has_a_result();
+    new_exists();
 }
 
 /// Each event is entered at the end of the trace, which had fewer than 1,000,000.
@@ -91,6 +101,13 @@ pub fn names_differ()
 /// Each copy goes to a router that is there.
 pub fn copies_have_receivers()
     ensures { CopiesHaveReceivers }
+{}
+
+/// A router, also one that is served by itself, is within the limits of a version whose limit its table has: so many other
+/// nodes with at most 60,000 bytes each, 16 endpoints with 64 peers each, 8 delegated prefixes, 64 addresses, 544
+/// assignments, and less than 36,864 bytes of its own.
+pub fn router_is_within_limits()
+    ensures { RouterIsWithinLimits }
 {}
 
 /// At each moment of a world's past its routers are within the limits of its version, and so is each datagram that was

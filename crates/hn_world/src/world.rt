@@ -4,6 +4,7 @@ ghost use Rattle.std.specs.List.{slice_get};
 ghost use Rattle.hn_base.specs.Name.{name_text};
 ghost use Rattle.hn_base.specs.declared.version.Version.TheVariants.{One};
 ghost use Rattle.hn_world.specs.Authentic.{AuthenticUnlessInjected};
+ghost use Rattle.hn_world.specs.Existing.{HasAStep};
 ghost use Rattle.hn_world.specs.Names.{member_named};
 ghost use Rattle.hn_world.specs.Refusal.{refusal};
 ghost use Rattle.hn_world.specs.Routed.{named_by, place_by};
@@ -143,7 +144,8 @@ impl World {
     }
 
     /// Lets an event happen, and answers what routers noted. What routers hold afterwards was published, or two texts that
-    /// were published collide, where no datagram was injected so far (RFC 7787, section 7.2.3).
+    /// were published collide, where no datagram was injected so far (RFC 7787, section 7.2.3). Whether there is memory or
+    /// not, it cannot be that an accepted event has no result over a stream of random words.
     ///
     /// # Errors
     ///
@@ -160,6 +162,7 @@ impl World {
         ensures err { OnErr result (self.new ≡ self.old) }
         ensures undrawn { (code : ℕ) → result ≡ Err (WorldFault.Refused code) → draw.new ≡ draw.old }
         ensures authentic { IfOk result (λ _. AuthenticUnlessInjected self.new) }
+        ensures exists { refusal self.old event ≡ None → HasAStep event self.old }
     {
         always_sound();
         always_authentic();
@@ -168,6 +171,7 @@ impl World {
         if let Some(code) = self.parts.refusal(&event, place) {
             return Err(WorldFault::Refused(code));
         }
+        self.parts.has_a_step(&event);
         let notes = self.parts.happen(alloc, event, place, draw)?;
         self.next = after(place);
         Ok(notes)

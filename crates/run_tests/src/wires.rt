@@ -88,7 +88,8 @@ fn nothing_comes_back(rt: HostRuntime) -> Result<(), Fail> {
     Ok(())
 }
 
-/// Each send and each take fails in turn. The 36 copies of the home are 72 calls.
+/// Each send and each take fails in turn. The 36 copies of the home are 72 calls. After a failed send no copy waits, and
+/// after a failed take one does.
 #[test]
 fn each_send_and_take_fails(rt: HostRuntime) -> Result<(), Fail> {
     let alloc = rt.alloc();
@@ -99,6 +100,8 @@ fn each_send_and_take_fails(rt: HostRuntime) -> Result<(), Fail> {
             status == WIRE_FAILED && sink.held().is_empty(),
             "{call}: {status}"
         );
+        assert!(rt; wire.waits(9001, 0).is_some() == (call % 2 == 0), "{call}");
+        assert!(rt; wire.waits(9001, 1).is_none(), "{call}");
     }
     let mut wire = MemWire::new(alloc, vec![in alloc; 73]?);
     let (status, _) = over(alloc, HOME, Vec::new(alloc), &mut wire)?;

@@ -96,7 +96,8 @@ impl Running {
         mut port: Port,
     ) -> Result<bool, NoMemory>
         ensures rule { OnOk result (self.new ≡ named from.now node endpoint port self.old) }
-        ensures untouched { IfOk result (λ touched. touched ≡ false → greeting node endpoint from.now.multicast port.peers ≢ Added) }
+        ensures untouched { IfOk result (λ touched. touched ≡ false
+            → greeting node endpoint from.now.multicast port.peers ≢ Added) }
     {
         let now = self.state.moment.get();
         let greet = port.greet(node, endpoint, from.from, from.multicast, now)?;
@@ -113,7 +114,8 @@ impl Running {
         node: NodeId,
         endpoint: EpId,
     ) -> Result<bool, NoMemory>
-        ensures rule { OnOk result (AtPort from.now.endpoint (λ port b a. a ≡ node_endpoint from.now node endpoint port b) self.old self.new) }
+        ensures rule { OnOk result (AtPort from.now.endpoint (λ port b a. a ≡ node_endpoint from.now node endpoint port b)
+            self.old self.new) }
         ensures untouched { IfOk result (λ touched. touched ≡ false → IsUntouched self.old.state self.new.state) }
     {
         let ports = self.state.ports.get();

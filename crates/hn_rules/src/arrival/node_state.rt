@@ -41,7 +41,8 @@ impl Running {
         how: Took,
         draw: &mut D,
     ) -> Result<(), NoMemory>
-        ensures { OnOk result (Ran (IsTaken (plain_state carried.now) how) (D.words draw.old) (D.words draw.new) self.old self.new) }
+        ensures { OnOk result (Ran (IsTaken (plain_state carried.now) how)
+            (D.words draw.old) (D.words draw.new) self.old self.new) }
     {
         if how == Took::Own {
             self.note(Note::Own {
@@ -78,7 +79,8 @@ impl Running {
         carried: &CarriedState<'_>,
         draw: &mut D,
     ) -> Result<bool, NoMemory>
-        ensures ran { OnOk result (Ran (IsNodeState (plain_state carried.now)) (D.words draw.old) (D.words draw.new) self.old self.new) }
+        ensures ran { OnOk result (Ran (IsNodeState (plain_state carried.now))
+            (D.words draw.old) (D.words draw.new) self.old self.new) }
         ensures untouched { IfOk result (λ touched. touched ≡ false → IsUntouched self.old.state self.new.state) }
     {
         let how = self.take_state(alloc, carried)?;

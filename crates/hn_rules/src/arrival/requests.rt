@@ -3,7 +3,8 @@ ghost use Rattle.std.specs.Option.{option_map};
 ghost use Rattle.hn_tlv.specs.Grammar.{spelling};
 ghost use Rattle.hn_typed.specs.Item.{PlainItem};
 ghost use Rattle.hn_typed.specs.Written.{tlv_of};
-ghost use Rattle.hn_rules.specs.Requests.{sent_age, own_state, held_state, state_item, with_some_answer, with_state, IsNetworkRequest, is_reached, request_node};
+ghost use Rattle.hn_rules.specs.Requests.{sent_age, own_state, held_state, state_item, with_some_answer, with_state};
+ghost use Rattle.hn_rules.specs.Requests.{IsNetworkRequest, is_reached, request_node};
 
 use crate::answers::Subject;
 use crate::nodes::age_at;

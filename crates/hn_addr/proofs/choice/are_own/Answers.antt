@@ -3,7 +3,7 @@ use Rattle.std.specs.Bool.{Decides}
 use Rattle.std.proofs.lemmas.Slice.Eq.{slice_eq-Decides}
 use Rattle.hn_base.proofs.DecidingTests.{numbers_decide}
 use Rattle.hn_own.specs.Addresses.{OwnAddress}
-use Rattle.hn_addr.proofs.Choosings.{address_told}
+use Rattle.hn_addr.proofs.OneChoosing.{address_told}
 use Rattle.hn_addr.proofs.choice.are_own.Goals as goal
 
 pub returns : goal.returns

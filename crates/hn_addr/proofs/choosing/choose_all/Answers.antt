@@ -8,7 +8,7 @@ use Rattle.hn_base.proofs.RulesInTurn.{each_more}
 use Rattle.hn_rules.specs.Seen.{seen_by}
 use Rattle.hn_addr.specs.Addresses.{IsChosenFor, none_chosen}
 use Rattle.hn_addr.specs.declared.choosing.Choosing.{Choosing}
-use Rattle.hn_addr.proofs.Choosings.{draws_none, draws_more, took_all}
+use Rattle.hn_addr.proofs.OneChoosing.{draws_none, draws_more, took_all}
 use Rattle.hn_addr.proofs.choosing.choose_all.Goals as goal
 
 pub loop-c-init : goal.loop-c-init
@@ -26,7 +26,8 @@ loop-c-preserved g c =
     record {
       chosen = subst (λ (seen : List Assigned). Each rule seen none_chosen c.step.new.self) (sym (front_at items n c.c-item.result at))
           (each_more rule (take n items) c.c-item.result none_chosen c.loop-c.choosing c.step.new.self c.loop-c.invariant.chosen c.in_ok-step.ensures.chosen);
-      drew = draws_more c.words_join.ensures (g.D.Draw.words c.args.draw.now) (g.D.Draw.words c.loop-c.draw) (g.D.Draw.words c.step.new.draw) [] c.loop-c.choosing.words c.step.new.self.words c.loop-c.invariant.drew c.in_ok-step.ensures.drew;
+      drew = draws_more c.words_join.ensures (g.D.Draw.words c.args.draw.now) (g.D.Draw.words c.loop-c.draw) (g.D.Draw.words c.step.new.draw)
+          [] c.loop-c.choosing.words c.step.new.self.words c.loop-c.invariant.drew c.in_ok-step.ensures.drew;
     }
 
 pub returns-clause-chosen : goal.returns-clause-chosen

@@ -1,5 +1,5 @@
 use Rattle.std.proofs.Common.{arith}
-use Rattle.hn_addr.proofs.Insides.{address_fits}
+use Rattle.hn_addr.proofs.NumbersInPrefix.{address_fits}
 use Rattle.hn_addr.proofs.fitting.address_of.Goals as goal
 
 pub overflow_add-result : goal.overflow_add-result

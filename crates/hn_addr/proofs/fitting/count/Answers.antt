@@ -1,5 +1,5 @@
 use Rattle.std.proofs.Common.{◌-◌, ◌∙◌, ℕ, min, ap}
-use Rattle.hn_addr.proofs.Insides.{count_from}
+use Rattle.hn_addr.proofs.NumbersInPrefix.{count_from}
 use Rattle.hn_addr.proofs.fitting.count.Goals as goal
 
 pub returns : goal.returns

@@ -1,7 +1,7 @@
 use Rattle.std.proofs.Common.{ℕ, ◌≤◌, refl, sym, subst, arith}
 use Rattle.std.proofs.lemmas.Bool.{false≢true}
 use Rattle.hn_addr.specs.Numbers.{IsFreeAddress}
-use Rattle.hn_addr.proofs.Numbers.{none_at_first, one_further, first_found, none_found}
+use Rattle.hn_addr.proofs.FirstFittingNumber.{none_at_first, one_further, first_found, none_found}
 use Rattle.hn_addr.proofs.fitting.first_from.Goals as goal
 
 pub loop-k-init : goal.loop-k-init

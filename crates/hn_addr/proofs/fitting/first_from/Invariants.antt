@@ -1,4 +1,4 @@
-use Rattle.hn_addr.proofs.Numbers.{HasNoneBetween}
+use Rattle.hn_addr.proofs.FirstFittingNumber.{HasNoneBetween}
 use Rattle.hn_addr.proofs.fitting.first_from.Given as goal
 
 abbrev pub invariant-loop-k : goal.invariant-loop-k

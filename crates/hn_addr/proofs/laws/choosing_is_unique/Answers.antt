@@ -1,4 +1,4 @@
-use Rattle.hn_addr.proofs.Choosings.{one_choosing}
+use Rattle.hn_addr.proofs.OneChoosing.{one_choosing}
 use Rattle.hn_addr.proofs.laws.choosing_is_unique.Goals as goal
 
 pub returns : goal.returns

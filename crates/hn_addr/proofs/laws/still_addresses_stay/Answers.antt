@@ -1,4 +1,4 @@
-use Rattle.hn_addr.proofs.Stills.{still_stay}
+use Rattle.hn_addr.proofs.OwnAddressesStay.{still_stay}
 use Rattle.hn_addr.proofs.laws.still_addresses_stay.Goals as goal
 
 pub returns : goal.returns

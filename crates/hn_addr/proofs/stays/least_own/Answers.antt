@@ -4,7 +4,7 @@ use Rattle.std.proofs.lemmas.List.{take_all}
 use Rattle.std.proofs.lemmas.Option.{slice_get-get_or}
 use Rattle.hn_own.specs.Addresses.{OwnAddress}
 use Rattle.hn_addr.specs.Own.{IsLeastFound}
-use Rattle.hn_addr.proofs.Leasts.{least_none, passed_next, taken_next}
+use Rattle.hn_addr.proofs.LeastOwnAddress.{least_none, passed_next, taken_next}
 use Rattle.hn_addr.proofs.stays.least_own.Goals as goal
 use Rattle.hn_addr.proofs.stays.least_own.Goals.{then-is_own_inside, else-is_own_inside}
 

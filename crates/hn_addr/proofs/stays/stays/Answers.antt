@@ -4,7 +4,7 @@ use Rattle.hn_base.specs.declared.ids.NodeId.{NodeId}
 use Rattle.hn_own.specs.Addresses.{OwnAddress}
 use Rattle.hn_rules.specs.Seen.{seen_by}
 use Rattle.hn_addr.specs.Addresses.{IsLeastOwn}
-use Rattle.hn_addr.proofs.Leasts.{above_goes, come_goes, stays_so}
+use Rattle.hn_addr.proofs.LeastOwnAddress.{above_goes, come_goes, stays_so}
 use Rattle.hn_addr.proofs.stays.stays.Goals as goal
 use Rattle.hn_addr.proofs.stays.stays.Goals.{then-is_above-via-then-is_above, then-is_above-via-else-is_above+then-has_come}
 

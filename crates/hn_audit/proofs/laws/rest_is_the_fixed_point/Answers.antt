@@ -1,4 +1,4 @@
-use Rattle.hn_audit.proofs.FixedPoints.{FixedLaws, changes_nothing, unchanged_rests, rest_has_a_run}
+use Rattle.hn_audit.proofs.FixedPoints.{FixedLaws, changes_nothing, unchanged_rests, rest_has_a_run, anew_has_a_run}
 use Rattle.hn_audit.proofs.laws.rest_is_the_fixed_point.Goals as goal
 
 pub returns-clause-unchanged : goal.returns-clause-unchanged
@@ -25,3 +25,6 @@ returns-clause-rests c s ran router run same =
 
 pub returns-clause-comes : goal.returns-clause-comes
 returns-clause-comes c = rest_has_a_run c.rest_has_a_run.ensures
+
+pub returns-clause-runs : goal.returns-clause-runs
+returns-clause-runs c = anew_has_a_run c.wishes_exist.ensures c.subroutine_has_a_result.ensures.due

@@ -1,8 +1,8 @@
 use Rattle.std.proofs.Common.{IsTrue, All, take}
-use Rattle.hn_addr.specs.Addresses.{IsStill}
+use Rattle.hn_addr.specs.Addresses.{IsAddressStill}
 use Rattle.hn_audit.specs.Set.{is_in_set}
 use Rattle.hn_lab.proofs.address_reports.all_still.Given as goal
 
 -- each so far is still, if it is in the set
 abbrev pub invariant-loop-member : goal.invariant-loop-member
-invariant-loop-member l = All (λ m. IsTrue (is_in_set l.reach m) → IsStill m.router) (take l.member-index l.members)
+invariant-loop-member l = All (λ m. IsTrue (is_in_set l.reach m) → IsAddressStill m.router) (take l.member-index l.members)

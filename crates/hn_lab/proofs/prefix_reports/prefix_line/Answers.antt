@@ -10,5 +10,6 @@ returns c =
     let published = string_bytes c.in_ok-published.published in
     let text = assigned_text name c.args.c.now.endpoint.0 c.text-delegated.result c.text-prefix.result published c.yes_no-applied.result.now in
     IfOk-weaker c.format.result (λ line. string_bytes line ≡ text) _
-    (λ line is. assigned_so name c.args.c.now c.text-delegated.result c.text-prefix.result published c.yes_no-applied.result.now (string_bytes line) c.text-delegated.ensures c.text-prefix.ensures c.in_ok-published.ensures c.yes_no-applied.ensures is)
+    (λ line is. assigned_so name c.args.c.now c.text-delegated.result c.text-prefix.result published c.yes_no-applied.result.now
+    (string_bytes line) c.text-delegated.ensures c.text-prefix.ensures c.in_ok-published.ensures c.yes_no-applied.ensures is)
     (simp append_assoc (simp append_assoc at c.format.ensures.ok))

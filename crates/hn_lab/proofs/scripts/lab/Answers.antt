@@ -12,9 +12,11 @@ returns-in-Ok-clause-lab g c _ =
     let result = c.play_bytes.result in
     let before = g.K.Sink.held c.args.out.now in
     let after = g.K.Sink.held c.play_bytes.new.out in
-    let lab = subst (λ (bytes : List ℕ). (written : List ℕ) × IsLabOf first last bytes result.status result.world written × Appends before after written) c.deref.ensures.value c.play_bytes.ensures.lab in
+    let lab = subst (λ (bytes : List ℕ). (written : List ℕ) × IsLabOf first last bytes result.status result.world written
+    × Appends before after written) c.deref.ensures.value c.play_bytes.ensures.lab in
     let only = subst (λ (bytes : List ℕ). StatusOfScript first bytes result.status) c.deref.ensures.value c.play_bytes.ensures.only in
-    lab_run first last result.status result.world before after (g.S.Source.left c.args.src.now) (g.S.Source.left c.read_all.new.src) c.in-Ok.bytes.items c.in-Ok.ensures.all c.in-Ok.ensures.whole lab only
+    lab_run first last result.status result.world before after (g.S.Source.left c.args.src.now)
+    (g.S.Source.left c.read_all.new.src) c.in-Ok.bytes.items c.in-Ok.ensures.all c.in-Ok.ensures.whole lab only
 
 pub returns-in-Ok-clause-statuses : goal.returns-in-Ok-clause-statuses
 returns-in-Ok-clause-statuses g c = among_all c.play_bytes.result.status c.play_bytes.ensures.statuses

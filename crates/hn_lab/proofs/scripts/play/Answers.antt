@@ -34,7 +34,8 @@ returns-then-status-eq-NO_MEMORY-clause-plays g c =
     let status = c.without_world.result.status in
     let world = c.without_world.result.world in
     subst (λ (lines : List (ℕ × Line)). (written : List ℕ) × Plays first last (played lines) status world written × Appends h k written) c.into_vec.ensures
-    (starves (played c.into_vec.result.items) first last status world p h k (c.without_world.ensures.status ∙ six) c.without_world.ensures.no_world begins (c.play-end.ensures.starved (c.play_status-status.ensures.starved six)))
+    (starves (played c.into_vec.result.items) first last status world p h k
+    (c.without_world.ensures.status ∙ six) c.without_world.ensures.no_world begins (c.play-end.ensures.starved (c.play_status-status.ensures.starved six)))
 
 pub returns-clause-plays : goal.returns-clause-plays
 returns-clause-plays g c =
@@ -52,7 +53,8 @@ returns-clause-plays g c =
     let rest : ¬ (c.play_status-status.result ≡ 6) = search rules in
     let route_is = sym (ap (λ (o : Option ℕ). route_of o v) (c.play-end.ensures.base ∙ c.new-playing.ensures.base ∙ c.base_of.ensures)) in
     subst (λ (lines : List (ℕ × Line)). (written : List ℕ) × Plays first last (played lines) c.play_status-status.result (Some a.world) written × Appends h k written) c.into_vec.ensures
-    (plays_out (played c.into_vec.result.items) first last c.play_status-status.result c.play-end.result p a h k c.play_status-status.ensures.status rest begins route_is c.play-end.ensures.whole c.play-end.ensures.cut)
+    (plays_out (played c.into_vec.result.items) first last c.play_status-status.result c.play-end.result p a h k c.play_status-status.ensures.status
+    rest begins route_is c.play-end.ensures.whole c.play-end.ensures.cut)
 
 pub returns-clause-done : goal.returns-clause-done
 returns-clause-done g c done =
@@ -67,7 +69,8 @@ returns-clause-done g c done =
     let p = stage_of c.new-playing.result w [] in
     let a = stage_of c.play-end.new.self v [] in
     let begins : p ≡ begun first version = subst (λ (o : Option ℕ). p ≡ begun (route_of o w) version) c.base_of.ensures (c.new-playing.ensures.begins w) in
-    not_refused c.at_most_one_play.ensures (played c.into_vec.result.items) first _ c.play-end.result p a h k c.play_status-status.ensures.status begins c.play-end.ensures.whole (subst (λ (lines : List (ℕ × Line)). HasDonePlay first (played lines)) (sym c.into_vec.ensures) done)
+    not_refused c.at_most_one_play.ensures (played c.into_vec.result.items) first _ c.play-end.result p a h k c.play_status-status.ensures.status begins c.play-end.ensures.whole
+    (subst (λ (lines : List (ℕ × Line)). HasDonePlay first (played lines)) (sym c.into_vec.ensures) done)
 
 pub returns-clause-refused : goal.returns-clause-refused
 returns-clause-refused g c refused =
@@ -82,4 +85,5 @@ returns-clause-refused g c refused =
     let p = stage_of c.new-playing.result w [] in
     let a = stage_of c.play-end.new.self v [] in
     let begins : p ≡ begun first version = subst (λ (o : Option ℕ). p ≡ begun (route_of o w) version) c.base_of.ensures (c.new-playing.ensures.begins w) in
-    not_done c.at_most_one_play.ensures (played c.into_vec.result.items) first _ c.play-end.result p a h k c.play_status-status.ensures.status begins c.play-end.ensures.whole (subst (λ (lines : List (ℕ × Line)). HasRefusal first (played lines)) (sym c.into_vec.ensures) refused)
+    not_done c.at_most_one_play.ensures (played c.into_vec.result.items) first _ c.play-end.result p a h k c.play_status-status.ensures.status begins c.play-end.ensures.whole
+    (subst (λ (lines : List (ℕ × Line)). HasRefusal first (played lines)) (sym c.into_vec.ensures) refused)

@@ -29,7 +29,8 @@ loop-member-preserved c =
           let lacks : ¬ (IsTrue (in_it x) × HasGenerated x) = λ both. let yes : IsTrue c.in_ok-generates.field-0 = c.in_ok-generates.ensures.1 both in absurd cc in
           let is = w.count-is in
           record {
-            have = subst (λ (count : ℕ). HaveGenerated (filter in_it (take (i + 1) ms)) count) (sym is) (step_passes in_it ms i n x c.loop-member-test.true (subst (λ (m : Member). ¬ (IsTrue (in_it m) × HasGenerated m)) c.member-item.is lacks) before.have);
+            have = subst (λ (count : ℕ). HaveGenerated (filter in_it (take (i + 1) ms)) count) (sym is)
+                (step_passes in_it ms i n x c.loop-member-test.true (subst (λ (m : Member). ¬ (IsTrue (in_it m) × HasGenerated m)) c.member-item.is lacks) before.have);
             few = omega (arith, is, few);
           }
     ]

@@ -8,4 +8,5 @@ loop-send-init g c = record { sent = none_handed _ _; no_fault = search; reliabl
 
 pub returns-in_err-hand_one-clause-cut : goal.returns-in_err-hand_one-clause-cut
 returns-in_err-hand_one-clause-cut g c =
-    on_err c.from_residual.result _ (part_handed _ c.args.sends.now c.loop-send.send-index c.send-item.result _ _ _ _ _ _ _ (omega arith) c.send-item.is c.loop-send.invariant.sent c.in_err-hand_one.ensures.cut)
+    on_err c.from_residual.result _ (part_handed _ c.args.sends.now c.loop-send.send-index c.send-item.result _ _ _ _ _ _ _
+    (omega arith) c.send-item.is c.loop-send.invariant.sent c.in_err-hand_one.ensures.cut)

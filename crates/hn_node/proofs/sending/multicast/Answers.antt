@@ -18,4 +18,5 @@ returns-in_err-send_one-clause-cut g c =
     let failed = c.in_err-send_one.ensures in
     let part = part_handed (λ peer. to peer ∷ []) peers i (get_or peers i 0) 0 _ _ _ _ _ _ (omega arith) refl c.loop-peer.invariant.sent
     (none_of_one (to (get_or peers i 0)) (outside.waiting c.loop-peer.wire) (outside.waiting c.send_one.new.wire) c.loop-peer.sent c.send_one.new.sent failed.waiting failed.sent) in
-    on_err c.from_residual.result _ (subst (λ (ds : List Datagram). HandsPart ds (outside.waiting c.args.wire.now) (outside.waiting c.send_one.new.wire) c.args.sent.now c.send_one.new.sent) (flat_map_single to peers) part)
+    on_err c.from_residual.result _ (subst (λ (ds : List Datagram). HandsPart ds (outside.waiting c.args.wire.now) (outside.waiting c.send_one.new.wire) c.args.sent.now c.send_one.new.sent)
+    (flat_map_single to peers) part)

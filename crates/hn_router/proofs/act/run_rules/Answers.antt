@@ -1,4 +1,18 @@
+use Rattle.std.proofs.lemmas.Result.{on_ok_weaker}
+use Rattle.hn_rules.specs.Rules.{words_of}
+use Rattle.hn_rules.specs.Refresh.{IsRefresh}
+use Rattle.hn_base.proofs.RulesInTurn.{ran_both}
+use Rattle.hn_router.specs.Act.{plain_event, IsEdit}
+use Rattle.hn_router.proofs.Planning.{edit_runs}
 use Rattle.hn_router.proofs.act.run_rules.Goals as goal
 
-pub returns-in-External : goal.returns-in-External
-returns-in-External g c = rw c.in-External.is c.delegate.ensures
+pub returns-in_ok-edit-in_default : goal.returns-in_ok-edit-in_default
+returns-in_ok-edit-in_default g c =
+    let event = plain_event c.args.event.now in
+    let r = c.args.running.now in
+    let a = c.refresh.new.self in
+    on_ok_weaker c.refresh.result
+    (λ ran.
+    let both = ran_both words_of (IsEdit event) IsRefresh _ _ _ r c.edit.new.running a c.in_ok-edit-in_default.ensures ran in
+    record { holds = edit_runs c.args.event.now c.in_default.not-Arrive c.in_default.not-Tick r a both.holds; drew = both.drew })
+    c.refresh.ensures.ran

@@ -1,10 +1,10 @@
-use Rattle.hn_router.proofs.Moments.{HasLaws, ends_follow}
+use Rattle.hn_router.proofs.Moments.{MomentLaws, ends_follow}
 use Rattle.hn_router.proofs.laws.endpoints_follow.Goals as goal
 
 pub returns : goal.returns
 returns c =
     let rules = c.rules_keep_the_endpoints.ensures in
-    let laws : HasLaws = record {
+    let laws : MomentLaws = record {
       refresh = rules.refresh;
       arrival = rules.arrival;
       expiry = rules.expiry;

@@ -2,4 +2,6 @@ use Rattle.hn_router.proofs.NewRouter.{new_is_one}
 use Rattle.hn_router.proofs.laws.new_is_router.Goals as goal
 
 pub returns : goal.returns
-returns c = new_is_one c.loss_keeps_table.ensures.none c.none_are_well.ensures.endpoints c.none_are_well.ensures.prefixes c.none_are_well.ensures.addresses c.own_is_reachable.ensures c.reachable_is_a_node.ensures
+returns c =
+    let none = c.none_are_well.ensures in
+    new_is_one c.loss_keeps_table.ensures.none none.endpoints none.prefixes none.addresses c.own_is_reachable.ensures c.reachable_is_a_node.ensures

@@ -1,11 +1,11 @@
-use Rattle.hn_router.proofs.Stays.{HasLaws, stays}
+use Rattle.hn_router.proofs.Stays.{StayLaws, stays}
 use Rattle.hn_router.proofs.laws.router_stays.Goals as goal
 
 pub returns : goal.returns
 returns c =
     let rules = c.rules_keep_a_router.ensures in
     let rest = c.rules_keep_the_rest.ensures in
-    let laws : HasLaws = record {
+    let laws : StayLaws = record {
       later = c.router_stays_later.ensures;
       refreshes = c.refresh_makes_a_router.ensures;
       arrives = rules.arrival;

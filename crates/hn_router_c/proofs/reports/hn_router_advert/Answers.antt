@@ -7,7 +7,12 @@ pub returns-clause-advert : goal.returns-clause-advert
 returns-clause-advert c =
     let kept = c.take-keeper.result.value in
     let same : c.router.result.now ≡ kept.router = cc in
-    λ done. record { router = kept; is = c.take-keeper.ensures.taken; holds = subst (λ (s : State). IsAdvertisementWritten s (record { 0 = c.args.endpoint }) c.advert-status.new.count c.args.room.now c.advert-status.new.room) same (c.advert-status.ensures.advert done) }
+    λ done. record {
+      router = kept;
+      is = c.take-keeper.ensures.taken;
+      holds = subst (λ (s : State). IsAdvertisementWritten s (record { 0 = c.args.endpoint }) c.advert-status.new.count c.args.room.now c.advert-status.new.room) same
+          (c.advert-status.ensures.advert done);
+    }
 
 pub returns-clause-no_room : goal.returns-clause-no_room
 returns-clause-no_room c =

@@ -8,7 +8,11 @@ pub returns-clause-node : goal.returns-clause-node
 returns-clause-node c =
     let kept = c.take-keeper.result.value in
     let same : c.reach.result.now ≡ kept.router.reach = cc in
-    λ done. record { router = kept; is = c.take-keeper.ensures.taken; holds = subst (λ (nodes : List NodeId). IsNodeAt nodes c.args.place c.node_at-status.new.out) same (c.node_at-status.ensures.node done) }
+    λ done. record {
+      router = kept;
+      is = c.take-keeper.ensures.taken;
+      holds = subst (λ (nodes : List NodeId). IsNodeAt nodes c.args.place c.node_at-status.new.out) same (c.node_at-status.ensures.node done);
+    }
 
 pub returns-clause-there : goal.returns-clause-there
 returns-clause-there c =

@@ -8,7 +8,11 @@ pub returns-clause-noted : goal.returns-clause-noted
 returns-clause-noted c =
     let kept = c.take-keeper.result.value in
     let same : c.as_slice.result.now ≡ kept.done.notes = cc in
-    λ done. record { router = kept; is = c.take-keeper.ensures.taken; holds = subst (λ (notes : List Note). IsNoted notes c.args.place c.noted-status.new.out) same (c.noted-status.ensures.noted done) }
+    λ done. record {
+      router = kept;
+      is = c.take-keeper.ensures.taken;
+      holds = subst (λ (notes : List Note). IsNoted notes c.args.place c.noted-status.new.out) same (c.noted-status.ensures.noted done);
+    }
 
 pub returns-clause-there : goal.returns-clause-there
 returns-clause-there c =

@@ -7,7 +7,12 @@ pub returns-clause-sent : goal.returns-clause-sent
 returns-clause-sent c =
     let kept = c.take-keeper.result.value in
     let same : c.as_slice.result.now ≡ kept.done.sends = cc in
-    λ done. record { router = kept; is = c.take-keeper.ensures.taken; holds = subst (λ (sends : List Outgoing). IsSent sends c.args.place c.send-status.new.sent c.send-status.new.count c.args.room.now c.send-status.new.room) same (c.send-status.ensures.sent done) }
+    λ done. record {
+      router = kept;
+      is = c.take-keeper.ensures.taken;
+      holds = subst (λ (sends : List Outgoing). IsSent sends c.args.place c.send-status.new.sent c.send-status.new.count c.args.room.now c.send-status.new.room) same
+          (c.send-status.ensures.sent done);
+    }
 
 pub returns-clause-unsent : goal.returns-clause-unsent
 returns-clause-unsent c =

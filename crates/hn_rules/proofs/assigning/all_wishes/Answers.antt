@@ -21,7 +21,8 @@ add_wishes-requires c = record {
 }
 
 pub loop-place-preserved : goal.loop-place-preserved
-loop-place-preserved c = below_next c.args.private.now (plain_view c.args.view.now) c.args.usable.now c.args.endpoints.now c.loop-place.place c.loop-place.wishes c.add_wishes.new.wishes c.loop-place.invariant
+loop-place-preserved c = below_next c.args.private.now (plain_view c.args.view.now) c.args.usable.now c.args.endpoints.now c.loop-place.place
+    c.loop-place.wishes c.add_wishes.new.wishes c.loop-place.invariant
     (subst (λ (es : List EpId). HasAt c.args.private.now (plain_view c.args.view.now) c.args.usable.now c.loop-place.place es c.loop-place.wishes c.add_wishes.new.wishes)
     (ap endpoints_at c.deref.ensures.value ∙ c.in_ok-posts.ensures.endpoints) c.in_ok-add_wishes.ensures)
 

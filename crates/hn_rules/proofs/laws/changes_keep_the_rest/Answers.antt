@@ -36,4 +36,6 @@ returns c = each_well (record {
   lengths = c.subroutine_keeps.ensures.alone;
   stays = c.held_without_private.ensures;
   may_be = c.addresses_stay.ensures.may_be;
+  prefix = c.subroutine_keeps.ensures.prefix;
+  soon = c.subroutine_keeps.ensures.soon;
 })

@@ -19,10 +19,10 @@ returns c = record {
   forgetting = of_walk [] (λ b a. a ≡ forgetting b) (forgetting_walk []);
   assigning = of_walk [] IsAssigning (assigning_walk []);
   ports = of_walk [] IsPortsTick (ports_walk []);
-  delegating = λ prefix valid preferred before may. delegating_walk [] (IsOfChanges [] before) (each_leads [] before) prefix valid preferred before may ([], refl);
+  delegating = λ prefix valid preferred before fits may. delegating_walk [] (IsOfChanges [] before) (each_leads [] before) prefix valid preferred before fits may ([], refl);
   withdrawing = λ prefix. of_walk [] (λ b a. a ≡ withdrawing prefix b) (λ P each. withdrawing_walk [] P each prefix);
   caps = λ caps. of_walk [] (λ b a. a ≡ setting_caps caps b) (λ P each. caps_walk [] P each caps);
-  private = λ private. of_walk [] (λ b a. a ≡ setting_private private b) (λ P each. private_walk [] P each private);
-  addressing = λ list before may. addressing_walk [] (IsOfChanges [] before) (each_leads [] before) list before may ([], refl);
+  private = λ private fits. of_walk [] (λ b a. a ≡ setting_private private b) (λ P each. private_walk [] P each private fits);
+  addressing = λ list before fit may. addressing_walk [] (IsOfChanges [] before) (each_leads [] before) list before fit may ([], refl);
   restarting = of_walk [] IsRestarting (restarting_walk []);
 }

@@ -16,7 +16,8 @@ feed_line-requires c =
 pub loop-text-preserved : goal.loop-text-preserved
 loop-text-preserved c =
     let fed = c.in_ok-feed_line.ensures.fed in
-    read_more c.lists_show.ensures c.held_after_malformed.ensures c.args.bytes.now c.loop-text.rest.now c.in-Some.others.now c.in-Some.text.now fed.0 c.loop-text.line c.loop-text.watch c.feed_line.new.watch
+    read_more c.lists_show.ensures c.held_after_malformed.ensures c.args.bytes.now c.loop-text.rest.now c.in-Some.others.now c.in-Some.text.now fed.0
+    c.loop-text.line c.loop-text.watch c.feed_line.new.watch
     c.loop-text.invariant c.in-Some.ensures.found c.in-Some.ensures.shorter fed.1 fed.2
 
 pub returns-in_err-feed_line-clause-refused : goal.returns-in_err-feed_line-clause-refused

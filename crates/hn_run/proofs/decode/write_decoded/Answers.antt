@@ -26,10 +26,18 @@ returns-in-Some-clause-starved g c starved =
 
 pub returns-in-None-clause-broken : goal.returns-in-None-clause-broken
 returns-in-None-clause-broken g c failed =
-    let cut = cut_on_err c.write_refusal-in-None.result _ _ (refused_line 0 4) c.write_refusal-in-None.ensures.cut in
-    (2, refused_line 0 4, inl (refl, inr (omega arith, c.in-None.ensures.refused, refl)), broken_of_written c.write_refusal-in-None.result 2 _ (lit< tt) cut (rw c.written_status-in-None.ensures at failed))
+    let cut = cut_on_err c.write_refusal-in-None.result _ _ (refused_line 0 4) c.write_refusal-in-None.ensures.cut in (
+      2,
+      refused_line 0 4,
+      inl (refl, inr (omega arith, c.in-None.ensures.refused, refl)),
+      broken_of_written c.write_refusal-in-None.result 2 _ (lit< tt) cut (rw c.written_status-in-None.ensures at failed),
+    )
 
 pub returns-in-None-clause-starved : goal.returns-in-None-clause-starved
 returns-in-None-clause-starved g c starved =
-    let cut = cut_on_err c.write_refusal-in-None.result _ _ (refused_line 0 4) c.write_refusal-in-None.ensures.cut in
-    (2, refused_line 0 4, inl (refl, inr (omega arith, c.in-None.ensures.refused, refl)), starved_of_written c.write_refusal-in-None.result 2 _ (lit< tt) cut (rw c.written_status-in-None.ensures at starved))
+    let cut = cut_on_err c.write_refusal-in-None.result _ _ (refused_line 0 4) c.write_refusal-in-None.ensures.cut in (
+      2,
+      refused_line 0 4,
+      inl (refl, inr (omega arith, c.in-None.ensures.refused, refl)),
+      starved_of_written c.write_refusal-in-None.result 2 _ (lit< tt) cut (rw c.written_status-in-None.ensures at starved),
+    )

@@ -43,4 +43,5 @@ returns-in_err-at-clause-cut g c =
     let before = c.loop-at.invariant.written in
     let fault = c.in_err-at.field-0.0 in
     let passed = err_from_is_err_and c.from_residual-in_err-at.result c.from_residual-in_err-at.ensures.1 in
-    rw (passed.1, passed.2) (cut_among_lines c.pieces_append.ensures c.lines_go_on.ensures c.args.octets.now before.0 c.loop-at.at c.args.count c.requires before.1 fault _ _ _ before.2 c.in_err-at.ensures.cut)
+    rw (passed.1, passed.2) (cut_among_lines c.pieces_append.ensures c.lines_go_on.ensures c.args.octets.now before.0 c.loop-at.at c.args.count
+    c.requires before.1 fault _ _ _ before.2 c.in_err-at.ensures.cut)

@@ -1,10 +1,13 @@
-use Rattle.std.proofs.Common.{ℕ, [], ◌∷◌, ◌++◌, Some, Err, inl, inr, refl, sym, ap, subst, lit<}
+use Rattle.std.proofs.Common.{◌∙◌, ℕ, [], ◌∷◌, ◌++◌, Some, Err, inl, inr, refl, sym, ap, subst, lit<}
 use Rattle.hn_base.specs.Words.{Begins}
+use Rattle.hn_base.specs.declared.version.Version.TheVariants.{One}
 use Rattle.hn_io.specs.Pcg.{pcg_word}
 use Rattle.hn_node.specs.Turns.{serving, words_of}
 use Rattle.hn_lab.specs.Reports.{refused_line}
 use Rattle.hn_run.specs.Node.{plain_call}
-use Rattle.hn_run.proofs.Nodes.{of_refusal, unserved, told_served, begins_seed, ended}
+use Rattle.hn_run.proofs.Nodes.{status_of, not_done, starved, unserved, told_served, within_told, begins_seed, ended}
+use Rattle.hn_run.proofs.NinthPrefix.{overfull_sets_none_up}
+use Rattle.hn_run.proofs.Setups.{limit_of_set_up}
 use Rattle.hn_run.proofs.Sources.{Contains-more}
 use Rattle.hn_run.proofs.Streams.{Appends-none}
 use Rattle.hn_run.proofs.node.serve_lines.Goals as goal
@@ -17,8 +20,8 @@ returns-in-Err-Overfull-clause-node g c bytes file =
       inl (record {
         number = number;
         code = 9;
-        refused = inr (c.args.lines.now, c.now-now.result, file, full, refl);
-        status_is = of_refusal c.refuse.result.status c.refuse.ensures.statuses;
+        refused = inr (c.args.lines.now, c.now-now.result, file, c.now-now.ensures.reading, full, refl);
+        status_is = status_of 2 c.refuse.result.status c.refuse.ensures.statuses;
         unserved = c.refuse.ensures.nothing.1;
         unsent = refl;
         text_is = refl;
@@ -31,6 +34,9 @@ returns-in-Err-Overfull-clause-done g c free two =
     let number = c.in-Err-Overfull.number in
     free c.now-now.result number (c.in-Err-Overfull.ensures.overfull number (ap Err c.in-Err-Overfull.field-0-is))
 
+pub returns-in-Err-Overfull-clause-overfull : goal.returns-in-Err-Overfull-clause-overfull
+returns-in-Err-Overfull-clause-overfull g c now number full = not_done c.refuse.result.status c.refuse.ensures.statuses
+
 pub returns-in-Err-Overfull-clause-statuses : goal.returns-in-Err-Overfull-clause-statuses
 returns-in-Err-Overfull-clause-statuses g c =
     let status = c.refuse.result.status in
@@ -39,8 +45,14 @@ returns-in-Err-Overfull-clause-statuses g c =
 pub returns-in-Err-NoMemory-clause-node : goal.returns-in-Err-NoMemory-clause-node
 returns-in-Err-NoMemory-clause-node g c bytes file = unserved _ _ _ _ _ _ _ c.of.ensures.status c.of.ensures.not_served
 
+pub returns-in-Err-NoMemory-clause-overfull : goal.returns-in-Err-NoMemory-clause-overfull
+returns-in-Err-NoMemory-clause-overfull g c now number full = starved c.of.result.status c.of.ensures.status
+
 pub returns-in-Err-clause-node : goal.returns-in-Err-clause-node
 returns-in-Err-clause-node g c bytes file = unserved _ _ _ _ _ _ _ c.of-in-Err.ensures.status c.of-in-Err.ensures.not_served
+
+pub returns-in-Err-clause-overfull : goal.returns-in-Err-clause-overfull
+returns-in-Err-clause-overfull g c now number full = starved c.of-in-Err.result.status c.of-in-Err.ensures.status
 
 pub returns-in-Err-clause-statuses : goal.returns-in-Err-clause-statuses
 returns-in-Err-clause-statuses g c = (4, lit< tt, sym c.of-in-Err.ensures.status)
@@ -57,7 +69,8 @@ returns-in-Ok-serve-clause-node g c bytes file =
     let rest = g.C.Clock.readings c.serve.new.clock in
     let a = g.K.Sink.held c.args.out.now in
     let b = g.K.Sink.held c.tell.new.out in
-    let told = told_served call c.tell.result.status s first last readings rest a b (rw (← c.from.ensures) c.in-Ok-serve.ensures.turns) (rw (← c.from.ensures) c.in-Ok-serve.ensures.cut) c.tell.ensures.told
+    let told = told_served call c.tell.result.status s first last readings rest a b (rw (← c.from.ensures) c.in-Ok-serve.ensures.turns)
+    (rw (← c.from.ensures) c.in-Ok-serve.ensures.cut) c.tell.ensures.told
     (λ fails. let untold = c.tell.ensures.untold fails in (untold.0, rw untold.1 (Appends-none a))) in
     let drew = c.words_join.ensures (Some stream) _ _ up.0 (words_of s.log) up.2 c.in-Ok-serve.ensures.words in (
       told.text,
@@ -80,6 +93,18 @@ returns-in-Ok-serve-clause-node g c bytes file =
       })),
       (told.written, told.holds, told.appends),
     )
+
+pub returns-in-Ok-serve-clause-overfull : goal.returns-in-Ok-serve-clause-overfull
+returns-in-Ok-serve-clause-overfull g c now number full =
+    let up = c.in-Ok.ensures.set_up in
+    absurd (overfull_sets_none_up c.args.call.now.id c.args.lines.now now c.now-now.result number up.0 c.in-Ok.router full up.1)
+
+pub returns-in-Ok-serve-clause-within : goal.returns-in-Ok-serve-clause-within
+returns-in-Ok-serve-clause-within g c =
+    let up = c.in-Ok.ensures.set_up in
+    let s = c.in-Ok-serve.served in
+    let limit = c.in-Ok-serve.ensures.limit ∙ limit_of_set_up c.limit_stays.ensures c.args.call.now.id c.args.lines.now c.now-now.result up.0 c.in-Ok.router up.1 in
+    within_told c.tell.result.status c.tell.result.served s (c.router_is_within_limits.ensures One s.router c.is_router.ensures limit) c.tell.ensures.served
 
 pub returns-in-Ok-serve-clause-statuses : goal.returns-in-Ok-serve-clause-statuses
 returns-in-Ok-serve-clause-statuses g c =

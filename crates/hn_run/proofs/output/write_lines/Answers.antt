@@ -28,7 +28,8 @@ returns-in_err-write_piece-clause-cut g c =
     let split : c.loop-end.rest.now ≡ line ++ after =
     rw (c.split_at.ensures.front, c.split_at.ensures.back) (sym (take-append-drop (c.in-Some.end + 1) c.loop-end.rest.now))
     in
-    on_err c.from_residual.result _ (AppendsPart-more c.pieces_append.ensures _ _ _ before.0 line after c.args.text.now before.2 c.in_err-write_piece.ensures.cut (before.1 ∙ ap (λ xs. before.0 ++ xs) split))
+    on_err c.from_residual.result _ (AppendsPart-more c.pieces_append.ensures _ _ _ before.0 line after c.args.text.now before.2 c.in_err-write_piece.ensures.cut
+    (before.1 ∙ ap (λ xs. before.0 ++ xs) split))
 
 pub returns-clause-cut : goal.returns-clause-cut
 returns-clause-cut g c =

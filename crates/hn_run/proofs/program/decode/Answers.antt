@@ -11,7 +11,8 @@ returns-in-Ok-clause-decode g c _ =
     let read = c.in-Ok.bytes.items in
     let before = g.K.Sink.held c.args.out.now in
     let after = g.K.Sink.held c.run_decode.new.out in
-    let holds = by_status status (WritesDecode read status before after) (CutsDecode read Failed before after) (CutsDecode read NoMemory before after) c.run_decode.ensures.statuses c.run_decode.ensures.written c.run_decode.ensures.broken c.run_decode.ensures.starved in
+    let holds = by_status status (WritesDecode read status before after) (CutsDecode read Failed before after)
+    (CutsDecode read NoMemory before after) c.run_decode.ensures.statuses c.run_decode.ensures.written c.run_decode.ensures.broken c.run_decode.ensures.starved in
     decode_read (g.S.Source.left c.args.src.now) (g.S.Source.left c.read_all.new.src) read status before after c.in-Ok.ensures.all c.in-Ok.ensures.whole holds c.run_decode.ensures.complete
 
 pub returns-in-Err-NoMemory-clause-decode : goal.returns-in-Err-NoMemory-clause-decode

@@ -43,7 +43,8 @@ node-requires g c =
 pub returns-in-Some-Node-clause-node : goal.returns-in-Some-Node-clause-node
 returns-in-Some-Node-clause-node g c call asked good =
     let read = rw c.in-Some-Node.field-0-is at c.in-Some-Node.ensures.found in
-    let P : PlainCall → Type 0 = λ x. IsNodeRun x (g.S.Source.left c.args.src.now) c.node.result.status c.node.result.served (record { waiting = g.W.Wire.waiting c.args.wire.now; readings = g.C.Clock.readings c.args.clock.now })
+    let P : PlainCall → Type 0 = λ x. IsNodeRun x (g.S.Source.left c.args.src.now) c.node.result.status c.node.result.served
+    (record { waiting = g.W.Wire.waiting c.args.wire.now; readings = g.C.Clock.readings c.args.clock.now })
     (record { waiting = g.W.Wire.waiting c.node.new.wire; readings = g.C.Clock.readings c.node.new.clock }) (g.K.Sink.held c.args.out.now) (g.K.Sink.held c.node.new.out) in
     as_called P c.in-Some-Node.call call _ read asked (c.node.ensures.node good)
 

@@ -12,7 +12,8 @@ returns-in-Ok-clause-watch g c _ =
     let before = g.K.Sink.held c.args.out.now in
     let after = g.K.Sink.held c.run_watch.new.out in
     let seen = c.deref.result.now in
-    let holds = by_status status (WritesWatch seen status before after) (CutsWatch seen Failed before after) (StarvesWatch seen before after) c.run_watch.ensures.statuses c.run_watch.ensures.written c.run_watch.ensures.broken c.run_watch.ensures.starved in
+    let holds = by_status status (WritesWatch seen status before after) (CutsWatch seen Failed before after)
+    (StarvesWatch seen before after) c.run_watch.ensures.statuses c.run_watch.ensures.written c.run_watch.ensures.broken c.run_watch.ensures.starved in
     watch_read (g.S.Source.left c.args.src.now) (g.S.Source.left c.read_all.new.src) c.in-Ok.bytes.items status before after c.in-Ok.ensures.all c.in-Ok.ensures.whole
     (subst (λ (bytes : List ℕ). WatchHolds bytes status before after) c.deref.ensures.value holds)
     (subst (λ (bytes : List ℕ). (datagrams : List (List ℕ)) → IsCapture bytes datagrams → status ≢ 2) c.deref.ensures.value c.run_watch.ensures.complete)

@@ -28,7 +28,8 @@ pub returns-then-is_too_many-clause-overfull : goal.returns-then-is_too_many-cla
 returns-then-is_too_many-clause-overfull g c number is =
     let up = c.loop-number.invariant.set_up in
     let same : c.loop-number-item.result.0 ≡ number = cc in
-    overfull_at c.args.id c.args.lines.now c.loop-number.number-index c.loop-number-item.result c.args.now number up.0 c.loop-number.router c.loop-number-test.true c.loop-number-item.is same up.1 (sym c.is_too_many.ensures ∙ c.if-is_too_many.true)
+    overfull_at c.args.id c.args.lines.now c.loop-number.number-index c.loop-number-item.result c.args.now number up.0 c.loop-number.router c.loop-number-test.true c.loop-number-item.is same up.1
+    (sym c.is_too_many.ensures ∙ c.if-is_too_many.true)
 
 pub returns-clause-attached : goal.returns-clause-attached
 returns-clause-attached g c = attached_alone c.loop-number.router.ports c.loop-number.invariant.ends

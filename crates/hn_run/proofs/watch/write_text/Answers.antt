@@ -30,7 +30,8 @@ loop-one-preserved g c =
     let before = c.loop-one.invariant in
     let sink = g.K.Sink in
     record {
-      written = grows c.pieces_append.ensures c.args.datagrams c.args.malformed c.args.seen.now c.loop-one.one-index _ (sink.held c.args.out.now) (sink.held c.loop-one.out) (sink.held c.write_seen.new.out)
+      written = grows c.pieces_append.ensures c.args.datagrams c.args.malformed c.args.seen.now c.loop-one.one-index _ (sink.held c.args.out.now)
+          (sink.held c.loop-one.out) (sink.held c.write_seen.new.out)
           c.loop-one-test.true before.written c.in_ok-write_seen.ensures.written;
       no_fault = c.in_ok-write_seen.ensures.caused.counts.stays (λ failed. cc) ∙ before.no_fault;
       reliable = λ never. (c.in_ok-write_seen.ensures.caused.reliable (before.reliable never)).0;
@@ -40,7 +41,8 @@ pub returns-in_err-write_seen-clause-cut : goal.returns-in_err-write_seen-clause
 returns-in_err-write_seen-clause-cut g c =
     let fault = c.in_err-write_seen.field-0.0 in
     let passed = err_from_is_err_and c.from_residual-in_err-write_seen.result c.from_residual-in_err-write_seen.ensures.1 in
-    rw (passed.1, passed.2) (cut_later c.pieces_append.ensures c.args.datagrams c.args.malformed c.args.seen.now c.loop-one.one-index _ fault _ _ _ c.loop-one-test.true c.loop-one.invariant.written c.in_err-write_seen.ensures.cut)
+    rw (passed.1, passed.2) (cut_later c.pieces_append.ensures c.args.datagrams c.args.malformed c.args.seen.now c.loop-one.one-index _ fault _ _ _
+    c.loop-one-test.true c.loop-one.invariant.written c.in_err-write_seen.ensures.cut)
 
 pub returns-clause-written : goal.returns-clause-written
 returns-clause-written g c =

@@ -10,5 +10,6 @@ returns-in-Ok-clause-starved g c starved =
     let watch = c.args.watch.now in
     let told = starved_of_written c.write_text-written.result 0 _ (lit< tt) c.write_text-written.ensures.cut (rw c.written_status.ensures at starved) in
     let text = watch_text c.fed.result c.malformed.result c.as_slice.result.now in
-    let is = ap (λ (s : List Seen). watch_text c.fed.result c.malformed.result s) c.as_slice.ensures ∙ ap (λ n. watch_text n c.malformed.result c.in-Ok.seen) c.fed.ensures ∙ ap (λ n. watch_text (fed_of watch) n c.in-Ok.seen) c.malformed.ensures in
+    let is = ap (λ (s : List Seen). watch_text c.fed.result c.malformed.result s) c.as_slice.ensures
+    ∙ ap (λ n. watch_text n c.malformed.result c.in-Ok.seen) c.fed.ensures ∙ ap (λ n. watch_text (fed_of watch) n c.in-Ok.seen) c.malformed.ensures in
     inr (text, record { seen = c.in-Ok.seen; are_seen = c.in-Ok.ensures; text_is = is }, told)

@@ -29,14 +29,21 @@ returns-in-Ok-clause-starved g c starved =
 
 pub returns-in-Ok-clause-written : goal.returns-in-Ok-clause-written
 returns-in-Ok-clause-written g c good =
-    let told = c.write_watch.ensures.written (done_of c.write_watch.result c.write_watch.ensures.statuses good) in
-    (told.0, inl (done_of c.write_watch.result c.write_watch.ensures.statuses good, watched c.args.source.now told.0 c.in-Ok.watch c.if-source-gt-SOURCE_LIMIT.false c.in-Ok.ensures.read told.1), told.2)
+    let told = c.write_watch.ensures.written (done_of c.write_watch.result c.write_watch.ensures.statuses good) in (
+      told.0,
+      inl (
+        done_of c.write_watch.result c.write_watch.ensures.statuses good,
+        watched c.args.source.now told.0 c.in-Ok.watch c.if-source-gt-SOURCE_LIMIT.false c.in-Ok.ensures.read told.1,
+      ),
+      told.2,
+    )
 
 pub returns-in-Err-Script-clause-written : goal.returns-in-Err-Script-clause-written
 returns-in-Err-Script-clause-written g c good =
     let fault = c.in-Err-Script.fault in
     let refused = faulty c.args.source.now fault c.if-source-gt-SOURCE_LIMIT.false (c.in-Err-Script.ensures.refused fault (ap Err c.in-Err-Script.field-0-is)) in
-    let told = written_whole c.write_refusal-in-Err-Script.result 2 _ c.write_refusal-in-Err-Script.ensures.ok (⊎_elim (λ done. inl (sym c.written_status-in-Err-Script.ensures ∙ done)) (λ two. inr (sym c.written_status-in-Err-Script.ensures ∙ two)) good) in
+    let told = written_whole c.write_refusal-in-Err-Script.result 2 _ c.write_refusal-in-Err-Script.ensures.ok
+    (⊎_elim (λ done. inl (sym c.written_status-in-Err-Script.ensures ∙ done)) (λ two. inr (sym c.written_status-in-Err-Script.ensures ∙ two)) good) in
     (refused_line fault.line fault.code, inr (c.written_status-in-Err-Script.ensures ∙ told.0, refused), told.1)
 
 pub returns-in-Err-Script-clause-broken : goal.returns-in-Err-Script-clause-broken

@@ -28,7 +28,8 @@ returns-in_err-ports-clause-none c =
     let words = c.args.words.now in
     let long = length-map words string_bytes in
     let within = c.loop-place-test.true in
-    rw c.from_residual.ensures (no_peers (map string_bytes words) c.loop-place.place _ (omega arith) (word_at string_bytes words _ _ _ within c.index-words-place.is c.as_bytes.ensures.value) c.in_err-ports.ensures.none)
+    rw c.from_residual.ensures (no_peers (map string_bytes words) c.loop-place.place _ (omega arith)
+    (word_at string_bytes words _ _ _ within c.index-words-place.is c.as_bytes.ensures.value) c.in_err-ports.ensures.none)
 
 pub loop-place-preserved : goal.loop-place-preserved
 loop-place-preserved c =
@@ -36,7 +37,8 @@ loop-place-preserved c =
     let long = length-map words string_bytes in
     let within = c.loop-place-test.true in
     let few = c.if-words-gt-MOST_PEERS.false in
-    one_more (map string_bytes words) c.loop-place.place c.loop-place.ports c.in_ok-ports.field-0 _ (omega arith) (omega arith) (word_at string_bytes words _ _ _ within c.index-words-place.is c.as_bytes.ensures.value) c.in_ok-ports.ensures.found c.loop-place.invariant
+    one_more (map string_bytes words) c.loop-place.place c.loop-place.ports c.in_ok-ports.field-0 _ (omega arith) (omega arith)
+    (word_at string_bytes words _ _ _ within c.index-words-place.is c.as_bytes.ensures.value) c.in_ok-ports.ensures.found c.loop-place.invariant
 
 pub returns-clause-found : goal.returns-clause-found
 returns-clause-found c =

@@ -9,7 +9,8 @@ pub loop-delivered-preserved : goal.loop-delivered-preserved
 loop-delivered-preserved g c =
     let told = g.D.Draw.words in
     let at = c.loop-delivered in
-    came_more c.words_join.ensures c.args.copies at.delivered (told c.args.draw.now) (told at.draw) (told c.apply.new.draw) c.args.world.now at.world c.apply.new.self c.in_ok-apply.field-0 at.invariant c.in_ok-apply.ensures.ok
+    came_more c.words_join.ensures c.args.copies at.delivered (told c.args.draw.now) (told at.draw)
+    (told c.apply.new.draw) c.args.world.now at.world c.apply.new.self c.in_ok-apply.field-0 at.invariant c.in_ok-apply.ensures.ok
 
 pub returns-in_err-apply-clause-refused : goal.returns-in_err-apply-clause-refused
 returns-in_err-apply-clause-refused g c = λ code failed.

@@ -3,7 +3,7 @@ use Rattle.hn_base.specs.Prefix.{PlainPrefix}
 use Rattle.hn_rules.specs.Seen.{seen_by}
 use Rattle.hn_ula.specs.Ula.{IsOwnOf}
 use Rattle.hn_ula.specs.Said.{AreGenerated}
-use Rattle.hn_ula.proofs.Founds.{has_own}
+use Rattle.hn_ula.proofs.FoundInLists.{has_own}
 use Rattle.hn_ula.proofs.decision.has_generated.Goals as goal
 
 pub own-requires : goal.own-requires

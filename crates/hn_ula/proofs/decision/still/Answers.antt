@@ -1,4 +1,4 @@
-use Rattle.hn_ula.proofs.Decisions.{answer_with, answer_without}
+use Rattle.hn_ula.proofs.OneDecision.{answer_with, answer_without}
 use Rattle.hn_ula.proofs.decision.still.Goals as goal
 
 pub returns-then-not-found : goal.returns-then-not-found

@@ -1,9 +1,12 @@
-use Rattle.std.proofs.Common.{◌≡◌, refl, length, Some, slice_get, subst, List}
+use Rattle.std.proofs.Common.{◌≡◌, refl, sym, ap, length, Some, slice_get, subst, List}
+use Rattle.std.proofs.lemmas.Bool.{eqb-true, eqb-false}
 use Rattle.std.proofs.lemmas.List.{take_all}
 use Rattle.std.proofs.lemmas.Option.{slice_get_read}
-use Rattle.hn_ula.specs.Found.{IsFoundOf}
+use Rattle.hn_base.specs.declared.ids.NodeId.{NodeId}
+use Rattle.hn_base.proofs.Keys.{same_node}
+use Rattle.hn_ula.specs.Found.{IsGreatestFound}
 use Rattle.hn_ula.specs.declared.generated.Generated.{Generated}
-use Rattle.hn_ula.proofs.Greatests.{found_none, passed_next, taken_next, same_node, other_node}
+use Rattle.hn_ula.proofs.GreatestOfNode.{found_none, passed_next, taken_next}
 use Rattle.hn_ula.proofs.found.greatest_of.Goals as goal
 use Rattle.hn_ula.proofs.found.greatest_of.Goals.{then-eq, else-eq}
 
@@ -18,10 +21,12 @@ loop-one-preserved c =
     let node = c.args.node in
     let at : slice_get list n ≡ Some one = slice_get_read list (length list) n one refl c.loop-one-test.true c.one-item.is in
     elim c.if-eq.branch [
-      | then-eq w ↦ rw w.greatest-is (taken_next list n one node c.loop-one.greatest w.greater.result at (same_node one.node node w.if-eq.ensures) w.greater.ensures c.loop-one.invariant)
-      | else-eq w ↦ rw w.greatest-is (passed_next list n one node c.loop-one.greatest at (other_node one.node node w.if-eq.ensures) c.loop-one.invariant)
+      | then-eq w ↦ rw w.greatest-is
+          (taken_next list n one node c.loop-one.greatest w.greater.result at (same_node one.node node (eqb-true one.node.0 node.0 (sym w.if-eq.ensures))) w.greater.ensures c.loop-one.invariant)
+      | else-eq w ↦ rw w.greatest-is
+          (passed_next list n one node c.loop-one.greatest at (λ same. eqb-false one.node.0 node.0 (sym w.if-eq.ensures) (ap (λ (id : NodeId). id.0) same)) c.loop-one.invariant)
     ]
 
 pub returns : goal.returns
 returns c =
-    subst (λ (l : List Generated). IsFoundOf l c.args.node c.loop-one.greatest) (take_all c.loop-one.one-index c.args.list.now c.loop-one-test.false) c.loop-one.invariant
+    subst (λ (l : List Generated). IsGreatestFound l c.args.node c.loop-one.greatest) (take_all c.loop-one.one-index c.args.list.now c.loop-one-test.false) c.loop-one.invariant

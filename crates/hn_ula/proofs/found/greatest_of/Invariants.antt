@@ -1,6 +1,6 @@
 use Rattle.std.proofs.Common.{take}
-use Rattle.hn_ula.specs.Found.{IsFoundOf}
+use Rattle.hn_ula.specs.Found.{IsGreatestFound}
 use Rattle.hn_ula.proofs.found.greatest_of.Given as goal
 
 abbrev pub invariant-loop-one : goal.invariant-loop-one
-invariant-loop-one l = IsFoundOf (take l.one-index l.list) l.node l.greatest
+invariant-loop-one l = IsGreatestFound (take l.one-index l.list) l.node l.greatest

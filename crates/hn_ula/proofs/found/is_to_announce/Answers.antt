@@ -3,7 +3,7 @@ use Rattle.std.proofs.lemmas.Bool.{false≢true}
 use Rattle.hn_base.specs.declared.ids.NodeId.{NodeId}
 use Rattle.hn_ula.specs.Ula.{IsToAnnounce}
 use Rattle.hn_ula.specs.Found.{HasGreater}
-use Rattle.hn_ula.proofs.Founds.{by_greater, by_neither, fails_of}
+use Rattle.hn_ula.proofs.FoundInLists.{by_greater, by_neither, fails_of}
 use Rattle.hn_ula.proofs.found.is_to_announce.Goals as goal
 
 pub returns-then-has_neither : goal.returns-then-has_neither

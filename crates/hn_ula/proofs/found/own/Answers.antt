@@ -1,10 +1,10 @@
 use Rattle.std.proofs.Common.{subst}
 use Rattle.hn_base.specs.declared.ids.NodeId.{NodeId}
-use Rattle.hn_ula.specs.Found.{IsFoundOf}
-use Rattle.hn_ula.proofs.Founds.{own_of}
+use Rattle.hn_ula.specs.Found.{IsGreatestFound}
+use Rattle.hn_ula.proofs.FoundInLists.{own_of}
 use Rattle.hn_ula.proofs.found.own.Goals as goal
 
 pub returns : goal.returns
 returns c =
     own_of c.args.router.now c.args.list.now c.greatest_of.result c.requires
-    (subst (λ (id : NodeId). IsFoundOf c.args.list.now id c.greatest_of.result) c.id.ensures c.greatest_of.ensures)
+    (subst (λ (id : NodeId). IsGreatestFound c.args.list.now id c.greatest_of.result) c.id.ensures c.greatest_of.ensures)

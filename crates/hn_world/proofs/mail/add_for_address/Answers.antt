@@ -22,4 +22,5 @@ returns-clause-copies c =
     let same = ap there c.index-members-place.is
     ∙ has_one c.args.sender.now c.args.to c.args.link c.in-Some.place c.args.members.now m c.in-Some.ensures.there c.in-Some.ensures.place c.requires.ports
     in
-    subst (λ (ts : List Target). OnOk c.add_on_link.result (c.add_on_link.new.copies.items ≡ items ++ map (copy_for c.args.sender.now (Some c.args.to) c.args.bytes.now) ts)) same c.add_on_link.ensures.copies
+    subst (λ (ts : List Target). OnOk c.add_on_link.result (c.add_on_link.new.copies.items ≡ items ++ map (copy_for c.args.sender.now (Some c.args.to) c.args.bytes.now) ts))
+    same c.add_on_link.ensures.copies

@@ -5,7 +5,7 @@ use Rattle.hn_rules.specs.Seen.{seen_by}
 use Rattle.hn_addr.specs.Addresses.{adding}
 use Rattle.hn_addr.specs.Choosings.{IsFirstAround}
 use Rattle.hn_addr.specs.declared.choosing.Choosing.{Choosing}
-use Rattle.hn_addr.proofs.Numbers.{first_fit}
+use Rattle.hn_addr.proofs.FirstFittingNumber.{first_fit}
 use Rattle.hn_addr.proofs.choosing.Choosing.draw_one.Goals as goal
 
 pub returns-clause-drawn : goal.returns-clause-drawn

@@ -6,8 +6,8 @@ use Rattle.hn_rules.specs.Seen.{seen_by}
 use Rattle.hn_addr.specs.Addresses.{Stays}
 use Rattle.hn_addr.specs.Numbers.{HasNoneFrom}
 use Rattle.hn_addr.specs.declared.choosing.Choosing.{Choosing}
-use Rattle.hn_addr.proofs.Choosings.{draws_none}
-use Rattle.hn_addr.proofs.Numbers.{none_fits}
+use Rattle.hn_addr.proofs.OneChoosing.{draws_none}
+use Rattle.hn_addr.proofs.FirstFittingNumber.{none_fits}
 use Rattle.hn_addr.proofs.choosing.Choosing.step.Goals as goal
 
 pub returns-in-Some-clause-drew : goal.returns-in-Some-clause-drew

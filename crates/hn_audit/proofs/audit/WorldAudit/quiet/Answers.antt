@@ -1,7 +1,7 @@
 use Rattle.hn_base.specs.Name.{name_text}
 use Rattle.hn_world.specs.Replay.{IsSound}
 use Rattle.hn_audit.specs.Quiet.{IsQuiet}
-use Rattle.hn_audit.proofs.QuietSets.{quiet_changes_nothing, quiet_is_fixed, unchanged_is_quiet, named_runs}
+use Rattle.hn_audit.proofs.QuietSets.{quiet_is_fixed, quiet_or_acts, unchanged_is_quiet, named_runs}
 use Rattle.hn_audit.proofs.Searching.{told_none}
 use Rattle.hn_audit.proofs.audit.WorldAudit.quiet.Goals as goal
 
@@ -13,7 +13,17 @@ pub returns-clause-unchanged : goal.returns-clause-unchanged
 returns-clause-unchanged c m named =
     let w = c.args.self.now in
     let sound : IsSound w = c.always_sound.ensures.sound w c.is_replayed.ensures in
-    quiet_changes_nothing w m sound c.is_none.result (returns-clause-quiet c m named) c.rest_is_the_fixed_point.ensures.unchanged
+    let law = c.rest_is_the_fixed_point.ensures in
+    (quiet_or_acts w m sound law.runs law.unchanged law.rests c.witness_refutes.ensures.restless c.in_ok-unquiet.field-0 c.is_none.result c.is_none.ensures
+    (c.in_ok-unquiet.ensures.some m named) (returns-clause-quiet c m named)).0
+
+pub returns-clause-acts : goal.returns-clause-acts
+returns-clause-acts c m named =
+    let w = c.args.self.now in
+    let sound : IsSound w = c.always_sound.ensures.sound w c.is_replayed.ensures in
+    let law = c.rest_is_the_fixed_point.ensures in
+    (quiet_or_acts w m sound law.runs law.unchanged law.rests c.witness_refutes.ensures.restless c.in_ok-unquiet.field-0 c.is_none.result c.is_none.ensures
+    (c.in_ok-unquiet.ensures.some m named) (returns-clause-quiet c m named)).1
 
 pub returns-clause-fixed : goal.returns-clause-fixed
 returns-clause-fixed c m named =

@@ -73,7 +73,8 @@ join_spec 𝓤 𝓛 𝓜 𝓡 wired V H LV LH g methods value_drop heap_drop all
     calls_at_last ! (framed 𝓤 𝓛.H 𝓜 𝓣) callee (met 𝓤 𝓛 𝓜 𝓡 (code.calls-std_alloc::boxed::Box::from_raw 𝓡.env wired) V H LV LH g methods heap_drop allocator heap_glue) z
     (and_then ! (get ! refl) (and_then ! (get ! refl) (no_more !))) (λ u.
     use1 𝓛 (later (some (λ (r : (B E).Denot). (tokens ⊛ ‵ ((B E).own_val r (u ∷ []))) ⊛
-    some (λ (ls : Lasts (made.ended V H g methods heap_drop) κs z.0.3). ‵ (lasts (made.ended V H g methods heap_drop) κs z.0.3 ls) ⊛ (raw (fact 𝓤 (r.value ≡ p.value)) ⊛ raw (fact 𝓤 (r.alloc ≡ p.alloc))))))) (id⊢ 𝓤 (callee.post z u)) $
+    some (λ (ls : Lasts (made.ended V H g methods heap_drop) κs z.0.3).
+    ‵ (lasts (made.ended V H g methods heap_drop) κs z.0.3 ls) ⊛ (raw (fact 𝓤 (r.value ≡ p.value)) ⊛ raw (fact 𝓤 (r.alloc ≡ p.alloc))))))) (id⊢ 𝓤 (callee.post z u)) $
     await ! tt $ pick ! (λ r. split ! $ move ! (1 ∷ []) $ pick ! (λ _. split3 ! $ drop ! $ move ! (2 ∷ []) $ split ! $ move ! (1 ∷ []) $
     -- [the box; the tokens; that it has the value; that it has the allocator]
     box_out E ! r (u ∷ []) (λ b' o' h' is_block' is_word good'. box_in E ! r b' o' r.value is_block' refl $

@@ -18,28 +18,32 @@ returns-in_err-_member-clause-ends c waiting text =
     let w = c.args.self.now.world in
     let p = stage_of c.args.self.now waiting text in
     let why = c.in_err-_member.field-0.0 in
-    leaving_on (Reports (unless_runs name w) (Tells name w (IsAddressedLine name w))) why c.from_residual.result p p c.from_residual.ensures.1 (report_refused (unless_runs name w) (IsOneLine (Tells name w (IsAddressedLine name w))) why p (c.in_err-_member.ensures.refused why refl))
+    leaving_on (Reports (unless_runs name w) (Tells name w (IsAddressedLine name w))) why c.from_residual.result p p c.from_residual.ensures.1
+    (report_refused (unless_runs name w) (IsOneLine (Tells name w (IsAddressedLine name w))) why p (c.in_err-_member.ensures.refused why refl))
 
 pub returns-in_err-told-clause-ends : goal.returns-in_err-told-clause-ends
 returns-in_err-told-clause-ends c waiting text =
     let name = c.args.name.now in
     let w = c.args.self.now.world in
     let p = stage_of c.args.self.now waiting text in
-    leaving_on (Reports (unless_runs name w) (Tells name w (IsAddressedLine name w))) (Cut NoMemory) c.from_residual-in_err-told.result p p c.from_residual-in_err-told.ensures.1 (report_starved (unless_runs name w) (IsOneLine (Tells name w (IsAddressedLine name w))) p)
+    leaving_on (Reports (unless_runs name w) (Tells name w (IsAddressedLine name w)))
+    (Cut NoMemory) c.from_residual-in_err-told.result p p c.from_residual-in_err-told.ensures.1 (report_starved (unless_runs name w) (IsOneLine (Tells name w (IsAddressedLine name w))) p)
 
 pub returns-in_err-line-clause-ends : goal.returns-in_err-line-clause-ends
 returns-in_err-line-clause-ends c waiting text =
     let name = c.args.name.now in
     let w = c.args.self.now.world in
     let p = stage_of c.args.self.now waiting text in
-    leaving_on (Reports (unless_runs name w) (Tells name w (IsAddressedLine name w))) (Cut NoMemory) c.from_residual-in_err-line.result p p c.from_residual-in_err-line.ensures.1 (report_starved (unless_runs name w) (IsOneLine (Tells name w (IsAddressedLine name w))) p)
+    leaving_on (Reports (unless_runs name w) (Tells name w (IsAddressedLine name w)))
+    (Cut NoMemory) c.from_residual-in_err-line.result p p c.from_residual-in_err-line.ensures.1 (report_starved (unless_runs name w) (IsOneLine (Tells name w (IsAddressedLine name w))) p)
 
 pub returns-in_err-of-clause-ends : goal.returns-in_err-of-clause-ends
 returns-in_err-of-clause-ends c waiting text =
     let name = c.args.name.now in
     let w = c.args.self.now.world in
     let p = stage_of c.args.self.now waiting text in
-    leaving_on (Reports (unless_runs name w) (Tells name w (IsAddressedLine name w))) (Cut NoMemory) c.from_residual-in_err-of.result p p c.from_residual-in_err-of.ensures.1 (report_starved (unless_runs name w) (IsOneLine (Tells name w (IsAddressedLine name w))) p)
+    leaving_on (Reports (unless_runs name w) (Tells name w (IsAddressedLine name w)))
+    (Cut NoMemory) c.from_residual-in_err-of.result p p c.from_residual-in_err-of.ensures.1 (report_starved (unless_runs name w) (IsOneLine (Tells name w (IsAddressedLine name w))) p)
 
 pub returns-clause-ends : goal.returns-clause-ends
 returns-clause-ends c waiting text =
@@ -49,4 +53,5 @@ returns-clause-ends c waiting text =
     let found = c.in_ok-_member.ensures.found in
     let line = string_bytes c.in_ok-line.line in
     let text_is : line ≡ addressed_line name c.in_ok-told.told.now = simp append_assoc c.in_ok-line.ensures.ok in
-    line_reported (unless_runs name w) (Tells name w (IsAddressedLine name w)) line c.in_ok-of.field-0 p found.1 (tells_addressed name w c.in_ok-told.told.now line found.1 c.in_ok-told.ensures text_is) c.in_ok-of.ensures
+    line_reported (unless_runs name w) (Tells name w (IsAddressedLine name w)) line c.in_ok-of.field-0 p found.1
+    (tells_addressed name w c.in_ok-told.told.now line found.1 c.in_ok-told.ensures text_is) c.in_ok-of.ensures

@@ -1,7 +1,7 @@
 use Rattle.std.proofs.Common.{rules, ◌≡◌, ◌∙◌, IsTrue, true, false, inl, inr, refl}
 use Rattle.std.proofs.lemmas.Option.{same_Some}
 use Rattle.hn_base.specs.Name.{name_text}
-use Rattle.hn_addr.specs.Addresses.{IsStill}
+use Rattle.hn_addr.specs.Addresses.{IsAddressStill}
 use Rattle.hn_audit.specs.Settled.{IsSettled}
 use Rattle.hn_world.specs.declared.member.Member.{Member}
 use Rattle.hn_lab.specs.AddressReports.{AreAddressesStill}
@@ -16,7 +16,8 @@ returns-then-not-branch-2 c m at =
     let yes : c.in_ok-settled.field-0 ≡ true = search rules in
     let no : c.in_ok-all_still.field-0 ≡ false = search rules in
     let settled : IsSettled w m = (c.in_ok-settled.ensures m at).0 yes in
-    let law = answers_of (λ (s : Member). IsStill s.router) w c.in-Some.r.now m c.in_ok-all_still.field-0 c.reach.result.now c.members.result.now c.reach.ensures c.members.ensures same c.in_ok-all_still.ensures in
+    let law = answers_of (λ (s : Member). IsAddressStill s.router) w c.in-Some.r.now m c.in_ok-all_still.field-0 c.reach.result.now
+    c.members.result.now c.reach.ensures c.members.ensures same c.in_ok-all_still.ensures in
     let busy : ¬ AreAddressesStill w m = λ still. let rests : IsTrue c.in_ok-all_still.field-0 = law.1 still.1 in absurd cc in
     inr (inl (settled, busy, refl))
 
@@ -27,7 +28,8 @@ returns c m at =
     let yes : c.in_ok-settled.field-0 ≡ true = search rules in
     let rests : c.in_ok-all_still.field-0 ≡ true = search rules in
     let settled : IsSettled w m = (c.in_ok-settled.ensures m at).0 yes in
-    let law = answers_of (λ (s : Member). IsStill s.router) w c.in-Some.r.now m c.in_ok-all_still.field-0 c.reach.result.now c.members.result.now c.reach.ensures c.members.ensures same c.in_ok-all_still.ensures in
+    let law = answers_of (λ (s : Member). IsAddressStill s.router) w c.in-Some.r.now m c.in_ok-all_still.field-0 c.reach.result.now
+    c.members.result.now c.reach.ensures c.members.ensures same c.in_ok-all_still.ensures in
     let still : AreAddressesStill w m = (settled, law.0 rests) in
     let known : IsKnown w m = record {
       sound = c.always_sound.ensures.sound;

@@ -19,28 +19,34 @@ returns-in_err-member-clause-ends c waiting text =
     let w = c.args.self.now.world in
     let p = stage_of c.args.self.now waiting text in
     let why = c.in_err-member.field-0.0 in
-    leaving_on (ReportsLines (unless_runs name w) (Tells name w (λ m lines. lines ≡ addresses_lines name m))) why c.from_residual.result p p c.from_residual.ensures.1 (report_refused (unless_runs name w) (Tells name w (λ m lines. lines ≡ addresses_lines name m)) why p (c.in_err-member.ensures.refused why refl))
+    leaving_on (ReportsLines (unless_runs name w) (Tells name w (λ m lines. lines ≡ addresses_lines name m))) why c.from_residual.result p p c.from_residual.ensures.1
+    (report_refused (unless_runs name w) (Tells name w (λ m lines. lines ≡ addresses_lines name m)) why p (c.in_err-member.ensures.refused why refl))
 
 pub returns-in_err-format-clause-ends : goal.returns-in_err-format-clause-ends
 returns-in_err-format-clause-ends c waiting text =
     let name = c.args.name.now in
     let w = c.args.self.now.world in
     let p = stage_of c.args.self.now waiting text in
-    leaving_on (ReportsLines (unless_runs name w) (Tells name w (λ m lines. lines ≡ addresses_lines name m))) (Cut NoMemory) c.from_residual-in_err-format.result p p c.from_residual-in_err-format.ensures.1 (report_starved (unless_runs name w) (Tells name w (λ m lines. lines ≡ addresses_lines name m)) p)
+    leaving_on (ReportsLines (unless_runs name w) (Tells name w (λ m lines. lines ≡ addresses_lines name m)))
+    (Cut NoMemory) c.from_residual-in_err-format.result p p c.from_residual-in_err-format.ensures.1
+    (report_starved (unless_runs name w) (Tells name w (λ m lines. lines ≡ addresses_lines name m)) p)
 
 pub returns-in_err-push-clause-ends : goal.returns-in_err-push-clause-ends
 returns-in_err-push-clause-ends c waiting text =
     let name = c.args.name.now in
     let w = c.args.self.now.world in
     let p = stage_of c.args.self.now waiting text in
-    leaving_on (ReportsLines (unless_runs name w) (Tells name w (λ m lines. lines ≡ addresses_lines name m))) (Cut NoMemory) c.from_residual-in_err-push.result p p c.from_residual-in_err-push.ensures.1 (report_starved (unless_runs name w) (Tells name w (λ m lines. lines ≡ addresses_lines name m)) p)
+    leaving_on (ReportsLines (unless_runs name w) (Tells name w (λ m lines. lines ≡ addresses_lines name m)))
+    (Cut NoMemory) c.from_residual-in_err-push.result p p c.from_residual-in_err-push.ensures.1 (report_starved (unless_runs name w) (Tells name w (λ m lines. lines ≡ addresses_lines name m)) p)
 
 pub returns-in_err-add_address_lines-clause-ends : goal.returns-in_err-add_address_lines-clause-ends
 returns-in_err-add_address_lines-clause-ends c waiting text =
     let name = c.args.name.now in
     let w = c.args.self.now.world in
     let p = stage_of c.args.self.now waiting text in
-    leaving_on (ReportsLines (unless_runs name w) (Tells name w (λ m lines. lines ≡ addresses_lines name m))) (Cut NoMemory) c.from_residual-in_err-add_address_lines.result p p c.from_residual-in_err-add_address_lines.ensures.1 (report_starved (unless_runs name w) (Tells name w (λ m lines. lines ≡ addresses_lines name m)) p)
+    leaving_on (ReportsLines (unless_runs name w) (Tells name w (λ m lines. lines ≡ addresses_lines name m)))
+    (Cut NoMemory) c.from_residual-in_err-add_address_lines.result p p c.from_residual-in_err-add_address_lines.ensures.1
+    (report_starved (unless_runs name w) (Tells name w (λ m lines. lines ≡ addresses_lines name m)) p)
 
 pub returns-clause-ends : goal.returns-clause-ends
 returns-clause-ends c waiting text =
@@ -50,5 +56,7 @@ returns-clause-ends c waiting text =
     let found = c.in_ok-member.ensures.found in
     let addresses = c.addresses-addresses.result.now in
     let head : string_bytes c.in_ok-format.field-0 ≡ addresses_head name addresses = simp append_assoc c.in_ok-format.ensures.ok in
-    let lines_are = all_lines name addresses (string_bytes c.in_ok-format.field-0) c.new-lines.result c.push.new.self c.add_address_lines.new.lines c.new-lines.ensures c.in_ok-push.ensures c.in_ok-add_address_lines.ensures head in
-    reported (unless_runs name w) (Tells name w (λ m lines. lines ≡ addresses_lines name m)) c.add_address_lines.new.lines p found.1 (c.in_ok-member.member.now, found.0, lines_are ∙ ap (λ (a : List OwnAddress). lines_on name a) c.addresses-addresses.ensures)
+    let lines_are = all_lines name addresses (string_bytes c.in_ok-format.field-0) c.new-lines.result c.push.new.self c.add_address_lines.new.lines
+    c.new-lines.ensures c.in_ok-push.ensures c.in_ok-add_address_lines.ensures head in
+    reported (unless_runs name w) (Tells name w (λ m lines. lines ≡ addresses_lines name m)) c.add_address_lines.new.lines p found.1
+    (c.in_ok-member.member.now, found.0, lines_are ∙ ap (λ (a : List OwnAddress). lines_on name a) c.addresses-addresses.ensures)

@@ -17,7 +17,8 @@ returns-in_err-member-clause-ends c waiting text =
     let w = c.args.self.now.world in
     let p = stage_of c.args.self.now waiting text in
     let why = c.in_err-member.field-0.0 in
-    leaving_on (Reports (unless_elects name e w) (Tells name w (IsAdvertLine name e))) why c.from_residual.result p p c.from_residual.ensures.1 (report_refused (unless_elects name e w) (IsOneLine (Tells name w (IsAdvertLine name e))) why p (c.in_err-member.ensures.refused why refl))
+    leaving_on (Reports (unless_elects name e w) (Tells name w (IsAdvertLine name e))) why c.from_residual.result p p c.from_residual.ensures.1
+    (report_refused (unless_elects name e w) (IsOneLine (Tells name w (IsAdvertLine name e))) why p (c.in_err-member.ensures.refused why refl))
 
 pub returns-in_err-bytes-clause-ends : goal.returns-in_err-bytes-clause-ends
 returns-in_err-bytes-clause-ends c waiting text =
@@ -25,7 +26,8 @@ returns-in_err-bytes-clause-ends c waiting text =
     let e = c.args.endpoint in
     let w = c.args.self.now.world in
     let p = stage_of c.args.self.now waiting text in
-    leaving_on (Reports (unless_elects name e w) (Tells name w (IsAdvertLine name e))) (Cut NoMemory) c.from_residual-in_err-bytes.result p p c.from_residual-in_err-bytes.ensures.1 (report_starved (unless_elects name e w) (IsOneLine (Tells name w (IsAdvertLine name e))) p)
+    leaving_on (Reports (unless_elects name e w) (Tells name w (IsAdvertLine name e)))
+    (Cut NoMemory) c.from_residual-in_err-bytes.result p p c.from_residual-in_err-bytes.ensures.1 (report_starved (unless_elects name e w) (IsOneLine (Tells name w (IsAdvertLine name e))) p)
 
 pub returns-in_err-line-clause-ends : goal.returns-in_err-line-clause-ends
 returns-in_err-line-clause-ends c waiting text =
@@ -33,7 +35,8 @@ returns-in_err-line-clause-ends c waiting text =
     let e = c.args.endpoint in
     let w = c.args.self.now.world in
     let p = stage_of c.args.self.now waiting text in
-    leaving_on (Reports (unless_elects name e w) (Tells name w (IsAdvertLine name e))) (Cut NoMemory) c.from_residual-in_err-line.result p p c.from_residual-in_err-line.ensures.1 (report_starved (unless_elects name e w) (IsOneLine (Tells name w (IsAdvertLine name e))) p)
+    leaving_on (Reports (unless_elects name e w) (Tells name w (IsAdvertLine name e)))
+    (Cut NoMemory) c.from_residual-in_err-line.result p p c.from_residual-in_err-line.ensures.1 (report_starved (unless_elects name e w) (IsOneLine (Tells name w (IsAdvertLine name e))) p)
 
 pub returns-in_err-of-clause-ends : goal.returns-in_err-of-clause-ends
 returns-in_err-of-clause-ends c waiting text =
@@ -41,7 +44,8 @@ returns-in_err-of-clause-ends c waiting text =
     let e = c.args.endpoint in
     let w = c.args.self.now.world in
     let p = stage_of c.args.self.now waiting text in
-    leaving_on (Reports (unless_elects name e w) (Tells name w (IsAdvertLine name e))) (Cut NoMemory) c.from_residual-in_err-of.result p p c.from_residual-in_err-of.ensures.1 (report_starved (unless_elects name e w) (IsOneLine (Tells name w (IsAdvertLine name e))) p)
+    leaving_on (Reports (unless_elects name e w) (Tells name w (IsAdvertLine name e)))
+    (Cut NoMemory) c.from_residual-in_err-of.result p p c.from_residual-in_err-of.ensures.1 (report_starved (unless_elects name e w) (IsOneLine (Tells name w (IsAdvertLine name e))) p)
 
 pub returns-clause-ends : goal.returns-clause-ends
 returns-clause-ends c waiting text =
@@ -51,5 +55,6 @@ returns-clause-ends c waiting text =
     let p = stage_of c.args.self.now waiting text in
     let found = c.in_ok-member.ensures.found in
     let line = string_bytes c.in_ok-line.line in
-    let told : IsAdvertLine name e c.in_ok-member.member.now line = record { bytes = c.in_ok-bytes.bytes; are_bytes = c.in_ok-bytes.ensures; line_is = c.in_ok-line.ensures ∙ ap (advert_line name e) c.as_slice.ensures } in
+    let told : IsAdvertLine name e c.in_ok-member.member.now line =
+    record { bytes = c.in_ok-bytes.bytes; are_bytes = c.in_ok-bytes.ensures; line_is = c.in_ok-line.ensures ∙ ap (advert_line name e) c.as_slice.ensures } in
     line_reported (unless_elects name e w) (Tells name w (IsAdvertLine name e)) line c.in_ok-of.field-0 p found.1 (c.in_ok-member.member.now, found.0, told) c.in_ok-of.ensures

@@ -15,7 +15,8 @@ returns-in-Some-clause-ends c waiting text =
     let left = c.args.left.now in
     let right = c.args.right.now in
     let w = c.args.self.now.world in
-    report_refused (unless_both_run left right w) (IsOneLine (Compares left right w)) (Refused c.in-Some.code) (stage_of c.args.self.now waiting text) (c.in-Some.code, refl, sym c.unless_both_run.ensures ∙ c.in-Some.is)
+    report_refused (unless_both_run left right w) (IsOneLine (Compares left right w)) (Refused c.in-Some.code) (stage_of c.args.self.now waiting text)
+    (c.in-Some.code, refl, sym c.unless_both_run.ensures ∙ c.in-Some.is)
 
 pub returns-in_err-agreement-clause-ends : goal.returns-in_err-agreement-clause-ends
 returns-in_err-agreement-clause-ends c waiting text =
@@ -23,7 +24,8 @@ returns-in_err-agreement-clause-ends c waiting text =
     let right = c.args.right.now in
     let w = c.args.self.now.world in
     let p = stage_of c.args.self.now waiting text in
-    leaving_on (Reports (unless_both_run left right w) (Compares left right w)) (Cut NoMemory) c.from_residual.result p p c.from_residual.ensures.1 (report_starved (unless_both_run left right w) (IsOneLine (Compares left right w)) p)
+    leaving_on (Reports (unless_both_run left right w) (Compares left right w)) (Cut NoMemory) c.from_residual.result p p c.from_residual.ensures.1
+    (report_starved (unless_both_run left right w) (IsOneLine (Compares left right w)) p)
 
 pub returns-in_err-line-clause-ends : goal.returns-in_err-line-clause-ends
 returns-in_err-line-clause-ends c waiting text =
@@ -31,7 +33,8 @@ returns-in_err-line-clause-ends c waiting text =
     let right = c.args.right.now in
     let w = c.args.self.now.world in
     let p = stage_of c.args.self.now waiting text in
-    leaving_on (Reports (unless_both_run left right w) (Compares left right w)) (Cut NoMemory) c.from_residual-in_err-line.result p p c.from_residual-in_err-line.ensures.1 (report_starved (unless_both_run left right w) (IsOneLine (Compares left right w)) p)
+    leaving_on (Reports (unless_both_run left right w) (Compares left right w))
+    (Cut NoMemory) c.from_residual-in_err-line.result p p c.from_residual-in_err-line.ensures.1 (report_starved (unless_both_run left right w) (IsOneLine (Compares left right w)) p)
 
 pub returns-in_err-of-clause-ends : goal.returns-in_err-of-clause-ends
 returns-in_err-of-clause-ends c waiting text =
@@ -39,7 +42,8 @@ returns-in_err-of-clause-ends c waiting text =
     let right = c.args.right.now in
     let w = c.args.self.now.world in
     let p = stage_of c.args.self.now waiting text in
-    leaving_on (Reports (unless_both_run left right w) (Compares left right w)) (Cut NoMemory) c.from_residual-in_err-of.result p p c.from_residual-in_err-of.ensures.1 (report_starved (unless_both_run left right w) (IsOneLine (Compares left right w)) p)
+    leaving_on (Reports (unless_both_run left right w) (Compares left right w))
+    (Cut NoMemory) c.from_residual-in_err-of.result p p c.from_residual-in_err-of.ensures.1 (report_starved (unless_both_run left right w) (IsOneLine (Compares left right w)) p)
 
 pub returns-clause-ends : goal.returns-clause-ends
 returns-clause-ends c waiting text =

@@ -17,7 +17,8 @@ returns-in_err-member-clause-ends c waiting text =
     let w = c.args.self.now.world in
     let p = stage_of c.args.self.now waiting text in
     let why = c.in_err-member.field-0.0 in
-    leaving_on (Reports (unless_elects name e w) (Tells name w (IsElectLine name e c.args.letter))) why c.from_residual.result p p c.from_residual.ensures.1 (report_refused (unless_elects name e w) (IsOneLine (Tells name w (IsElectLine name e c.args.letter))) why p (c.in_err-member.ensures.refused why refl))
+    leaving_on (Reports (unless_elects name e w) (Tells name w (IsElectLine name e c.args.letter))) why c.from_residual.result p p c.from_residual.ensures.1
+    (report_refused (unless_elects name e w) (IsOneLine (Tells name w (IsElectLine name e c.args.letter))) why p (c.in_err-member.ensures.refused why refl))
 
 pub returns-in_err-who-clause-ends : goal.returns-in_err-who-clause-ends
 returns-in_err-who-clause-ends c waiting text =
@@ -25,7 +26,9 @@ returns-in_err-who-clause-ends c waiting text =
     let e = c.args.endpoint in
     let w = c.args.self.now.world in
     let p = stage_of c.args.self.now waiting text in
-    leaving_on (Reports (unless_elects name e w) (Tells name w (IsElectLine name e c.args.letter))) (Cut NoMemory) c.from_residual-in_err-who.result p p c.from_residual-in_err-who.ensures.1 (report_starved (unless_elects name e w) (IsOneLine (Tells name w (IsElectLine name e c.args.letter))) p)
+    leaving_on (Reports (unless_elects name e w) (Tells name w (IsElectLine name e c.args.letter)))
+    (Cut NoMemory) c.from_residual-in_err-who.result p p c.from_residual-in_err-who.ensures.1
+    (report_starved (unless_elects name e w) (IsOneLine (Tells name w (IsElectLine name e c.args.letter))) p)
 
 pub returns-in_err-line-clause-ends : goal.returns-in_err-line-clause-ends
 returns-in_err-line-clause-ends c waiting text =
@@ -33,7 +36,9 @@ returns-in_err-line-clause-ends c waiting text =
     let e = c.args.endpoint in
     let w = c.args.self.now.world in
     let p = stage_of c.args.self.now waiting text in
-    leaving_on (Reports (unless_elects name e w) (Tells name w (IsElectLine name e c.args.letter))) (Cut NoMemory) c.from_residual-in_err-line.result p p c.from_residual-in_err-line.ensures.1 (report_starved (unless_elects name e w) (IsOneLine (Tells name w (IsElectLine name e c.args.letter))) p)
+    leaving_on (Reports (unless_elects name e w) (Tells name w (IsElectLine name e c.args.letter)))
+    (Cut NoMemory) c.from_residual-in_err-line.result p p c.from_residual-in_err-line.ensures.1
+    (report_starved (unless_elects name e w) (IsOneLine (Tells name w (IsElectLine name e c.args.letter))) p)
 
 pub returns-in_err-of-clause-ends : goal.returns-in_err-of-clause-ends
 returns-in_err-of-clause-ends c waiting text =
@@ -41,7 +46,9 @@ returns-in_err-of-clause-ends c waiting text =
     let e = c.args.endpoint in
     let w = c.args.self.now.world in
     let p = stage_of c.args.self.now waiting text in
-    leaving_on (Reports (unless_elects name e w) (Tells name w (IsElectLine name e c.args.letter))) (Cut NoMemory) c.from_residual-in_err-of.result p p c.from_residual-in_err-of.ensures.1 (report_starved (unless_elects name e w) (IsOneLine (Tells name w (IsElectLine name e c.args.letter))) p)
+    leaving_on (Reports (unless_elects name e w) (Tells name w (IsElectLine name e c.args.letter)))
+    (Cut NoMemory) c.from_residual-in_err-of.result p p c.from_residual-in_err-of.ensures.1
+    (report_starved (unless_elects name e w) (IsOneLine (Tells name w (IsElectLine name e c.args.letter))) p)
 
 pub returns-clause-ends : goal.returns-clause-ends
 returns-clause-ends c waiting text =

@@ -15,4 +15,5 @@ returns-in_err-flow-clause-ends g c text =
 
 pub returns-clause-ends : goal.returns-clause-ends
 returns-clause-ends g c text =
-    nothing_left (OtherEnds line.Flow) c.new.result (stage_of c.args.self.now (g.W.Wire.waiting c.args.wire.now) text) (stage_of c.flow.new.self (g.W.Wire.waiting c.flow.new.wire) text) c.new.ensures (c.in_ok-flow.ensures.ends text)
+    nothing_left (OtherEnds line.Flow) c.new.result (stage_of c.args.self.now (g.W.Wire.waiting c.args.wire.now) text)
+    (stage_of c.flow.new.self (g.W.Wire.waiting c.flow.new.wire) text) c.new.ensures (c.in_ok-flow.ensures.ends text)

@@ -27,15 +27,18 @@ returns-in-Detach-clause-ends g c waiting text =
     let p = stage_of c.args.self.now waiting text in
     let a = stage_of c.detach.new.self waiting text in
     let ev = c.args.event in
-    writing_as (ThenProcess (EventEnds (event.Detach c.in-Detach.name c.in-Detach.endpoint)) (Sets (ending c.in-Detach.name c.in-Detach.endpoint))) (ThenProcess (EventEnds ev) (Follows ev)) c.detach.result p a _ _ (so ev (event.Detach c.in-Detach.name c.in-Detach.endpoint) c.in-Detach.is p)
-    (still_writes (ThenProcess (EventEnds (event.Detach c.in-Detach.name c.in-Detach.endpoint)) (Sets (ending c.in-Detach.name c.in-Detach.endpoint))) c.detach.result p a _ refl (c.detach.ensures.ends waiting text))
+    writing_as (ThenProcess (EventEnds (event.Detach c.in-Detach.name c.in-Detach.endpoint)) (Sets (ending c.in-Detach.name c.in-Detach.endpoint)))
+    (ThenProcess (EventEnds ev) (Follows ev)) c.detach.result p a _ _ (so ev (event.Detach c.in-Detach.name c.in-Detach.endpoint) c.in-Detach.is p)
+    (still_writes (ThenProcess (EventEnds (event.Detach c.in-Detach.name c.in-Detach.endpoint)) (Sets (ending c.in-Detach.name c.in-Detach.endpoint))) c.detach.result p a _ refl
+    (c.detach.ensures.ends waiting text))
 
 pub returns-in-Stop-clause-ends : goal.returns-in-Stop-clause-ends
 returns-in-Stop-clause-ends g c waiting text =
     let p = stage_of c.args.self.now waiting text in
     let a = stage_of c.silence.new.self waiting text in
     let ev = c.args.event in
-    writing_as (ThenProcess (EventEnds (event.Stop c.in-Stop.name)) (Sets (ending_all c.in-Stop.name))) (ThenProcess (EventEnds ev) (Follows ev)) c.silence.result p a _ _ (so ev (event.Stop c.in-Stop.name) c.in-Stop.is p)
+    writing_as (ThenProcess (EventEnds (event.Stop c.in-Stop.name)) (Sets (ending_all c.in-Stop.name)))
+    (ThenProcess (EventEnds ev) (Follows ev)) c.silence.result p a _ _ (so ev (event.Stop c.in-Stop.name) c.in-Stop.is p)
     (still_writes (ThenProcess (EventEnds (event.Stop c.in-Stop.name)) (Sets (ending_all c.in-Stop.name))) c.silence.result p a _ refl (c.silence.ensures.ends waiting text))
 
 pub returns-in-Start-clause-ends : goal.returns-in-Start-clause-ends
@@ -43,7 +46,8 @@ returns-in-Start-clause-ends g c waiting text =
     let p = stage_of c.args.self.now waiting text in
     let a = stage_of c.silence-in-Start.new.self waiting text in
     let ev = c.args.event in
-    writing_as (ThenProcess (EventEnds (event.Start c.in-Start.name)) (Sets (ending_all c.in-Start.name))) (ThenProcess (EventEnds ev) (Follows ev)) c.silence-in-Start.result p a _ _ (so ev (event.Start c.in-Start.name) c.in-Start.is p)
+    writing_as (ThenProcess (EventEnds (event.Start c.in-Start.name)) (Sets (ending_all c.in-Start.name)))
+    (ThenProcess (EventEnds ev) (Follows ev)) c.silence-in-Start.result p a _ _ (so ev (event.Start c.in-Start.name) c.in-Start.is p)
     (still_writes (ThenProcess (EventEnds (event.Start c.in-Start.name)) (Sets (ending_all c.in-Start.name))) c.silence-in-Start.result p a _ refl (c.silence-in-Start.ensures.ends waiting text))
 
 pub returns-in_default : goal.returns-in_default

@@ -19,7 +19,8 @@ pub returns-in_err-of-clause-ends : goal.returns-in_err-of-clause-ends
 returns-in_err-of-clause-ends c waiting text =
     let w = c.args.self.now.world in
     let p = stage_of c.args.self.now waiting text in
-    leaving_on (Reports None (λ l. l ≡ mail_report w)) (Cut NoMemory) c.from_residual-in_err-of.result p p c.from_residual-in_err-of.ensures.1 (report_starved None (IsOneLine (λ l. l ≡ mail_report w)) p)
+    leaving_on (Reports None (λ l. l ≡ mail_report w)) (Cut NoMemory) c.from_residual-in_err-of.result p p c.from_residual-in_err-of.ensures.1
+    (report_starved None (IsOneLine (λ l. l ≡ mail_report w)) p)
 
 pub returns-clause-ends : goal.returns-clause-ends
 returns-clause-ends c waiting text =

@@ -25,3 +25,6 @@ returns-clause-entered c =
 
 pub returns-in_err-apply-clause-unbroken : goal.returns-in_err-apply-clause-unbroken
 returns-in_err-apply-clause-unbroken c = no_other_error (stop_of c.in_err-apply.field-0.0) WireFailed c.from_residual.result c.from_residual.ensures.1 (world_not_broken c.in_err-apply.field-0.0)
+
+pub returns-clause-stays : goal.returns-clause-stays
+returns-clause-stays c = c.quiet_homes_stay.ensures _ _ _ _ c.is_replayed.ensures c.in_ok-apply.ensures.ok.step

@@ -13,4 +13,5 @@ returns-clause-ends c waiting text =
     let same : c.min-moment.result ≡ min (c.args.self.now.world.moment + c.args.step) c.args.end =
     omega (arith, c.min-moment.ensures, c.saturating_add.ensures, c.moment.ensures.moment, c.requires.end)
     in
-    ended_within (EventEnds (Time c.min-moment.result)) (Passes c.args.end c.args.step) c.event.result p p a (λ stop at h. subst (λ (moment : ℕ). EventEnds (Time moment) stop p at) same h) refl (c.event.ensures.ends waiting text)
+    ended_within (EventEnds (Time c.min-moment.result)) (Passes c.args.end c.args.step) c.event.result p p a
+    (λ stop at h. subst (λ (moment : ℕ). EventEnds (Time moment) stop p at) same h) refl (c.event.ensures.ends waiting text)

@@ -52,7 +52,8 @@ returns-in_err-write_refusal-in-Err-Refused-clause-cut g c _ =
     let m = stage_of c.loop-number.self (g.W.Wire.waiting c.loop-number.wire) text in
     let a = stage_of c.line.new.self (g.W.Wire.waiting c.line.new.wire) text in
     let at = reached _ c.loop-number.yielded _ _ c.in-Some.number c.in-Some.line p m _ _ before.all c.in-Some.ensures.steps.0 before.so_far.1 in
-    let ends = subst (λ (s : Stop). EndsAt (LineEnds c.in-Some.line) (Some s) m a (g.K.Sink.held c.loop-number.out) (g.K.Sink.held c.line.new.out)) c.in-Err-Refused.field-0-is (c.in-Err-Refused.ensures.ends text) in
+    let ends = subst (λ (s : Stop). EndsAt (LineEnds c.in-Some.line) (Some s) m a (g.K.Sink.held c.loop-number.out) (g.K.Sink.held c.line.new.out)) c.in-Err-Refused.field-0-is
+    (c.in-Err-Refused.ensures.ends text) in
     cut_refusal _ c.loop-number.yielded c.in-Some.number c.in-Some.line p m a _ _ _ at c.in-Err-Refused.code ends _ c.in_err-write_refusal-in-Err-Refused.ensures.cut
 
 pub returns-in_err-write_refusal-in-Err-Refused-clause-starved : goal.returns-in_err-write_refusal-in-Err-Refused-clause-starved
@@ -63,7 +64,8 @@ returns-in_err-write_refusal-in-Err-Refused-clause-starved g c _ =
     let m = stage_of c.loop-number.self (g.W.Wire.waiting c.loop-number.wire) text in
     let a = stage_of c.line.new.self (g.W.Wire.waiting c.line.new.wire) text in
     let at = reached _ c.loop-number.yielded _ _ c.in-Some.number c.in-Some.line p m _ _ before.all c.in-Some.ensures.steps.0 before.so_far.1 in
-    let ends = subst (λ (s : Stop). EndsAt (LineEnds c.in-Some.line) (Some s) m a (g.K.Sink.held c.loop-number.out) (g.K.Sink.held c.line.new.out)) c.in-Err-Refused.field-0-is (c.in-Err-Refused.ensures.ends text) in
+    let ends = subst (λ (s : Stop). EndsAt (LineEnds c.in-Some.line) (Some s) m a (g.K.Sink.held c.loop-number.out) (g.K.Sink.held c.line.new.out)) c.in-Err-Refused.field-0-is
+    (c.in-Err-Refused.ensures.ends text) in
     starved_refusal _ c.loop-number.yielded c.in-Some.number c.in-Some.line p m a _ _ _ at c.in-Err-Refused.code ends _ c.in_err-write_refusal-in-Err-Refused.ensures.cut
 
 pub returns-in-Err-Refused-clause-whole : goal.returns-in-Err-Refused-clause-whole
@@ -74,7 +76,8 @@ returns-in-Err-Refused-clause-whole g c =
     let m = stage_of c.loop-number.self (g.W.Wire.waiting c.loop-number.wire) text in
     let a = stage_of c.line.new.self (g.W.Wire.waiting c.line.new.wire) text in
     let at = reached _ c.loop-number.yielded _ _ c.in-Some.number c.in-Some.line p m _ _ before.all c.in-Some.ensures.steps.0 before.so_far.1 in
-    let ends = subst (λ (s : Stop). EndsAt (LineEnds c.in-Some.line) (Some s) m a (g.K.Sink.held c.loop-number.out) (g.K.Sink.held c.line.new.out)) c.in-Err-Refused.field-0-is (c.in-Err-Refused.ensures.ends text) in
+    let ends = subst (λ (s : Stop). EndsAt (LineEnds c.in-Some.line) (Some s) m a (g.K.Sink.held c.loop-number.out) (g.K.Sink.held c.line.new.out)) c.in-Err-Refused.field-0-is
+    (c.in-Err-Refused.ensures.ends text) in
     all_refused _ c.loop-number.yielded c.in-Some.number c.in-Some.line p m a _ _ _ at c.in-Err-Refused.code ends _ c.in_ok-write_refusal-in-Err-Refused.ensures.ok
 
 pub returns-in-Err-WireFailed-clause-whole : goal.returns-in-Err-WireFailed-clause-whole
@@ -85,7 +88,8 @@ returns-in-Err-WireFailed-clause-whole g c =
     let m = stage_of c.loop-number.self (g.W.Wire.waiting c.loop-number.wire) text in
     let a = stage_of c.line.new.self (g.W.Wire.waiting c.line.new.wire) text in
     let at = reached _ c.loop-number.yielded _ _ c.in-Some.number c.in-Some.line p m _ _ before.all c.in-Some.ensures.steps.0 before.so_far.1 in
-    let ends = subst (λ (s : Stop). EndsAt (LineEnds c.in-Some.line) (Some s) m a (g.K.Sink.held c.loop-number.out) (g.K.Sink.held c.line.new.out)) c.in-Err-WireFailed.field-0-is (c.in-Err-WireFailed.ensures.ends text) in
+    let ends = subst (λ (s : Stop). EndsAt (LineEnds c.in-Some.line) (Some s) m a (g.K.Sink.held c.loop-number.out) (g.K.Sink.held c.line.new.out)) c.in-Err-WireFailed.field-0-is
+    (c.in-Err-WireFailed.ensures.ends text) in
     all_broken _ c.loop-number.yielded c.in-Some.number c.in-Some.line p m a _ _ _ at ends
 
 pub returns-in-Err-Cut-clause-starved : goal.returns-in-Err-Cut-clause-starved

@@ -13,4 +13,5 @@ returns-in-Some-Some c =
     let xs = c.reach.result.now in
     let ys = c.reach-in-Some-Some.result.now in
     let same : Decides c.eq.result (xs ≡ ys) = slice_eq-Decides node_decided xs ys c.eq.result c.eq.ensures in
-    reach_same c.eq.result (member_named (name_text c.args.left.now) w) (member_named (name_text c.args.right.now) w) c.in-Some-Some.a.now c.in-Some-Some.b.now xs ys c.in-Some-Some.ensures c.in-Some-Some.ensures' c.reach.ensures c.reach-in-Some-Some.ensures same
+    reach_same c.eq.result (member_named (name_text c.args.left.now) w)
+    (member_named (name_text c.args.right.now) w) c.in-Some-Some.a.now c.in-Some-Some.b.now xs ys c.in-Some-Some.ensures c.in-Some-Some.ensures' c.reach.ensures c.reach-in-Some-Some.ensures same

@@ -12,7 +12,8 @@ invariant-loop-alloc g l =
     let outside = g.W.Wire in
     let sink = g.K.Sink in
     record {
-      rounds : (text : List Told) → EndsAt (SomeTimes (λ (p : Stage). p.world.moment < l.end) (Round l.end l.step)) None (stage_of l.fn.self (outside.waiting l.fn.wire) text) (stage_of l.self (outside.waiting l.wire) text) (sink.held l.fn.out) (sink.held l.out);
+      rounds : (text : List Told) → EndsAt (SomeTimes (λ (p : Stage). p.world.moment < l.end) (Round l.end l.step)) None
+          (stage_of l.fn.self (outside.waiting l.fn.wire) text) (stage_of l.self (outside.waiting l.wire) text) (sink.held l.fn.out) (sink.held l.out);
       base : l.self.base ≡ l.fn.self.base;
       unwired : l.fn.self.base ≡ None → l.wire ≡ l.fn.wire;
       no_fault : outside.faults l.wire ≡ outside.faults l.fn.wire;

@@ -17,21 +17,24 @@ returns-in_err-member-clause-ends c waiting text =
     let w = c.args.self.now.world in
     let p = stage_of c.args.self.now waiting text in
     let why = c.in_err-member.field-0.0 in
-    leaving_on (Reports (unless_known name w) (IsOf name w (show_line name))) why c.from_residual.result p p c.from_residual.ensures.1 (report_refused (unless_known name w) (IsOneLine (IsOf name w (show_line name))) why p (c.in_err-member.ensures.refused why refl))
+    leaving_on (Reports (unless_known name w) (IsOf name w (show_line name))) why c.from_residual.result p p c.from_residual.ensures.1
+    (report_refused (unless_known name w) (IsOneLine (IsOf name w (show_line name))) why p (c.in_err-member.ensures.refused why refl))
 
 pub returns-in_err-line-clause-ends : goal.returns-in_err-line-clause-ends
 returns-in_err-line-clause-ends c waiting text =
     let name = c.args.name.now in
     let w = c.args.self.now.world in
     let p = stage_of c.args.self.now waiting text in
-    leaving_on (Reports (unless_known name w) (IsOf name w (show_line name))) (Cut NoMemory) c.from_residual-in_err-line.result p p c.from_residual-in_err-line.ensures.1 (report_starved (unless_known name w) (IsOneLine (IsOf name w (show_line name))) p)
+    leaving_on (Reports (unless_known name w) (IsOf name w (show_line name)))
+    (Cut NoMemory) c.from_residual-in_err-line.result p p c.from_residual-in_err-line.ensures.1 (report_starved (unless_known name w) (IsOneLine (IsOf name w (show_line name))) p)
 
 pub returns-in_err-of-clause-ends : goal.returns-in_err-of-clause-ends
 returns-in_err-of-clause-ends c waiting text =
     let name = c.args.name.now in
     let w = c.args.self.now.world in
     let p = stage_of c.args.self.now waiting text in
-    leaving_on (Reports (unless_known name w) (IsOf name w (show_line name))) (Cut NoMemory) c.from_residual-in_err-of.result p p c.from_residual-in_err-of.ensures.1 (report_starved (unless_known name w) (IsOneLine (IsOf name w (show_line name))) p)
+    leaving_on (Reports (unless_known name w) (IsOf name w (show_line name)))
+    (Cut NoMemory) c.from_residual-in_err-of.result p p c.from_residual-in_err-of.ensures.1 (report_starved (unless_known name w) (IsOneLine (IsOf name w (show_line name))) p)
 
 pub returns-clause-ends : goal.returns-clause-ends
 returns-clause-ends c waiting text =
@@ -39,4 +42,5 @@ returns-clause-ends c waiting text =
     let w = c.args.self.now.world in
     let p = stage_of c.args.self.now waiting text in
     let found = c.in_ok-member.ensures.found in
-    line_reported (unless_known name w) (IsOf name w (show_line name)) (string_bytes c.in_ok-line.line) c.in_ok-of.field-0 p found.1 (c.in_ok-member.member.now, found.0, c.in_ok-line.ensures) c.in_ok-of.ensures
+    line_reported (unless_known name w) (IsOf name w (show_line name)) (string_bytes c.in_ok-line.line) c.in_ok-of.field-0 p found.1
+    (c.in_ok-member.member.now, found.0, c.in_ok-line.ensures) c.in_ok-of.ensures

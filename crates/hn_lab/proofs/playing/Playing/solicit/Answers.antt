@@ -26,7 +26,8 @@ returns-clause-ends c waiting text =
         refl,
         inr (is_solicited c.args.name.now c.args.endpoint w.in-Some.place w.at.result.now w.moment.result w.next.result w.solicit.new.self (words_of w.next.new.self) p a
             (record { is_first = sym c.place_of.ensures ∙ w.in-Some.is; is_there = w.at.ensures }) w.moment.ensures.moment w.next.ensures.word w.solicit.ensures w.next.ensures.rest
-            (ap (λ (q : Playing). stage_of q waiting text) w.self-is ∙ ap (λ (l : List Sending). record p { senders = l; words = words_of w.next.new.self }) (w.set.ensures w.at.result.now w.at.ensures))),
+            (ap (λ (q : Playing). stage_of q waiting text) w.self-is
+            ∙ ap (λ (l : List Sending). record p { senders = l; words = words_of w.next.new.self }) (w.set.ensures w.at.result.now w.at.ensures))),
       )
       | in_default w ↦ (refl, inl (sym c.place_of.ensures ∙ w.in_default.is, ap (λ (q : Playing). stage_of q waiting text) w.self-is))
     ]) c.new.ensures

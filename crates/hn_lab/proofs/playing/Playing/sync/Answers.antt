@@ -33,8 +33,11 @@ returns-clause-ends c waiting text =
     let q : Playing = record { world = c.sync.new.self; loss = c.args.self.now.loss; words = c.sync.new.draw; base = c.args.self.now.base; senders = c.args.self.now.senders } in
     let p = stage_of c.args.self.now waiting text in
     let a = stage_of q waiting text in
-    nothing_left (OtherEnds (line.Sync m n)) c.new.result p a c.new.ensures
-    (p, (not_first _ _ (λ code is. (c.in_ok-sync.ensures.first code is).0), refl), (record { ends = c.in_ok-sync.ensures.ok; loss = refl; route = refl; senders = refl; text = refl }, c.in_ok-sync.ensures.repairs))
+    nothing_left (OtherEnds (line.Sync m n)) c.new.result p a c.new.ensures (
+      p,
+      (not_first _ _ (λ code is. (c.in_ok-sync.ensures.first code is).0), refl),
+      (record { ends = c.in_ok-sync.ensures.ok; loss = refl; route = refl; senders = refl; text = refl }, c.in_ok-sync.ensures.repairs),
+    )
 
 pub returns-in_err-sync-clause-unbroken : goal.returns-in_err-sync-clause-unbroken
 returns-in_err-sync-clause-unbroken c = no_other_error (stop_of c.in_err-sync.field-0.0) WireFailed c.from_residual.result c.from_residual.ensures.1 (world_not_broken c.in_err-sync.field-0.0)

@@ -33,4 +33,5 @@ returns-clause-ends g c waiting text =
     let first = still_done (EventEnds (event.Tick name)) p m (g.K.Sink.held c.args.out.now) refl (c.in_ok-event.ensures.ends waiting text) in
     then_writes (EventEnds (event.Tick name)) (Turns name) c.turns.result p m a _ _ _ first
     (writing_as (EachProcess (TurnEnds name) c.deref.result.now) (Turns name) c.turns.result (record m { text = first.at.text }) (record a { text = first.at.text }) _ _
-    (λ stop at h. subst (λ (es : List EpId). EachProcess (TurnEnds name) es stop (record m { text = first.at.text }) at) (c.deref.ensures.value ∙ c.in_ok-endpoints.ensures) h) (c.turns.ensures.ends waiting first.at.text))
+    (λ stop at h. subst (λ (es : List EpId). EachProcess (TurnEnds name) es stop (record m { text = first.at.text }) at) (c.deref.ensures.value ∙ c.in_ok-endpoints.ensures) h)
+    (c.turns.ensures.ends waiting first.at.text))

@@ -19,7 +19,8 @@ returns-in_err-tick-clause-ends g c waiting text =
     let why = c.in_err-tick.field-0.0 in
     writing_on (EachProcess TickEnds xs) why c.from_residual.result p a _ _ c.from_residual.ensures.1
     (each_stopped TickEnds xs p b _ _ c.loop-name.name-index c.name-item.result c.loop-name-test.true done a _ why
-    (subst (λ (name : Name). EndsAt (TickEnds name) (Some why) (record b { text = done.at.text }) (record a { text = done.at.text }) (sink.held c.loop-name.out) (sink.held c.tick.new.out)) c.name-item.is (c.in_err-tick.ensures.ends waiting done.at.text)))
+    (subst (λ (name : Name). EndsAt (TickEnds name) (Some why) (record b { text = done.at.text }) (record a { text = done.at.text })
+    (sink.held c.loop-name.out) (sink.held c.tick.new.out)) c.name-item.is (c.in_err-tick.ensures.ends waiting done.at.text)))
 
 pub loop-name-preserved : goal.loop-name-preserved
 loop-name-preserved g c =
@@ -33,7 +34,8 @@ loop-name-preserved g c =
           let a = stage_of c.tick.new.self waiting text in
           let done = before.ticked waiting text in
           each_further TickEnds xs p b _ _ c.loop-name.name-index c.name-item.result c.loop-name-test.true done a _
-          (subst (λ (name : Name). EndsAt (TickEnds name) None (record b { text = done.at.text }) (record a { text = done.at.text }) (sink.held c.loop-name.out) (sink.held c.tick.new.out)) c.name-item.is (c.in_ok-tick.ensures.ends waiting done.at.text));
+          (subst (λ (name : Name). EndsAt (TickEnds name) None (record b { text = done.at.text }) (record a { text = done.at.text })
+          (sink.held c.loop-name.out) (sink.held c.tick.new.out)) c.name-item.is (c.in_ok-tick.ensures.ends waiting done.at.text));
       base = c.in_ok-tick.ensures.base ∙ before.base;
       kept = let more = c.in_ok-tick.ensures.entered in let kept = before.kept in omega arith;
       no_fault = c.in_ok-tick.ensures.sink_caused.counts.stays (λ failed. cc) ∙ before.no_fault;

@@ -12,7 +12,8 @@ abbrev pub invariant-loop-name : goal.invariant-loop-name
 invariant-loop-name g l =
     let sink = g.K.Sink in
     record {
-      ticked : (waiting : Option (List Datagram)) (text : List Told) → EndsAt (EachProcess TickEnds (take l.name-index l.names)) None (stage_of l.fn.self waiting text) (stage_of l.self waiting text) (sink.held l.fn.out) (sink.held l.out);
+      ticked : (waiting : Option (List Datagram)) (text : List Told)
+          → EndsAt (EachProcess TickEnds (take l.name-index l.names)) None (stage_of l.fn.self waiting text) (stage_of l.self waiting text) (sink.held l.fn.out) (sink.held l.out);
       base : l.self.base ≡ l.fn.self.base;
       kept : length l.fn.self.world.trace ≤ length l.self.world.trace;
       no_fault : sink.faults l.out ≡ sink.faults l.fn.out;

@@ -75,7 +75,8 @@ returns-in_err-write_piece-clause-ends g c waiting text =
     let leaves = turn_left name e c.in-Some.router.now place advert p found is_place c.in_ok-advert.ensures
     (subst (λ (bs : List ℕ). IsAdvert bs advert) c.in_ok-bytes.ensures.written c.in_ok-bytes.ensures.read_back) at.0 true b at.1 comes in
     let now_is : c.moment-now.result ≡ p.world.moment = c.moment-now.ensures.moment ∙ ap (λ (w : Parts). w.moment) c.if-not-is_due.ensures.world in
-    let line_is = c.as_bytes.ensures.value ∙ c.in_ok-line.ensures ∙ ap (λ (n : ℕ). ra_line name e n c.as_slice.result.now) now_is ∙ ap (ra_line name e p.world.moment) (c.as_slice.ensures ∙ c.in_ok-bytes.ensures.written) in
+    let line_is = c.as_bytes.ensures.value ∙ c.in_ok-line.ensures ∙ ap (λ (n : ℕ). ra_line name e n c.as_slice.result.now) now_is
+    ∙ ap (ra_line name e p.world.moment) (c.as_slice.ensures ∙ c.in_ok-bytes.ensures.written) in
     let fault = c.in_err-write_piece.field-0.0 in
     writing_on (TurnEnds name e) (Cut fault) c.from_residual-in_err-write_piece.result p b _ _ c.from_residual-in_err-write_piece.ensures.1
     (line_cut (TurnEnds name e) (ra_line name e p.world.moment (advert_bytes advert)) c.as_bytes.result.now p b _ _ refl leaves line_is fault c.in_err-write_piece.ensures.cut)
@@ -96,5 +97,6 @@ returns-clause-ends g c waiting text =
     let leaves = turn_left name e c.in-Some.router.now place advert p found is_place c.in_ok-advert.ensures
     (subst (λ (bs : List ℕ). IsAdvert bs advert) c.in_ok-bytes.ensures.written c.in_ok-bytes.ensures.read_back) at.0 true b at.1 comes in
     let now_is : c.moment-now.result ≡ p.world.moment = c.moment-now.ensures.moment ∙ ap (λ (w : Parts). w.moment) c.if-not-is_due.ensures.world in
-    let line_is = c.as_bytes.ensures.value ∙ c.in_ok-line.ensures ∙ ap (λ (n : ℕ). ra_line name e n c.as_slice.result.now) now_is ∙ ap (ra_line name e p.world.moment) (c.as_slice.ensures ∙ c.in_ok-bytes.ensures.written) in
+    let line_is = c.as_bytes.ensures.value ∙ c.in_ok-line.ensures ∙ ap (λ (n : ℕ). ra_line name e n c.as_slice.result.now) now_is
+    ∙ ap (ra_line name e p.world.moment) (c.as_slice.ensures ∙ c.in_ok-bytes.ensures.written) in
     line_written (TurnEnds name e) (ra_line name e p.world.moment (advert_bytes advert)) c.as_bytes.result.now p b _ _ refl leaves line_is c.in_ok-write_piece.ensures.ok

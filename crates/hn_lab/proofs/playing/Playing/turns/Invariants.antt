@@ -12,7 +12,8 @@ abbrev pub invariant-loop-endpoint : goal.invariant-loop-endpoint
 invariant-loop-endpoint g l =
     let sink = g.K.Sink in
     record {
-      turned : (waiting : Option (List Datagram)) (text : List Told) → EndsAt (EachProcess (TurnEnds l.name) (take l.endpoint-index l.endpoints)) None (stage_of l.fn.self waiting text) (stage_of l.self waiting text) (sink.held l.fn.out) (sink.held l.out);
+      turned : (waiting : Option (List Datagram)) (text : List Told)
+          → EndsAt (EachProcess (TurnEnds l.name) (take l.endpoint-index l.endpoints)) None (stage_of l.fn.self waiting text) (stage_of l.self waiting text) (sink.held l.fn.out) (sink.held l.out);
       world : l.self.world ≡ l.fn.self.world;
       base : l.self.base ≡ l.fn.self.base;
       no_fault : sink.faults l.out ≡ sink.faults l.fn.out;

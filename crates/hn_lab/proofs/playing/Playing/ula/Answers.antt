@@ -78,4 +78,5 @@ returns-clause-ends c waiting text =
     let is = c.in_ok-decided.ensures in
     let chosen = has_chosen name Decides (decided_event name) (λ made. ula_line name made ∷ []) made is.0 c.in_ok-router.router.now p s c.in_ok-router.ensures.found is.1 is.2 refl in
     choice_left name Decides (decided_event name) (λ made. ula_line name made ∷ []) made c.in_ok-of.field-0 p s a chosen
-    (subst (λ (e : Option WEvent). MayHappen e None s a) c.decided_event.ensures.event (c.in_ok-may_happen.ensures.ends waiting text)) (c.in_ok-of.ensures ∙ ap (λ (l : List ℕ). l ∷ []) c.in_ok-line.ensures)
+    (subst (λ (e : Option WEvent). MayHappen e None s a) c.decided_event.ensures.event (c.in_ok-may_happen.ensures.ends waiting text))
+    (c.in_ok-of.ensures ∙ ap (λ (l : List ℕ). l ∷ []) c.in_ok-line.ensures)

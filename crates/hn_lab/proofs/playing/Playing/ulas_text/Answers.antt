@@ -3,7 +3,7 @@ use Rattle.std.proofs.lemmas.Option.{same_Some}
 use Rattle.hn_base.specs.Name.{name_text}
 use Rattle.hn_audit.specs.Set.{is_in_set}
 use Rattle.hn_audit.specs.Settled.{IsSettled}
-use Rattle.hn_ula.specs.Ula.{IsStill}
+use Rattle.hn_ula.specs.Ula.{IsUlaStill}
 use Rattle.hn_world.specs.declared.member.Member.{Member}
 use Rattle.hn_lab.specs.UlaReports.{ArePrefixesStill, HaveGenerated}
 use Rattle.hn_lab.proofs.UlaSets.{ula_count}
@@ -17,7 +17,8 @@ returns-then-not-branch-2 c m at =
     let yes : c.in_ok-settled.field-0 ≡ true = search rules in
     let no : c.in_ok-all_still.field-0 ≡ false = search rules in
     let settled : IsSettled w m = (c.in_ok-settled.ensures m at).0 yes in
-    let law = answers_of (λ (s : Member). IsStill s.router) w c.in-Some.r.now m c.in_ok-all_still.field-0 c.reach-reach.result.now c.members-members.result.now c.reach-reach.ensures c.members-members.ensures same c.in_ok-all_still.ensures in
+    let law = answers_of (λ (s : Member). IsUlaStill s.router) w c.in-Some.r.now m c.in_ok-all_still.field-0 c.reach-reach.result.now
+    c.members-members.result.now c.reach-reach.ensures c.members-members.ensures same c.in_ok-all_still.ensures in
     let busy : ¬ ArePrefixesStill w m = λ still. let rests : IsTrue c.in_ok-all_still.field-0 = law.1 still.1 in absurd cc in
     inr (inl (settled, busy, c.in_ok-from_str-2.ensures.ok))
 
@@ -31,7 +32,7 @@ returns c m at =
     let yes : c.in_ok-settled.field-0 ≡ true = search rules in
     let rests : c.in_ok-all_still.field-0 ≡ true = search rules in
     let settled : IsSettled w m = (c.in_ok-settled.ensures m at).0 yes in
-    let law = answers_of (λ (s : Member). IsStill s.router) w r m c.in_ok-all_still.field-0 reach members c.reach-reach.ensures c.members-members.ensures same c.in_ok-all_still.ensures in
+    let law = answers_of (λ (s : Member). IsUlaStill s.router) w r m c.in_ok-all_still.field-0 reach members c.reach-reach.ensures c.members-members.ensures same c.in_ok-all_still.ensures in
     let still : ArePrefixesStill w m = (settled, law.0 rests) in
     let known : IsKnown w m = record {
       sound = c.always_sound.ensures.sound;

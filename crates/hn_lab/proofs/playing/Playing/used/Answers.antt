@@ -19,21 +19,24 @@ returns-in_err-member-clause-ends c waiting text =
     let w = c.args.self.now.world in
     let p = stage_of c.args.self.now waiting text in
     let why = c.in_err-member.field-0.0 in
-    leaving_on (ReportsLines (unless_runs name w) (Tells name w (AreUsedLines name))) why c.from_residual.result p p c.from_residual.ensures.1 (report_refused (unless_runs name w) (Tells name w (AreUsedLines name)) why p (c.in_err-member.ensures.refused why refl))
+    leaving_on (ReportsLines (unless_runs name w) (Tells name w (AreUsedLines name))) why c.from_residual.result p p c.from_residual.ensures.1
+    (report_refused (unless_runs name w) (Tells name w (AreUsedLines name)) why p (c.in_err-member.ensures.refused why refl))
 
 pub returns-in_err-used-clause-ends : goal.returns-in_err-used-clause-ends
 returns-in_err-used-clause-ends c waiting text =
     let name = c.args.name.now in
     let w = c.args.self.now.world in
     let p = stage_of c.args.self.now waiting text in
-    leaving_on (ReportsLines (unless_runs name w) (Tells name w (AreUsedLines name))) (Cut NoMemory) c.from_residual-in_err-used.result p p c.from_residual-in_err-used.ensures.1 (report_starved (unless_runs name w) (Tells name w (AreUsedLines name)) p)
+    leaving_on (ReportsLines (unless_runs name w) (Tells name w (AreUsedLines name)))
+    (Cut NoMemory) c.from_residual-in_err-used.result p p c.from_residual-in_err-used.ensures.1 (report_starved (unless_runs name w) (Tells name w (AreUsedLines name)) p)
 
 pub returns-in_err-used_lines-clause-ends : goal.returns-in_err-used_lines-clause-ends
 returns-in_err-used_lines-clause-ends c waiting text =
     let name = c.args.name.now in
     let w = c.args.self.now.world in
     let p = stage_of c.args.self.now waiting text in
-    leaving_on (ReportsLines (unless_runs name w) (Tells name w (AreUsedLines name))) (Cut NoMemory) c.from_residual-in_err-used_lines.result p p c.from_residual-in_err-used_lines.ensures.1 (report_starved (unless_runs name w) (Tells name w (AreUsedLines name)) p)
+    leaving_on (ReportsLines (unless_runs name w) (Tells name w (AreUsedLines name)))
+    (Cut NoMemory) c.from_residual-in_err-used_lines.result p p c.from_residual-in_err-used_lines.ensures.1 (report_starved (unless_runs name w) (Tells name w (AreUsedLines name)) p)
 
 pub returns-clause-ends : goal.returns-clause-ends
 returns-clause-ends c waiting text =

@@ -17,4 +17,5 @@ loop-preserved g c =
 pub returns-in-Err-clause-cut : goal.returns-in-Err-clause-cut
 returns-in-Err-clause-cut g c = λ failed.
     let before = c.loop.invariant in
-    cut_after (plain_site c.args.site.now) c.loop.counter _ _ _ c.now-now.result _ _ _ _ _ c.args.self.now c.loop.self _ before.so_far c.now-now.ensures.reading _ _ (omega arith) (c.in-Err.ensures.cut failed)
+    cut_after (plain_site c.args.site.now) c.loop.counter _ _ _ c.now-now.result _ _ _ _ _ c.args.self.now c.loop.self _ before.so_far c.now-now.ensures.reading _ _
+    (omega arith) (c.in-Err.ensures.cut failed)

@@ -10,7 +10,8 @@ invariant-loop g l =
     let time = g.C.Clock in
     let random = g.D.Draw in
     record {
-      so_far : (log : List Logged) × Turns (plain_site l.fn.site) l.counter log (serving l.fn.self.router (outside.waiting l.fn.wire)) (serving l.self.router (outside.waiting l.wire)) (time.readings l.fn.clock) (time.readings l.clock)
+      so_far : (log : List Logged) × Turns (plain_site l.fn.site) l.counter log (serving l.fn.self.router (outside.waiting l.fn.wire))
+          (serving l.self.router (outside.waiting l.wire)) (time.readings l.fn.clock) (time.readings l.clock)
           × Grows log (handed_in (plain_site l.fn.site) log) (random.words l.fn.draw) (random.words l.draw) l.fn.self l.self;
       past : l.self.router.moment ≤ time.last l.clock;
       no_fault : outside.faults l.wire ≡ outside.faults l.fn.wire;

@@ -1,4 +1,6 @@
 use Rattle.std.proofs.Common.{◌≡◌, sym, subst}
+use Rattle.std.specs.Prelude.{All}
+use Rattle.std.proofs.lemmas.List.Elements.{All-nil}
 use Rattle.hn_base.specs.Words.{Took}
 use Rattle.hn_rules.specs.declared.done.Done.{Done}
 use Rattle.hn_rules.specs.declared.state.State.{State}
@@ -6,6 +8,7 @@ use Rattle.hn_rules.specs.Done.{nothing}
 use Rattle.hn_rules.specs.Due.{IsNextDue}
 use Rattle.hn_rules.specs.Still.{at_moment}
 use Rattle.hn_router.specs.Act.{plain_event, PlainEvent, Tick, Happened}
+use Rattle.hn_router.specs.Sends.{IsShortSend}
 use Rattle.hn_router.proofs.Keeping.{passed, next_known}
 use Rattle.hn_router.proofs.router.Router.act.Goals as goal
 
@@ -28,3 +31,9 @@ returns-clause-next g c = λ tick idle.
     let p = c.in_ok-plan.plan in
     let happened : Happened c.args.now Tick c.args.self.now p.state p.done = subst (λ (e : PlainEvent). Happened c.args.now e c.args.self.now p.state p.done) tick c.in_ok-plan.ensures.happened in
     subst (λ (x : State). IsNextDue x x.due) (sym c.commit.ensures.router) (next_known c.rules_have_one_result.ensures.tick c.args.now c.args.self.now p.state p.done happened idle)
+
+pub returns-then-now-due_at-clause-short : goal.returns-then-now-due_at-clause-short
+returns-then-now-due_at-clause-short g c = subst (λ (d : Done). All IsShortSend d.sends) (sym c.new.ensures) (All-nil IsShortSend)
+
+pub returns-clause-short : goal.returns-clause-short
+returns-clause-short g c = subst (λ (d : Done). All IsShortSend d.sends) (sym c.commit.ensures.done) c.in_ok-plan.ensures.short

@@ -2,10 +2,10 @@ use Rattle.hn_router.proofs.router.Router.advertisement.Goals as goal
 
 pub returns : goal.returns
 returns c = record {
-  who = c.in_ok-elected.field-0;
-  is_elected = c.in_ok-elected.ensures;
+  who = c.in_ok-elected_in.field-0;
+  is_elected = c.in_ok-elected_in.ensures;
   managed = c.is_some-managed.ensures;
   other = c.is_some-managed.ensures;
-  lifetime = c.in_ok-lifetime.ensures;
+  lifetime = c.lifetime.ensures;
   infos = c.in_ok-infos.ensures;
 }

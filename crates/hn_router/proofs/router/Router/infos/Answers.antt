@@ -5,6 +5,7 @@ use Rattle.std.proofs.lemmas.List.{take_all}
 use Rattle.hn_assign.specs.declared.assigned.Assigned.{Assigned}
 use Rattle.hn_assign.specs.Facts.{IsInDelegated}
 use Rattle.hn_assign.specs.Pair.{assigned_pair, IsAscending}
+use Rattle.hn_data.specs.View.{PlainView}
 use Rattle.hn_deleg.specs.declared.delegated.Delegated.{Delegated}
 use Rattle.hn_deleg.specs.Used.{AreUsable}
 use Rattle.hn_rules.specs.Seen.{seen_by}
@@ -27,7 +28,7 @@ loop-c-preserved c =
     let pairs = c.assigned-c-items.ensures.kept in
     let up : IsAscending assigned_pair xs = rw same pairs.assigned in
     let inside : All IsInDelegated xs = rw same pairs.inside in
-    let are : AreUsable view usable = rw c.into_vec-usable.ensures c.in_ok-used.ensures in
+    let are : AreUsable view usable = subst (λ (v : PlainView). AreUsable v usable) c.requires (rw c.into_vec-usable.ensures c.in_ok-used.ensures) in
     let same_used : c.as_slice.result.now ≡ usable = c.as_slice.ensures.value in
     elim c.match-info_of.branch [
       | in-Some+in_ok-push w ↦ rw (w.infos-is, w.in_ok-push.ensures.ok)
@@ -43,6 +44,7 @@ returns c =
     let s = c.args.self.now in
     let usable = c.into_vec-usable.result.items in
     let xs = c.assigned-c-items.result.now in
-    let are : AreUsable (seen_by s) usable = rw c.into_vec-usable.ensures c.in_ok-used.ensures in
-    let whole : AreInfosOf usable c.args.e xs c.loop-c.infos = subst (λ (l : List Assigned). AreInfosOf usable c.args.e l c.loop-c.infos) (take_all c.loop-c.c-index xs c.loop-c-test.false) c.loop-c.invariant in
+    let are : AreUsable (seen_by s) usable = subst (λ (v : PlainView). AreUsable v usable) c.requires (rw c.into_vec-usable.ensures c.in_ok-used.ensures) in
+    let whole : AreInfosOf usable c.args.e xs c.loop-c.infos =
+    subst (λ (l : List Assigned). AreInfosOf usable c.args.e l c.loop-c.infos) (take_all c.loop-c.c-index xs c.loop-c-test.false) c.loop-c.invariant in
     infos_are s usable c.args.e c.loop-c.infos are (subst (λ (l : List Assigned). AreInfosOf usable c.args.e l c.loop-c.infos) c.assigned-c-items.ensures.value whole)

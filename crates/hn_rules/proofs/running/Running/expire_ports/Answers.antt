@@ -13,6 +13,7 @@ returns-then-not-has_silent_peer-clause-rule c =
 
 pub loop-at-preserved : goal.loop-at-preserved
 loop-at-preserved c = record {
-  so_far = each_next (λ at. AtPort at IsPortExpiry) c.deref-at-items.result.now c.loop-at.at-index _ (record { 0 = 0 }) c.args.self.now c.loop-at.self c.expire_port.new.self c.loop-at-test.true refl c.loop-at.invariant.so_far c.in_ok-touched.ensures.rule;
+  so_far = each_next (λ at. AtPort at IsPortExpiry) c.deref-at-items.result.now c.loop-at.at-index _
+      (record { 0 = 0 }) c.args.self.now c.loop-at.self c.expire_port.new.self c.loop-at-test.true refl c.loop-at.invariant.so_far c.in_ok-touched.ensures.rule;
   untouched = neither c.loop-at.touched c.in_ok-touched.field-0 c.loop-at.invariant.untouched (λ none before. c.in_ok-touched.ensures.untouched none ∙ before);
 }

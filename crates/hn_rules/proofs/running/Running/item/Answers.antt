@@ -22,4 +22,5 @@ returns-in_ok-request_node-in-RequestNode-clause-untouched g c none = request_no
 
 pub returns-in_ok-network_state-in-NetworkState-clause-untouched : goal.returns-in_ok-network_state-in-NetworkState-clause-untouched
 returns-in_ok-network_state-in-NetworkState-clause-untouched g c none =
-    network_state_untouched c.args.from.now c.in-NetworkState.hash c.args.self.now c.network_state.new.self (subst ArePorts c.get.ensures c.as_slice-kept.ensures.kept) c.in_ok-network_state-in-NetworkState.ensures
+    network_state_untouched c.args.from.now c.in-NetworkState.hash c.args.self.now c.network_state.new.self
+    (subst ArePorts c.get.ensures c.as_slice-kept.ensures.kept) c.in_ok-network_state-in-NetworkState.ensures

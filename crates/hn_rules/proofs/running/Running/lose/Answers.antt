@@ -14,7 +14,8 @@ refresh-requires g c none =
 
 pub returns-clause-ran : goal.returns-clause-ran
 returns-clause-ran g c =
-    on_ok_weaker c.refresh.result (λ ran. ran_losing _ _ c.args.self.now c.expire_ports.new.self c.end_prefixes.new.self c.refresh.new.self c.in_ok-expired.ensures.rule c.in_ok-ended.ensures.rule ran) c.refresh.ensures.ran
+    on_ok_weaker c.refresh.result (λ ran. ran_losing _ _ c.args.self.now c.expire_ports.new.self c.end_prefixes.new.self c.refresh.new.self c.in_ok-expired.ensures.rule c.in_ok-ended.ensures.rule ran)
+    c.refresh.ensures.ran
 
 pub returns-clause-router : goal.returns-clause-router
 returns-clause-router g c =

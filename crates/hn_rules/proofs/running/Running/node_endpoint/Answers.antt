@@ -17,7 +17,8 @@ returns-then-stays_at-clause-rule c =
     let port = c.in-Some.port.now in
     let ports = c.get-ports.ensures in
     let passes = ap (λ now. has_peer c.args.node c.args.endpoint port.peers || not (may_ask now port.asked)) (sym c.get.ensures.moment) ∙ sym c.stays_at.ensures ∙ c.if-stays_at.true in
-    let stays = named_stays from c.args.node c.args.endpoint port r c.if-from.true passes (subst ArePorts ports c.as_slice-kept.ensures.kept) (sym (c.in-Some.ensures ∙ ap (port_at from.endpoint) ports)) in
+    let stays = named_stays from c.args.node c.args.endpoint port r c.if-from.true passes (subst ArePorts ports c.as_slice-kept.ensures.kept)
+    (sym (c.in-Some.ensures ∙ ap (port_at from.endpoint) ports)) in
     at_port from.endpoint port c.get-ports.result.now (λ p b a. a ≡ node_endpoint from c.args.node c.args.endpoint p b) r _ c.in-Some.ensures ports
     (sym (cond-false _ _ _ (sym c.eq.ensures ∙ c.if-eq.false) ∙ cond-false _ _ _ (sym c.eq-2.ensures ∙ c.if-eq-2.false) ∙ cond-false _ _ _ (sym c.is_some.ensures ∙ c.if-is_some.false) ∙ stays))
 

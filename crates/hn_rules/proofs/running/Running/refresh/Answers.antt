@@ -39,5 +39,9 @@ returns-clause-refreshed g c =
     on_ok_weaker c.find_hash.result
     (λ ran.
     let are = subst ArePorts c.get.ensures c.as_slice-kept.ensures.kept in
-    (fresh_refresh c.args.self.now c.find_hash.new.self (c.publish_where_due.new.self, c.in_ok-publish_where_due.ensures, (c.find_reach.new.self, c.in_ok-find_reach.ensures, ran.holds)) are).refreshed)
+    (fresh_refresh c.args.self.now c.find_hash.new.self (
+      c.publish_where_due.new.self,
+      c.in_ok-publish_where_due.ensures,
+      (c.find_reach.new.self, c.in_ok-find_reach.ensures, ran.holds),
+    ) are).refreshed)
     c.find_hash.ensures

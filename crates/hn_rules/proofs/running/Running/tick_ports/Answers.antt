@@ -1,4 +1,6 @@
-use Rattle.std.proofs.Common.{refl, subst}
+use Rattle.std.proofs.Common.{ℕ, refl, subst}
+use Rattle.std.specs.Prelude.{All}
+use Rattle.hn_dncp.specs.Due.{IsPortStill}
 use Rattle.hn_own.specs.Ports.{ArePorts}
 use Rattle.hn_rules.proofs.Resting.{ports_rest}
 use Rattle.hn_rules.specs.Rules.{AtPort, words_of}
@@ -9,7 +11,8 @@ use Rattle.hn_rules.proofs.running.Running.tick_ports.Goals as goal
 pub returns-then-are_ports_still : goal.returns-then-are_ports_still
 returns-then-are_ports_still g c =
     let r = c.args.self.now in
-    ran_plain words_of IsPortsTick _ r r (ports_rest c.still_port.ensures r (subst ArePorts c.get.ensures c.as_slice-kept.ensures.kept) (c.are_ports_still.ensures c.if-are_ports_still.true)) refl
+    let still = subst (λ (now : ℕ). All (IsPortStill now) r.state.ports) c.get-now.ensures.moment (c.are_ports_still.ensures.0 c.if-are_ports_still.true) in
+    ran_plain words_of IsPortsTick _ r r (ports_rest c.still_port.ensures r (subst ArePorts c.get.ensures c.as_slice-kept.ensures.kept) still) refl
 
 pub loop-at-preserved : goal.loop-at-preserved
 loop-at-preserved g c =

@@ -20,7 +20,8 @@ pub returns-then-not-touched-clause-ran : goal.returns-then-not-touched-clause-r
 returns-then-not-touched-clause-ran g c =
     let r = c.tlv.new.self in
     let fresh = fresh_untouched c.args.self.now.state r.state (c.in_ok-touched.ensures.untouched c.if-not-touched.true) (c.requires.fresh c.if-fresh.true) in
-    ran_both words_of (IsTlvRule c.args.from.now (plain c.args.tlv.now)) IsRefresh _ _ _ c.args.self.now r r c.in_ok-touched.ensures.ran (ran_plain words_of IsRefresh _ r r (same_refresh r fresh) refl)
+    ran_both words_of (IsTlvRule c.args.from.now (plain c.args.tlv.now)) IsRefresh _ _ _ c.args.self.now r r c.in_ok-touched.ensures.ran
+    (ran_plain words_of IsRefresh _ r r (same_refresh r fresh) refl)
 
 pub returns-clause-ran : goal.returns-clause-ran
 returns-clause-ran g c =

@@ -18,7 +18,8 @@ returns-in_err-apply-clause-later g c = λ code none failed.
     let told = g.D.Draw.words in
     let exit = err_from_is_err_and c.from_residual-in_err-apply.result c.from_residual-in_err-apply.ensures.1 in
     let is : c.in_err-apply.field-0.0 ≡ fault.Refused code = sym exit.2 ∙ same_error _ _ (sym exit.1 ∙ failed) in
-    stops_before c.args.a.now c.args.b.now c.args.self.now c.apply.new.self c.in_err-apply.ensures.err c.in_ok-question.question c.in_ok-question.ensures code (told c.args.draw.now) (told c.apply.new.draw)
+    stops_before c.args.a.now c.args.b.now c.args.self.now c.apply.new.self c.in_err-apply.ensures.err c.in_ok-question.question c.in_ok-question.ensures code
+    (told c.args.draw.now) (told c.apply.new.draw)
     (ap told (c.in_err-apply.ensures.undrawn code (ap Err is))) ((c.in_err-apply.ensures.refused code).0 (ap Err is))
 
 pub returns-in_err-apply-clause-room : goal.returns-in_err-apply-clause-room
@@ -35,7 +36,8 @@ pub returns-clause-ok : goal.returns-clause-ok
 returns-clause-ok g c =
     let told = g.D.Draw.words in
     on_ok_weaker c.deliver_after.result
-    (whole_after c.words_join.ensures c.args.a.now c.args.b.now c.copies-copies.result (told c.args.draw.now) (told c.apply.new.draw) (told c.deliver_after.new.draw) c.in_ok-apply.field-0 c.in_ok-question.question
+    (whole_after c.words_join.ensures c.args.a.now c.args.b.now c.copies-copies.result (told c.args.draw.now) (told c.apply.new.draw)
+    (told c.deliver_after.new.draw) c.in_ok-apply.field-0 c.in_ok-question.question
     c.args.self.now c.apply.new.self c.deliver_after.new.world c.copies-copies.ensures c.in_ok-question.ensures c.in_ok-apply.ensures.ok)
     c.deliver_after.ensures.ok
 
@@ -49,7 +51,8 @@ returns-clause-repairs g c =
 pub returns-clause-later : goal.returns-clause-later
 returns-clause-later g c = λ code none failed.
     let told = g.D.Draw.words in
-    stops_after c.words_join.ensures c.args.a.now c.args.b.now c.copies-copies.result (told c.args.draw.now) (told c.apply.new.draw) (told c.deliver_after.new.draw) c.in_ok-apply.field-0 c.in_ok-question.question
+    stops_after c.words_join.ensures c.args.a.now c.args.b.now c.copies-copies.result (told c.args.draw.now) (told c.apply.new.draw)
+    (told c.deliver_after.new.draw) c.in_ok-apply.field-0 c.in_ok-question.question
     c.args.self.now c.apply.new.self c.deliver_after.new.world c.copies-copies.ensures c.in_ok-question.ensures c.in_ok-apply.ensures.ok code (c.deliver_after.ensures.refused code failed)
 
 pub returns-clause-room : goal.returns-clause-room
@@ -61,5 +64,6 @@ returns-clause-room g c = λ code none failed.
 pub returns-clause-starved : goal.returns-clause-starved
 returns-clause-starved g c = λ failed.
     let told = g.D.Draw.words in
-    cut_after c.words_join.ensures c.args.a.now c.args.b.now c.copies-copies.result (told c.args.draw.now) (told c.apply.new.draw) (told c.deliver_after.new.draw) c.in_ok-apply.field-0 c.in_ok-question.question
+    cut_after c.words_join.ensures c.args.a.now c.args.b.now c.copies-copies.result (told c.args.draw.now) (told c.apply.new.draw)
+    (told c.deliver_after.new.draw) c.in_ok-apply.field-0 c.in_ok-question.question
     c.args.self.now c.apply.new.self c.deliver_after.new.world c.copies-copies.ensures c.in_ok-question.ensures c.in_ok-apply.ensures.ok (c.deliver_after.ensures.starved failed)

@@ -9,7 +9,8 @@ use Rattle.hn_world.proofs.member.Members.commit.Goals.{in-Nothing, in-Attachmen
 use Rattle.hn_world.proofs.member.Members.commit.Goals as goal
 
 -- what changes beside a router and its next state may come in either order
-either_order : (beside : Beside) (m changed : Member) (next state : State) → changed ≡ with_beside beside m → next ≡ state → record changed { router = next } ≡ with_beside beside (record m { router = state })
+either_order : (beside : Beside) (m changed : Member) (next state : State) → changed ≡ with_beside beside m → next ≡ state
+    → record changed { router = next } ≡ with_beside beside (record m { router = state })
 either_order Nothing m changed next state is same = λ i. record (is i) { router = same i }
 either_order (Attachments attachments) m changed next state is same = λ i. record (is i) { router = same i }
 either_order Runs m changed next state is same = λ i. record (is i) { router = same i }

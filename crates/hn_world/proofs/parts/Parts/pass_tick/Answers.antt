@@ -15,7 +15,8 @@ pass-requires-clause-there g c = router_within (name_text c.args.name) c.args.se
 
 pub pass-requires-clause-past : goal.pass-requires-clause-past
 pass-requires-clause-past g c =
-    subst (λ (now : ℕ). (m : Member) → slice_get c.args.self.now.members c.args.place ≡ Some m → m.router.moment ≤ now) (sym c.get.ensures.moment) (router_past c.args.self.now c.args.place c.requires.sound)
+    subst (λ (now : ℕ). (m : Member) → slice_get c.args.self.now.members c.args.place ≡ Some m → m.router.moment ≤ now) (sym c.get.ensures.moment)
+    (router_past c.args.self.now c.args.place c.requires.sound)
 
 pub returns-clause-ok : goal.returns-clause-ok
 returns-clause-ok g c =
@@ -29,4 +30,5 @@ returns-clause-ok g c =
     let happened : Happened w.moment Tick m.router (at_moment w.moment m.router) nothing =
     subst (λ (now : ℕ). Happened now Tick m.router (at_moment now m.router) nothing) c.get.ensures.moment (c.pass.ensures.happened m here.1) in
     subst (λ (told : Option (ℕ → ℕ)). IsStep (event.Tick c.args.name) c.new.result (g.D.Draw.words c.args.draw.now) told w after) (sym c.pass.ensures.undrawn)
-    (passed_step c.args.name place w m c.pass.new.self c.enter.new.trace c.without_words.result c.new.result (g.D.Draw.words c.args.draw.now) c.requires.accepted c.requires.placed here.1 happened moved c.without_words.ensures c.in_ok-enter.ensures.trace c.new.ensures)
+    (passed_step c.args.name place w m c.pass.new.self c.enter.new.trace c.without_words.result c.new.result
+    (g.D.Draw.words c.args.draw.now) c.requires.accepted c.requires.placed here.1 happened moved c.without_words.ensures c.in_ok-enter.ensures.trace c.new.ensures)

@@ -1,0 +1,7 @@
+use Rattle.std.proofs.Common.{take}
+use Rattle.std.specs.Prelude.{All}
+use Rattle.hn_own.specs.Ranges.{IsRangedAddress}
+use Rattle.hn_router.proofs.act.addresses_in_range.Given as goal
+
+abbrev pub invariant-loop-own : goal.invariant-loop-own
+invariant-loop-own l = All IsRangedAddress (take l.own-index l.list)

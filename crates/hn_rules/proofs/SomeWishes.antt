@@ -1,0 +1,213 @@
+-- What is asked for a router's posts cannot be missing, nor can a run of the assignment subroutine over a stream of words.
+use Rattle.std.proofs.Common.{◌≡◌, ◌≤◌, ◌+◌, ℕ, true, false, List, [], ◌∷◌, ◌++◌, length, map, Contains, Option, Some, None, refl, sym, subst, inl, inr, arith}
+use Rattle.std.specs.Prelude.{All, ◌↔◌, ◌==◌}
+use Rattle.std.specs.Cmp.{IsTotalOrder}
+use Rattle.std.specs.List.Sorted.{IsStrictlySortedBy}
+use Rattle.std.proofs.lemmas.Bool.{cond_both}
+use Rattle.std.proofs.lemmas.List.Elements.{All-contains, Contains-append_left, Contains-append_right, Contains-append_cases}
+use Rattle.std.proofs.lemmas.Option.{slice_get_read}
+use Rattle.hn_base.specs.Ascending.{IsExact}
+use Rattle.hn_base.specs.Exists.{Some! }
+use Rattle.hn_base.specs.Prefix.{PlainPrefix, IsPrefix}
+use Rattle.hn_base.specs.Words.{Begins}
+use Rattle.hn_base.specs.declared.ids.EpId.{EpId}
+use Rattle.hn_base.proofs.AscendingLists.{Contains-head, Contains-tail, Contains-cases, Contains-map, Contains-from_map, nothing_in, sorted_parts}
+use Rattle.hn_base.proofs.AscendingMade.{ascending_of}
+use Rattle.hn_base.proofs.Elements.{all_of}
+use Rattle.hn_base.proofs.FirstWords.{begins_both}
+use Rattle.hn_base.proofs.PartsAtPlaces.{contains_at}
+use Rattle.hn_base.proofs.SomeExists.{IsEach, some_then, some_by, some_each}
+use Rattle.hn_data.specs.View.{IsNetwork}
+use Rattle.hn_deleg.specs.declared.delegated.Delegated.{Delegated}
+use Rattle.hn_deleg.specs.Laws.{UsableExists, UsableArePrefixes}
+use Rattle.hn_deleg.specs.Used.{AreUsable, IsOutermost, IsUnwanted, prefixes_of}
+use Rattle.hn_link.specs.Laws.{CommonLinkExists, CommonLinkIsUnique}
+use Rattle.hn_assign.specs.declared.assigned.Wish.{Wish}
+use Rattle.hn_assign.specs.declared.held.Ran.{Ran as Assigned}
+use Rattle.hn_assign.specs.declared.pair.Pair.{Pair}
+use Rattle.hn_assign.specs.Facts.{IsFitting}
+use Rattle.hn_assign.specs.Laws.{SubroutineHasAResult}
+use Rattle.hn_assign.specs.Pair.{pair_cmp, wish_pair}
+use Rattle.hn_own.specs.Posts.{posts_of, length_at}
+use Rattle.hn_rules.specs.declared.state.State.{State}
+use Rattle.hn_rules.specs.Assigning.{IsWishFor, AreAsked, IsRunAssigned}
+use Rattle.hn_rules.specs.Given.{IsPrivateLength}
+use Rattle.hn_rules.specs.Laws.{ViewIsNetwork, AssigningHasAResult, WishesExist}
+use Rattle.hn_rules.specs.Nodes.{view_of}
+use Rattle.hn_rules.specs.Router.{IsRouter}
+use Rattle.hn_rules.specs.Rules.{with_words}
+use Rattle.hn_rules.specs.Seen.{seen_by}
+use Rattle.hn_rules.proofs.WishLists.{one_wish}
+
+-- ---- the pairs of a prefix and an endpoint
+
+abbrev pair_of : PlainPrefix → EpId → Pair
+pair_of prefix endpoint = record { delegated = prefix; endpoint = endpoint }
+
+abbrev pairs_of : List PlainPrefix → List EpId → List Pair
+pairs_of [] es = []
+pairs_of (p ∷ ps) es = map (pair_of p) es ++ pairs_of ps es
+
+abbrev IsInPairs : List PlainPrefix → List EpId → Pair → Type 0
+IsInPairs ps es pair = Contains (pairs_of ps es) pair ↔ (Contains ps pair.delegated × Contains es pair.endpoint)
+
+in_more : (p : PlainPrefix) (ps : List PlainPrefix) (es : List EpId) (pair : Pair) → IsInPairs ps es pair → IsInPairs (p ∷ ps) es pair
+in_more p ps es pair rest = (from, to)
+  where
+    from : Contains (map (pair_of p) es ++ pairs_of ps es) pair → Contains (p ∷ ps) pair.delegated × Contains es pair.endpoint
+    from h = elim (Contains-append_cases (map (pair_of p) es) (pairs_of ps es) pair h) [
+      | inl here ↦
+          let (e, there, is) = Contains-from_map (pair_of p) es pair here in
+          (subst (λ (x : Pair). Contains (p ∷ ps) x.delegated) is (Contains-head p ps), subst (λ (x : Pair). Contains es x.endpoint) is there)
+      | inr later ↦ let was = rest.0 later in (Contains-tail p ps pair.delegated was.0, was.1)
+    ]
+
+    to : Contains (p ∷ ps) pair.delegated × Contains es pair.endpoint → Contains (map (pair_of p) es ++ pairs_of ps es) pair
+    to h = elim (Contains-cases p ps pair.delegated h.0) [
+      | inl same ↦
+          let here : pair_of p pair.endpoint ≡ pair = λ i. record { delegated = same i; endpoint = pair.endpoint } in
+          Contains-append_left (map (pair_of p) es) (pairs_of ps es) pair (subst (Contains (map (pair_of p) es)) here (Contains-map (pair_of p) es pair.endpoint h.1))
+      | inr later ↦ Contains-append_right (map (pair_of p) es) (pairs_of ps es) pair (rest.1 (later, h.1))
+    ]
+
+in_pairs : (ps : List PlainPrefix) (es : List EpId) (pair : Pair) → IsInPairs ps es pair
+in_pairs [] es pair = (λ h. absurd (nothing_in pair h), λ h. absurd (nothing_in pair.delegated h.0))
+in_pairs (p ∷ ps) es pair = in_more p ps es pair (in_pairs ps es pair)
+
+-- ---- a wish for each
+
+module _ (links : CommonLinkExists) (one_link : CommonLinkIsUnique) (s : State) (network : IsNetwork s.id.0 (view_of s)) (usable : List Delegated) where
+  abbrev posts : List EpId
+  posts = posts_of s.private s.ports
+
+  -- it is for the pair, and asked
+  abbrev IsWishOf : Pair → Wish → Type 0
+  IsWishOf pair wish = (wish_pair wish ≡ pair) × IsWishFor s usable wish
+
+  some_wish : (pair : Pair) → Contains (prefixes_of usable) pair.delegated → Contains posts pair.endpoint → Some! (IsWishOf pair)
+  some_wish pair among post =
+      let (u, there, is) = Contains-from_map (λ (u : Delegated). u.prefix) usable pair.delegated among in
+      let at = slice_get_read usable (length usable) there.0 u refl there.1 (sym there.2) in
+      let (common, is_common) = links (seen_by s) pair.endpoint.0 network in
+      some_by (IsUnwanted usable there.0)
+      (λ unwanted none. none (record { delegated = pair.delegated; wanted = false; endpoint = pair.endpoint; common = common; length = length_at s.private pair.endpoint }) (
+        refl,
+        record {
+          place = there.0;
+          asked = record { delegated = u; at = at; prefix = sym is; wanted = (λ clash. absurd cc, λ not. absurd (not unwanted)); common = is_common; length = refl };
+          post = post;
+        },
+      ))
+      (λ wanted none. none (record { delegated = pair.delegated; wanted = true; endpoint = pair.endpoint; common = common; length = length_at s.private pair.endpoint }) (
+        refl,
+        record {
+          place = there.0;
+          asked = record { delegated = u; at = at; prefix = sym is; wanted = (λ _. wanted, λ _. refl); common = is_common; length = refl };
+          post = post;
+        },
+      ))
+
+  each_pairs : (pairs : List Pair) (wishes : List Wish) → IsEach IsWishOf pairs wishes → map wish_pair wishes ≡ pairs
+  each_pairs [] [] each = refl
+  each_pairs [] (w ∷ ws) each = absurd each
+  each_pairs (p ∷ ps) [] each = absurd each
+  each_pairs (p ∷ ps) (w ∷ ws) (is, each) = λ i. is.0 i ∷ each_pairs ps ws each i
+
+  each_asked : (pairs : List Pair) (wishes : List Wish) → IsEach IsWishOf pairs wishes → (wish : Wish) → Contains wishes wish → IsWishFor s usable wish
+  each_asked [] [] each wish h = absurd (nothing_in wish h)
+  each_asked [] (w ∷ ws) each wish h = absurd each
+  each_asked (p ∷ ps) [] each wish h = absurd each
+  each_asked (p ∷ ps) (w ∷ ws) (is, each) wish h = elim (Contains-cases w ws wish h) [
+    | inl same ↦ subst (IsWishFor s usable) same is.1
+    | inr later ↦ each_asked ps ws each wish later
+  ]
+
+  each_there : (pairs : List Pair) (wishes : List Wish) → IsEach IsWishOf pairs wishes → (pair : Pair) → Contains pairs pair → (wish : Wish) × Contains wishes wish × IsWishOf pair wish
+  each_there [] ws each pair h = absurd (nothing_in pair h)
+  each_there (p ∷ ps) [] each pair h = absurd each
+  each_there (p ∷ ps) (w ∷ ws) (is, each) pair h = elim (Contains-cases p ps pair h) [
+    | inl same ↦ (w, Contains-head w ws, subst (λ (x : Pair). IsWishOf x w) same is)
+    | inr later ↦ let (wish, there, also) = each_there ps ws each pair later in (wish, Contains-tail w ws wish there, also)
+  ]
+
+  module _ (total : IsTotalOrder pair_cmp) (exact : IsExact pair_cmp) (are : AreUsable (seen_by s) usable) where
+    -- the pair of what is asked is one of the pairs
+    of_pairs : (wish : Wish) → IsWishFor s usable wish → Contains (pairs_of (prefixes_of usable) posts) (wish_pair wish)
+    of_pairs wish is =
+        let u = is.asked.delegated in
+        let among = Contains-map (λ (u : Delegated). u.prefix) usable u (contains_at usable is.place u is.asked.at) in
+        (in_pairs (prefixes_of usable) posts (wish_pair wish)).1 (subst (Contains (prefixes_of usable)) (sym is.asked.prefix) among, is.post)
+
+    some_asked : Some! (AreAsked s usable)
+    some_asked =
+        let (pairs, up, same) = ascending_of pair_cmp total exact (pairs_of (prefixes_of usable) posts) in
+        some_then (some_each IsWishOf pairs (λ pair there. let h = (in_pairs (prefixes_of usable) posts pair).0 ((same pair).0 there) in some_wish pair h.0 h.1)) (λ wishes each none.
+        none wishes (record {
+          ascending = (sorted_parts wish_pair pair_cmp wishes).1 (subst (IsStrictlySortedBy pair_cmp) (sym (each_pairs pairs wishes each)) up);
+          exact = λ wish. (
+            each_asked pairs wishes each wish,
+            λ is.
+                let (found, there, also) = each_there pairs wishes each (wish_pair wish) ((same (wish_pair wish)).1 (of_pairs wish is)) in
+                subst (Contains wishes) (one_wish s.private (seen_by s) usable are.ascending one_link also.1.place is.place found wish also.1.asked is.asked also.0) there,
+          );
+        }))
+
+-- ---- what is asked fits
+
+fits_length : (private : Option ℕ) (e : EpId) → IsPrivateLength private → (1 ≤ length_at private e) × (length_at private e ≤ 64)
+fits_length None e is = (omega arith, omega arith)
+fits_length (Some length) e is = cond_both (e.0 == 0) length 64 (λ (n : ℕ). (1 ≤ n) × (n ≤ 64)) (λ _. is) (λ _. (omega arith, omega arith))
+
+module _ (s : State) (usable : List Delegated) where
+  asked_fits : AreUsable (seen_by s) usable → IsPrivateLength s.private → (wish : Wish) → IsWishFor s usable wish → IsFitting wish
+  asked_fits are private wish is =
+      let u = is.asked.delegated in
+      let outermost = All-contains (λ (u : Delegated). IsOutermost (seen_by s) u.prefix) usable u are.outermost (contains_at usable is.place u is.asked.at) in
+      let fits = subst (λ (n : ℕ). (1 ≤ n) × (n ≤ 64)) (sym is.asked.length) (fits_length s.private wish.endpoint private) in
+      record { delegated = subst (λ (p : PlainPrefix). p.len ≤ 64) (sym is.asked.prefix) outermost.candidate.short; at_least = fits.0; at_most = fits.1 }
+
+  asked_is_prefix : All (λ u. IsPrefix u.prefix) usable → (wish : Wish) → IsWishFor s usable wish → IsPrefix wish.delegated
+  asked_is_prefix all wish is =
+      let u = is.asked.delegated in
+      subst IsPrefix (sym is.asked.prefix) (All-contains (λ (u : Delegated). IsPrefix u.prefix) usable u all (contains_at usable is.place u is.asked.at))
+
+-- ---- a run of the assignment subroutine
+
+-- the laws on which it rests that something is asked
+pub record AskingLaws : Type 0 where
+  pub usable : UsableExists
+  pub prefixes : UsableArePrefixes
+  pub links : CommonLinkExists
+  pub one_link : CommonLinkIsUnique
+  pub pairs_total : IsTotalOrder pair_cmp
+  pub pairs_exact : IsExact pair_cmp
+  pub network : ViewIsNetwork
+
+-- and that the subroutine comes to a result
+pub record AssigningLaws : Type 0 where
+  pub asking : AskingLaws
+  pub subroutine : SubroutineHasAResult
+
+pub some_wishes : AskingLaws → WishesExist
+some_wishes laws s router =
+    let network = laws.network s router in
+    let (usable, are) = laws.usable (seen_by s) in
+    some_then (some_asked laws.links laws.one_link s network usable laws.pairs_total laws.pairs_exact are) (λ wishes asked none.
+    let fitting = all_of IsFitting wishes (λ wish there. asked_fits s usable are router.well.private wish ((asked.exact wish).0 there)) in
+    let prefixes = all_of (λ (wish : Wish). IsPrefix wish.delegated) wishes
+    (λ wish there. asked_is_prefix s usable (laws.prefixes (seen_by s) usable are) wish ((asked.exact wish).0 there)) in
+    none wishes (record { usable = usable; are_usable = are; are_asked = asked; fitting = fitting; prefixes = prefixes }))
+
+some_run : AssigningLaws → (s : State) (stream : ℕ → ℕ) → IsRouter s → Some! (λ (ran : Assigned). IsRunAssigned s ran × Begins ran.words stream)
+some_run laws s stream router =
+    some_then (some_wishes laws.asking s router) (λ wishes w.
+    some_then (laws.subroutine (seen_by s) wishes s.held stream router.well.pairs.assigned router.well.pairs.backoffs w.fitting w.prefixes) (λ ran runs none.
+    none ran (record { usable = w.usable; are_usable = w.are_usable; wishes = wishes; are_asked = w.are_asked; is_subroutine = runs.0 }, runs.1)))
+
+pub total_assigning : AssigningLaws → AssigningHasAResult
+total_assigning laws stream r is begins none =
+    some_run laws r.state (λ i. stream (length r.done.words + i)) is (λ ran runs.
+    none (with_words ran.words (record r { state = record r.state { held = ran.held } })) (
+      record { ran = ran; is_assigned = runs.0; gives = refl },
+      begins_both r.done.words ran.words stream begins runs.1,
+    ))

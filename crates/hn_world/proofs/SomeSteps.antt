@@ -1,0 +1,204 @@
+-- An event that a world accepts has a result: it cannot be that there is none.
+use Rattle.std.proofs.Common.{◌≡◌, ◌∙◌, ℕ, Bool, List, [], ◌∷◌, ◌++◌, Option, Some, None, true, cond, find, length, nat_lt, position, slice_get, refl, sym, ap, subst, arith}
+use Rattle.std.specs.Prelude.{All}
+use Rattle.std.specs.List.{position_or_len}
+use Rattle.std.proofs.lemmas.Bool.{lt-ltb}
+use Rattle.std.proofs.lemmas.List.Folds.{find_at}
+use Rattle.hn_base.specs.Byte.{IsByte}
+use Rattle.hn_base.specs.Exists.{Some! }
+use Rattle.hn_base.specs.Name.{name_text}
+use Rattle.hn_base.specs.Words.{Begins}
+use Rattle.hn_base.specs.declared.ids.EpId.{EpId}
+use Rattle.hn_base.specs.declared.ids.NodeId.{NodeId}
+use Rattle.hn_base.specs.declared.name.Name.{Name}
+use Rattle.hn_base.proofs.DecidingTests.{some_there}
+use Rattle.hn_base.proofs.Elements.{found_passes}
+use Rattle.hn_base.proofs.SomeExists.{some_then}
+use Rattle.hn_rules.specs.declared.done.Done.{Done}
+use Rattle.hn_rules.specs.declared.done.Note.{Note}
+use Rattle.hn_rules.specs.declared.state.State.{State}
+use Rattle.hn_router.specs.Act.{PlainEvent, Arrive, Tick, Attach, Detach, External, Withdraw, SetCaps, Private, Addresses, Restart, IsEventInRange, IsOfBytes, Happened, HasResults}
+use Rattle.hn_router.specs.Laws.{EventHasAResult, NewExists}
+use Rattle.hn_world.specs.declared.copies.MailCopy.{MailCopy}
+use Rattle.hn_world.specs.declared.event.WEvent.{WEvent}
+use Rattle.hn_world.specs.declared.event.WEvent.TheVariants as event
+use Rattle.hn_world.specs.declared.event.Traced.{Traced}
+use Rattle.hn_world.specs.declared.member.Member.{Member}
+use Rattle.hn_world.specs.declared.parts.Parts.{Parts}
+use Rattle.hn_world.specs.Existing.{HasAStep, IsGiven, Outcome, StepExists}
+use Rattle.hn_world.specs.Limits.{table_limit}
+use Rattle.hn_world.specs.Names.{is_named, member_named, router_place}
+use Rattle.hn_world.specs.Refusal.{copy_at, of_router, refusal, unless_able, unless_full_of_events, unless_received}
+use Rattle.hn_world.specs.Replay.{IsSound, IsSoundMember}
+use Rattle.hn_world.specs.Routed.{routed}
+use Rattle.hn_world.specs.Step.{ActsAt, DoesAt, Step, acted, beside, entered, stopped, taken, with_member}
+use Rattle.hn_world.proofs.Acting.{copy_there}
+use Rattle.hn_world.proofs.Sounds.{all_at}
+use Rattle.std.proofs.lemmas.Option.{slice_get_within}
+
+-- the laws of routers on which it rests
+pub record ExistenceLaws : Type 0 where
+  pub event : EventHasAResult
+  pub new : NewExists
+
+-- ---- a router that is there
+
+-- the first that passes has a place
+pub place_of_found : {A : Type 0} (p : A → Bool) (xs : List A) (x : A) → find p xs ≡ Some x → (i : ℕ) × (position p xs ≡ Some i) × (slice_get xs i ≡ Some x)
+place_of_found {A} p xs x found =
+    let i = position_or_len p xs in
+    let at : slice_get xs i ≡ Some x = sym (find_at p xs) ∙ found in
+    let below : nat_lt i (length xs) ≡ true = lt-ltb i (length xs) (slice_get_within xs i x at) in
+    (i, ap (λ (b : Bool). cond b (Some i) None) below, at)
+
+-- a router of a name that an event names, where the event is accepted
+record IsThere (w : Parts) (name : Name) : Type 0 where
+  place : ℕ
+  member : Member
+  is_place : router_place (name_text name) w ≡ Some place
+  is_member : slice_get w.members place ≡ Some member
+
+named_there : (w : Parts) (name : Name) (asked : Member → Option ℕ) → of_router asked (member_named (name_text name) w) ≡ None → IsThere w name
+named_there w name asked accepted =
+    let (m, found, _) = some_there 7 asked (member_named (name_text name) w) accepted in
+    let (i, is_place, is_member) = place_of_found (is_named (name_text name)) w.members m found in
+    record { place = i; member = m; is_place = is_place; is_member = is_member }
+
+-- ---- without words
+
+module _ (event : WEvent) (w : Parts) (accepted : refusal w event ≡ None) (given : IsGiven event w) where
+  abbrev traced : List ℕ → Traced
+  traced words = record { event = event; words = words }
+
+  -- what an event does without a word
+  quiet_step : (between : Parts) → DoesAt event (routed event) [] [] w between → HasAStep event w
+  unfolding HasAStep
+  quiet_step between does stream none =
+      none (record { words = []; notes = []; world = entered (traced []) between }) (
+        record { accepted = accepted; in_range = given.in_range; fits = given.fits; between = between; does = does; gives = refl },
+        λ i within. absurd (omega (arith, within)),
+      )
+
+  -- ---- at a router
+
+  module _ (laws : ExistenceLaws) (sound : IsSound w) where
+    -- what an event does at the router of a place, as the world's event wants it
+    at_place : (change : Member → Member) (place : ℕ) (m : Member) (own : PlainEvent) → slice_get w.members place ≡ Some m → IsEventInRange own → IsOfBytes own
+        → ((words : List ℕ) (notes : List Note) (between : Parts) → ActsAt change place own words notes w between → (after : Parts) × Step (traced words) notes w after)
+        → HasAStep event w
+    unfolding HasAStep HasResults
+    at_place change place m own is_member fits bytes steps stream =
+        let member = all_at (IsSoundMember w.moment) w.members place m is_member sound in
+        some_then (laws.event w.moment own m.router member.router member.past fits bytes stream) (λ result happened none.
+        let next : State = result.0 in
+        let done : Done = result.1 in
+        let (after, step) = steps done.words done.notes (acted change place m next done w) (record {
+          member = m;
+          is_member = is_member;
+          next = next;
+          done = done;
+          happened = happened.0;
+          took = refl;
+          noted = refl;
+          gives = refl;
+        }) in
+        none (record { words = done.words; notes = done.notes; world = after }) (step, happened.1))
+
+    -- an event at the router of its name
+    at_name : (name : Name) (own : PlainEvent) → routed event ≡ Some (name, own) → of_router (unless_able event w) (member_named (name_text name) w) ≡ None
+        → IsEventInRange own → IsOfBytes own → HasAStep event w
+    at_name name own is able fits bytes =
+        let there = named_there w name (unless_able event w) able in
+        at_place (beside event w) there.place there.member own there.is_member fits bytes (λ words notes between acts. (
+          entered (traced words) between,
+          record {
+            accepted = accepted;
+            in_range = given.in_range;
+            fits = given.fits;
+            between = between;
+            does = subst (λ (o : Option (Name × PlainEvent)). DoesAt event o words notes w between) (sym is) (record { place = there.place; is_place = there.is_place; acts = acts });
+            gives = refl;
+          },
+        ))
+
+-- ---- each event
+
+module _ (laws : ExistenceLaws) (w : Parts) (sound : IsSound w) where
+  some_new : (name : Name) (id : NodeId) → refusal w (event.Router name id) ≡ None → IsGiven (event.Router name id) w → HasAStep (event.Router name id) w
+  some_new name id accepted given =
+      let (router, is_new) = laws.new id (table_limit w.version) w.moment in
+      quiet_step (event.Router name id) w accepted given
+      (record w {
+        members = w.members ++ record { name = name; running = true; router = router; attachments = [] } ∷ [];
+        published = w.published ++ record { id = id; number = 1; body = router.own.body } ∷ [];
+      })
+      (record { router = router; is_new = is_new; quietly = record { took = refl; noted = refl; gives = refl } })
+
+  some_stop : (name : Name) → refusal w (event.Stop name) ≡ None → IsGiven (event.Stop name) w → HasAStep (event.Stop name) w
+  some_stop name accepted given =
+      let there = named_there w name (unless_able (event.Stop name) w) accepted in
+      quiet_step (event.Stop name) w accepted given (with_member there.place (stopped there.member) w) (record {
+        place = there.place;
+        member = there.member;
+        is_place = there.is_place;
+        is_member = there.is_member;
+        quietly = record { took = refl; noted = refl; gives = refl };
+      })
+
+  some_delivery : (copy : ℕ) → refusal w (event.Deliver copy) ≡ None → IsGiven (event.Deliver copy) w → HasAStep (event.Deliver copy) w
+  some_delivery copy accepted given =
+      let (mail, found, asked) = some_there 13 (λ (c : MailCopy). of_router (unless_received w c.to.endpoint) (slice_get w.members c.to.place)) (copy_at w copy) accepted in
+      let (m, is_member, _) = some_there 7 (unless_received w mail.to.endpoint) (slice_get w.members mail.to.place) asked in
+      at_place (event.Deliver copy) w accepted given laws sound (λ m. m) mail.to.place m
+      (Arrive (record { endpoint = mail.to.endpoint; from = mail.from; multicast = mail.multicast }) mail.bytes) is_member tt (given.mail mail found)
+      (λ words notes between acts. (
+        entered (record { event = event.Deliver copy; words = words }) (taken copy mail between),
+        record {
+          accepted = accepted;
+          in_range = given.in_range;
+          fits = given.fits;
+          between = taken copy mail between;
+          does = record { mail = mail; is_copy = (copy_there copy w mail found).1; between = between; acts = acts; gives = refl };
+          gives = refl;
+        },
+      ))
+
+  some_drop : (copy : ℕ) → refusal w (event.Drop copy) ≡ None → IsGiven (event.Drop copy) w → HasAStep (event.Drop copy) w
+  some_drop copy accepted given =
+      let (mail, found, _) = some_there 13 (λ (c : MailCopy). unless_full_of_events w) (copy_at w copy) accepted in
+      quiet_step (event.Drop copy) w accepted given (taken copy mail w)
+      (record { mail = mail; is_copy = (copy_there copy w mail found).1; quietly = record { took = refl; noted = refl; gives = refl } })
+
+  some_at : (event : WEvent) → refusal w event ≡ None → IsGiven event w → HasAStep event w
+  some_at (event.Router name id) accepted given = some_new name id accepted given
+  some_at (event.Link name) accepted given =
+      quiet_step (event.Link name) w accepted given (record w { links = w.links ++ name ∷ [] }) (record { took = refl; noted = refl; gives = refl })
+  some_at (event.Stop name) accepted given = some_stop name accepted given
+  some_at (event.Time moment) accepted given =
+      quiet_step (event.Time moment) w accepted given (record w { moment = moment }) (record { took = refl; noted = refl; gives = refl })
+  some_at (event.Deliver copy) accepted given = some_delivery copy accepted given
+  some_at (event.Drop copy) accepted given = some_drop copy accepted given
+  some_at (event.Attach name endpoint link) accepted given =
+      at_name (event.Attach name endpoint link) w accepted given laws sound name (Attach endpoint) refl accepted given.fits given.injected
+  some_at (event.Detach name endpoint) accepted given =
+      at_name (event.Detach name endpoint) w accepted given laws sound name (Detach endpoint) refl accepted given.fits given.injected
+  some_at (event.External name prefix valid preferred) accepted given =
+      at_name (event.External name prefix valid preferred) w accepted given laws sound name (External prefix valid preferred) refl accepted given.fits given.injected
+  some_at (event.Withdraw name prefix) accepted given =
+      at_name (event.Withdraw name prefix) w accepted given laws sound name (Withdraw prefix) refl accepted given.fits given.injected
+  some_at (event.Caps name caps) accepted given =
+      at_name (event.Caps name caps) w accepted given laws sound name (SetCaps caps) refl accepted given.fits given.injected
+  some_at (event.Private name length) accepted given =
+      at_name (event.Private name length) w accepted given laws sound name (Private length) refl accepted given.fits given.injected
+  some_at (event.Addresses name list) accepted given =
+      at_name (event.Addresses name list) w accepted given laws sound name (Addresses list) refl accepted given.fits given.injected
+  some_at (event.Start name) accepted given =
+      at_name (event.Start name) w accepted given laws sound name Restart refl accepted given.fits given.injected
+  some_at (event.Tick name) accepted given =
+      at_name (event.Tick name) w accepted given laws sound name Tick refl accepted given.fits given.injected
+  some_at (event.Inject name endpoint from multicast bytes) accepted given =
+      at_name (event.Inject name endpoint from multicast bytes) w accepted given laws sound name
+      (Arrive (record { endpoint = endpoint; from = from; multicast = multicast }) bytes) refl accepted given.fits given.injected
+
+pub some_step : ExistenceLaws → StepExists
+some_step laws event w sound accepted given = some_at laws w sound event accepted given

@@ -66,7 +66,7 @@ fn the_longest_datagram_goes_whole(rt: HostRuntime) -> Result<(), Fail> {
     assert!(rt; taken(&mut wire, next).0 == Ok(Some((2, port))));
     let mut buf = [9; 65_536];
     assert!(rt; wire.take(next, &mut buf) == Ok(Some((MOST_WIRE_BYTES, port))));
-    assert!(rt; buf[..MOST_WIRE_BYTES].iter().all(|byte| *byte == 7));
+    assert!(rt; buf.iter().take(MOST_WIRE_BYTES).all(|byte| *byte == 7));
     Ok(())
 }
 

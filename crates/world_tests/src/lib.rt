@@ -5,7 +5,13 @@
 #[cfg(test)]
 mod addresses;
 #[cfg(test)]
+mod broken_off;
+#[cfg(test)]
 mod idle;
+#[cfg(test)]
+mod injected;
+#[cfg(test)]
+mod meeting;
 #[cfg(test)]
 mod published;
 #[cfg(test)]

@@ -3,14 +3,14 @@ use Rattle.std.proofs.Common.{List, [], ◌∷◌, ◌++◌, inl, inr, refl, sym
 use Rattle.std.specs.Prelude.{All, Contains}
 use Rattle.std.proofs.lemmas.Bool.{cond_both}
 use Rattle.std.proofs.lemmas.List.{append-nil}
-use Rattle.std.proofs.lemmas.List.Elements.{All-append, All-push, All-weaker, Contains-append_right, Contains-push}
+use Rattle.std.proofs.lemmas.List.Elements.{All-nil, All-append, All-push, All-weaker, Contains-append_right, Contains-push}
 use Rattle.hn_tlv.specs.Grammar.{PlainTlv, spelling}
 use Rattle.hn_typed.specs.Written.{tlv_of}
 use Rattle.hn_rules.specs.declared.done.Outgoing.{Outgoing}
 use Rattle.hn_rules.specs.declared.done.Publication.{Publication}
 use Rattle.hn_rules.specs.declared.running.Running.{Running}
 use Rattle.hn_rules.specs.Answers.{is_answered}
-use Rattle.hn_rules.specs.Changes.{ChangeTable, PutId, Publish, AddAnswer, AddSends, Change, change, IsAllowed, EachKeeps}
+use Rattle.hn_rules.specs.Changes.{ChangeTable, PutId, Publish, AddAnswer, AddSends, ForgetAnswers, Change, change, IsAllowed, EachKeeps}
 use Rattle.hn_rules.specs.Genuine.{TextsCollide, TlvsSayPublished, BytesSayPublished, IsGenuineAnswer, IsGenuineSoFar, IsGenuineOrCollides}
 use Rattle.hn_rules.specs.Grows.{GrowsFrom}
 use Rattle.hn_rules.specs.Laws.{ChangesOnlyAdd, ChangesKeepHashed, ChangesKeepGenuine}
@@ -107,6 +107,15 @@ module _ (laws : GenuineLaws) (past : List Publication) (tlvs : List PlainTlv) (
           answers = so.answers;
           sends = All-append (λ (o : Outgoing). BytesSayPublished (past ++ r.done.published) o.bytes) r.done.sends sends so.sends
               (sends_say (past ++ r.done.published) laws.say r sends before.hash so.answers is);
+        },
+      )
+  by_change ForgetAnswers r is before after so =
+      inl (
+        after,
+        record {
+          state = record { own = so.state.own; others = so.state.others };
+          answers = All-nil (IsGenuineAnswer (past ++ r.done.published));
+          sends = so.sends;
         },
       )
   by_change c r is before after so =

@@ -249,7 +249,7 @@ sole_answering : HasLaws → (from : Origin) → IsSole (IsAnswering from)
 sole_answering laws from =
     sole_given words_of (IsAnswering from) (λ r a h. ap (λ (x : Running). x.done.words) h.gives)
     (λ r a b h k. h.gives ∙ ap (λ (datagrams : List (List ℕ)).
-    record r { done = record r.done { sends = r.done.sends ++ map (λ bytes. record { endpoint = from.endpoint; to = Some from.from; bytes = bytes }) datagrams } })
+    record r { done = record r.done { sends = r.done.sends ++ map (λ bytes. record { endpoint = from.endpoint; to = Some from.from; bytes = bytes }) datagrams }; answers = [] })
     (laws.one_packing r.state.id from.endpoint (map (λ a. a.tlv) r.answers) h.datagrams k.datagrams h.packed k.packed) ∙ sym k.gives)
 
 pub sole_arrival : HasLaws → (from : Origin) (tlvs : List PlainTlv) → IsSole (IsArrival from tlvs)

@@ -23,7 +23,7 @@ use Rattle.hn_rules.specs.declared.done.Outgoing.{Outgoing}
 use Rattle.hn_rules.specs.declared.running.Running.{Running}
 use Rattle.hn_rules.specs.declared.state.State.{State}
 use Rattle.hn_rules.specs.Answers.{is_answered}
-use Rattle.hn_rules.specs.Changes.{ArePacked, IsAnswerAbout, AddAnswer, AddSends}
+use Rattle.hn_rules.specs.Changes.{ArePacked, IsAnswerAbout, AddAnswer, AddSends, ForgetAnswers}
 use Rattle.hn_rules.specs.Laws.{ChangesKeepHashed, ChangesKeepShort}
 use Rattle.hn_rules.specs.Lengths.{most_answer, most_datagram}
 use Rattle.hn_rules.specs.Nodes.{age_at}
@@ -129,5 +129,7 @@ each_short keeps held_of_entry eight packing tlvs (AddSends sends) r is (hashed,
     sends = All-append (λ (o : Outgoing). length o.bytes ≤ most_datagram) r.done.sends sends short.sends (sends_short packing r sends hashed.hash short.answers is);
   },
 )
+each_short keeps held_of_entry eight packing tlvs ForgetAnswers r is (hashed, short) =
+    (hashed, record { answers = All-nil (λ (a : Answer). length a.tlv ≤ most_answer); sends = short.sends })
 each_short keeps held_of_entry eight packing tlvs c r is (hashed, short) =
     (keeps tlvs c r is hashed, record { answers = short.answers; sends = short.sends })

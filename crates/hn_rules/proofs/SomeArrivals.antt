@@ -178,7 +178,7 @@ module _ (laws : ArrivalLaws) (from : Origin) where
   total_answering =
       total_given words_of Any (IsAnswering from) (λ r a h. ap words_of h.gives)
       (λ r p none. let (datagrams, packed) = laws.packing r.state.id from.endpoint (map (λ a. a.tlv) r.answers) in
-      none (record r { done = record r.done { sends = r.done.sends ++ map (λ bytes. record { endpoint = from.endpoint; to = Some from.from; bytes = bytes }) datagrams } })
+      none (record r { done = record r.done { sends = r.done.sends ++ map (λ bytes. record { endpoint = from.endpoint; to = Some from.from; bytes = bytes }) datagrams }; answers = [] })
       (record { datagrams = datagrams; packed = packed; gives = refl }))
 
   pub total_arrival : (tlvs : List PlainTlv) → All IsTlv tlvs → IsTotal Well (IsArrival from tlvs)

@@ -46,7 +46,7 @@ use Rattle.hn_rules.specs.Delegating.{delegating, withdrawing, ending}
 use Rattle.hn_rules.specs.Assigning.{IsAssigning}
 use Rattle.hn_rules.specs.Tick.{IsPortExpiry, IsExpiry, forgetting, IsPortMoving, IsPortSending, IsPortTick, IsPortsTick}
 use Rattle.hn_rules.specs.Events.{setting_caps, setting_private, setting_addresses, IsPortRestart, emptied, IsRestarting}
-use Rattle.hn_rules.specs.Changes.{IsSaid, Reset, Meet, Ask, Hear, Expire, Move, Begin, IsSender, Accept, Mark, Forget, Empty, Delegate, Withdraw, End, IsPublishable, IsAnswerAbout, Change, ChangePort, ChangeTable, ChangePrefixes, PutReach, PutHash, PutPairs, ForgetPairs, PutPrivate, PutAddresses, PutId, PutClaimed, PutCaps, Publish, NameSender, AddAnswer, AddSends, TakeNote, TakeWords, change, Leads, EachKeeps}
+use Rattle.hn_rules.specs.Changes.{IsSaid, Reset, Meet, Ask, Hear, Expire, Move, Begin, IsSender, Accept, Mark, Forget, Empty, Delegate, Withdraw, End, IsPublishable, IsAnswerAbout, Change, ChangePort, ChangeTable, ChangePrefixes, PutReach, PutHash, PutPairs, ForgetPairs, PutPrivate, PutAddresses, PutId, PutClaimed, PutCaps, Publish, NameSender, AddAnswer, AddSends, ForgetAnswers, TakeNote, TakeWords, change, Leads, EachKeeps}
 use Rattle.hn_rules.proofs.AtPorts.{found_id}
 use Rattle.hn_rules.proofs.Leads.{Keeps, keeps_plain, keeps_both, keeps_each, keeps_each_of, keeps_option, leads_keep}
 
@@ -230,8 +230,8 @@ module _ (tlvs : List PlainTlv) (P : Running → Type 0) (each : EachKeeps tlvs 
 
   answering : (from : Origin) → Keeps P (IsAnswering from)
   answering from r a is =
-      by (AddSends (map (λ bytes. record { endpoint = from.endpoint; to = Some from.from; bytes = bytes }) is.datagrams) ∷ []) r a
-      (record { endpoint = from.endpoint; to = Some from.from; tlvs = map (λ a. a.tlv) r.answers; datagrams = is.datagrams; tlvs_are = inl refl; packed = is.packed; sends_are = refl }, is.gives)
+      by (AddSends (map (λ bytes. record { endpoint = from.endpoint; to = Some from.from; bytes = bytes }) is.datagrams) ∷ ForgetAnswers ∷ []) r a
+      (record { endpoint = from.endpoint; to = Some from.from; tlvs = map (λ a. a.tlv) r.answers; datagrams = is.datagrams; tlvs_are = inl refl; packed = is.packed; sends_are = refl }, (tt, is.gives))
 
   arriving : (from : Origin) → Keeps P (IsTlvs from tlvs)
   arriving from =

@@ -1,5 +1,5 @@
 -- The TLVs of a datagram: a rule for each kind, and a refresh after each TLV (RFC 7787, sections 4.2 to 4.5).
-use Rattle.std.specs.Prelude.{◌≡◌, ℕ, ◌⊎◌, List, ◌++◌, map, Some}
+use Rattle.std.specs.Prelude.{◌≡◌, ℕ, ◌⊎◌, List, [], ◌++◌, map, Some}
 use Rattle.hn_tlv.specs.Grammar.{PlainTlv}
 use Rattle.hn_typed.specs.Item.{PlainItem}
 use Rattle.hn_typed.specs.Item as item
@@ -39,12 +39,13 @@ IsTlvRule from tlv before after =
 abbrev pub IsTlvs : Origin → List PlainTlv → Rule
 IsTlvs from tlvs = Each (λ tlv. Then (IsTlvRule from tlv) IsRefresh) tlvs
 
--- the answers are sent to the source, under the identifier that the router then has
+-- the answers are sent to the source, under the identifier that the router then has, and there are none after it
 pub record IsAnswering (from : Origin) (before after : Running) : Type 0 where
   pub datagrams : List (List ℕ)
   pub packed : IsPacking before.state.id from.endpoint (map (λ a. a.tlv) before.answers) datagrams
   pub gives : after ≡ record before {
     done = record before.done { sends = before.done.sends ++ map (λ bytes. record { endpoint = from.endpoint; to = Some from.from; bytes = bytes }) datagrams };
+    answers = [];
   }
 
 -- the rule

@@ -164,8 +164,8 @@ pub record ArePacked (r : Running) (sends : List Outgoing) : Type 0 where
 -- ---- a change
 
 -- of an endpoint, the table, the own delegated prefixes and other parts of the router; or something is published, under
--- the identifier that the router has or a new one; the sender is named, an answer comes up, datagrams are sent, a note or
--- words are taken
+-- the identifier that the router has or a new one; the sender is named, an answer comes up, datagrams are sent, the answers are
+-- forgotten, a note or words are taken
 pub data Change : Type 0 where
   ChangePort : (port : Port) (how : PortChange) → Change
   ChangeTable : (how : TableChange) → Change
@@ -183,6 +183,7 @@ pub data Change : Type 0 where
   NameSender : (node : NodeId) (endpoint : EpId) → Change
   AddAnswer : (about : Subject) (i : PlainItem) → Change
   AddSends : (sends : List Outgoing) → Change
+  ForgetAnswers : Change
   TakeNote : (note : Note) → Change
   TakeWords : (words : List ℕ) → Change
 
@@ -210,6 +211,7 @@ change (Publish number own) r = record r {
 change (NameSender node endpoint) r = record r { sender = Some (node, endpoint) }
 change (AddAnswer about i) r = with_answer about i r
 change (AddSends sends) r = record r { done = record r.done { sends = r.done.sends ++ sends } }
+change ForgetAnswers r = record r { answers = [] }
 change (TakeNote note) r = noted note r
 change (TakeWords words) r = with_words words r
 

@@ -1,6 +1,6 @@
 //! The TLVs of a datagram: a rule for each kind, and a refresh after each TLV.
 
-ghost use Rattle.std.specs.Prelude.{◌≡◌, ℕ, List, IfOk, OnOk, map, true, false};
+ghost use Rattle.std.specs.Prelude.{◌≡◌, ℕ, ◌+◌, ◌≤◌, List, [], ◌++◌, length, vec_len, vec_capacity, IfOk, OnOk, map, true, false};
 ghost use Rattle.hn_tlv.specs.Grammar.{PlainTlv, IsTlvList, HasTlvs};
 ghost use Rattle.hn_tlv.specs.View.{plain};
 ghost use Rattle.hn_typed.specs.View.{plain_item};
@@ -10,15 +10,17 @@ ghost use Rattle.hn_rules.specs.Refresh.{IsRefresh};
 ghost use Rattle.hn_rules.specs.Router.{IsRefreshed, IsFresh, IsUntouched};
 ghost use Rattle.hn_rules.specs.Arrival.{IsItemRule, IsTlvRule, IsTlvs, IsAnswering, IsArrival};
 
+use crate::answers::Answer;
 use crate::done::Note;
 use crate::running::{Origin, Running};
-use hn_base::{Bytes, NoMemory};
+use hn_base::{Bytes, NoMemory, Sequence};
 use hn_dncp::pack;
 use hn_io::Draw;
 use hn_store::State as CarriedState;
 use hn_tlv::{Tlv, fault_after_list, first_fault_is_unique, list_grows, list_is_unique, next};
 use hn_typed::{Item, read};
 use std::alloc::Global;
+use std::mem::replace;
 
 mod claim;
 mod network_state;
@@ -150,25 +152,28 @@ impl Running {
         Ok(())
     }
 
-    /// The TLVs of the answers.
-    fn answer_tlvs(&self, alloc: Global) -> Result<Vec<Bytes>, NoMemory>
-        ensures { IfOk result (λ tlvs. tlvs.items ≡ map (λ a. a.tlv) self.now.answers) }
+    /// The TLVs of the answers, which are handed over. There is room.
+    fn hand_over(&mut self, alloc: Global, tlvs: &mut Vec<Bytes>)
+        requires room { vec_len tlvs.old + length self.old.answers ≤ vec_capacity tlvs.old }
+        ensures tlvs { tlvs.new.items ≡ tlvs.old.items ++ map (λ a. a.tlv) self.old.answers }
+        ensures rest { self.new ≡ record self.old { answers = [] } }
     {
-        let mut tlvs = Vec::with_capacity(alloc, self.answers.len())?;
-        for answer in self.answers.as_slice() {
-            tlvs.push(Bytes::copy_of(alloc, answer.tlv.as_slice())?)?;
+        let answers = replace(&mut self.answers, Sequence::new(alloc));
+        for answer in answers.into_vec() {
+            let Answer { tlv, .. } = answer;
+            tlvs.push_reserved(tlv);
         }
-        Ok(tlvs)
     }
 
-    /// The answers are sent to the source.
+    /// The answers are sent to the source, and there are none after it.
     fn send_answers(&mut self, alloc: Global, from: &Origin) -> Result<(), NoMemory>
         ensures { OnOk result (IsAnswering from.now self.old self.new) }
     {
         if self.answers.is_empty() {
             return Ok(());
         }
-        let tlvs = self.answer_tlvs(alloc)?;
+        let mut tlvs = Vec::with_capacity(alloc, self.answers.len())?;
+        self.hand_over(alloc, &mut tlvs);
         let datagrams = pack(alloc, self.state.id, from.endpoint, tlvs.as_slice())?;
         self.send(from.endpoint, Some(from.from), datagrams)
     }

@@ -1,5 +1,5 @@
--- What each event keeps: what is sent is short, the limit of the table stays, and what is held and sent was published.
-use Rattle.std.proofs.Common.{◌≡◌, ◌<◌, ◌^◌, ◌⊎◌, ℕ, List, [], ◌++◌, inl, inr, refl, sym, subst, arith}
+-- What each event keeps: what is sent is short and of bytes, the limit of the table stays, and what is held and sent was published.
+use Rattle.std.proofs.Common.{◌≡◌, ◌<◌, ◌^◌, ◌⊎◌, ℕ, List, [], ◌++◌, inl, inr, refl, sym, ap, subst, arith}
 use Rattle.std.specs.Prelude.{All, length, nat_eq, ◌≤◌}
 use Rattle.std.specs.Option.{option_eq}
 use Rattle.std.proofs.lemmas.Bool.{cond_both}
@@ -14,14 +14,17 @@ use Rattle.hn_rules.specs.declared.done.Publication.{Publication}
 use Rattle.hn_rules.specs.declared.running.Running.{Running}
 use Rattle.hn_rules.specs.declared.state.State.{State}
 use Rattle.hn_own.specs.HeldPairs.{without_private}
+use Rattle.hn_rules.specs.Changes.{EachKeeps}
 use Rattle.hn_rules.specs.Events.{IsAttaching, detaching}
 use Rattle.hn_rules.specs.Genuine.{IsGenuine, TextsCollide, TlvsSayPublished, BytesSayPublished, IsGenuineAnswer, IsGenuineSoFar, IsGenuineOrCollides}
-use Rattle.hn_rules.specs.Laws.{RouterStaysLater, AttachingKeeps, KeepsWell, ChangesKeepLimit, RouterIsHashed, ChangesKeepShort, ChangesKeepGenuine}
+use Rattle.hn_rules.specs.Laws.{RouterStaysLater, AttachingKeeps, KeepsWell, ChangesKeepLimit, RouterIsHashed, ChangesKeepShort, ChangesKeepBytes, ChangesKeepGenuine}
 use Rattle.hn_rules.specs.Lengths.{most_answer, most_datagram, AreShort}
-use Rattle.hn_rules.specs.Router.{IsWell, IsHashed}
+use Rattle.hn_rules.specs.Router.{IsWell, IsHashed, IsRouter}
 use Rattle.hn_rules.specs.Rules.{begun_at}
+use Rattle.hn_rules.specs.Spelled.{IsSpelled, AreOfBytes}
 use Rattle.hn_router.specs.Act.{PlainEvent, Arrive, IsEventInRange, Happened}
-use Rattle.hn_router.specs.Laws.{IsTrusted, SendsAreShort, LimitStays, GenuineStays}
+use Rattle.hn_router.specs.Laws.{IsTrusted, SendsAreShort, SendsAreBytes, LimitStays, GenuineStays}
+use Rattle.hn_router.specs.Sends.{IsShortSend, IsSendOfBytes}
 use Rattle.hn_router.proofs.Changing.{ChangeLaws, IsFrom, given_keep, event_keeps}
 use Rattle.hn_router.proofs.Edits.{EndpointsKeep, GivenKeep}
 
@@ -68,24 +71,50 @@ module _ (laws : EndLaws) where
   hashed_detached : (at : EpId) (r : Running) → IsHashed r.state → IsHashed (detaching at r).state
   hashed_detached at r hashed = record { well = laws.detaches at r (detaching at r) refl hashed.well; hash = hashed.hash }
 
-  short_ends : EndpointsKeep IsEventInRange (λ r. IsHashed r.state × AreShort r)
-  short_ends = record {
-    attaching = λ at r a fits some room is (hashed, short). (
-      hashed_attached at r a fits some room is hashed,
-      subst AreShort (sym is.gives) (record { answers = short.answers; sends = short.sends }),
-    );
-    detaching = λ at r (hashed, short). (hashed_detached at r hashed, record { answers = short.answers; sends = short.sends });
-  }
+  -- a fact of answers and sends, which each change keeps
+  module _ (P : Running → Type 0) (same : (r a : Running) → a.answers ≡ r.answers → a.done.sends ≡ r.done.sends → P r → P a)
+      (keeps : (tlvs : List PlainTlv) → EachKeeps tlvs (λ r. IsHashed r.state × P r)) where
+    sending_ends : EndpointsKeep IsEventInRange (λ r. IsHashed r.state × P r)
+    sending_ends = record {
+      attaching = λ at r a fits some room is (hashed, so). (
+        hashed_attached at r a fits some room is hashed,
+        same r a (ap (λ (x : Running). x.answers) is.gives) (ap (λ (x : Running). x.done.sends) is.gives) so,
+      );
+      detaching = λ at r (hashed, so). (hashed_detached at r hashed, same r (detaching at r) refl refl so);
+    }
+
+    -- holds of the router in the middle of an event, at its end
+    sent_at_end : (now : ℕ) (event : PlainEvent) (s next : State) (done : Done) → IsRouter s → s.moment ≤ now → IsEventInRange event → Happened now event s next done
+        → P (begun_at now s) → (after : Running) × P after × (done ≡ after.done)
+    unfolding Happened
+    sent_at_end now event s next done router rises ranged (after, holds, (due, is_due, is_next), is_done) begun =
+        let hashed : IsHashed (begun_at now s).state = laws.hashed (begun_at now s).state (laws.later now s router rises) in
+        let given = given_keep laws.changes (λ r. IsHashed r.state × P r) (keeps []) in
+        let kept =
+        event_keeps laws.changes IsEventInRange (λ r. IsHashed r.state × P r) sending_ends given event ranged (λ tlvs from. keeps tlvs) (begun_at now s) after holds (hashed, begun) in
+        (after, kept.1, is_done)
 
   pub sends_short : ChangesKeepShort → SendsAreShort
-  unfolding Happened
-  sends_short keeps now event s next done router rises ranged (after, holds, (due, is_due, is_next), is_done) =
-      let begun : IsHashed (begun_at now s).state = laws.hashed (begun_at now s).state (laws.later now s router rises) in
+  sends_short keeps now event s next done router rises ranged holds =
       let none : AreShort (begun_at now s) =
       record { answers = All-nil (λ (a : Answer). length a.tlv ≤ most_answer); sends = All-nil (λ (o : Outgoing). length o.bytes ≤ most_datagram) } in
-      let given = given_keep laws.changes (λ r. IsHashed r.state × AreShort r) (keeps []) in
-      let kept = event_keeps laws.changes IsEventInRange (λ r. IsHashed r.state × AreShort r) short_ends given event ranged (λ tlvs from. keeps tlvs) (begun_at now s) after holds (begun, none) in
-      subst (λ (d : Done). All (λ o. length o.bytes ≤ most_datagram) d.sends) (sym is_done) kept.1.sends
+      let (after, short, is_done) = sent_at_end AreShort same keeps now event s next done router rises ranged holds none in
+      subst (λ (d : Done). All IsShortSend d.sends) (sym is_done) short.sends
+    where
+      same : (r a : Running) → a.answers ≡ r.answers → a.done.sends ≡ r.done.sends → AreShort r → AreShort a
+      same r a answers sends so = record {
+        answers = subst (All (λ (x : Answer). length x.tlv ≤ most_answer)) (sym answers) so.answers;
+        sends = subst (All (λ (o : Outgoing). length o.bytes ≤ most_datagram)) (sym sends) so.sends;
+      }
+
+  pub sends_bytes : ChangesKeepBytes → SendsAreBytes
+  sends_bytes keeps now event s next done router rises ranged holds =
+      let none : AreOfBytes (begun_at now s) = record { answers = All-nil IsSpelled; sends = All-nil IsSendOfBytes } in
+      let (after, bytes, is_done) = sent_at_end AreOfBytes same keeps now event s next done router rises ranged holds none in
+      subst (λ (d : Done). All IsSendOfBytes d.sends) (sym is_done) bytes.sends
+    where
+      same : (r a : Running) → a.answers ≡ r.answers → a.done.sends ≡ r.done.sends → AreOfBytes r → AreOfBytes a
+      same r a answers sends so = record { answers = subst (All IsSpelled) (sym answers) so.answers; sends = subst (All IsSendOfBytes) (sym sends) so.sends }
 
   -- ---- what was published
 

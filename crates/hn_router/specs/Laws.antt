@@ -15,7 +15,7 @@ use Rattle.hn_router.specs.New.{IsNew}
 use Rattle.hn_own.specs.Ports.{endpoints_of}
 use Rattle.hn_router.specs.Act.{PlainEvent, Arrive, Tick, Attach, Detach, is_refused, IsEventInRange, IsOfBytes, IsEvent, Happened, HasResults}
 use Rattle.hn_rules.specs.Genuine.{IsGenuine, TextsCollide, BytesSayPublished}
-use Rattle.hn_router.specs.Sends.{IsShortSend}
+use Rattle.hn_router.specs.Sends.{IsShortSend, IsSendOfBytes}
 use Rattle.hn_rules.specs.Router.{IsRouter}
 use Rattle.hn_rules.specs.Assigning.{IsRunAssigned}
 use Rattle.hn_rules.specs.Rested.{IsRested}
@@ -88,6 +88,12 @@ abbrev pub SendsAreShort : Type 0
 SendsAreShort =
     (now : ℕ) (event : PlainEvent) (s next : State) (done : Done)
     → IsRouter s → s.moment ≤ now → IsEventInRange event → Happened now event s next done → All IsShortSend done.sends
+
+-- What a router sends is a list of bytes.
+abbrev pub SendsAreBytes : Type 0
+SendsAreBytes =
+    (now : ℕ) (event : PlainEvent) (s next : State) (done : Done)
+    → IsRouter s → s.moment ≤ now → IsEventInRange event → Happened now event s next done → All IsSendOfBytes done.sends
 
 -- No event changes how many nodes a table may hold.
 abbrev pub LimitStays : Type 0

@@ -1,7 +1,7 @@
 //! Laws of the router. Each is the contract of a function that does nothing: call it to know its law.
 
 ghost use Rattle.hn_router.specs.Laws.{OneResult, EventHasAResult, NewExists, NewIsUnique, NewIsRouter, RouterStays, MomentStays};
-ghost use Rattle.hn_router.specs.Laws.{MomentIsNow, EndpointsFollow, RouterHasOneAdvert, SendsAreShort, LimitStays, RefusedInputStays};
+ghost use Rattle.hn_router.specs.Laws.{MomentIsNow, EndpointsFollow, RouterHasOneAdvert, SendsAreShort, SendsAreBytes, LimitStays, RefusedInputStays};
 ghost use Rattle.hn_router.specs.Laws.{RestfulTickStays, GenuineStays};
 
 use hn_deleg::usable_is_unique;
@@ -9,10 +9,10 @@ use hn_graph::{own_is_reachable, reachable_is_a_node};
 use hn_link::{common_link_is_unique, elected_is_unique};
 use hn_own::{none_are_well, own_data_exists, own_data_is_unique};
 use hn_rules::{
-    changes_keep_genuine, changes_keep_hashed, changes_keep_short, changes_keep_the_limit,
-    next_due_is_one, refresh_makes_a_router, restful_tick, router_stays_later, rules_have_a_result,
-    rules_have_one_result, rules_keep_a_router, rules_keep_the_endpoints, rules_keep_the_rest,
-    rules_make_changes,
+    changes_keep_bytes, changes_keep_genuine, changes_keep_hashed, changes_keep_short,
+    changes_keep_the_limit, next_due_is_one, refresh_makes_a_router, restful_tick,
+    router_stays_later, rules_have_a_result, rules_have_one_result, rules_keep_a_router,
+    rules_keep_the_endpoints, rules_keep_the_rest, rules_make_changes,
 };
 use hn_store::loss_keeps_table;
 use hn_tlv::{first_fault_is_unique, list_is_unique, list_or_first_fault};
@@ -112,6 +112,17 @@ pub fn sends_are_short()
     rules_keep_the_rest();
     changes_keep_hashed();
     changes_keep_short();
+}
+
+/// What a router sends is a list of bytes.
+pub fn sends_are_bytes()
+    ensures { SendsAreBytes }
+{
+    router_stays_later();
+    rules_make_changes();
+    rules_keep_the_rest();
+    changes_keep_hashed();
+    changes_keep_bytes();
 }
 
 /// No event changes how many nodes a table may hold.

@@ -1,4 +1,5 @@
 mod Announcing
+mod AnswerTlvs
 mod Arriving
 mod AssignPairs
 mod AssignRuns
@@ -51,6 +52,7 @@ mod Restarting
 mod SameIds
 mod Routers
 mod Sayings
+mod SentBytes
 mod Shorts
 mod TickParts
 mod Ticking

@@ -1,7 +1,6 @@
 -- What is answered and sent is short.
-use Rattle.std.proofs.Common.{◌≡◌, ◌≤◌, ◌+◌, ◌-◌, ◌⊎◌, ◌∙◌, ℕ, Bool, true, false, cond, List, [], ◌∷◌, length, map, Option, Some, None, inl, inr, lit≤, refl, sym, ap, subst, arith, length-append}
-use Rattle.std.specs.Prelude.{All, ◌==◌}
-use Rattle.std.specs.Option.{option_map}
+use Rattle.std.proofs.Common.{◌≡◌, ◌≤◌, ◌+◌, ◌-◌, ◌⊎◌, ◌∙◌, ℕ, Bool, true, false, List, [], ◌∷◌, length, map, Some, inl, inr, lit≤, sym, ap, subst, arith, length-append}
+use Rattle.std.specs.Prelude.{All}
 use Rattle.std.proofs.lemmas.Bool.{cond_both}
 use Rattle.std.proofs.lemmas.List.{length-replicate}
 use Rattle.std.proofs.lemmas.List.Elements.{All-nil, All-cons, All-append, All-push, All-map, All-weaker, All-contains}
@@ -14,7 +13,7 @@ use Rattle.hn_typed.specs.Written.{value_of, tlv_of}
 use Rattle.hn_dncp.specs.Laws.{PackingIsShort}
 use Rattle.hn_dncp.specs.Packing.{IsShortDatagram}
 use Rattle.hn_store.specs.Laws.{HeldIsOfAnEntry}
-use Rattle.hn_store.specs.Nodes.{held, IsIntact}
+use Rattle.hn_store.specs.Nodes.{IsIntact}
 use Rattle.hn_store.specs.declared.stored.Stored.{Stored}
 use Rattle.hn_rules.specs.declared.answers.Subject.{Subject}
 use Rattle.hn_rules.specs.declared.answers.Subject.TheVariants as subject
@@ -29,13 +28,11 @@ use Rattle.hn_rules.specs.Lengths.{most_answer, most_datagram}
 use Rattle.hn_rules.specs.Nodes.{age_at}
 use Rattle.hn_rules.specs.Requests.{sent_age, sent_data, own_state, held_state, state_item}
 use Rattle.hn_rules.specs.Router.{IsWell}
+use Rattle.hn_rules.proofs.AnswerTlvs.{of_known}
 use Rattle.hn_rules.proofs.Known.{held_all}
 
 spelling_size : (tlv : PlainTlv) → length (spelling tlv) ≤ length tlv.value + 7
 spelling_size tlv = simp (length-append, length-replicate) (omega arith)
-
-unsome : {A : Type 0} {a b : A} → ◌≡◌ {A = Option A} (Some a) (Some b) → a ≡ b
-unsome same = cc
 
 abbrev IsShortItem : PlainItem → Type 0
 IsShortItem i = length (spelling (tlv_of i)) ≤ most_answer
@@ -66,18 +63,10 @@ held_short with_data now id stored intact eight =
     (sent_short with_data stored.body intact.short)
 
 module _ (held_of_entry : HeldIsOfAnEntry) (eight : HashHasEightBytes) where
-  some_held_short : (with_data : Bool) (s : State) (id : NodeId) (i : PlainItem) (h : Option Stored) → IsWell s → held s.table.entries id.0 ≡ h
-      → option_map (held_state with_data s.moment id) h ≡ Some i → IsShortItem i
-  some_held_short with_data s id i None well found is = absurd cc
-  some_held_short with_data s id i (Some stored) well found is =
-      subst IsShortItem (unsome is) (held_short with_data s.moment id stored (held_all held_of_entry IsIntact s.table.entries id.0 stored well.table.intact found) eight)
-
   item_short : (with_data : Bool) (s : State) (id : NodeId) (i : PlainItem) → IsWell s → state_item with_data s id ≡ Some i → IsShortItem i
-  item_short with_data s id i well = by_test (id.0 == s.id.0)
-    where
-      by_test : (b : Bool) → cond b (Some (own_state with_data s)) (option_map (held_state with_data s.moment id) (held s.table.entries id.0)) ≡ Some i → IsShortItem i
-      by_test true is = subst IsShortItem (unsome is) (own_short with_data s well eight)
-      by_test false is = some_held_short with_data s id i (held s.table.entries id.0) well refl is
+  item_short with_data s id i well =
+      of_known IsShortItem with_data s id (own_short with_data s well eight)
+      (λ stored found. held_short with_data s.moment id stored (held_all held_of_entry IsIntact s.table.entries id.0 stored well.table.intact found) eight) i
 
   -- what is said of a subject is short
   answer_short : (about : Subject) (s : State) (i : PlainItem) → IsWell s → IsHash s.net → IsAnswerAbout about s i → IsShortItem i

@@ -50,6 +50,7 @@ use Rattle.hn_rules.specs.Refresh.{IsRefresh}
 use Rattle.hn_rules.specs.Router.{IsWell, IsHashed, IsRouter}
 use Rattle.hn_rules.specs.Rules.{Rule, IsTotal, begun_at}
 use Rattle.hn_rules.specs.Seen.{seen_by}
+use Rattle.hn_rules.specs.Spelled.{AreOfBytes}
 use Rattle.hn_rules.specs.Still.{at_moment, IsUneventful, IsStill}
 use Rattle.hn_rules.specs.Ticks.{IsTick}
 
@@ -247,6 +248,10 @@ ChangesKeepHashed = (tlvs : List PlainTlv) → EachKeeps tlvs (λ r. IsHashed r.
 -- What is answered and sent stays short.
 abbrev pub ChangesKeepShort : Type 0
 ChangesKeepShort = (tlvs : List PlainTlv) → EachKeeps tlvs (λ r. IsHashed r.state × AreShort r)
+
+-- What is answered and sent stays made of bytes, whatever the TLVs say.
+abbrev pub ChangesKeepBytes : Type 0
+ChangesKeepBytes = (tlvs : List PlainTlv) → EachKeeps tlvs (λ r. IsHashed r.state × AreOfBytes r)
 
 -- Where the TLVs that arrive say what was published, so does a router with what it holds, answers and sends; or two texts
 -- that were published collide.

@@ -1,6 +1,7 @@
 pub mod Done
 pub mod Nodes
 pub mod Seen
+pub mod Spelled
 pub mod Posts
 pub mod Rules
 pub mod Refresh

@@ -13,7 +13,7 @@ ghost use Rattle.hn_rules.specs.Assigning.{IsAssigning};
 ghost use Rattle.hn_rules.specs.Delegating.{delegating, withdrawing, ending};
 ghost use Rattle.hn_rules.specs.Given.{IsPrivateLength};
 ghost use Rattle.hn_rules.specs.Events.{IsAttaching, detaching, setting_caps, setting_private, setting_addresses, IsRestarting};
-ghost use Rattle.hn_rules.specs.Laws.{HashIsOfLeaves, AssignedIsPublished, ItemsArePublished, OwnVersionIsSaid, OwnAddressesAreSaid, ViewIsNetwork, OwnPeersAreOfEndpoints, PrivatePostIsAlone, EntriesAreAsKnown, RouterStaysLater, NextDueIsOne, NextDueStays, UneventfulReaches, StillStays, KeepsRouter, KeepsWell, KeepsEndpoints, RefreshMakesRouter, AssigningKeeps, DelegatingKeeps, AttachingKeeps, AddressingKeeps, MakesChanges, DelegatingMakesChanges, AddressingMakesChanges, ChangesKeepWell, ChangesKeepLimit, ChangesOnlyAdd, StillIsIdle, IdleIsStill, IdleUntilDue, RefreshRests, RouterIsHashed, ChangesKeepHashed, ChangesKeepShort, ChangesKeepGenuine, SilentTickIsStill, HasAResult, ArrivalHasAResult, AssigningHasAResult, WishesExist};
+ghost use Rattle.hn_rules.specs.Laws.{HashIsOfLeaves, AssignedIsPublished, ItemsArePublished, OwnVersionIsSaid, OwnAddressesAreSaid, ViewIsNetwork, OwnPeersAreOfEndpoints, PrivatePostIsAlone, EntriesAreAsKnown, RouterStaysLater, NextDueIsOne, NextDueStays, UneventfulReaches, StillStays, KeepsRouter, KeepsWell, KeepsEndpoints, RefreshMakesRouter, AssigningKeeps, DelegatingKeeps, AttachingKeeps, AddressingKeeps, MakesChanges, DelegatingMakesChanges, AddressingMakesChanges, ChangesKeepWell, ChangesKeepLimit, ChangesOnlyAdd, StillIsIdle, IdleIsStill, IdleUntilDue, RefreshRests, RouterIsHashed, ChangesKeepHashed, ChangesKeepShort, ChangesKeepBytes, ChangesKeepGenuine, SilentTickIsStill, HasAResult, ArrivalHasAResult, AssigningHasAResult, WishesExist};
 ghost use Rattle.hn_rules.specs.Refresh.{IsRefresh};
 ghost use Rattle.hn_rules.specs.Rested.{KeepsId, RestfulTick, UsedWhereAssigned, ViewOfLater};
 ghost use Rattle.hn_rules.specs.Rules.{IsSole};
@@ -449,6 +449,22 @@ pub fn changes_keep_short()
     hash_has_eight_bytes();
     held_is_of_an_entry();
     packing_is_short();
+}
+
+/// What a router answers is what is written for a TLV, and each datagram that it sends is a list of bytes. Each elementary
+/// change keeps that.
+pub fn changes_keep_bytes()
+    ensures { ChangesKeepBytes }
+{
+    changes_keep_hashed();
+    hash_has_eight_bytes();
+    held_is_of_an_entry();
+    packing_is_read();
+    list_is_of_bytes();
+    spelling_is_prefix_free();
+    item_is_unique();
+    written_is_read();
+    items_are_unique();
 }
 
 /// What a router holds, answers and sends was published, where what arrives was; or two texts that were published collide.

@@ -13,15 +13,17 @@ returns c =
         forgetting = c.held_was_brought.ensures.forgetting;
       };
       say = record {
-        read = record {
-          of_bytes = c.list_is_of_bytes.ensures;
-          same_begin = c.spelling_is_prefix_free.ensures;
-          same_item = c.item_is_unique.ensures;
-          written_is_item = c.written_is_read.ensures;
-          one_items = c.items_are_unique.ensures;
+        answer = record {
+          read = record {
+            of_bytes = c.list_is_of_bytes.ensures;
+            same_begin = c.spelling_is_prefix_free.ensures;
+            same_item = c.item_is_unique.ensures;
+            written_is_item = c.written_is_read.ensures;
+            one_items = c.items_are_unique.ensures;
+          };
+          of_entry = c.held_is_of_an_entry.ensures;
+          eight = c.hash_has_eight_bytes.ensures;
         };
-        of_entry = c.held_is_of_an_entry.ensures;
-        eight = c.hash_has_eight_bytes.ensures;
         one_list = c.list_is_unique.ensures;
         packing = c.packing_is_read.ensures;
       };

@@ -15,6 +15,7 @@ mod Limited
 mod Authentics
 mod Grown
 mod SomeSteps
+mod CopiesOfBytes
 mod Received
 mod Addressed
 mod SameNames

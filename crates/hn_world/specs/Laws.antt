@@ -1,5 +1,6 @@
 -- Laws of worlds that are the replay of their trace.
 use Rattle.std.specs.Prelude.{◌≡◌, ◌<◌, ◌++◌, ◌∷◌, [], ℕ, List, Some, All, length}
+use Rattle.hn_base.specs.Byte.{IsByte}
 use Rattle.hn_base.specs.declared.version.Version.{Version}
 use Rattle.hn_hash.specs.declared.agreement.Agreement.{Agreement}
 use Rattle.hn_hash.specs.declared.leaf.Leaf.{Leaf}
@@ -57,3 +58,7 @@ AlwaysAttached = (w : Parts) → IsReplayed w → Always AreAttached w
 -- Each copy of a replayed world goes to a router that is there.
 abbrev pub CopiesHaveReceivers : Type 0
 CopiesHaveReceivers = (w : Parts) → IsReplayed w → All (λ c. c.to.place < length w.members) w.copies
+
+-- And each is of bytes.
+abbrev pub CopiesAreBytes : Type 0
+CopiesAreBytes = (w : Parts) → IsReplayed w → All (λ c. All IsByte c.bytes) w.copies

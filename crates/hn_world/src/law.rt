@@ -9,14 +9,14 @@ ghost use Rattle.hn_world.specs.Replay.{IsReplayed, IsSound, Always};
 ghost use Rattle.hn_world.specs.Step.{Step};
 ghost use Rattle.hn_world.specs.Within.{AreWithinLimits, RouterIsWithinLimits};
 ghost use Rattle.hn_world.specs.Authentic.{AuthenticUnlessInjected};
-ghost use Rattle.hn_world.specs.Existing.{StepExists};
+ghost use Rattle.hn_world.specs.Existing.{StepExists, ReplayedStepExists};
 ghost use Rattle.hn_world.specs.Leaves.{EqualHashesAgree};
-ghost use Rattle.hn_world.specs.Laws.{StepIsUnique, EachEventIsEntered, EachEventIsAStep, AgreementIsUnique, AtMostOneWorld, WorldHasItsTrace, WorldHasItsVersion, WorldIsSound, AlwaysAttached, CopiesHaveReceivers};
+ghost use Rattle.hn_world.specs.Laws.{StepIsUnique, EachEventIsEntered, EachEventIsAStep, AgreementIsUnique, AtMostOneWorld, WorldHasItsTrace, WorldHasItsVersion, WorldIsSound, AlwaysAttached, CopiesHaveReceivers, CopiesAreBytes};
 
 use hn_hash::equal_hashes_agree_or_collide;
 use hn_router::{
     endpoints_follow, event_has_a_result, genuine_stays, limit_stays, moment_is_now, new_exists,
-    new_is_router, new_is_unique, one_result, router_stays, sends_are_short,
+    new_is_router, new_is_unique, one_result, router_stays, sends_are_bytes, sends_are_short,
 };
 use hn_rules::hash_is_of_leaves;
 
@@ -29,12 +29,15 @@ pub fn step_is_unique()
 }
 
 /// Over each stream of random words an accepted event has a result: it cannot be that there is none. With `step_is_unique`
-/// there is exactly one.
+/// there is exactly one. In a replayed world nothing is asked of the copy that is delivered.
 pub fn step_exists()
-    ensures { StepExists }
+    ensures sound { StepExists }
+    ensures replayed { ReplayedStepExists }
 {
     event_has_a_result();
     new_exists();
+    always_sound();
+    copies_are_bytes();
 }
 
 /// Each event is entered at the end of the trace, which had fewer than 1,000,000.
@@ -102,6 +105,16 @@ pub fn names_differ()
 pub fn copies_have_receivers()
     ensures { CopiesHaveReceivers }
 {}
+
+/// Each copy is of bytes.
+pub fn copies_are_bytes()
+    ensures { CopiesAreBytes }
+{
+    new_is_router();
+    router_stays();
+    moment_is_now();
+    sends_are_bytes();
+}
 
 /// A router, also one that is served by itself, is within the limits of a version whose limit its table has: so many other
 /// nodes with at most 60,000 bytes each, 16 endpoints with 64 peers each, 8 delegated prefixes, 64 addresses, 544

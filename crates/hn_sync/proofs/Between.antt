@@ -197,13 +197,16 @@ pub replays_step : (version : Version) (ts : List Traced) (t : Traced) (before a
 unfolding Replays
 replays_step version ts t before after h step = goes_more (empty_world version) before after ts t h step
 
+pub replayed_then : WorldHasItsTrace → WorldHasItsVersion → (t : Traced) (before after : Parts) → IsReplayed before → (notes : List Note) × Step t notes before after → IsReplayed after
+replayed_then has_trace has_version t before after h step =
+    let then = replays_step before.version before.trace t before after h step in
+    let trace = has_trace before.version (before.trace ++ t ∷ []) after then in
+    let version = has_version before.version (before.trace ++ t ∷ []) after then in
+    subst (λ (v : Version). Replays v after.trace after) (sym version) (subst (λ (ts : List Traced). Replays before.version ts after) (sym trace) then)
+
 module _ (laws : HasLaws) (here there : Target) (count : ℕ) where
   pub replayed_more : (t : Traced) (before after : Parts) → IsReplayed before → (notes : List Note) × Step t notes before after → IsReplayed after
-  replayed_more t before after h step =
-      let then = replays_step before.version before.trace t before after h step in
-      let trace = laws.trace before.version (before.trace ++ t ∷ []) after then in
-      let version = laws.version before.version (before.trace ++ t ∷ []) after then in
-      subst (λ (v : Version). Replays v after.trace after) (sym version) (subst (λ (ts : List Traced). Replays before.version ts after) (sym trace) then)
+  replayed_more t before after h step = replayed_then laws.trace laws.version t before after h step
 
   abbrev IsBetween : MailCopy → Type 0
   IsBetween c = ((c.to ≡ here) × (c.from ≡ address_of there)) ⊎ ((c.to ≡ there) × (c.from ≡ address_of here))

@@ -5,6 +5,7 @@ mod Asked
 mod Streams
 mod Delivered
 mod Uniques
+mod SomeEnds
 mod Answering
 mod Between
 mod Signs

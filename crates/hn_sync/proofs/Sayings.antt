@@ -31,15 +31,18 @@ pub record CanBeSaid (i : PlainItem) : Type 0 where
 no_tlvs : HasTlvs []
 no_tlvs = ([], refl)
 
+pub endpoint_is_tlv : (node endpoint : ℕ) → IsTlv (tlv_of (item.NodeEndpoint node endpoint []))
+endpoint_is_tlv node endpoint = record {
+  kind_fits = omega arith;
+  length_fits = omega arith;
+  bytes =
+      All-append IsByte ((word node ++ word endpoint) ++ []) []
+      (All-append IsByte (word node ++ word endpoint) [] (All-append IsByte (word node) (word endpoint) (number_bytes 4 node) (number_bytes 4 endpoint)) (All-nil IsByte)) (All-nil IsByte);
+}
+
 pub can_say_endpoint : (node endpoint : ℕ) → node < 2 ^ 32 → endpoint < 2 ^ 32 → CanBeSaid (item.NodeEndpoint node endpoint [])
 can_say_endpoint node endpoint fits too = record {
-  is_tlv = record {
-    kind_fits = omega arith;
-    length_fits = omega arith;
-    bytes =
-        All-append IsByte ((word node ++ word endpoint) ++ []) []
-        (All-append IsByte (word node ++ word endpoint) [] (All-append IsByte (word node) (word endpoint) (number_bytes 4 node) (number_bytes 4 endpoint)) (All-nil IsByte)) (All-nil IsByte);
-  };
+  is_tlv = endpoint_is_tlv node endpoint;
   writable = record { in_range = (fits, too); text = tt; other_kind = tt; tlvs_after = no_tlvs; short = omega arith };
 }
 

@@ -1,6 +1,7 @@
 -- One exchange: a router asks another one for the network state, and each datagram of this is delivered at once.
 use Rattle.std.specs.Prelude.{◌≡◌, ℕ, zero, suc, ◌+◌, true, false, nat_le, is_none, if◌then◌else◌, List, [], ◌∷◌, length, Option, None, Some}
 use Rattle.std.specs.Option.{option_or}
+use Rattle.hn_base.specs.Exists.{Some! }
 use Rattle.hn_base.specs.Name.{name_text}
 use Rattle.hn_base.specs.Words.{Took}
 use Rattle.hn_base.specs.declared.ids.EpId.{EpId}
@@ -100,6 +101,16 @@ pub record StopsAt (a b : Name) (code : ℕ) (told told_after : Option (ℕ → 
 abbrev pub ExchangeEnds : Name → Name → Option ℕ → Option (ℕ → ℕ) → Option (ℕ → ℕ) → Parts → Parts → Type 0
 ExchangeEnds a b None told told_after before after = Exchanges a b None told told_after before after
 ExchangeEnds a b (Some code) told told_after before after = StopsAt a b code told told_after before after
+
+-- the code at which it stopped, if it did, what a draw tells then, and the world
+pub record EndOfExchange : Type 0 where
+  pub code : Option ℕ
+  pub rest : ℕ → ℕ
+  pub world : Parts
+
+-- over each stream of words an exchange ends: it cannot be that it does not
+unfoldable pub HasAnEnd : Name → Name → Parts → Type 0
+HasAnEnd a b w = (stream : ℕ → ℕ) → Some! (λ (e : EndOfExchange). ExchangeEnds a b e.code (Some stream) (Some e.rest) w e.world)
 
 -- or it is cut off before some event
 pub record IsCutOff (a b : Name) (before after : Parts) : Type 0 where

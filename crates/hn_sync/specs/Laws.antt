@@ -11,7 +11,7 @@ use Rattle.hn_world.specs.declared.member.Member.{Member}
 use Rattle.hn_world.specs.declared.parts.Parts.{Parts}
 use Rattle.hn_world.specs.Replay.{IsReplayed}
 use Rattle.hn_sync.specs.Joined.{AreJoined, AreLeast, joint_of}
-use Rattle.hn_sync.specs.Exchange.{request, IsQuestion, IsBegunExchange, IsExchange, StopsAt, ExchangeEnds, unless_exchange}
+use Rattle.hn_sync.specs.Exchange.{request, IsQuestion, IsBegunExchange, IsExchange, StopsAt, ExchangeEnds, HasAnEnd, unless_exchange}
 use Rattle.hn_sync.specs.Repairs.{Repairs}
 
 -- What is computed are the least endpoints by which two routers are joined.
@@ -61,6 +61,10 @@ ExchangeIsUnique =
     → ExchangeEnds a b code (Some told) (Some rest) before after
     → ExchangeEnds a b other_code (Some told) (Some other_rest) before other
     → AreOneEnd code other_code rest other_rest after other
+
+-- An exchange of a replayed world ends, if there is a question: each event enters the trace, and the 1,000,001st is refused.
+abbrev pub ExchangeExists : Type 0
+ExchangeExists = (a b : Name) (w : Parts) → IsReplayed w → unless_exchange a b w ≡ None → HasAnEnd a b w
 
 -- An exchange of a replayed world stops for lack of room alone: with 9, it would be the 1,000,001st event, or with 16, there is
 -- too much mail.

@@ -7,11 +7,11 @@ ghost use Rattle.hn_world.specs.declared.event.WEvent.{WEvent};
 ghost use Rattle.hn_world.specs.declared.parts.Parts.{Parts};
 ghost use Rattle.hn_world.specs.Refusal.{refusal};
 ghost use Rattle.hn_world.specs.Replay.{words_of};
-ghost use Rattle.hn_sync.specs.Exchange.{AreDelivered, Exchanges, IsCutOff, StopsAt, unless_exchange};
+ghost use Rattle.hn_sync.specs.Exchange.{AreDelivered, Exchanges, HasAnEnd, IsCutOff, StopsAt, unless_exchange};
 ghost use Rattle.hn_sync.specs.Repairs.{Repairs};
 
 use crate::joint::unless_exchange;
-use crate::laws::{exchange_repairs, refused_or_asked, stops_for_room_alone};
+use crate::laws::{exchange_exists, exchange_repairs, refused_or_asked, stops_for_room_alone};
 use crate::question::question;
 use hn_base::Name;
 use hn_io::{Draw, words_join};
@@ -30,6 +30,9 @@ pub trait Exchange {
     /// Afterwards b is repaired: of each node that a reaches, other than b, it holds the sequence number and the data that a
     /// knows; or it held a number that is not older, and holds it still; or what a knows of the node, and what b held of it
     /// or no data, collide. So it is where b has room for what a reaches, and has one identifier all the while.
+    ///
+    /// Whether there is memory or not, it cannot be that an exchange that has a question does not end over a stream of random
+    /// words.
     ///
     /// # Errors
     ///
@@ -52,7 +55,8 @@ pub trait Exchange {
         ensures room { (code : ℕ) → unless_exchange a.now b.now (parts self.old) ≡ None → result ≡ Err (WorldFault.Refused code)
             → (code ≡ 9) ⊎ (code ≡ 16) }
         ensures starved { result ≡ Err WorldFault.NoMemory
-            → IsCutOff a.now b.now (parts self.old) (parts self.new) };
+            → IsCutOff a.now b.now (parts self.old) (parts self.new) }
+        ensures exists { unless_exchange a.now b.now (parts self.old) ≡ None → HasAnEnd a.now b.now (parts self.old) };
 }
 
 /// The copies after so many are delivered, in ascending number, new ones included, until every one was.
@@ -84,6 +88,14 @@ fn deliver_after<D: Draw>(
     Ok(())
 }
 
+/// It cannot be that an exchange that has a question does not end. Changes nothing: call it to know its law.
+fn has_an_end(world: &World, a: &Name, b: &Name)
+    ensures { unless_exchange a.now b.now world.now ≡ None → HasAnEnd a.now b.now world.now }
+{
+    exchange_exists();
+    world.is_replayed();
+}
+
 impl Exchange for World {
     ghost parts = { λ w. w };
 
@@ -94,6 +106,7 @@ impl Exchange for World {
         b: &Name,
         draw: &mut D,
     ) -> Result<(), WorldFault> {
+        has_an_end(self, a, b);
         if let Some(code) = unless_exchange(self, a, b) {
             return Err(WorldFault::Refused(code));
         }

@@ -1,9 +1,10 @@
 //! Laws of exchanges. Each is the contract of a function that does nothing.
 
-ghost use Rattle.hn_sync.specs.Laws.{JointIsLeast, NoJointWhereNoneJoined, QuestionIsPacked, AsksOrIsRefused, QuestionIsUnique, ExchangeIsEntered, ExchangeIsUnique, StopsForRoomAlone, ExchangeRepairs};
+ghost use Rattle.hn_sync.specs.Laws.{JointIsLeast, NoJointWhereNoneJoined, QuestionIsPacked, AsksOrIsRefused, QuestionIsUnique, ExchangeIsEntered, ExchangeIsUnique, ExchangeExists, StopsForRoomAlone, ExchangeRepairs};
 
 use hn_dncp::{packing_is_read, packing_is_unique};
 use hn_hash::hash_has_eight_bytes;
+use hn_io::words_join;
 use hn_router::{endpoints_follow, moment_is_now};
 use hn_rules::{items_are_published, refresh_after_a_refresh_rests, rules_have_one_result};
 use hn_store::{
@@ -12,7 +13,9 @@ use hn_store::{
 };
 use hn_tlv::{first_fault_is_unique, list_is_of_bytes, list_is_unique};
 use hn_typed::{item_fault_is_unique, item_is_unique, written_is_read};
-use hn_world::{always_sound, at_most_one_world, each_event_is_entered, step_is_unique};
+use hn_world::{
+    always_sound, at_most_one_world, each_event_is_entered, step_exists, step_is_unique,
+};
 
 /// What is computed are the least endpoints by which two routers are joined, and there are none exactly where no endpoints
 /// of the two are.
@@ -54,6 +57,19 @@ pub fn exchange_is_unique()
     step_is_unique();
     each_event_is_entered();
     question_is_unique();
+}
+
+/// Over each stream of random words an exchange ends: it cannot be that it does not. With `exchange_is_unique` it ends in
+/// exactly one way.
+pub fn exchange_exists()
+    ensures { ExchangeExists }
+{
+    step_exists();
+    each_event_is_entered();
+    at_most_one_world();
+    refused_or_asked();
+    words_join();
+    list_is_of_bytes();
 }
 
 /// An exchange stops for lack of room alone. Its copies go to and fro between the two endpoints, which stay attached to

@@ -19,12 +19,12 @@ use Rattle.hn_world.specs.declared.event.Traced.{Traced}
 use Rattle.hn_world.specs.declared.event.WEvent.{WEvent}
 use Rattle.hn_world.specs.declared.event.WEvent.TheVariants as event
 use Rattle.hn_world.specs.declared.parts.Parts.{Parts}
-use Rattle.hn_world.specs.Existing.{HasAStep, Outcome, ReplayedStepExists}
+use Rattle.hn_world.specs.Existing.{HasAStep, IsOfBytesAt, Outcome, ReplayedStepExists}
 use Rattle.hn_world.specs.Laws.{EachEventIsEntered, WorldHasItsTrace, WorldHasItsVersion}
 use Rattle.hn_world.specs.Refusal.{refusal}
 use Rattle.hn_world.specs.Replay.{IsReplayed, words_of}
 use Rattle.hn_world.specs.Routed.{routed}
-use Rattle.hn_world.specs.Step.{FitsAt, IsInRange, IsOfBytesAt, IsStep, Step}
+use Rattle.hn_world.specs.Step.{FitsAt, IsInRange, IsStep, Step}
 use Rattle.hn_sync.specs.Exchange.{request, AreDelivered, EndOfExchange, ExchangeEnds, HasAnEnd, IsQuestion}
 use Rattle.hn_sync.specs.Laws.{AsksOrIsRefused, ExchangeExists}
 use Rattle.hn_sync.proofs.Between.{replayed_then}

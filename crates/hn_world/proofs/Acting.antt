@@ -12,7 +12,7 @@ use Rattle.hn_base.specs.Name.{name_text}
 use Rattle.hn_base.specs.declared.ids.NodeId.{NodeId}
 use Rattle.hn_base.specs.declared.name.Name.{Name}
 use Rattle.hn_base.specs.Words.{Drew}
-use Rattle.hn_router.specs.Act.{PlainEvent, Arrive, Tick, IsEventInRange, IsOfBytes, Happened}
+use Rattle.hn_router.specs.Act.{PlainEvent, Arrive, Tick, IsEventInRange, Happened}
 use Rattle.hn_rules.specs.Done.{nothing}
 use Rattle.hn_rules.specs.Still.{at_moment}
 use Rattle.hn_router.specs.New.{IsNew}
@@ -34,7 +34,7 @@ use Rattle.hn_world.specs.Replay.{IsSound, IsSoundMember}
 use Rattle.hn_world.proofs.Places.{got_front, within, found_at}
 use Rattle.hn_world.proofs.Sounds.{all_at}
 use Rattle.hn_world.specs.Routed.{routed, named_by, place_by}
-use Rattle.hn_world.specs.Step.{ActsAt, Acts, DoesAt, Step, IsStep, IsInRange, FitsAt, IsOfBytesAt, acted, beside, entered, with_member, stopped, taken}
+use Rattle.hn_world.specs.Step.{ActsAt, Acts, DoesAt, Step, IsStep, IsInRange, FitsAt, acted, beside, entered, with_member, stopped, taken}
 
 -- the name in a route
 abbrev name_in : Option (Name × PlainEvent) → Option Name
@@ -113,10 +113,10 @@ module _ (change : Member → Member) (place : ℕ) (event : PlainEvent) (told t
     gives = ap (λ (m : Member). record did { members = slice_set before.members place m }) same;
   }
 
-  pub acted_step : (t : WEvent) (name : Name) (after : Parts) (notes : List Note) → refusal before t ≡ None → IsInRange t → IsEventInRange event → IsOfBytes event
+  pub acted_step : (t : WEvent) (name : Name) (after : Parts) (notes : List Note) → refusal before t ≡ None → IsInRange t → IsEventInRange event
       → routed t ≡ Some (name, event) → place_by (named_by t) before ≡ Some place
       → change next_member ≡ beside t before next_member → IsFinished t change place before plan after → notes ≡ plan.done.notes → IsStep t notes told told_after before after
-  acted_step t name after notes accepted in_range fits bytes is found same gives noted =
+  acted_step t name after notes accepted in_range fits is found same gives noted =
       let named : place_by (named_by t) before ≡ router_place (name_text name) before = ap (λ (o : Option Name). place_by o before) (named_routed t (name, event) is) in
       let acts : Acts (beside t before) name event plan.done.words notes before did = record { place = place; is_place = sym named ∙ found; acts = acts_at (beside t before) notes same noted } in
       record {
@@ -125,7 +125,6 @@ module _ (change : Member → Member) (place : ℕ) (event : PlainEvent) (told t
           accepted = accepted;
           in_range = in_range;
           fits = subst FitsAt (sym is) fits;
-          injected = subst IsOfBytesAt (sym is) bytes;
           between = did;
           does = subst (λ (own : Option (Name × PlainEvent)). DoesAt t own plan.done.words notes before did) (sym is) acts;
           gives = finished t after gives;
@@ -181,7 +180,6 @@ module _ (copy : ℕ) (c : MailCopy) (told told_after : Option (ℕ → ℕ)) (b
           accepted = accepted;
           in_range = tt;
           fits = tt;
-          injected = tt;
           between = taken copy c done;
           does = record {
             mail = c;
@@ -226,7 +224,6 @@ begun_step name id opened before limit now router m p members published trace t 
       accepted = accepted;
       in_range = fits;
       fits = tt;
-      injected = tt;
       between = record before {
         members = before.members ++ record { name = name; running = true; router = router; attachments = [] } ∷ [];
         published = before.published ++ record { id = id; number = 1; body = router.own.body } ∷ [];
@@ -256,7 +253,6 @@ dropped_step copy before copies trace t accepted event entered takes =
       accepted = accepted;
       in_range = tt;
       fits = tt;
-      injected = tt;
       between = taken copy c.0 before;
       does = record { mail = c.0; is_copy = at; quietly = record { took = refl; noted = refl; gives = refl } };
       gives = rw (takes c.0 at, entered, event) refl;
@@ -280,7 +276,6 @@ passed_step name place before m members trace t notes told accepted found at hap
       accepted = accepted;
       in_range = tt;
       fits = tt;
-      injected = tt;
       between = between;
       does = record {
         place = place;
@@ -302,7 +297,6 @@ stopped_step name place before members trace t accepted found event entered stop
       accepted = accepted;
       in_range = tt;
       fits = tt;
-      injected = tt;
       between = with_member place (stopped m.0) before;
       does = record {
         place = place;

@@ -4,7 +4,7 @@ use Rattle.std.proofs.lemmas.List.Elements.{All-nil, All-append}
 use Rattle.hn_base.specs.Byte.{IsByte}
 use Rattle.hn_base.specs.declared.name.Name.{Name}
 use Rattle.hn_base.specs.declared.version.Version.{Version}
-use Rattle.hn_router.specs.Act.{PlainEvent, Arrive, IsEventInRange, IsOfBytes}
+use Rattle.hn_router.specs.Act.{PlainEvent, Arrive, IsEventInRange}
 use Rattle.hn_router.specs.Laws.{SendsAreBytes}
 use Rattle.hn_rules.specs.declared.done.Note.{Note}
 use Rattle.hn_rules.specs.declared.running.Origin.{Origin}
@@ -18,7 +18,7 @@ use Rattle.hn_world.specs.Laws.{CopiesAreBytes, WorldIsSound}
 use Rattle.hn_world.specs.Mail.{copies_of}
 use Rattle.hn_world.specs.Replay.{IsReplayed, Replays, IsSoundMember, IsSound}
 use Rattle.hn_world.specs.Routed.{routed}
-use Rattle.hn_world.specs.Step.{ActsAt, DoesAt, DoesElse, FitsAt, IsOfBytesAt, beside}
+use Rattle.hn_world.specs.Step.{ActsAt, DoesAt, DoesElse, FitsAt, beside}
 use Rattle.hn_world.proofs.Acting.{copy_there}
 use Rattle.hn_world.proofs.Copied.{Copied, copied, still_copied}
 use Rattle.hn_world.proofs.Onces.{Any}
@@ -39,10 +39,10 @@ pub record BytesLaws : Type 0 where
 
 module _ (laws : BytesLaws) where
   bytes_at : (change : Member → Member) (place : ℕ) (event : PlainEvent) (words : List ℕ) (notes : List Note) (before after : Parts)
-      → IsEventInRange event → IsOfBytes event → ActsAt change place event words notes before after → IsSound before → HasBytes before → HasBytes after
-  bytes_at change place event words notes before after ranged given h sound all =
+      → IsEventInRange event → ActsAt change place event words notes before after → IsSound before → HasBytes before → HasBytes after
+  bytes_at change place event words notes before after ranged h sound all =
       let here : IsSoundMember before.moment h.member = all_at (IsSoundMember before.moment) before.members place h.member h.is_member sound in
-      let sends = laws.sends before.moment event h.member.router h.next h.done here.router here.past ranged given h.happened in
+      let sends = laws.sends before.moment event h.member.router h.next h.done here.router here.past ranged h.happened in
       subst HasBytes (sym h.gives)
       (All-append (Copied AreBytes) before.copies (copies_of before.members place h.member h.done.sends) all (copied AreBytes before.members place h.member h.done.sends sends))
 
@@ -54,22 +54,22 @@ module _ (laws : BytesLaws) where
   bytes_else (event.Deliver copy) words notes before after h sound all =
       let one : AreBytes h.mail.bytes = all_at (Copied AreBytes) before.copies (copy - 1) h.mail h.is_copy all in
       let origin : Origin = record { endpoint = h.mail.to.endpoint; from = h.mail.from; multicast = h.mail.multicast } in
-      let between : HasBytes h.between = bytes_at (λ m. m) h.mail.to.place (Arrive origin h.mail.bytes) words notes before h.between tt one h.acts sound all in
+      let between : HasBytes h.between = bytes_at (λ m. m) h.mail.to.place (Arrive origin h.mail.bytes) words notes before h.between tt h.acts sound all in
       subst HasBytes (sym h.gives) (still_copied AreBytes copy h.mail h.between one between)
   bytes_else (event.Drop copy) words notes before after h sound all =
       let one : AreBytes h.mail.bytes = all_at (Copied AreBytes) before.copies (copy - 1) h.mail h.is_copy all in
       subst HasBytes (sym h.quietly.gives) (still_copied AreBytes copy h.mail before one all)
   bytes_else _ words notes before after h sound all = absurd h
 
-  bytes_by : (event : WEvent) (own : Option (Name × PlainEvent)) (words : List ℕ) (notes : List Note) (before after : Parts) → FitsAt own → IsOfBytesAt own
+  bytes_by : (event : WEvent) (own : Option (Name × PlainEvent)) (words : List ℕ) (notes : List Note) (before after : Parts) → FitsAt own
       → DoesAt event own words notes before after → IsSound before → HasBytes before → HasBytes after
-  bytes_by event (Some own) words notes before after fits given h sound all = bytes_at (beside event before) h.place own.1 words notes before after fits given h.acts sound all
-  bytes_by event None words notes before after fits given h sound all = bytes_else event words notes before after h sound all
+  bytes_by event (Some own) words notes before after fits h sound all = bytes_at (beside event before) h.place own.1 words notes before after fits h.acts sound all
+  bytes_by event None words notes before after fits h sound all = bytes_else event words notes before after h sound all
 
   bytes_step : (t : Traced) (before after : Parts) → Any t before after → IsSound before × HasBytes before → IsSound after × HasBytes after
   bytes_step t before after (notes, step) (sound, all) = (
     sound_step laws.stay t before after (notes, step) sound,
-    subst HasBytes (sym step.gives) (bytes_by t.event (routed t.event) t.words notes before step.between step.fits step.injected step.does sound all),
+    subst HasBytes (sym step.gives) (bytes_by t.event (routed t.event) t.words notes before step.between step.fits step.does sound all),
   )
 
   bytes_replay : (version : Version) (ts : List Traced) (w : Parts) → Replays version ts w → IsSound w × HasBytes w

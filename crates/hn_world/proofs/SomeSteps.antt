@@ -75,7 +75,7 @@ module _ (event : WEvent) (w : Parts) (accepted : refusal w event ≡ None) (giv
   unfolding HasAStep
   quiet_step between does stream none =
       none (record { words = []; notes = []; world = entered (traced []) between }) (
-        record { accepted = accepted; in_range = given.in_range; fits = given.fits; injected = given.injected; between = between; does = does; gives = refl },
+        record { accepted = accepted; in_range = given.in_range; fits = given.fits; between = between; does = does; gives = refl },
         λ i within. absurd (omega (arith, within)),
       )
 
@@ -115,7 +115,6 @@ module _ (event : WEvent) (w : Parts) (accepted : refusal w event ≡ None) (giv
             accepted = accepted;
             in_range = given.in_range;
             fits = given.fits;
-            injected = given.injected;
             between = between;
             does = subst (λ (o : Option (Name × PlainEvent)). DoesAt event o words notes w between) (sym is) (record { place = there.place; is_place = there.is_place; acts = acts });
             gives = refl;
@@ -158,7 +157,6 @@ module _ (laws : ExistenceLaws) (w : Parts) (sound : IsSound w) where
           accepted = accepted;
           in_range = given.in_range;
           fits = given.fits;
-          injected = given.injected;
           between = taken copy mail between;
           does = record { mail = mail; is_copy = (copy_there copy w mail found).1; between = between; acts = acts; gives = refl };
           gives = refl;

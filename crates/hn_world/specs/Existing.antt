@@ -1,9 +1,11 @@
 -- An event that a world accepts has a result.
-use Rattle.std.specs.Prelude.{◌≡◌, ℕ, List, All, None, Some}
+use Rattle.std.specs.Prelude.{◌≡◌, ℕ, List, All, Option, None, Some}
 use Rattle.hn_base.specs.Byte.{IsByte}
 use Rattle.hn_base.specs.Exists.{Some! }
 use Rattle.hn_base.specs.Words.{Begins}
+use Rattle.hn_base.specs.declared.name.Name.{Name}
 use Rattle.hn_rules.specs.declared.done.Note.{Note}
+use Rattle.hn_router.specs.Act.{PlainEvent, IsOfBytes}
 use Rattle.hn_world.specs.declared.copies.MailCopy.{MailCopy}
 use Rattle.hn_world.specs.declared.event.WEvent.{WEvent}
 use Rattle.hn_world.specs.declared.event.WEvent.TheVariants as event
@@ -11,7 +13,12 @@ use Rattle.hn_world.specs.declared.parts.Parts.{Parts}
 use Rattle.hn_world.specs.Refusal.{copy_at, refusal}
 use Rattle.hn_world.specs.Replay.{IsReplayed, IsSound}
 use Rattle.hn_world.specs.Routed.{routed}
-use Rattle.hn_world.specs.Step.{FitsAt, IsInRange, IsOfBytesAt, Step}
+use Rattle.hn_world.specs.Step.{FitsAt, IsInRange, Step}
+
+-- what arrives at its router, if it happens at one by its name, is of bytes
+abbrev pub IsOfBytesAt : Option (Name × PlainEvent) → Type 0
+IsOfBytesAt None = Unit {0}
+IsOfBytesAt (Some own) = IsOfBytes own.1
 
 -- a copy, if it is there, is of bytes
 abbrev pub IsCopyOfBytes : ℕ → Parts → Type 0

@@ -10,7 +10,7 @@ use Rattle.hn_base.specs.Words.{Took}
 use Rattle.hn_rules.specs.declared.done.Done.{Done}
 use Rattle.hn_rules.specs.declared.done.Note.{Note}
 use Rattle.hn_rules.specs.declared.state.State.{State}
-use Rattle.hn_router.specs.Act.{PlainEvent, Arrive, IsEventInRange, IsOfBytes, Happened}
+use Rattle.hn_router.specs.Act.{PlainEvent, Arrive, IsEventInRange, Happened}
 use Rattle.hn_router.specs.New.{IsNew}
 use Rattle.hn_world.specs.declared.copies.MailCopy.{MailCopy}
 use Rattle.hn_world.specs.declared.event.WEvent.{WEvent}
@@ -151,17 +151,11 @@ abbrev pub FitsAt : Option (Name × PlainEvent) → Type 0
 FitsAt None = Unit {0}
 FitsAt (Some own) = IsEventInRange own.1
 
--- what arrives at its router, if it happens at one by its name, is of bytes
-abbrev pub IsOfBytesAt : Option (Name × PlainEvent) → Type 0
-IsOfBytesAt None = Unit {0}
-IsOfBytesAt (Some own) = IsOfBytes own.1
-
 -- a world accepts an event, which takes these words
 pub record Step (t : Traced) (notes : List Note) (before after : Parts) : Type 0 where
   pub accepted : refusal before t.event ≡ None
   pub in_range : IsInRange t.event
   pub fits : FitsAt (routed t.event)
-  pub injected : IsOfBytesAt (routed t.event)
   pub between : Parts
   pub does : Does t.event t.words notes before between
   pub gives : after ≡ entered t between

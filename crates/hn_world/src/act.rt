@@ -17,7 +17,7 @@ use crate::plain_events::{enter, without_words};
 use crate::routed::Beside;
 use hn_base::{Name, NoMemory, Sequence};
 use hn_io::Draw;
-use hn_router::{Event, event_in_range, event_of_bytes};
+use hn_router::{Event, event_in_range};
 use hn_rules::Note;
 use std::alloc::Global;
 
@@ -71,7 +71,6 @@ impl Parts {
             unreachable!()
         };
         event_in_range(&own);
-        event_of_bytes(&own);
         let beside = self.beside(alloc, &event, place)?;
         let plan = self.plan(alloc, place, &own, draw)?;
         self.finish(alloc, event, beside, place, plan)

@@ -2,11 +2,11 @@
 
 ghost use Rattle.std.specs.Prelude.{◌≡◌, None, All};
 ghost use Rattle.hn_base.specs.Byte.{IsByte};
-ghost use Rattle.hn_world.specs.Existing.{IsCopyOfBytes, IsMailOfBytes, HasAStep};
+ghost use Rattle.hn_world.specs.Existing.{IsOfBytesAt, IsCopyOfBytes, IsMailOfBytes, HasAStep};
 ghost use Rattle.hn_world.specs.Refusal.{refusal};
 ghost use Rattle.hn_world.specs.Replay.{IsSound};
 ghost use Rattle.hn_world.specs.Routed.{routed};
-ghost use Rattle.hn_world.specs.Step.{FitsAt, IsInRange, IsOfBytesAt};
+ghost use Rattle.hn_world.specs.Step.{FitsAt, IsInRange};
 
 use crate::event::WEvent;
 use crate::law::step_exists;

@@ -25,6 +25,6 @@ returns-clause-ok g c =
     (λ notes world noted.
     acted_step (with_beside c.in_ok-beside.beside) c.args.place
     (plain_event c.in-Some.own) _ _ c.args.self.now plan is c.args.event c.in-Some.field-0-0 c.finish.new.self notes c.requires.accepted
-    c.requires.in_range c.event_in_range.ensures c.event_of_bytes.ensures route c.requires.placed
+    c.requires.in_range c.event_in_range.ensures route c.requires.placed
     (c.in_ok-beside.ensures is.member plan.state is.is_member) world noted)
     c.finish.ensures.world c.finish.ensures.notes

@@ -151,7 +151,8 @@ module _ (now : ℕ) where
   ports-attached port ports one some room well =
       let lower = λ (p : Port). nat_lt p.id.0 port.id.0 in
       let greater = λ (p : Port). nat_lt port.id.0 p.id.0 in
-      let around = λ (P : Port → Type 0) (here : P port) (all : All P ports). All-append P (filter lower ports) (port ∷ filter greater ports) (All-filter lower P ports all) (All-cons P port (filter greater ports) here (All-filter greater P ports all)) in
+      let around = λ (P : Port → Type 0) (here : P port) (all : All P ports).
+      All-append P (filter lower ports) (port ∷ filter greater ports) (All-filter lower P ports all) (All-cons P port (filter greater ports) here (All-filter greater P ports all)) in
       record {
         are = record {
           ascending = ascending-around number port ports well.are.ascending;
@@ -196,14 +197,16 @@ module _ (known : KnownLaws) (now : ℕ) where
       All-append (IsNodeWell now) (filter lower xs) (entry id stored ∷ filter greater xs) (All-filter lower (IsNodeWell now) xs all)
       (All-cons (IsNodeWell now) (entry id stored) (filter greater xs) one (All-filter greater (IsNodeWell now) xs all))
 
-  nodes-changed : (s : PlainState) (h : Option Stored) (xs : List HeldNode) → IsInRange s → held xs s.node ≡ h → All (IsNodeWell now) xs → All (IsNodeWell now) (entries_changed s.node (stored_renumbered s now) h xs)
+  nodes-changed : (s : PlainState) (h : Option Stored) (xs : List HeldNode) → IsInRange s → held xs s.node ≡ h → All (IsNodeWell now) xs
+      → All (IsNodeWell now) (entries_changed s.node (stored_renumbered s now) h xs)
   nodes-changed s None xs fits is all = all
   nodes-changed s (Some stored) xs fits is all =
       nodes-put s.node (stored_renumbered s now stored) xs (record { id = fits.0; number = fits.1; past = record { arrived = omega arith; lost = lost_held (Some stored) xs s.node is all } }) all
 
   nodes-after : (s : PlainState) (took : Took) (xs : List HeldNode) → IsInRange s → All (IsNodeWell now) xs → All (IsNodeWell now) (entries_after xs s now took)
   nodes-after s Kept xs fits all =
-      nodes-put s.node (stored_from s now (held xs s.node)) xs (record { id = fits.0; number = fits.1; past = record { arrived = omega arith; lost = lost_held (held xs s.node) xs s.node refl all } }) all
+      nodes-put s.node (stored_from s now (held xs s.node)) xs
+      (record { id = fits.0; number = fits.1; past = record { arrived = omega arith; lost = lost_held (held xs s.node) xs s.node refl all } }) all
   nodes-after s Renumbered xs fits all = nodes-changed s (held xs s.node) xs fits refl all
   nodes-after s _ xs fits all = all
 
@@ -216,7 +219,8 @@ find-none_marked : (reach : List NodeId) (now id : ℕ) (xs : List HeldNode) →
 find-none_marked reach now id [] none = refl
 find-none_marked reach now id (x ∷ xs) none = by_test (x.id.0 == id) none (find-none_marked reach now id xs)
   where
-    by_test : (b : Bool) → cond b (Some x) (find (λ node. node.id.0 == id) xs) ≡ None → (find (λ node. node.id.0 == id) xs ≡ None → find (λ node. node.id.0 == id) (map (marked_node reach now) xs) ≡ None)
+    by_test : (b : Bool) → cond b (Some x) (find (λ node. node.id.0 == id) xs) ≡ None
+        → (find (λ node. node.id.0 == id) xs ≡ None → find (λ node. node.id.0 == id) (map (marked_node reach now) xs) ≡ None)
         → cond b (Some (marked_node reach now x)) (find (λ node. node.id.0 == id) (map (marked_node reach now) xs)) ≡ None
     by_test true is more = absurd cc
     by_test false is more = more is
@@ -231,7 +235,8 @@ held_nothing xs id none = ap (option_map (λ (node : HeldNode). node.stored)) no
 
 module _ (known : KnownLaws) (id : NodeId) (now : ℕ) where
   -- a node state arrived
-  pub table-accepts : (own : OwnLeaf) (s : PlainState) (nodes next : Nodes) (took : Took) → own.id ≡ id → IsInRange s → IsTableWell id.0 now nodes → Accepts nodes own s now next took → IsTableWell id.0 now next
+  pub table-accepts : (own : OwnLeaf) (s : PlainState) (nodes next : Nodes) (took : Took) → own.id ≡ id → IsInRange s → IsTableWell id.0 now nodes
+      → Accepts nodes own s now next took → IsTableWell id.0 now next
   table-accepts own s nodes next took same fits well accepts = record {
     table = known.accepts nodes own s now next took well.table accepts;
     own_id = well.own_id;
@@ -247,7 +252,12 @@ module _ (known : KnownLaws) (id : NodeId) (now : ℕ) where
     other = held_nothing (map (marked_node reach now) nodes.entries) id.0 (find-none_marked reach now id.0 nodes.entries (none_found _ well.other));
     each = All-map (IsNodeWell now) (marked_node reach now) nodes.entries
         (All-weaker (IsNodeWell now) (λ node. IsNodeWell now (marked_node reach now node))
-        (λ node one. record { id = one.id; number = one.number; past = record { arrived = one.past.arrived; lost = lost_by known now (is_among reach node.id.0) node.stored.lost one.past.lost } }) nodes.entries well.each);
+        (λ node one. record {
+          id = one.id;
+          number = one.number;
+          past = record { arrived = one.past.arrived; lost = lost_by known now (is_among reach node.id.0) node.stored.lost one.past.lost };
+        })
+        nodes.entries well.each);
   }
 
   -- nodes were forgotten

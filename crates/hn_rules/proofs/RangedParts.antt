@@ -32,7 +32,8 @@ use Rattle.hn_own.specs.Ranges.{IsRangedPeer, IsRangedHeld, IsRangedAddress, IsR
 use Rattle.hn_rules.specs.declared.running.Running.{Running}
 use Rattle.hn_rules.specs.declared.state.State.{State}
 use Rattle.hn_rules.specs.Assigning.{IsRunAssigned}
-use Rattle.hn_rules.specs.Changes.{PortChange, Reset, Meet, Ask, Hear, Expire, Move, Begin, port_after, MayChangePort, PrefixChange, Delegate, Withdraw, End, prefixes_after, MayChangePrefixes, Change, ChangePort, ChangePrefixes, PutPairs, ForgetPairs, PutPrivate, PutAddresses, change, IsAllowed}
+use Rattle.hn_rules.specs.Changes.{PortChange, Reset, Meet, Ask, Hear, Expire, Move, Begin, port_after, MayChangePort, PrefixChange, Delegate, Withdraw, End, prefixes_after, MayChangePrefixes, Change}
+use Rattle.hn_rules.specs.Changes.{ChangePort, ChangePrefixes, PutPairs, ForgetPairs, PutPrivate, PutAddresses, change, IsAllowed}
 use Rattle.hn_rules.specs.Events.{IsAttaching, detaching}
 use Rattle.hn_rules.specs.Given.{IsPrivateLength}
 use Rattle.hn_rules.specs.Router.{IfThere, EndsSoon, IsNear, IsWell}

@@ -52,7 +52,8 @@ module _ (keeps : ChangesKeepWell) where
   refreshed rule one r a (between, holds, refreshes) router = router_refresh each between a refreshes (one r between holds router.well)
 
   keeps_tlvs : (from : Origin) (tlvs : List PlainTlv) → Keeps Router (IsTlvs from tlvs)
-  keeps_tlvs from tlvs = keeps_each Router (λ tlv. Then (IsTlvRule from tlv) IsRefresh) (λ tlv. refreshed (IsTlvRule from tlv) (tlv_walk (tlv ∷ []) Well (keeps (tlv ∷ [])) from tlv (0, omega arith, refl))) tlvs
+  keeps_tlvs from tlvs = keeps_each Router (λ tlv. Then (IsTlvRule from tlv) IsRefresh)
+      (λ tlv. refreshed (IsTlvRule from tlv) (tlv_walk (tlv ∷ []) Well (keeps (tlv ∷ [])) from tlv (0, omega arith, refl))) tlvs
 
   pub arrival_keeps : (from : Origin) (tlvs : List PlainTlv) → KeepsRouter (IsArrival from tlvs)
   arrival_keeps from tlvs r a (between, arrive, answers) router = subst Router (sym answers.gives) (keeps_tlvs from tlvs r between arrive router)

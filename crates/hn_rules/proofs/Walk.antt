@@ -46,7 +46,9 @@ use Rattle.hn_rules.specs.Delegating.{delegating, withdrawing, ending}
 use Rattle.hn_rules.specs.Assigning.{IsAssigning}
 use Rattle.hn_rules.specs.Tick.{IsPortExpiry, IsExpiry, forgetting, IsPortMoving, IsPortSending, IsPortTick, IsPortsTick}
 use Rattle.hn_rules.specs.Events.{setting_caps, setting_private, setting_addresses, IsPortRestart, emptied, IsRestarting}
-use Rattle.hn_rules.specs.Changes.{IsSaid, Reset, Meet, Ask, Hear, Expire, Move, Begin, IsSender, Accept, Mark, Forget, Empty, Delegate, Withdraw, End, IsPublishable, IsAnswerAbout, Change, ChangePort, ChangeTable, ChangePrefixes, PutReach, PutHash, PutPairs, ForgetPairs, PutPrivate, PutAddresses, PutId, PutClaimed, PutCaps, Publish, NameSender, AddAnswer, AddSends, ForgetAnswers, TakeNote, TakeWords, change, Leads, EachKeeps}
+use Rattle.hn_rules.specs.Changes.{IsSaid, Reset, Meet, Ask, Hear, Expire, Move, Begin, IsSender, Accept, Mark, Forget, Empty, Delegate, Withdraw, End, IsPublishable, IsAnswerAbout, Change}
+use Rattle.hn_rules.specs.Changes.{ChangePort, ChangeTable, ChangePrefixes, PutReach, PutHash, PutPairs, ForgetPairs, PutPrivate, PutAddresses, PutId, PutClaimed, PutCaps, Publish, NameSender}
+use Rattle.hn_rules.specs.Changes.{AddAnswer, AddSends, ForgetAnswers, TakeNote, TakeWords, change, Leads, EachKeeps}
 use Rattle.hn_rules.proofs.AtPorts.{found_id}
 use Rattle.hn_rules.proofs.Leads.{Keeps, keeps_plain, keeps_both, keeps_each, keeps_each_of, keeps_option, leads_keep}
 
@@ -179,14 +181,16 @@ module _ (tlvs : List PlainTlv) (P : Running → Type 0) (each : EachKeeps tlvs 
   met Known port r here p = p
   met Added port r here p = p
 
-  named : (from : Origin) (node : NodeId) (endpoint : EpId) (port : Port) (r : Running) → port_at port.id r.state.ports ≡ Some port → IsSender tlvs r.state node endpoint → P r → P (rule.named from node endpoint port r)
+  named : (from : Origin) (node : NodeId) (endpoint : EpId) (port : Port) (r : Running) → port_at port.id r.state.ports ≡ Some port
+      → IsSender tlvs r.state node endpoint → P r → P (rule.named from node endpoint port r)
   named from node endpoint port r here sender p =
       let start : Running = record r { sender = Some (node, endpoint) } in
       let after = greeting_port from node endpoint r.state.moment port in
       met (greeting node endpoint from.multicast port.peers) after (with_port after start) (found_put port after r.state.ports here)
       (by (NameSender node endpoint ∷ ChangePort port (Meet node endpoint from.from from.multicast) ∷ []) r (with_port after start) (sender, ((here, sender), refl)) p)
 
-  node_endpoint : (from : Origin) (node : NodeId) (endpoint : EpId) (subs : List ℕ) → IsSaid tlvs (item.NodeEndpoint node.0 endpoint.0 subs) → AtEach (λ port r a. a ≡ rule.node_endpoint from node endpoint port r)
+  node_endpoint : (from : Origin) (node : NodeId) (endpoint : EpId) (subs : List ℕ) → IsSaid tlvs (item.NodeEndpoint node.0 endpoint.0 subs)
+      → AtEach (λ port r a. a ≡ rule.node_endpoint from node endpoint port r)
   node_endpoint from node endpoint subs said port r a here is p =
       subst P (sym is) (by_tests (endpoint.0 == 0) (node.0 == r.state.id.0) (is_some r.sender) refl refl)
     where

@@ -26,12 +26,15 @@ use Rattle.hn_rules.specs.Nodes.{own_leaf}
 use Rattle.hn_rules.specs.Refresh.{own_items}
 use Rattle.hn_rules.specs.Events.{IsAttaching, detaching}
 use Rattle.hn_rules.specs.Tick.{IsExpired}
-use Rattle.hn_rules.specs.Changes.{PortChange, Reset, Meet, Ask, Hear, Expire, Move, Begin, port_after, MayChangePort, TableChange, Accept, Mark, Forget, Empty, table_after, MayChangeTable, PrefixChange, Delegate, Withdraw, End, prefixes_after, MayChangePrefixes, ChangePort, ChangeTable, ChangePrefixes, PutReach, PutHash, PutPairs, ForgetPairs, PutPrivate, PutAddresses, PutId, PutClaimed, PutCaps, Publish, change, EachKeeps}
+use Rattle.hn_rules.specs.Changes.{PortChange, Reset, Meet, Ask, Hear, Expire, Move, Begin, port_after, MayChangePort, TableChange, Accept, Mark, Forget, Empty, table_after, MayChangeTable}
+use Rattle.hn_rules.specs.Changes.{PrefixChange, Delegate, Withdraw, End, prefixes_after, MayChangePrefixes, ChangePort, ChangeTable, ChangePrefixes, PutReach, PutHash, PutPairs, ForgetPairs}
+use Rattle.hn_rules.specs.Changes.{PutPrivate, PutAddresses, PutId, PutClaimed, PutCaps, Publish, change, EachKeeps}
 use Rattle.hn_rules.specs.Laws.{ChangesKeepWell}
 use Rattle.hn_rules.proofs.Finding.{find_all}
 use Rattle.hn_rules.proofs.Known.{KnownLaws}
 use Rattle.hn_rules.proofs.LawAssigned.{AssignLaws, held-assigned}
-use Rattle.hn_rules.proofs.Parts.{IsTableWell, IsOwnWell, IsMade, made_from, well_from, ports-put, ports-attached, ports-detached, table-accepts, table-marked, table-remembered, table-emptied, held-none}
+use Rattle.hn_rules.proofs.Parts.{IsTableWell, IsOwnWell, IsMade, made_from, well_from, ports-put, ports-attached, ports-detached, table-accepts, table-marked, table-remembered, table-emptied}
+use Rattle.hn_rules.proofs.Parts.{held-none}
 use Rattle.hn_rules.proofs.LawPublished.{ReadLaws}
 use Rattle.hn_rules.proofs.PostParts.{posts-put, posts-attached, posts-detached, posts-addressed, posts-assigned, posts-private, posts-published}
 use Rattle.hn_rules.proofs.PrivatePosts.{links_some, of_length}
@@ -87,7 +90,14 @@ module _ (laws : RuleLaws) (tlvs : List PlainTlv) where
   each_made : EachKeeps tlvs Made
   each_made (ChangePort port how) r (here, may) made =
       let one = port_well how r port may (find_all (IsPortWell r.state.moment) (is_port port.id) r.state.ports port made.ports.each here) in
-      record { ports = ports-put r.state.moment (port_after how r port) r.state.ports one made.ports; table = made.table; own = made.own; delegated = made.delegated; held = made.held; posts = posts-put r.state.private r.state.ports r.state.addresses r.state.held.assigned r.state.own.items.links made.posts (port_after how r port) }
+      record {
+        ports = ports-put r.state.moment (port_after how r port) r.state.ports one made.ports;
+        table = made.table;
+        own = made.own;
+        delegated = made.delegated;
+        held = made.held;
+        posts = posts-put r.state.private r.state.ports r.state.addresses r.state.held.assigned r.state.own.items.links made.posts (port_after how r port);
+      }
   each_made (ChangeTable how) r may made =
       record { ports = made.ports; table = table_well how r.state may made.table; own = made.own; delegated = made.delegated; held = made.held; posts = made.posts }
   each_made (ChangePrefixes how) r may made =
@@ -108,7 +118,8 @@ module _ (laws : RuleLaws) (tlvs : List PlainTlv) where
     own = made.own;
     delegated = made.delegated;
     held = held-none r.state.moment;
-    posts = posts-assigned r.state.private r.state.ports r.state.addresses r.state.held.assigned r.state.own.items.links made.posts [] (All-nil (λ c. c.endpoint.0 ≡ 0 → Some c.prefix.len ≡ r.state.private));
+    posts = posts-assigned r.state.private r.state.ports r.state.addresses r.state.held.assigned r.state.own.items.links made.posts []
+        (All-nil (λ c. c.endpoint.0 ≡ 0 → Some c.prefix.len ≡ r.state.private));
   }
   each_made (PutPrivate private) r may made =
       record {
@@ -116,7 +127,10 @@ module _ (laws : RuleLaws) (tlvs : List PlainTlv) where
         table = made.table;
         own = made.own;
         delegated = made.delegated;
-        held = record { are = laws.stays r.state.held made.held.are; past = All-filter (λ (c : Assigned). not (c.endpoint.0 == 0)) (IsAssignedPast r.state.moment) r.state.held.assigned made.held.past };
+        held = record {
+          are = laws.stays r.state.held made.held.are;
+          past = All-filter (λ (c : Assigned). not (c.endpoint.0 == 0)) (IsAssignedPast r.state.moment) r.state.held.assigned made.held.past;
+        };
         posts = posts-private r.state.private r.state.ports r.state.addresses r.state.held.assigned r.state.own.items.links made.posts private;
       }
   each_made (PutAddresses list) r (fit, may) made =

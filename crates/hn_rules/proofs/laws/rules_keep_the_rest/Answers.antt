@@ -1,4 +1,5 @@
-use Rattle.hn_rules.proofs.Routers.{expiry_keeps, ending_keeps, assigning_keeps, delegating_keeps, withdrawing_keeps, attaching_keeps, detaching_keeps, caps_keep, private_keeps, addressing_keeps, restarting_keeps}
+use Rattle.hn_rules.proofs.Routers.{expiry_keeps, ending_keeps, assigning_keeps, delegating_keeps, withdrawing_keeps, attaching_keeps, detaching_keeps, caps_keep, private_keeps, addressing_keeps}
+use Rattle.hn_rules.proofs.Routers.{restarting_keeps}
 use Rattle.hn_rules.proofs.laws.rules_keep_the_rest.Goals as goal
 
 pub returns : goal.returns

@@ -7,7 +7,8 @@ use Rattle.hn_rules.specs.Events.{setting_caps, setting_private, IsRestarting}
 use Rattle.hn_rules.specs.Refresh.{IsRefresh}
 use Rattle.hn_rules.specs.Tick.{IsExpiry, forgetting, IsPortsTick}
 use Rattle.hn_rules.proofs.Leads.{each_leads, of_walk}
-use Rattle.hn_rules.proofs.Walk.{refresh_walk, arrival_walk, expiry_walk, ending_walk, forgetting_walk, assigning_walk, ports_walk, delegating_walk, withdrawing_walk, caps_walk, private_walk, addressing_walk, restarting_walk}
+use Rattle.hn_rules.proofs.Walk.{refresh_walk, arrival_walk, expiry_walk, ending_walk, forgetting_walk, assigning_walk, ports_walk, delegating_walk, withdrawing_walk, caps_walk, private_walk}
+use Rattle.hn_rules.proofs.Walk.{addressing_walk, restarting_walk}
 use Rattle.hn_rules.proofs.laws.rules_make_changes.Goals as goal
 
 pub returns : goal.returns

@@ -1,5 +1,5 @@
 -- After an event a router's moment is the event's, and its endpoints change only where one is attached or detached.
-use Rattle.std.proofs.Common.{◌≡◌, ◌∙◌, ℕ, Bool, cond, List, ◌∷◌, ◌++◌, map, filter, nat_lt, inl, inr, refl, sym, ap}
+use Rattle.std.proofs.Common.{◌≡◌, ◌∙◌, Bool, cond, List, ◌∷◌, ◌++◌, map, filter, nat_lt, inl, inr, refl, sym, ap}
 use Rattle.std.proofs.lemmas.List.{map-append}
 use Rattle.hn_base.specs.declared.ids.EpId.{EpId}
 use Rattle.hn_tlv.specs.Grammar.{PlainTlv}

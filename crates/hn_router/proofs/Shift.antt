@@ -1,5 +1,5 @@
 -- What a call took from a draw that nothing was taken from before, it takes after any words.
-use Rattle.std.proofs.Common.{◌≡◌, ◌+◌, ◌∙◌, ℕ, List, [], Option, Some, length, ap, arith, zero-add, add_assoc, length-append}
+use Rattle.std.proofs.Common.{◌+◌, ◌∙◌, ℕ, List, [], Option, Some, length, ap, arith, zero-add, add_assoc, length-append}
 use Rattle.hn_base.specs.Words.{IsAt, Drew, Took}
 use Rattle.hn_base.proofs.FirstWords.{begins_both}
 

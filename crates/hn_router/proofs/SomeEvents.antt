@@ -13,11 +13,9 @@ use Rattle.hn_base.proofs.SomeExists.{some_then, some_by}
 use Rattle.hn_base.proofs.SomeResult.{total_given, total_plain, total_by, total_both, total_test}
 use Rattle.hn_tlv.specs.Grammar.{PlainTlv, IsTlv, IsTlvList}
 use Rattle.hn_tlv.specs.Laws.{ListOrFirstFault}
-use Rattle.hn_rules.specs.declared.done.Done.{Done}
 use Rattle.hn_rules.specs.declared.done.Note.TheVariants as note
 use Rattle.hn_rules.specs.declared.running.Origin.{Origin}
 use Rattle.hn_rules.specs.declared.running.Running.{Running}
-use Rattle.hn_rules.specs.declared.state.State.{State}
 use Rattle.hn_rules.specs.Due.{IsDueAt}
 use Rattle.hn_rules.specs.Events.{IsAttaching, IsRestarting}
 use Rattle.hn_rules.specs.Laws.{HasAResult, ArrivalHasAResult}

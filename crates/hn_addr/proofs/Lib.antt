@@ -6,3 +6,5 @@ mod NumbersInPrefix
 mod FirstFittingNumber
 mod OneChoosing
 mod OwnAddressesStay
+mod SomeChoices
+mod AddressesFit

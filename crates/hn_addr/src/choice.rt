@@ -6,9 +6,10 @@ ghost use Rattle.hn_base.specs.Ascending.{HaveSame};
 ghost use Rattle.hn_base.specs.Words.{Took};
 ghost use Rattle.hn_own.specs.Addresses.{address_cmp};
 ghost use Rattle.hn_addr.specs.Addresses.{AreNext, IsChoice, IsAddressStill};
+ghost use Rattle.hn_addr.specs.Laws.{HasAChoice};
 
 use crate::choosing::{Choosing, choose_all};
-use crate::laws::choosing_is_unique;
+use crate::laws::{choice_exists, choosing_is_unique};
 use hn_base::{EpId, NoMemory, Sequence, sort_to_set};
 use hn_io::{Draw, Zeros};
 use hn_router::Router;
@@ -62,15 +63,18 @@ fn are_own(router: &Router, list: &[(EpId, u128)]) -> bool
 ///    comes with the first that fits, in cyclic order through 1 to 65,535 from 1 and the word modulo 65,535.
 /// 3. Where none fits, no word is taken, and the assignment gets no address.
 ///
-/// The answer is `Keep` if and only if these are the own addresses. They may be more than 64.
+/// The answer is `Keep` if and only if these are the own addresses. They may be more than 64. Whether there is memory or not,
+/// it cannot be that there is no choice over a stream of words; with `choice_is_unique` there is exactly one.
 ///
 /// # Errors
 ///
 /// Out of memory. Words may have been taken then.
 pub fn choose<D: Draw>(alloc: Global, router: &Router, draw: &mut D) -> Result<Choice, NoMemory>
-    ensures { IfOk result
+    ensures chosen { IfOk result
         (λ choice. (words : List ℕ) × IsChoice router.now choice words × Took (D.words draw.old) words (D.words draw.new)) }
+    ensures exists { HasAChoice router.now }
 {
+    choice_exists();
     let next = next(alloc, router, draw)?;
     if are_own(router, next.list.as_slice()) {
         Ok(Choice::Keep)

@@ -11,5 +11,7 @@ mod others;
 mod stays;
 
 pub use choice::{Choice, choose, still};
-pub use laws::{choice_is_unique, number_is_inside, still_addresses_stay};
+pub use laws::{
+    choice_exists, choice_is_unique, chosen_addresses_fit, number_is_inside, still_addresses_stay,
+};
 pub use of_node::{OfNode, from_nodes};

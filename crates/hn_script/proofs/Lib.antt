@@ -17,3 +17,4 @@ pub mod Values
 pub mod Versions
 pub mod WordBytes
 pub mod WordFaults
+mod FittingValues

@@ -1,6 +1,8 @@
 -- What holds of scripts, of node files, and of their faults.
-use Rattle.std.specs.Prelude.{◌≡◌, ℕ, ◌+◌, ◌^◌, ◌<◌, ◌≤◌, ◌↔◌, List, [], ◌∷◌, length}
+use Rattle.std.specs.Prelude.{◌≡◌, ℕ, ◌+◌, ◌^◌, ◌<◌, ◌≤◌, ◌↔◌, List, [], ◌∷◌, length, All, Option, None, Some}
 use Rattle.std.specs.List.{AllByRecursion}
+use Rattle.hn_base.specs.Byte.{IsByte}
+use Rattle.hn_base.specs.Prefix.{IsPrefix}
 use Rattle.hn_script.specs.Field.{IsInRange}
 use Rattle.hn_script.specs.Entries.{most_bytes}
 use Rattle.hn_script.specs.Line.{line_spelling, IsOfVersion, line_text}
@@ -9,7 +11,7 @@ use Rattle.hn_script.specs.Script.{IsScript, IsFirstFault, script_text}
 use Rattle.hn_script.specs.Soak.{soak_text}
 use Rattle.hn_script.specs.declared.fault.ScriptFault.{ScriptFault}
 use Rattle.hn_script.specs.declared.line.Line.{Line}
-use Rattle.hn_script.specs.declared.line.Line.TheVariants.{Attach, Time, Run}
+use Rattle.hn_script.specs.declared.line.Line.TheVariants.{Router, Attach, External, Private, Time, Run, Inject}
 use Rattle.hn_script.specs.declared.node_file.NodeLine.{NodeLine}
 use Rattle.hn_script.specs.declared.script.Script.{Script}
 
@@ -58,9 +60,28 @@ IsLimited (Time t) = t ≤ 2 ^ 48
 IsLimited (Run t step) = (t ≤ 2 ^ 48) × (step ≤ 2 ^ 48)
 IsLimited _ = Unit {0}
 
+-- the prefixes of a private link have from 1 to 64 bits, where there is one
+abbrev pub IsPrivateLink : Option ℕ → Type 0
+IsPrivateLink None = Unit {0}
+IsPrivateLink (Some bits) = (1 ≤ bits) × (bits ≤ 64)
+
+-- The values of a line fit: an identifier and the number of an endpoint have 32 bits, a delegated prefix is one and has
+-- lifetimes of 32 bits, the prefixes of a private link have from 1 to 64 bits, and what is injected is of bytes.
+abbrev pub HasFittingValues : Line → Type 0
+HasFittingValues (Router name id) = id.0 < 2 ^ 32
+HasFittingValues (Attach name e link) = e.0 < 2 ^ 32
+HasFittingValues (External name prefix valid preferred) = IsPrefix prefix × (valid < 2 ^ 32) × (preferred < 2 ^ 32)
+HasFittingValues (Private name bits) = IsPrivateLink bits
+HasFittingValues (Inject name e how bytes) = All IsByte bytes
+HasFittingValues _ = Unit {0}
+
 -- so it is in the lines of a script
 abbrev pub ScriptIsLimited : Type 0
 ScriptIsLimited = (script : Script) (bytes : List ℕ) → IsScript script bytes → AllByRecursion (λ line. IsLimited line.1) script.lines
+
+-- the values of the lines of a script fit
+abbrev pub ValuesFit : Type 0
+ValuesFit = (bytes : List ℕ) (script : Script) → IsScript script bytes → AllByRecursion (λ line. HasFittingValues line.1) script.lines
 
 -- the text of each soak is a script
 abbrev pub SoakIsAScript : Type 0

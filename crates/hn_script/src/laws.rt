@@ -1,6 +1,6 @@
 //! Laws: functions without work, whose clauses say what holds of the definitions.
 
-ghost use Rattle.hn_script.specs.Laws.{AtMostOneScript, AtMostOneFault, FaultExcludesScript, LinesAreOfVersion, PrintedIsRead, ScriptIsLimited, SoakIsAScript, AtMostOneNodeFile, AtMostOneNodeFault, FaultExcludesNodeFile};
+ghost use Rattle.hn_script.specs.Laws.{AtMostOneScript, AtMostOneFault, FaultExcludesScript, LinesAreOfVersion, PrintedIsRead, ScriptIsLimited, ValuesFit, SoakIsAScript, AtMostOneNodeFile, AtMostOneNodeFault, FaultExcludesNodeFile};
 
 use hn_prefix::{read_form_is_of_one, written_form_is_read};
 
@@ -37,6 +37,12 @@ pub fn printed_is_read()
 /// In a script no endpoint is attached under number 0, and no moment or span of time is above 2^48.
 pub fn script_is_limited()
     ensures { ScriptIsLimited }
+{}
+
+/// The values of the lines of a script fit: an identifier and the number of an endpoint have 32 bits, a delegated prefix is one
+/// and has lifetimes of 32 bits, the prefixes of a private link have from 1 to 64 bits, and what is injected is of bytes.
+pub fn values_fit()
+    ensures { ValuesFit }
 {}
 
 /// The text of each soak is a script.

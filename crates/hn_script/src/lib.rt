@@ -28,7 +28,7 @@ pub use fields::{hex_word, number_in};
 pub use laws::{
     fault_excludes_node_file, fault_excludes_script, fault_is_unique, lines_are_of_version,
     node_fault_is_unique, node_file_is_unique, printed_is_read, script_is_limited,
-    script_is_unique, soak_is_a_script,
+    script_is_unique, soak_is_a_script, values_fit,
 };
 pub use line::{How, Line, letter_text};
 pub use node_file::{NodeLine, parse_node_file};

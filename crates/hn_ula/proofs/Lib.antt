@@ -2,3 +2,5 @@ mod GeneratedOfNodes
 mod GreatestOfNode
 mod FoundInLists
 mod OneDecision
+mod SomeDecisions
+mod Announced

@@ -4,9 +4,11 @@ ghost use Rattle.std.specs.Prelude.{◌≡◌, ◌↔◌, [], ◌∷◌, ℕ, Li
 ghost use Rattle.hn_base.specs.Prefix.{PlainPrefix};
 ghost use Rattle.hn_base.specs.Words.{Took};
 ghost use Rattle.hn_ula.specs.Ula.{made_of, Announces, Decides, IsUlaStill, IsOwnOf};
+ghost use Rattle.hn_ula.specs.Laws.{HasADecision};
 
 use crate::found::{find, own};
 use crate::generated::{SITE_LENGTH, of_router};
+use crate::laws::decision_exists;
 use hn_base::NoMemory;
 use hn_io::{Draw, words_join};
 use hn_prefix::Prefix;
@@ -62,13 +64,18 @@ fn announce<D: Draw>(draw: &mut D) -> Ula
 ///    one. Its Global ID (RFC 4193, section 3.2) takes two words. No other answer takes a word.
 /// 4. It keeps what there is.
 ///
+/// Whether there is memory or not, it cannot be that there is no decision over a stream of words; with `decision_is_unique`
+/// there is exactly one.
+///
 /// # Errors
 ///
 /// Out of memory.
 pub fn decide<D: Draw>(alloc: Global, router: &Router, draw: &mut D) -> Result<Ula, NoMemory>
-    ensures { IfOk result
+    ensures decided { IfOk result
         (λ ula. (words : List ℕ) × Decides router.now ula words × Took (D.words draw.old) words (D.words draw.new)) }
+    ensures exists { HasADecision router.now }
 {
+    decision_exists();
     let found = find(alloc, router)?;
     match found.own {
         Some(own) if found.must_go => Ok(Ula::Withdraw(own)),

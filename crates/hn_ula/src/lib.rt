@@ -8,4 +8,4 @@ mod generated;
 mod laws;
 
 pub use decision::{Ula, decide, has_generated, still};
-pub use laws::decision_is_unique;
+pub use laws::{announced_is_a_prefix, decision_exists, decision_is_unique};

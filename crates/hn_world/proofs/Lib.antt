@@ -20,3 +20,4 @@ mod Received
 mod Addressed
 mod SameNames
 pub mod Named
+mod SomeAgreements

@@ -1,15 +1,20 @@
--- An event that a world accepts has a result.
-use Rattle.std.specs.Prelude.{◌≡◌, ℕ, List, All, Option, None, Some}
+-- An event that a world accepts has a result, and two routers of a world agree in some way.
+use Rattle.std.specs.Prelude.{◌≡◌, ℕ, List, All, Contains, Option, None, Some}
 use Rattle.hn_base.specs.Byte.{IsByte}
 use Rattle.hn_base.specs.Exists.{Some! }
 use Rattle.hn_base.specs.Words.{Begins}
 use Rattle.hn_base.specs.declared.name.Name.{Name}
+use Rattle.hn_hash.specs.declared.leaf.Leaf.{Leaf}
+use Rattle.hn_hash.specs.Network.{AreNumbered}
+use Rattle.hn_rules.specs.Nodes.{leaves_of}
 use Rattle.hn_rules.specs.declared.done.Note.{Note}
 use Rattle.hn_router.specs.Act.{PlainEvent, IsOfBytes}
 use Rattle.hn_world.specs.declared.copies.MailCopy.{MailCopy}
 use Rattle.hn_world.specs.declared.event.WEvent.{WEvent}
 use Rattle.hn_world.specs.declared.event.WEvent.TheVariants as event
+use Rattle.hn_world.specs.declared.member.Member.{Member}
 use Rattle.hn_world.specs.declared.parts.Parts.{Parts}
+use Rattle.hn_world.specs.Leaves.{Agrees}
 use Rattle.hn_world.specs.Refusal.{copy_at, refusal}
 use Rattle.hn_world.specs.Replay.{IsReplayed, IsSound}
 use Rattle.hn_world.specs.Routed.{routed}
@@ -56,3 +61,13 @@ abbrev pub ReplayedStepExists : Type 0
 ReplayedStepExists =
     (event : WEvent) (w : Parts) → IsReplayed w → refusal w event ≡ None
     → IsInRange event → FitsAt (routed event) → IsOfBytesAt (routed event) → HasAStep event w
+
+-- Two lists of leaves whose sequence numbers have 32 bits agree in some way.
+abbrev pub AgreementExists : Type 0
+AgreementExists = (a b : List Leaf) → AreNumbered a → AreNumbered b → Some! (Agrees a b)
+
+-- So do two routers of a replayed world.
+abbrev pub RoutersAgreeSomehow : Type 0
+RoutersAgreeSomehow =
+    (w : Parts) (a b : Member) → IsReplayed w → Contains w.members a → Contains w.members b
+    → Some! (Agrees (leaves_of a.router) (leaves_of b.router))

@@ -9,11 +9,11 @@ ghost use Rattle.hn_world.specs.Replay.{IsReplayed, IsSound, Always};
 ghost use Rattle.hn_world.specs.Step.{Step};
 ghost use Rattle.hn_world.specs.Within.{AreWithinLimits, RouterIsWithinLimits};
 ghost use Rattle.hn_world.specs.Authentic.{AuthenticUnlessInjected};
-ghost use Rattle.hn_world.specs.Existing.{StepExists, ReplayedStepExists};
+ghost use Rattle.hn_world.specs.Existing.{StepExists, ReplayedStepExists, AgreementExists, RoutersAgreeSomehow};
 ghost use Rattle.hn_world.specs.Leaves.{EqualHashesAgree};
 ghost use Rattle.hn_world.specs.Laws.{StepIsUnique, EachEventIsEntered, EachEventIsAStep, AgreementIsUnique, AtMostOneWorld, WorldHasItsTrace, WorldHasItsVersion, WorldIsSound, AlwaysAttached, CopiesHaveReceivers, CopiesAreBytes};
 
-use hn_hash::equal_hashes_agree_or_collide;
+use hn_hash::{equal_hashes_agree_or_collide, hash_has_eight_bytes};
 use hn_router::{
     endpoints_follow, event_has_a_result, genuine_stays, limit_stays, moment_is_now, new_exists,
     new_is_router, new_is_unique, one_result, router_stays, sends_are_bytes, sends_are_short,
@@ -55,6 +55,18 @@ pub fn each_event_is_a_step()
 pub fn agreement_is_unique()
     ensures { AgreementIsUnique }
 {}
+
+/// Two lists of leaves whose sequence numbers have 32 bits agree in some way, and so do two routers of a replayed world: it
+/// cannot be that they do not. With `agreement_is_unique` they agree in exactly one way.
+pub fn agreement_exists()
+    ensures numbered { AgreementExists }
+    ensures routers { RoutersAgreeSomehow }
+{
+    equal_hashes_agree_or_collide();
+    hash_has_eight_bytes();
+    hash_is_of_leaves();
+    always_sound();
+}
 
 /// A trace leads to at most one world, and that has this trace and its version.
 pub fn at_most_one_world()

@@ -26,9 +26,10 @@ mod world;
 pub use copies::{CopyInfo, MailCopy};
 pub use event::{Traced, WEvent, WorldFault};
 pub use law::{
-    agreement_is_unique, always_attached, always_authentic, always_sound, always_within_limits,
-    at_most_one_world, copies_are_bytes, each_event_is_a_step, each_event_is_entered,
-    equal_hashes_always_agree, names_differ, router_is_within_limits, step_exists, step_is_unique,
+    agreement_exists, agreement_is_unique, always_attached, always_authentic, always_sound,
+    always_within_limits, at_most_one_world, copies_are_bytes, each_event_is_a_step,
+    each_event_is_entered, equal_hashes_always_agree, names_differ, router_is_within_limits,
+    step_exists, step_is_unique,
 };
 pub use mail::HNCP_PORT;
 pub use member::{Attachment, Member};

@@ -235,20 +235,7 @@ stays_by laws (event.Time moment) words notes before between after replays same 
     stays_where_still laws before after replays place r next here runs settled quiet (still_later before after (same ∙ ap (λ (w : Parts). w.members) does.gives) r settled quiet)
 stays_by laws (event.Tick name) words notes before between after replays same does place r next here runs settled quiet calm =
     stays_tick laws name words notes before between after replays same does place r next here runs settled quiet calm
-stays_by laws (event.Router name id) words notes before between after replays same does place r next here runs settled quiet calm = absurd calm
-stays_by laws (event.Link name) words notes before between after replays same does place r next here runs settled quiet calm = absurd calm
-stays_by laws (event.Attach name endpoint link) words notes before between after replays same does place r next here runs settled quiet calm = absurd calm
-stays_by laws (event.Detach name endpoint) words notes before between after replays same does place r next here runs settled quiet calm = absurd calm
-stays_by laws (event.External name prefix valid preferred) words notes before between after replays same does place r next here runs settled quiet calm = absurd calm
-stays_by laws (event.Withdraw name prefix) words notes before between after replays same does place r next here runs settled quiet calm = absurd calm
-stays_by laws (event.Caps name caps) words notes before between after replays same does place r next here runs settled quiet calm = absurd calm
-stays_by laws (event.Private name length) words notes before between after replays same does place r next here runs settled quiet calm = absurd calm
-stays_by laws (event.Addresses name list) words notes before between after replays same does place r next here runs settled quiet calm = absurd calm
-stays_by laws (event.Stop name) words notes before between after replays same does place r next here runs settled quiet calm = absurd calm
-stays_by laws (event.Start name) words notes before between after replays same does place r next here runs settled quiet calm = absurd calm
-stays_by laws (event.Deliver copy) words notes before between after replays same does place r next here runs settled quiet calm = absurd calm
-stays_by laws (event.Drop copy) words notes before between after replays same does place r next here runs settled quiet calm = absurd calm
-stays_by laws (event.Inject name endpoint from multicast bytes) words notes before between after replays same does place r next here runs settled quiet calm = absurd calm
+stays_by laws _ words notes before between after replays same does place r next here runs settled quiet calm = absurd calm
 
 pub quiet_stays : StayLaws → QuietHomesStay
 quiet_stays laws t notes before after replays step = stays_by laws t.event t.words notes before step.between after replays (ap (λ (w : Parts). w.members) step.gives) step.does

@@ -3,7 +3,7 @@ use Rattle.std.proofs.Common.{◌≡◌, ℕ, List, None, Some}
 use Rattle.hn_base.specs.Name.{name_text}
 use Rattle.hn_base.specs.declared.name.Name.{Name}
 use Rattle.hn_world.specs.Names.{member_named}
-use Rattle.hn_world.specs.Refusal.{unless_running, unless_runs}
+use Rattle.hn_world.specs.Asked.{unless_running, unless_runs}
 use Rattle.hn_world.specs.declared.member.Member.{Member}
 use Rattle.hn_world.specs.declared.parts.Parts.{Parts}
 use Rattle.hn_lab.specs.AuditReports.{IsAudited, IsAuditLine, audit_line}

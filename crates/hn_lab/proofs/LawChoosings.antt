@@ -15,7 +15,7 @@ use Rattle.hn_world.specs.declared.event.WEvent.{WEvent}
 use Rattle.hn_world.specs.declared.member.Member.{Member}
 use Rattle.hn_world.specs.declared.parts.Parts.{Parts}
 use Rattle.hn_world.specs.Laws.{StepIsUnique}
-use Rattle.hn_world.specs.Refusal.{unless_runs}
+use Rattle.hn_world.specs.Asked.{unless_runs}
 use Rattle.hn_lab.specs.declared.end.Stop.{Stop}
 use Rattle.hn_lab.specs.AddressReports.{addresses_lines, IsAddressed, IsAddressedLine}
 use Rattle.hn_lab.specs.Choosing.{TakesWords, MayHappen, MakesChoice, Chooses}

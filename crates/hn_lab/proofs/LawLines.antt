@@ -18,7 +18,7 @@ use Rattle.hn_world.specs.declared.event.WEvent.TheVariants as event
 use Rattle.hn_world.specs.declared.member.Member.{Member}
 use Rattle.hn_world.specs.declared.parts.Parts.{Parts}
 use Rattle.hn_world.specs.Laws.{StepIsUnique, AgreementIsUnique}
-use Rattle.hn_world.specs.Refusal.{unless_known, unless_runs, unless_both_run}
+use Rattle.hn_world.specs.Asked.{unless_known, unless_runs, unless_both_run}
 use Rattle.hn_lab.specs.AddressReports.{addresses_lines, IsAddressedLine}
 use Rattle.hn_lab.specs.AdvertReports.{IsAdvertLine, advert_line}
 use Rattle.hn_lab.specs.AuditReports.{IsAudited, IsAuditLine, audit_line}

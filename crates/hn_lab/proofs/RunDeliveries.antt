@@ -1,10 +1,10 @@
 -- Deliveries: by mail, and over a wire.
-use Rattle.std.proofs.Common.{◌≡◌, ◌∙◌, ◌≤◌, ◌-◌, ◌==◌, Bool, true, false, cond, ℕ, List, [], length, Option, None, Some, Result, Ok, Err, inl, inr, refl, sym, ap, subst}
+use Rattle.std.proofs.Common.{◌≡◌, ◌∙◌, ◌≤◌, ◌-◌, ◌==◌, Bool, true, false, cond, ℕ, List, [], ◌∷◌, length, Option, None, Some, Result, Ok, Err, inl, inr, refl, sym, ap, subst}
+use Rattle.std.specs.Prelude.{◌||◌, is_none, nat_le}
 use Rattle.std.specs.Option.{option_map, option_and_then}
 use Rattle.std.specs.List.{slice_get}
 use Rattle.std.proofs.lemmas.Option.{same_Some}
 use Rattle.std.proofs.lemmas.List.Elements.{All-contains}
-use Rattle.hn_base.proofs.DecidingTests.{some_there}
 use Rattle.hn_base.proofs.PartsAtPlaces.{contains_at}
 use Rattle.hn_io.specs.declared.fault.IoFault.TheVariants.{NoMemory}
 use Rattle.hn_rules.specs.declared.done.Note.{Note}
@@ -17,7 +17,7 @@ use Rattle.hn_world.specs.declared.member.Member.{Member}
 use Rattle.hn_world.specs.declared.parts.Parts.{Parts}
 use Rattle.hn_world.specs.Leaves.{info_of}
 use Rattle.hn_world.specs.Within.{AreWithinLimits}
-use Rattle.hn_world.specs.Refusal.{refusal, copy_at, of_router, unless_received}
+use Rattle.hn_world.specs.Refusal.{acting, copy_at, names_nothing, is_stopped, lacks_the_endpoint, lacks_a_copy, lacks_room, is_full_of_mail, first_code, refusal}
 use Rattle.hn_lab.specs.declared.carrying.Carried.{Carried}
 use Rattle.hn_lab.specs.declared.carrying.Carried.TheVariants.{Same}
 use Rattle.hn_lab.specs.declared.end.Stop.{Stop}
@@ -30,10 +30,24 @@ use Rattle.hn_lab.specs.Stage.{Stage, Route, Mail, route_of}
 use Rattle.hn_lab.proofs.RunStops.{stopped_within, stopped_last, starved}
 
 -- a delivery that is not refused is one of a copy
+has_copy : (unknown stopped lacks no_copy full full_of_mail : Bool)
+    → first_code ((7, unknown) ∷ (12, stopped) ∷ (11, lacks) ∷ (13, no_copy) ∷ (9, full) ∷ (16, full_of_mail) ∷ []) ≡ None → no_copy ≡ false
+has_copy true stopped lacks no_copy full full_of_mail none = absurd cc
+has_copy false true lacks no_copy full full_of_mail none = absurd cc
+has_copy false false true no_copy full full_of_mail none = absurd cc
+has_copy false false false true full full_of_mail none = absurd cc
+has_copy false false false false full full_of_mail none = refl
+
 pub delivered_copy : (w : Parts) (copy : ℕ) → refusal w (event.Deliver copy) ≡ None → (c : MailCopy) × (copy_at w copy ≡ Some c)
 delivered_copy w copy accepted =
-    let there = some_there 13 (λ (c : MailCopy). of_router (unless_received w c.to.endpoint) (slice_get w.members c.to.place)) (copy_at w copy) accepted in
-    (there.0, there.1)
+    let e = event.Deliver copy in
+    let r = acting e w in
+    is_there (copy_at w copy) (has_copy (names_nothing e w r) (is_stopped e r) (lacks_the_endpoint e w r) (lacks_a_copy e w)
+    (lacks_room e w r || nat_le 1000000 (length w.trace)) (is_full_of_mail w) accepted)
+  where
+    is_there : (o : Option MailCopy) → is_none o ≡ false → (c : MailCopy) × (o ≡ Some c)
+    is_there None there = absurd cc
+    is_there (Some c) there = (c, refl)
 
 -- its bytes, of which there are at most 65,507
 pub bytes_of_copy : (bytes : List ℕ) (found : Option MailCopy) (c : MailCopy) → Some bytes ≡ option_map (λ k. k.bytes) found → found ≡ Some c → bytes ≡ c.bytes

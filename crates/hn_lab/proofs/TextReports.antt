@@ -15,7 +15,7 @@ use Rattle.hn_store.specs.declared.table.Table.{Table}
 use Rattle.hn_world.specs.Names.{member_named}
 use Rattle.hn_world.specs.declared.member.Member.{Member}
 use Rattle.hn_world.specs.declared.parts.Parts.{Parts}
-use Rattle.hn_world.specs.Refusal.{unless_known, unless_runs, unless_both_run}
+use Rattle.hn_world.specs.Asked.{unless_known, unless_runs, unless_both_run}
 use Rattle.hn_io.specs.declared.fault.IoFault.TheVariants.{NoMemory}
 use Rattle.hn_lab.specs.declared.end.Stop.{Stop}
 use Rattle.hn_lab.specs.declared.end.Stop.TheVariants.{Refused, Cut}

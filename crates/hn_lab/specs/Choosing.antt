@@ -12,7 +12,7 @@ use Rattle.hn_world.specs.declared.event.WEvent.{WEvent}
 use Rattle.hn_world.specs.declared.event.WEvent.TheVariants as event
 use Rattle.hn_world.specs.declared.member.Member.{Member}
 use Rattle.hn_world.specs.Names.{member_named}
-use Rattle.hn_world.specs.Refusal.{unless_runs}
+use Rattle.hn_world.specs.Asked.{unless_runs}
 use Rattle.hn_lab.specs.declared.end.Stop.{Stop}
 use Rattle.hn_lab.specs.Delivery.{EventEnds}
 use Rattle.hn_lab.specs.Process.{Process, Nothing, Unless, ThenProcess}

@@ -19,7 +19,8 @@ use Rattle.hn_world.specs.declared.event.WEvent.TheVariants as event
 use Rattle.hn_world.specs.declared.member.Member.{Member}
 use Rattle.hn_world.specs.declared.parts.Parts.{Parts}
 use Rattle.hn_world.specs.Names.{member_named}
-use Rattle.hn_world.specs.Refusal.{of_router, unless_running, unless_attached, unless_known, unless_runs, unless_both_run, copy_at}
+use Rattle.hn_world.specs.Asked.{of_router, unless_running, unless_attached, unless_known, unless_runs, unless_both_run}
+use Rattle.hn_world.specs.Refusal.{copy_at}
 use Rattle.hn_lab.specs.Stage.{Stage}
 use Rattle.hn_lab.specs.Process.{Process, Nothing, Unless, ThenProcess}
 use Rattle.hn_addr.specs.Addresses.{IsChoice}

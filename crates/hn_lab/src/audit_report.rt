@@ -13,7 +13,7 @@ ghost use Rattle.hn_lab.specs.Stage.{stage_of};
 ghost use Rattle.hn_lab.specs.Tells.{Reports};
 ghost use Rattle.hn_lab.specs.Told.{Told};
 ghost use Rattle.hn_wire.specs.declared.datagram.Datagram.{Datagram};
-ghost use Rattle.hn_world.specs.Refusal.{unless_runs};
+ghost use Rattle.hn_world.specs.Asked.{unless_runs};
 
 use crate::end::Stop;
 use crate::playing::Playing;

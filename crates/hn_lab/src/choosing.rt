@@ -13,7 +13,7 @@ ghost use Rattle.hn_lab.specs.Stage.{stage_of};
 ghost use Rattle.hn_lab.specs.Told.{Told};
 ghost use Rattle.hn_lab.specs.UlaReports.{ula_text, ula_line};
 ghost use Rattle.hn_world.specs.Names.{member_named};
-ghost use Rattle.hn_world.specs.Refusal.{unless_runs};
+ghost use Rattle.hn_world.specs.Asked.{unless_runs};
 ghost use Rattle.hn_world.specs.Step.{IsInRange};
 ghost use Rattle.hn_world.specs.declared.member.Member.{Member};
 

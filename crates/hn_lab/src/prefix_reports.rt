@@ -4,7 +4,7 @@ ghost use Rattle.std.specs.Prelude.{◌≡◌, ◌++◌, ℕ, List, Option, None
 ghost use Rattle.hn_base.specs.Name.{name_text};
 ghost use Rattle.hn_wire.specs.declared.datagram.Datagram.{Datagram};
 ghost use Rattle.hn_world.specs.Names.{member_named};
-ghost use Rattle.hn_world.specs.Refusal.{unless_runs};
+ghost use Rattle.hn_world.specs.Asked.{unless_runs};
 ghost use Rattle.hn_lab.specs.declared.end.Stop.{Stop as AStop};
 ghost use Rattle.hn_lab.specs.declared.end.Stop.TheVariants as stop;
 ghost use Rattle.hn_lab.specs.Ended.{EndsLeaving};

@@ -2,7 +2,7 @@
 
 ghost use Rattle.std.specs.Prelude.{◌≡◌, ◌↔◌, ℕ, List, Option, None, Err, IfOk, IsTrue, string_bytes, ◌≢◌};
 ghost use Rattle.hn_wire.specs.declared.datagram.Datagram.{Datagram};
-ghost use Rattle.hn_world.specs.Refusal.{unless_known, unless_runs, unless_both_run};
+ghost use Rattle.hn_world.specs.Asked.{unless_known, unless_runs, unless_both_run};
 ghost use Rattle.hn_lab.specs.declared.end.Stop.{Stop as AStop};
 ghost use Rattle.hn_lab.specs.declared.end.Stop.TheVariants as stop;
 ghost use Rattle.hn_lab.specs.Ended.{EndsLeaving};

@@ -5,7 +5,7 @@ ghost use Rattle.hn_base.specs.Name.{name_text};
 ghost use Rattle.hn_wire.specs.declared.datagram.Datagram.{Datagram};
 ghost use Rattle.hn_world.specs.declared.member.Member.{Member as AMember};
 ghost use Rattle.hn_world.specs.Names.{member_named};
-ghost use Rattle.hn_world.specs.Refusal.{unless_runs};
+ghost use Rattle.hn_world.specs.Asked.{unless_runs};
 ghost use Rattle.hn_audit.specs.Reached.{runs};
 ghost use Rattle.hn_audit.specs.Set.{is_in_set};
 ghost use Rattle.hn_lab.specs.Ended.{EndsLeaving};

@@ -10,7 +10,7 @@ use Rattle.hn_base.specs.Name.{name_text}
 use Rattle.hn_table.specs.Table.{IsTableText}
 use Rattle.hn_why.specs.Why.{IsWhy}
 use Rattle.hn_world.specs.Names.{member_named}
-use Rattle.hn_world.specs.Refusal.{of_router, unless_running}
+use Rattle.hn_world.specs.Asked.{of_router, unless_running}
 use Rattle.hn_world.specs.declared.member.Member.{Member}
 use Rattle.hn_world.specs.declared.parts.Parts.{Parts}
 use Rattle.hn_look.specs.declared.words.Form.{Form}

@@ -21,7 +21,7 @@ use Rattle.hn_world.specs.declared.member.Member.{Member}
 use Rattle.hn_world.specs.declared.parts.Parts.{Parts}
 use Rattle.hn_world.specs.Mail.{address_of}
 use Rattle.hn_world.specs.Names.{is_named, member_named, router_place}
-use Rattle.hn_world.specs.Refusal.{code_if, of_router, unless_running}
+use Rattle.hn_world.specs.Asked.{code_if, of_router, unless_running}
 use Rattle.hn_world.specs.Replay.{IsReplayed, IsSound, IsSoundMember}
 use Rattle.hn_sync.specs.Exchange.{request, IsQuestion, unless_exchange, unless_joined}
 use Rattle.hn_sync.specs.Joined.{AreLeast, joint_of}

@@ -1,7 +1,8 @@
 -- The copies of an exchange go to and fro between its two endpoints.
 use Rattle.std.proofs.Common.{◌≡◌, ◌≢◌, ◌∙◌, ◌⊎◌, ◌<◌, ◌≤◌, ◌+◌, ◌-◌, ◌^◌, ◌==◌, ◌&&◌, ℕ, suc, Bool, true, false, not, cond, List, [], ◌∷◌, ◌++◌, length, filter, slice_get, slice_set, Contains}
 use Rattle.std.proofs.Common.{is_some, Option, Some, None, sym, ap, subst, refl, inl, inr, arith}
-use Rattle.std.specs.Option.{option_or}
+use Rattle.std.specs.Prelude.{◌||◌, is_none, nat_le}
+use Rattle.std.specs.Option.{option_and_then}
 use Rattle.std.proofs.lemmas.Bool.{cases_lt, eqb-true, eq-eqb}
 use Rattle.std.proofs.lemmas.Bool.Decides.{eqb_tells}
 use Rattle.std.proofs.lemmas.List.Elements.{All-contains, Contains-append_cases}
@@ -33,7 +34,7 @@ use Rattle.hn_world.specs.declared.parts.Parts.{Parts}
 use Rattle.hn_world.specs.Laws.{WorldIsSound, WorldHasItsTrace, WorldHasItsVersion}
 use Rattle.hn_world.specs.Mail.{address_of, on_link_at, on_link, gets, copy_for, copies_on, copies_of_send, copies_of}
 use Rattle.hn_world.specs.Names.{is_named, member_named, is_on, link_of}
-use Rattle.hn_world.specs.Refusal.{code_if, refusal, of_copy, of_router, unless_received}
+use Rattle.hn_world.specs.Refusal.{so_of, copy_at, acting, names_nothing, is_stopped, lacks_the_endpoint, lacks_a_copy, lacks_room, is_full_of_mail, first_code, refusal}
 use Rattle.hn_world.specs.Replay.{empty_world, Goes, Replays, IsReplayed, IsSoundMember}
 use Rattle.hn_world.specs.Step.{ActsAt, Acts, Delivers, Does, Step, acted, entered, taken}
 use Rattle.hn_sync.specs.Exchange.{request, IsQuestion, AreDeliveries, AreOfExchange, next_event}
@@ -100,14 +101,17 @@ record IsUp (ms : List Member) (t : Target) : Type 0 where
 up_fits : (ms : List Member) (t : Target) → ((m : Member) → Contains ms m → HasPorts m) → IsUp ms t → t.endpoint.0 < 2 ^ 32
 up_fits ms t ports up = endpoint_fits up.m t.endpoint (ports up.m (contains_at ms t.place up.m up.is)) up.there
 
--- where it is refused what arrives, that is for lack of room
-room_at : (r s x y : Bool) (code : ℕ) → r ≡ true → s ≡ true → option_or (option_or (code_if 12 (not r)) (option_or (code_if 11 (not s)) (code_if 9 x))) (code_if 16 y) ≡ Some code
+-- where a router is up, and a copy is there, what arrives is refused for lack of room alone
+for_room : (unknown stopped lacks no_copy full full_of_mail : Bool) (code : ℕ) → unknown ≡ false → stopped ≡ false → lacks ≡ false → no_copy ≡ false
+    → first_code ((7, unknown) ∷ (8, false) ∷ (12, stopped) ∷ (11, lacks) ∷ (19, false) ∷ (14, false) ∷ (13, no_copy) ∷ (10, false) ∷ (9, full) ∷ (16, full_of_mail) ∷ []) ≡ Some code
     → (code ≡ 9) ⊎ (code ≡ 16)
-room_at true true true y code runs there h = inl (sym (same_Some 9 code h))
-room_at true true false true code runs there h = inr (sym (same_Some 16 code h))
-room_at true true false false code runs there h = absurd (cc)
-room_at true false x y code runs there h = absurd (cc)
-room_at false s x y code runs there h = absurd (cc)
+for_room true stopped lacks no_copy full full_of_mail code unknown up there copy h = absurd cc
+for_room false true lacks no_copy full full_of_mail code known up there copy h = absurd cc
+for_room false false true no_copy full full_of_mail code known up there copy h = absurd cc
+for_room false false false true full full_of_mail code known up there copy h = absurd cc
+for_room false false false false true full_of_mail code known up there copy h = inl (sym (same_Some 9 code h))
+for_room false false false false false true code known up there copy h = inr (sym (same_Some 16 code h))
+for_room false false false false false false code known up there copy h = absurd cc
 
 pub attached_there : (e : EpId) (ports : List Port) → Contains (endpoints_of ports) e → is_attached e ports ≡ true
 attached_there e ports there =
@@ -115,9 +119,6 @@ attached_there e ports there =
     let is : port.0.id.0 ≡ e.0 = ap (λ (x : EpId). x.0) port.2 in
     let found = passing_found (is_port e) ports port.0 port.1 (eq-eqb port.0.id.0 e.0 is) in
     ap (λ (o : Option Port). is_some o) found.1
-
-room_of : (w : Parts) (e : EpId) (m : Member) (code : ℕ) → m.running ≡ true → Contains (endpoints_of m.router.ports) e → unless_received w e m ≡ Some code → (code ≡ 9) ⊎ (code ≡ 16)
-room_of w e m code runs there h = room_at m.running (is_attached e m.router.ports) _ _ code runs (attached_there e m.router.ports there) h
 
 -- ---- what an arrival leaves
 
@@ -269,26 +270,31 @@ module _ (laws : HasLaws) (here there : Target) (count : ℕ) where
   delivery_for_room n w code new within holds h = elim (slice_get_cases w.copies (n - 1)).1 [
     | inl found ↦
         let copy = by_test found.0 (n == 0) refl found.2 in
-        by_mail found.0 (holds.news (n - 1) found.0 (omega (arith, new)) found.2) (sym (ap (of_copy asked) copy) ∙ h)
+        by_mail found.0 (holds.news (n - 1) found.0 (omega (arith, new)) found.2) copy
     | inr past ↦ absurd (let before = past.0 in omega (arith, new, within, before))
   ]
     where
-      asked : MailCopy → Option ℕ
-      asked c = of_router (unless_received w c.to.endpoint) (slice_get w.members c.to.place)
-
       by_test : (c : MailCopy) (b : Bool) → (n == 0) ≡ b → slice_get w.copies (n - 1) ≡ Some c → cond b None (slice_get w.copies (n - 1)) ≡ Some c
       by_test c true none at = absurd (let zero_is = eqb-true n 0 none in omega (arith, new, zero_is))
       by_test c false some at = at
 
-      at_target : (t : Target) (c : MailCopy) (up : IsUp w.members t) → c.to ≡ t → of_router (unless_received w c.to.endpoint) (slice_get w.members c.to.place) ≡ Some code → (code ≡ 9) ⊎ (code ≡ 16)
-      at_target t c up to k =
-          let there_is : of_router (unless_received w c.to.endpoint) (slice_get w.members c.to.place) ≡ unless_received w t.endpoint up.m
-          = ap (λ (x : Target). of_router (unless_received w x.endpoint) (slice_get w.members x.place)) to ∙ ap (of_router (unless_received w t.endpoint)) up.is in
-          room_of w t.endpoint up.m code up.runs up.there (sym there_is ∙ k)
+      at_target : (t : Target) (c : MailCopy) (up : IsUp w.members t) → c.to ≡ t → copy_at w n ≡ Some c → (code ≡ 9) ⊎ (code ≡ 16)
+      at_target t c up to copy =
+          let router : acting (event.Deliver n) w ≡ Some up.m =
+          ap (option_and_then (λ (c : MailCopy). slice_get w.members c.to.place)) copy ∙ ap (λ (x : Target). slice_get w.members x.place) to ∙ up.is in
+          let there : is_attached c.to.endpoint up.m.router.ports ≡ true =
+          ap (λ (x : Target). is_attached x.endpoint up.m.router.ports) to ∙ attached_there t.endpoint up.m.router.ports up.there in
+          let e = event.Deliver n in
+          let r = acting e w in
+          for_room (names_nothing e w r) (is_stopped e r) (lacks_the_endpoint e w r) (lacks_a_copy e w) (lacks_room e w r || nat_le 1000000 (length w.trace)) (is_full_of_mail w) code
+          (λ i. is_some (copy i) && is_none (router i))
+          ((λ i. so_of (λ (m : Member). not m.running) (router i)) ∙ ap not up.runs)
+          ((λ i. so_of (λ (c : MailCopy). so_of (λ (m : Member). not (is_attached c.to.endpoint m.router.ports)) (router i)) (copy i)) ∙ ap not there)
+          (ap is_none copy) h
 
-      by_mail : (c : MailCopy) → IsBetween c → of_router (unless_received w c.to.endpoint) (slice_get w.members c.to.place) ≡ Some code → (code ≡ 9) ⊎ (code ≡ 16)
-      by_mail c (inl k) is = at_target here c holds.one k.0 is
-      by_mail c (inr k) is = at_target there c holds.other k.0 is
+      by_mail : (c : MailCopy) → IsBetween c → copy_at w n ≡ Some c → (code ≡ 9) ⊎ (code ≡ 16)
+      by_mail c (inl k) copy = at_target here c holds.one k.0 copy
+      by_mail c (inr k) copy = at_target there c holds.other k.0 copy
 
 -- ---- an exchange
 
@@ -309,8 +315,14 @@ module _ (laws : HasLaws) (a b : Name) (code : ℕ) (before : Parts) (replayed :
   question_for_room : refusal before question ≡ Some code → (code ≡ 9) ⊎ (code ≡ 16)
   question_for_room h =
       let at : refusal before asking ≡ Some code = subst (λ (e : WEvent). refusal before e ≡ Some code) asks.gives h in
-      let one : of_router (unless_received before asks.e) (member_named (name_text a) before) ≡ unless_received before asks.e asks.one = ap (of_router (unless_received before asks.e)) asks.is_one in
-      room_of before asks.e asks.one code asks.one_runs (endpoint_there asks.one.router asks.e asks.two.router.id asks.f asks.least.joined.of_one) (sym one ∙ at)
+      let there = attached_there asks.e asks.one.router.ports (endpoint_there asks.one.router asks.e asks.two.router.id asks.f asks.least.joined.of_one) in
+      let r = acting asking before in
+      for_room (names_nothing asking before r) (is_stopped asking r) (lacks_the_endpoint asking before r) false
+      (lacks_room asking before r || nat_le 1000000 (length before.trace)) (is_full_of_mail before) code
+      (ap is_none asks.is_one)
+      (ap (so_of (λ (m : Member). not m.running)) asks.is_one ∙ ap not asks.one_runs)
+      (ap (so_of (λ (m : Member). not (is_attached asks.e m.router.ports))) asks.is_one ∙ ap not there)
+      refl at
 
   -- after it, the two endpoints are up, and its copies go back
   module _ (t : Traced) (notes : List Note) (then : Parts) (is : t.event ≡ question) (step : Step t notes before then) where

@@ -1,9 +1,10 @@
 -- A world has few routers, so the addresses of their endpoints are link-local and tell them apart.
-use Rattle.std.proofs.Common.{◌≡◌, ◌∙◌, ◌<◌, ◌≤◌, ◌^◌, ℕ, zero, suc, Bool, true, false, not, List, [], ◌∷◌, ◌++◌, length, slice_set, nat_lt, Option, Some, None, sym, ap, subst, refl, arith}
+use Rattle.std.proofs.Common.{◌≡◌, ◌∙◌, ◌<◌, ◌≤◌, ◌^◌, ℕ, zero, suc, Bool, true, false, List, [], ◌∷◌, ◌++◌, length, slice_set, Option, Some, None, sym, ap, subst, refl, arith}
 use Rattle.std.proofs.Common.{length-append}
-use Rattle.std.specs.Option.{option_or}
-use Rattle.std.proofs.lemmas.Bool.{ltb-true}
+use Rattle.std.specs.Prelude.{◌||◌, nat_le}
+use Rattle.std.proofs.lemmas.Bool.{leb-false}
 use Rattle.hn_base.specs.Addr.{IsLinkLocal}
+use Rattle.hn_base.specs.Name.{name_text}
 use Rattle.hn_base.specs.declared.name.Name.{Name}
 use Rattle.hn_base.specs.declared.version.Version.{Version}
 use Rattle.hn_base.specs.declared.version.Version.TheVariants.{One, Two}
@@ -17,7 +18,8 @@ use Rattle.hn_world.specs.declared.member.Member.{Member}
 use Rattle.hn_world.specs.declared.parts.Parts.{Parts}
 use Rattle.hn_world.specs.Limits.{most_routers}
 use Rattle.hn_world.specs.Mail.{address_of}
-use Rattle.hn_world.specs.Refusal.{code_if, refusal}
+use Rattle.hn_world.specs.Names.{is_taken}
+use Rattle.hn_world.specs.Refusal.{first_code, refusal}
 use Rattle.hn_world.specs.Replay.{empty_world, Goes, Replays, IsReplayed}
 use Rattle.hn_world.specs.Routed.{routed}
 use Rattle.hn_world.specs.Step.{ActsAt, DoesElse, DoesAt, Step}
@@ -31,13 +33,10 @@ most : (v : Version) → most_routers v ≤ 128
 most One = omega arith
 most Two = omega arith
 
-below_most : (taken count most : ℕ) (a b : Bool) → option_or (code_if 8 a) (option_or (code_if 9 (not (nat_lt count most))) (code_if 9 b)) ≡ None → count < most
-below_most taken count most a b h = by_tests a (nat_lt count most) refl h
-  where
-    by_tests : (a c : Bool) → nat_lt count most ≡ c → option_or (code_if 8 a) (option_or (code_if 9 (not c)) (code_if 9 b)) ≡ None → count < most
-    by_tests true c is k = absurd (cc)
-    by_tests false true is k = ltb-true count most is
-    by_tests false false is k = absurd (cc)
+below_most : (taken full many : Bool) → first_code ((8, taken) ∷ (9, full || many) ∷ []) ≡ None → full ≡ false
+below_most true full many none = absurd cc
+below_most false true many none = absurd cc
+below_most false false many none = refl
 
 acts_few : (change : Member → Member) (place : ℕ) (e : PlainEvent) (words : List ℕ) (notes : List Note) (before after : Parts)
     → ActsAt change place e words notes before after → length after.members ≡ length before.members
@@ -46,7 +45,7 @@ acts_few change place e words notes before after h = ap (λ (w : Parts). length 
 else_few : (e : WEvent) (words : List ℕ) (notes : List Note) (before after : Parts) → refusal before e ≡ None → routed e ≡ None
     → DoesElse e words notes before after → length before.members ≤ 128 → length after.members ≤ 128
 else_few (event.Router name id) words notes before after accepted none h few =
-    let less = below_most 0 (length before.members) (most_routers before.version) _ _ accepted in
+    let less = leb-false (most_routers before.version) (length before.members) (below_most (is_taken (name_text name) before) (nat_le (most_routers before.version) (length before.members)) (nat_le 1000000 (length before.trace)) accepted) in
     let top = most before.version in
     let made : length after.members ≡ length (before.members ++ record { name = name; running = true; router = h.router; attachments = [] } ∷ []) =
     ap (λ (w : Parts). length w.members) h.quietly.gives in

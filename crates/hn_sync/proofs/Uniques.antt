@@ -1,5 +1,6 @@
 -- Over one stream of words an exchange ends in at most one way.
 use Rattle.std.proofs.Common.{◌≡◌, ◌∙◌, ◌<◌, ◌+◌, ◌-◌, ◌==◌, ℕ, suc, Bool, true, false, cond, List, [], ◌∷◌, length, slice_get, Option, Some, None, sym, ap, subst, refl, inl, inr, arith}
+use Rattle.std.specs.Prelude.{◌||◌, is_none, nat_le}
 use Rattle.std.proofs.lemmas.Bool.{cases_lt}
 use Rattle.std.proofs.lemmas.List.{append_cancel_left}
 use Rattle.std.proofs.lemmas.Option.{same_Some, slice_get_past}
@@ -13,7 +14,7 @@ use Rattle.hn_world.specs.declared.event.WEvent.{WEvent}
 use Rattle.hn_world.specs.declared.event.WEvent.TheVariants as event
 use Rattle.hn_world.specs.declared.parts.Parts.{Parts}
 use Rattle.hn_world.specs.Laws.{StepIsUnique, EachEventIsEntered}
-use Rattle.hn_world.specs.Refusal.{refusal, of_copy, of_router, unless_received}
+use Rattle.hn_world.specs.Refusal.{acting, names_nothing, is_stopped, lacks_the_endpoint, lacks_a_copy, lacks_room, is_full_of_mail, first_code, refusal}
 use Rattle.hn_world.specs.Replay.{Goes, words_of}
 use Rattle.hn_world.specs.Step.{Step, IsStep}
 use Rattle.hn_sync.specs.Exchange.{IsQuestion, AreDeliveries, AreOfExchange, delivery, next_event, ExchangeEnds}
@@ -47,10 +48,24 @@ one_code (Some code) (Some other) next w h k =
     let first : refusal w k.0 ≡ Some code = subst (λ (x : WEvent). refusal w x ≡ Some code) same h.2 in
     sym first ∙ k.2
 
+-- a delivery that is accepted has its copy
+has_copy : (unknown stopped lacks no_copy full full_of_mail : Bool)
+    → first_code ((7, unknown) ∷ (12, stopped) ∷ (11, lacks) ∷ (13, no_copy) ∷ (9, full) ∷ (16, full_of_mail) ∷ []) ≡ None → no_copy ≡ false
+has_copy true stopped lacks no_copy full full_of_mail none = absurd cc
+has_copy false true lacks no_copy full full_of_mail none = absurd cc
+has_copy false false true no_copy full full_of_mail none = absurd cc
+has_copy false false false true full full_of_mail none = absurd cc
+has_copy false false false false full full_of_mail none = refl
+
 -- a copy that is not there is not delivered
-gone : (w : Parts) (copy : ℕ) → length w.copies < copy → refusal w (event.Deliver copy) ≡ Some 13
-gone w copy past =
-    ap (of_copy (λ c. of_router (unless_received w c.to.endpoint) (slice_get w.members c.to.place))) (by_test (copy == 0) (slice_get_past w.copies (copy - 1) (omega arith)))
+gone : (w : Parts) (copy : ℕ) → length w.copies < copy → refusal w (event.Deliver copy) ≡ None → ⊥
+gone w copy past accepted =
+    let none = by_test (copy == 0) (slice_get_past w.copies (copy - 1) (omega arith)) in
+    let e = event.Deliver copy in
+    let r = acting e w in
+    let there : true ≡ false = sym (ap is_none none) ∙ has_copy (names_nothing e w r) (is_stopped e r) (lacks_the_endpoint e w r) (lacks_a_copy e w)
+    (lacks_room e w r || nat_le 1000000 (length w.trace)) (is_full_of_mail w) accepted in
+    absurd cc
   where
     by_test : (b : Bool) → slice_get w.copies (copy - 1) ≡ None → cond b None (slice_get w.copies (copy - 1)) ≡ None
     by_test true none = refl
@@ -59,7 +74,7 @@ gone w copy past =
 -- so where deliveries stop, the next one is not accepted
 not_delivered : (code : Option ℕ) (copy : ℕ) (w : Parts) → Stops code (delivery copy w) w → refusal w (event.Deliver copy) ≡ None → ⊥
 not_delivered code copy w stops accepted = elim (cases_lt (length w.copies) copy) [
-  | inl past ↦ absurd (let refused : Some 13 ≡ None = sym (gone w copy past) ∙ accepted in cc)
+  | inl past ↦ gone w copy past accepted
   | inr there ↦ stopped code (delivery copy w) w (event.Deliver copy) stops (one_delivery copy w there) accepted
 ]
 

@@ -17,7 +17,8 @@ use Rattle.hn_world.specs.declared.member.Member.{Member}
 use Rattle.hn_world.specs.declared.parts.Parts.{Parts}
 use Rattle.hn_world.specs.Mail.{address_of}
 use Rattle.hn_world.specs.Names.{member_named, router_place}
-use Rattle.hn_world.specs.Refusal.{code_if, of_router, refusal, unless_both_run}
+use Rattle.hn_world.specs.Asked.{code_if, of_router, unless_both_run}
+use Rattle.hn_world.specs.Refusal.{refusal}
 use Rattle.hn_world.specs.Replay.{Goes, words_of}
 use Rattle.hn_sync.specs.Joined.{AreLeast, joint_of}
 

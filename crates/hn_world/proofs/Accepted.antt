@@ -1,113 +1,105 @@
 -- What an accepted event says.
-use Rattle.std.proofs.Common.{◌≡◌, ◌<◌, ℕ, Bool, true, false, not, List, None, length, nat_lt, nat_le, slice_get, refl}
-use Rattle.std.proofs.lemmas.Bool.{leb-false}
+use Rattle.std.proofs.Common.{◌≡◌, ◌∙◌, ◌<◌, ℕ, Bool, true, false, List, [], ◌∷◌, Option, None, Some, length, nat_le, slice_get, refl, sym, ap, subst}
+use Rattle.std.specs.Prelude.{is_none, is_some, ◌&&◌, ◌||◌}
+use Rattle.std.specs.Option.{option_and_then}
+use Rattle.std.proofs.lemmas.Bool.{leb-false, or_parts}
 use Rattle.hn_base.specs.Name.{name_text}
-use Rattle.hn_base.specs.declared.ids.EpId.{EpId}
-use Rattle.hn_base.specs.Prefix.{PlainPrefix}
-use Rattle.hn_own.specs.Addresses.{OwnAddress}
+use Rattle.hn_base.specs.declared.name.Name.{Name}
 use Rattle.hn_world.specs.declared.copies.MailCopy.{MailCopy}
 use Rattle.hn_world.specs.declared.event.WEvent.{WEvent}
 use Rattle.hn_world.specs.declared.event.WEvent.TheVariants as event
 use Rattle.hn_world.specs.declared.member.Member.{Member}
 use Rattle.hn_world.specs.declared.parts.Parts.{Parts}
-use Rattle.hn_world.specs.Names.{is_taken, member_named, link_place}
-use Rattle.hn_world.specs.Refusal.{code_if, of_router, unless_running, unless_attached, unless_free, unless_apart, unless_full_of_endpoints, unless_full_of_events, unless_full_of_mail, unless_acts}
-use Rattle.hn_world.specs.Refusal.{unless_detached, unless_ticked, unless_received, unless_joined, unless_new, copy_at, refusal, unless_able, unless_full_of_prefixes, unless_delegated, unless_listed}
-use Rattle.hn_world.specs.Refusal.{unless_addressed}
-use Rattle.hn_base.proofs.DecidingTests.{neither_given, some_there}
+use Rattle.hn_world.specs.Names.{member_named}
+use Rattle.hn_world.specs.Refusal.{copy_at, acting, names_nothing, takes_a_name, is_stopped, lacks_the_endpoint, may_not_address, joins_twice, lacks_a_copy, goes_back, lacks_room, may_answer, is_full_of_mail, first_code, refusal}
+use Rattle.hn_world.specs.Routed.{named_by}
 
-pub not_so : (code : ℕ) (b : Bool) → code_if code b ≡ None → b ≡ false
-not_so code true none = absurd cc
-not_so code false none = refl
+-- where no code comes, no condition holds
+none_holds : (unknown named stopped detached unlisted joined lost past full mail : Bool)
+    → first_code ((7, unknown) ∷ (8, named) ∷ (12, stopped) ∷ (11, detached) ∷ (19, unlisted) ∷ (14, joined) ∷ (13, lost) ∷ (10, past) ∷ (9, full) ∷ (16, mail) ∷ []) ≡ None
+    → (unknown ≡ false) × (named ≡ false) × (stopped ≡ false) × (detached ≡ false) × (unlisted ≡ false) × (joined ≡ false) × (lost ≡ false) × (past ≡ false) × (full ≡ false)
+none_holds true named stopped detached unlisted joined lost past full mail none = absurd cc
+none_holds false true stopped detached unlisted joined lost past full mail none = absurd cc
+none_holds false false true detached unlisted joined lost past full mail none = absurd cc
+none_holds false false false true unlisted joined lost past full mail none = absurd cc
+none_holds false false false false true joined lost past full mail none = absurd cc
+none_holds false false false false false true lost past full mail none = absurd cc
+none_holds false false false false false false true past full mail none = absurd cc
+none_holds false false false false false false false true full mail none = absurd cc
+none_holds false false false false false false false false true mail none = absurd cc
+none_holds false false false false false false false false false true none = absurd cc
+none_holds false false false false false false false false false false none = (refl, refl, refl, refl, refl, refl, refl, refl, refl)
 
--- ---- there is room for one more event
+-- no condition holds of the event and its router
+pub record Accepts (w : Parts) (event : WEvent) (router : Option Member) : Type 0 where
+  pub known : names_nothing event w router ≡ false
+  pub free : takes_a_name event w ≡ false
+  pub runs : is_stopped event router ≡ false
+  pub endpoint : lacks_the_endpoint event w router ≡ false
+  pub listed : may_not_address event router ≡ false
+  pub apart : joins_twice event w router ≡ false
+  pub copy : lacks_a_copy event w ≡ false
+  pub forward : goes_back event w ≡ false
+  pub room : lacks_room event w router ≡ false
+  pub few : nat_le 1000000 (length w.trace) ≡ false
 
-abbrev HasRoom : Parts → Type 0
-HasRoom w = unless_full_of_events w ≡ None
+pub accepts : (w : Parts) (event : WEvent) → refusal w event ≡ None → Accepts w event (acting event w)
+accepts w event accepted =
+    let r = acting event w in
+    let room = lacks_room event w r in
+    let few = nat_le 1000000 (length w.trace) in
+    let (known, free, runs, endpoint, listed, apart, copy, forward, full) = none_holds
+    (names_nothing event w r) (takes_a_name event w) (is_stopped event r) (lacks_the_endpoint event w r) (may_not_address event r) (joins_twice event w r) (lacks_a_copy event w)
+    (goes_back event w) (room || few) (may_answer event && is_full_of_mail w) accepted in
+    let parts = or_parts room few full in
+    record {
+      known = known;
+      free = free;
+      runs = runs;
+      endpoint = endpoint;
+      listed = listed;
+      apart = apart;
+      copy = copy;
+      forward = forward;
+      room = parts.0;
+      few = parts.1;
+    }
 
-room_to_define : (w : Parts) (name : List ℕ) (count most : ℕ) → unless_new w name count most ≡ None → HasRoom w
-room_to_define w name count most accepted =
-    let first = neither_given (code_if 8 (is_taken name w)) _ accepted in
-    (neither_given (code_if 9 (not (nat_lt count most))) (unless_full_of_events w) first.1).1
+-- where the router is known
+pub accepts_at : (w : Parts) (event : WEvent) (m : Member) → acting event w ≡ Some m → refusal w event ≡ None → Accepts w event (Some m)
+accepts_at w event m found accepted = subst (λ (o : Option Member). Accepts w event o) found (accepts w event accepted)
 
-room_to_act : (w : Parts) (m : Member) → unless_acts w m ≡ None → HasRoom w
-room_to_act w m accepted = (neither_given (unless_running m) (unless_full_of_events w) accepted).1
-
-room_to_detach : (w : Parts) (endpoint : EpId) (m : Member) → unless_detached w endpoint m ≡ None → HasRoom w
-room_to_detach w endpoint m accepted =
-    let first = neither_given (unless_running m) _ accepted in
-    (neither_given (unless_attached endpoint m) (unless_full_of_events w) first.1).1
-
-room_to_tick : (w : Parts) (m : Member) → unless_ticked w m ≡ None → HasRoom w
-room_to_tick w m accepted = room_to_act w m (neither_given (unless_acts w m) (unless_full_of_mail w) accepted).0
-
-room_to_receive : (w : Parts) (endpoint : EpId) (m : Member) → unless_received w endpoint m ≡ None → HasRoom w
-room_to_receive w endpoint m accepted = room_to_detach w endpoint m (neither_given (unless_detached w endpoint m) (unless_full_of_mail w) accepted).0
-
-room_to_join : (w : Parts) (endpoint : EpId) (m : Member) (link : ℕ) → unless_joined w endpoint m link ≡ None → HasRoom w
-room_to_join w endpoint m link accepted =
-    let first = neither_given (unless_running m) _ accepted in
-    let second = neither_given (unless_free endpoint m) _ first.1 in
-    let third = neither_given (unless_apart link m) _ second.1 in
-    (neither_given (unless_full_of_endpoints m) (unless_full_of_events w) third.1).1
-
-room_to_delegate : (w : Parts) (prefix : PlainPrefix) (m : Member) → unless_delegated w prefix m ≡ None → HasRoom w
-room_to_delegate w prefix m accepted =
-    let first = neither_given (unless_running m) _ accepted in
-    (neither_given (unless_full_of_prefixes prefix m) (unless_full_of_events w) first.1).1
-
-room_to_address : (w : Parts) (list : List OwnAddress) (m : Member) → unless_addressed w list m ≡ None → HasRoom w
-room_to_address w list m accepted =
-    let first = neither_given (unless_running m) _ accepted in
-    (neither_given (unless_listed list m) (unless_full_of_events w) first.1).1
-
--- where what is asked of its router holds
-room_at : (w : Parts) (event : WEvent) (m : Member) → unless_able event w m ≡ None → HasRoom w
-room_at w (event.Attach name endpoint link) m accepted =
-    let at = some_there 7 (unless_joined w endpoint m) (link_place (name_text link) w) accepted in
-    room_to_join w endpoint m at.0 at.2
-room_at w (event.Detach name endpoint) m accepted = room_to_detach w endpoint m accepted
-room_at w (event.External name prefix valid preferred) m accepted = room_to_delegate w prefix m accepted
-room_at w (event.Addresses name list) m accepted = room_to_address w list m accepted
-room_at w (event.Private name length) m accepted = room_to_act w m accepted
-room_at w (event.Start name) m accepted = accepted
-room_at w (event.Tick name) m accepted = room_to_tick w m accepted
-room_at w (event.Inject name endpoint from multicast bytes) m accepted = room_to_receive w endpoint m accepted
-room_at w (event.Router name id) m accepted = room_to_act w m accepted
-room_at w (event.Link name) m accepted = room_to_act w m accepted
-room_at w (event.Withdraw name prefix) m accepted = room_to_act w m accepted
-room_at w (event.Caps name caps) m accepted = room_to_act w m accepted
-room_at w (event.Stop name) m accepted = room_to_act w m accepted
-room_at w (event.Time moment) m accepted = room_to_act w m accepted
-room_at w (event.Deliver copy) m accepted = room_to_act w m accepted
-room_at w (event.Drop copy) m accepted = room_to_act w m accepted
-
--- of an event that names a router
-room_by : (w : Parts) (event : WEvent) (name : List ℕ) → of_router (unless_able event w) (member_named name w) ≡ None → HasRoom w
-room_by w event name accepted =
-    let router = some_there 7 (unless_able event w) (member_named name w) accepted in
-    room_at w event router.0 router.2
-
-room : (w : Parts) (event : WEvent) → refusal w event ≡ None → HasRoom w
-room w (event.Router name id) accepted = room_to_define w (name_text name) _ _ accepted
-room w (event.Link name) accepted = room_to_define w (name_text name) _ _ accepted
-room w (event.Time moment) accepted = (neither_given (code_if 10 (nat_lt moment w.moment)) (unless_full_of_events w) accepted).1
-room w (event.Deliver copy) accepted =
-    let mail = some_there 13 (λ (c : MailCopy). of_router (unless_received w c.to.endpoint) (slice_get w.members c.to.place)) (copy_at w copy) accepted in
-    let router = some_there 7 (unless_received w mail.0.to.endpoint) (slice_get w.members mail.0.to.place) mail.2 in
-    room_to_receive w mail.0.to.endpoint router.0 router.2
-room w (event.Drop copy) accepted = (some_there 13 (λ (c : MailCopy). unless_full_of_events w) (copy_at w copy) accepted).2
-room w (event.Attach name endpoint link) accepted = room_by w (event.Attach name endpoint link) (name_text name) accepted
-room w (event.Detach name endpoint) accepted = room_by w (event.Detach name endpoint) (name_text name) accepted
-room w (event.External name prefix valid preferred) accepted = room_by w (event.External name prefix valid preferred) (name_text name) accepted
-room w (event.Withdraw name prefix) accepted = room_by w (event.Withdraw name prefix) (name_text name) accepted
-room w (event.Caps name caps) accepted = room_by w (event.Caps name caps) (name_text name) accepted
-room w (event.Private name length) accepted = room_by w (event.Private name length) (name_text name) accepted
-room w (event.Addresses name list) accepted = room_by w (event.Addresses name list) (name_text name) accepted
-room w (event.Stop name) accepted = room_by w (event.Stop name) (name_text name) accepted
-room w (event.Start name) accepted = room_by w (event.Start name) (name_text name) accepted
-room w (event.Tick name) accepted = room_by w (event.Tick name) (name_text name) accepted
-room w (event.Inject name endpoint from multicast bytes) accepted = room_by w (event.Inject name endpoint from multicast bytes) (name_text name) accepted
-
+-- there is room for one more event
 pub fewer_events : (w : Parts) (event : WEvent) → refusal w event ≡ None → length w.trace < 1000000
-fewer_events w event accepted = leb-false 1000000 (length w.trace) (not_so 9 (nat_le 1000000 (length w.trace)) (room w event accepted))
+fewer_events w event accepted = leb-false 1000000 (length w.trace) (accepts w event accepted).few
+
+pub is_there : {A : Type 0} (o : Option A) → is_none o ≡ false → (x : A) × (o ≡ Some x)
+is_there None there = absurd cc
+is_there (Some x) there = (x, refl)
+
+-- the router that an event names
+acting_is : (w : Parts) (event : WEvent) (name : Name) → named_by event ≡ Some name → acting event w ≡ member_named (name_text name) w
+acting_is w (event.Deliver copy) name named = absurd cc
+acting_is w _ name named = ap (option_and_then (λ (n : Name). member_named (name_text n) w)) named
+
+known_of : (w : Parts) (event : WEvent) (router : Option Member) (name : Name) → named_by event ≡ Some name → names_nothing event w router ≡ false → is_none router ≡ false
+known_of w (event.Attach n endpoint link) router name named known = (or_parts (is_none router) _ known).0
+known_of w (event.Router n id) router name named known = absurd cc
+known_of w (event.Link n) router name named known = absurd cc
+known_of w (event.Time moment) router name named known = absurd cc
+known_of w (event.Deliver copy) router name named known = absurd cc
+known_of w (event.Drop copy) router name named known = absurd cc
+known_of w _ router name named known = known
+
+pub router_found : (w : Parts) (event : WEvent) (name : Name) → named_by event ≡ Some name → refusal w event ≡ None
+    → (m : Member) × (member_named (name_text name) w ≡ Some m)
+router_found w event name named accepted =
+    let (m, is) = is_there (acting event w) (known_of w event (acting event w) name named (accepts w event accepted).known) in
+    (m, sym (acting_is w event name named) ∙ is)
+
+-- the router to which a copy goes
+pub receiver_found : (w : Parts) (copy : ℕ) (c : MailCopy) → refusal w (event.Deliver copy) ≡ None → copy_at w copy ≡ Some c
+    → (m : Member) × (slice_get w.members c.to.place ≡ Some m)
+receiver_found w copy c accepted found =
+    let nowhere = λ (o : Option MailCopy). is_some o && is_none (option_and_then (λ (c : MailCopy). slice_get w.members c.to.place) o) in
+    is_there (slice_get w.members c.to.place) (sym (ap nowhere found) ∙ (accepts w (event.Deliver copy) accepted).known)

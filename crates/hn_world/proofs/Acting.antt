@@ -5,7 +5,6 @@ use Rattle.std.proofs.Common.{arith}
 use Rattle.std.proofs.lemmas.List.{append-nil}
 use Rattle.std.proofs.lemmas.Option.{slice_get_within, slice_get-get_or}
 use Rattle.std.proofs.lemmas.Grind.{common_steps}
-use Rattle.hn_base.proofs.DecidingTests.{some_there}
 use Rattle.hn_base.proofs.FrontOfList.{find-none}
 use Rattle.hn_base.proofs.PassingElements.{none_passes}
 use Rattle.hn_base.specs.Name.{name_text}
@@ -29,8 +28,9 @@ use Rattle.hn_world.specs.declared.parts.Parts.{Parts}
 use Rattle.hn_world.specs.Limits.{table_limit}
 use Rattle.hn_world.specs.Names.{is_named, router_place, member_named}
 use Rattle.hn_world.specs.Planned.{IsPlanned}
-use Rattle.hn_world.specs.Refusal.{refusal, of_router, of_copy, unless_full_of_events, copy_at}
+use Rattle.hn_world.specs.Refusal.{refusal, copy_at}
 use Rattle.hn_world.specs.Replay.{IsSound, IsSoundMember}
+use Rattle.hn_world.proofs.Accepted.{accepts, is_there, receiver_found}
 use Rattle.hn_world.proofs.Places.{got_front, within, found_at}
 use Rattle.hn_world.proofs.Sounds.{all_at}
 use Rattle.hn_world.specs.Routed.{routed, named_by, place_by}
@@ -44,22 +44,8 @@ name_in own = option_map (λ o. o.0) own
 
 -- an event at a router names that router
 pub named_routed : (t : WEvent) (own : Name × PlainEvent) → routed t ≡ Some own → named_by t ≡ Some own.0
-named_routed (event.Router name id) own is = absurd cc
-named_routed (event.Link name) own is = absurd cc
-named_routed (event.Attach name endpoint link) own is = ap name_in is
-named_routed (event.Detach name endpoint) own is = ap name_in is
-named_routed (event.External name prefix valid preferred) own is = ap name_in is
-named_routed (event.Withdraw name prefix) own is = ap name_in is
-named_routed (event.Caps name caps) own is = ap name_in is
-named_routed (event.Private name length) own is = ap name_in is
-named_routed (event.Addresses name list) own is = ap name_in is
 named_routed (event.Stop name) own is = absurd cc
-named_routed (event.Start name) own is = ap name_in is
-named_routed (event.Time moment) own is = absurd cc
-named_routed (event.Tick name) own is = ap name_in is
-named_routed (event.Deliver copy) own is = absurd cc
-named_routed (event.Drop copy) own is = absurd cc
-named_routed (event.Inject name endpoint from multicast bytes) own is = ap name_in is
+named_routed _ own is = ap name_in is
 
 -- the router of a name, where its place is known
 pub named_at : (name : List ℕ) (w : Parts) (place : ℕ) (m : Member) → router_place name w ≡ Some place → slice_get w.members place ≡ Some m → member_named name w ≡ Some m
@@ -143,13 +129,8 @@ copy_there copy w c found = by_test (copy == 0) refl found
     by_test false is e = (grind (arith, common_steps), e)
 
 -- and there is the router that it goes to
-pub receiver_within : (asked : MailCopy → Member → Option ℕ) (copy : ℕ) (w : Parts) (c : MailCopy) → of_copy (λ c. of_router (asked c) (slice_get w.members c.to.place)) (copy_at w copy) ≡ None
-    → copy_at w copy ≡ Some c → c.to.place < length w.members
-receiver_within asked copy w c accepted found =
-    let accepts : of_router (asked c) (slice_get w.members c.to.place) ≡ None =
-    subst (λ (o : Option MailCopy). of_copy (λ c. of_router (asked c) (slice_get w.members c.to.place)) o ≡ None) found accepted in
-    let m = some_there 7 (asked c) (slice_get w.members c.to.place) accepts in
-    slice_get_within w.members c.to.place m.0 m.1
+pub receiver_within : (copy : ℕ) (w : Parts) (c : MailCopy) → refusal w (event.Deliver copy) ≡ None → copy_at w copy ≡ Some c → c.to.place < length w.members
+receiver_within copy w c accepted found = let m = receiver_found w copy c accepted found in slice_get_within w.members c.to.place m.0 m.1
 
 abbrev pub arrival_of : MailCopy → PlainEvent
 arrival_of c = Arrive (record { endpoint = c.to.endpoint; from = c.from; multicast = c.multicast }) c.bytes
@@ -246,8 +227,8 @@ pub dropped_step : (copy : ℕ) (before : Parts) (copies : List MailCopy) (trace
     → t ≡ record { event = event.Drop copy; words = [] } → trace ≡ before.trace ++ t ∷ []
     → ((d : MailCopy) → slice_get before.copies (copy - 1) ≡ Some d → copies ≡ slice_set before.copies (copy - 1) (record d { waiting = false }))
     → Step (record { event = event.Drop copy; words = [] }) [] before (record before { copies = copies; trace = trace })
-dropped_step copy before copies trace t accepted event entered takes =
-    let c = some_there 13 (λ (_ : MailCopy). unless_full_of_events before) (copy_at before copy) accepted in
+dropped_step copy before copies trace t accepted is_event entered takes =
+    let c = is_there (copy_at before copy) (accepts before (event.Drop copy) accepted).copy in
     let at = (copy_there copy before c.0 c.1).1 in
     record {
       accepted = accepted;
@@ -255,7 +236,7 @@ dropped_step copy before copies trace t accepted event entered takes =
       fits = tt;
       between = taken copy c.0 before;
       does = record { mail = c.0; is_copy = at; quietly = record { took = refl; noted = refl; gives = refl } };
-      gives = rw (takes c.0 at, entered, event) refl;
+      gives = rw (takes c.0 at, entered, is_event) refl;
     }
 
 -- a tick before something is due

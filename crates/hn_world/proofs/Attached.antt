@@ -3,7 +3,7 @@ use Rattle.std.proofs.Common.{◌≡◌, ◌≢◌, ◌∙◌, ◌<◌, ◌⊎�
 use Rattle.std.proofs.Common.{◌||◌, inl, inr, refl, sym, ap, subst, arith}
 use Rattle.std.specs.List.{list_any}
 use Rattle.std.specs.Option.{option_map_or}
-use Rattle.std.proofs.lemmas.Bool.{eqb-true, eqb-false, ltb-false}
+use Rattle.std.proofs.lemmas.Bool.{eqb-true, eqb-false, ltb-false, not-false}
 use Rattle.std.proofs.lemmas.List.{map-append}
 use Rattle.std.proofs.lemmas.List.Elements.{All-nil, All-push, All-set, Contains-append_left, Contains-append_right, Contains-append_cases, Contains-push, Contains-push_cases}
 use Rattle.std.proofs.lemmas.List.Kept.{AllPairs-filter}
@@ -28,12 +28,11 @@ use Rattle.hn_world.specs.declared.member.Attachment.{Attachment}
 use Rattle.hn_world.specs.declared.member.Member.{Member}
 use Rattle.hn_world.specs.declared.parts.Parts.{Parts}
 use Rattle.hn_world.specs.Names.{is_named, router_place, link_place, member_named, is_of}
-use Rattle.hn_world.specs.Refusal.{of_router, of_link, unless_running, unless_free, unless_attached, unless_apart, unless_full_of_endpoints, unless_joined, unless_detached, refusal}
+use Rattle.hn_world.specs.Refusal.{so_of, refusal}
 use Rattle.hn_world.specs.Routed.{routed}
 use Rattle.hn_world.specs.Step.{ActsAt, DoesElse, DoesAt, attached_to, beside, detached_from, stopped}
 use Rattle.hn_world.specs.Replay.{Replays, IsAttachedMember, AreAttached}
-use Rattle.hn_base.proofs.DecidingTests.{neither_given, some_there}
-use Rattle.hn_world.proofs.Accepted.{not_so}
+use Rattle.hn_world.proofs.Accepted.{Accepts, accepts_at, is_there}
 use Rattle.hn_world.proofs.Acting.{arrival_of}
 use Rattle.hn_world.proofs.Onces.{Any}
 use Rattle.hn_world.proofs.Places.{found_at}
@@ -41,10 +40,6 @@ use Rattle.hn_world.proofs.Sounds.{all_at, replay_keeps}
 use Rattle.hn_base.proofs.PassingElements.{each_fails}
 
 -- ---- what an accepted event says
-
-not_false : (b : Bool) → not b ≡ false → b ≡ true
-not_false true is = refl
-not_false false is = absurd cc
 
 -- an endpoint may be attached to a link
 record MayJoin (endpoint : EpId) (link : ℕ) (m : Member) : Type 0 where
@@ -57,36 +52,24 @@ join_link : (w : Parts) (name link : Name) (endpoint : EpId) (place : ℕ) (m : 
     → refusal w (event.Attach name endpoint link) ≡ None → (at : ℕ) × (link_place (name_text link) w ≡ Some at)
 join_link w name link endpoint place m is_place is_member accepted =
     let found : member_named (name_text name) w ≡ Some m = found_at (is_named (name_text name)) w.members place m is_place is_member in
-    let joined : of_link (unless_joined w endpoint m) (link_place (name_text link) w) ≡ None =
-    sym (ap (of_router (λ (n : Member). of_link (unless_joined w endpoint n) (link_place (name_text link) w))) found) ∙ accepted in
-    let at = some_there 7 (unless_joined w endpoint m) (link_place (name_text link) w) joined in
-    (at.0, at.1)
+    is_there (link_place (name_text link) w) (accepts_at w (event.Attach name endpoint link) m found accepted).known
 
 may_join : (w : Parts) (name link : Name) (endpoint : EpId) (place at : ℕ) (m : Member) → router_place (name_text name) w ≡ Some place → slice_get w.members place ≡ Some m
     → link_place (name_text link) w ≡ Some at → refusal w (event.Attach name endpoint link) ≡ None → MayJoin endpoint at m
 may_join w name link endpoint place at m is_place is_member is_link accepted =
     let found : member_named (name_text name) w ≡ Some m = found_at (is_named (name_text name)) w.members place m is_place is_member in
-    let joined : unless_joined w endpoint m at ≡ None =
-    sym (ap (λ (l : Option ℕ). of_link (unless_joined w endpoint m) l) is_link)
-    ∙ sym (ap (of_router (λ (n : Member). of_link (unless_joined w endpoint n) (link_place (name_text link) w))) found) ∙ accepted in
-    let first = neither_given (unless_running m) _ joined in
-    let second = neither_given (unless_free endpoint m) _ first.1 in
-    let third = neither_given (unless_apart at m) _ second.1 in
-    let fourth = neither_given (unless_full_of_endpoints m) _ third.1 in
+    let may : Accepts w (event.Attach name endpoint link) (Some m) = accepts_at w (event.Attach name endpoint link) m found accepted in
     record {
-      free = not_so 11 (is_attached endpoint m.router.ports) second.0;
-      apart = not_so 14 (list_any (λ (a : Attachment). a.link == at) m.attachments) third.0;
-      room = not_false (nat_lt (length m.router.ports) 16) (not_so 9 (not (nat_lt (length m.router.ports) 16)) fourth.0);
+      free = may.endpoint;
+      apart = sym (ap (so_of (λ (l : ℕ). list_any (λ (a : Attachment). a.link == l) m.attachments)) is_link) ∙ may.apart;
+      room = not-false (nat_lt (length m.router.ports) 16) may.room;
     }
 
 may_leave : (w : Parts) (name : Name) (endpoint : EpId) (place : ℕ) (m : Member) → router_place (name_text name) w ≡ Some place → slice_get w.members place ≡ Some m
     → refusal w (event.Detach name endpoint) ≡ None → is_attached endpoint m.router.ports ≡ true
 may_leave w name endpoint place m is_place is_member accepted =
     let found : member_named (name_text name) w ≡ Some m = found_at (is_named (name_text name)) w.members place m is_place is_member in
-    let leaves : unless_detached w endpoint m ≡ None = sym (ap (of_router (unless_detached w endpoint)) found) ∙ accepted in
-    let first = neither_given (unless_running m) _ leaves in
-    let second = neither_given (unless_attached endpoint m) _ first.1 in
-    not_false (is_attached endpoint m.router.ports) (not_so 11 (not (is_attached endpoint m.router.ports)) second.0)
+    not-false (is_attached endpoint m.router.ports) (accepts_at w (event.Detach name endpoint) m found accepted).endpoint
 
 -- ---- endpoints and attachments
 
@@ -283,12 +266,7 @@ leaves w t own is = by_event t own is
         (λ place m next is_place is_member accepted here follows. attached_same (Private length) m next (λ ends. refl) here follows)
     by_event (event.Addresses name list) own is = fits (event.Addresses name list) (name, Addresses list) own is
         (λ place m next is_place is_member accepted here follows. attached_same (Addresses list) m next (λ ends. refl) here follows)
-    by_event (event.Router name id) own is = absurd cc
-    by_event (event.Link name) own is = absurd cc
-    by_event (event.Stop name) own is = absurd cc
-    by_event (event.Time moment) own is = absurd cc
-    by_event (event.Deliver copy) own is = absurd cc
-    by_event (event.Drop copy) own is = absurd cc
+    by_event _ own is = absurd cc
 
 module _ (follow : EndpointsFollow) where
   attached_acts_at : (change : Member → Member) (place : ℕ) (event : PlainEvent) (words : List ℕ) (notes : List Note) (before after : Parts)
@@ -316,16 +294,7 @@ module _ (follow : EndpointsFollow) where
       (attached_acts_at (λ m. m) h.mail.to.place (arrival_of h.mail) words notes before h.between h.acts
       (λ m next at here follows. attached_same (arrival_of h.mail) m next (λ ends. refl) here follows) all)
   attached_else (event.Drop copy) words notes before after h all = subst AreAttached (sym h.quietly.gives) all
-  attached_else (event.Attach name endpoint link) words notes before after h all = absurd h
-  attached_else (event.Detach name endpoint) words notes before after h all = absurd h
-  attached_else (event.External name prefix valid preferred) words notes before after h all = absurd h
-  attached_else (event.Withdraw name prefix) words notes before after h all = absurd h
-  attached_else (event.Caps name caps) words notes before after h all = absurd h
-  attached_else (event.Private name length) words notes before after h all = absurd h
-  attached_else (event.Addresses name list) words notes before after h all = absurd h
-  attached_else (event.Start name) words notes before after h all = absurd h
-  attached_else (event.Tick name) words notes before after h all = absurd h
-  attached_else (event.Inject name endpoint from multicast bytes) words notes before after h all = absurd h
+  attached_else _ words notes before after h all = absurd h
 
   attached_at : (event : WEvent) (own : Option (Name × PlainEvent)) → routed event ≡ own → (words : List ℕ) (notes : List Note) (before after : Parts) → refusal before event ≡ None
       → DoesAt event own words notes before after → AreAttached before → AreAttached after

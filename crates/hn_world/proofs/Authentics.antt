@@ -1,5 +1,5 @@
 -- What the routers of a replayed world hold was published, where nothing was injected; or texts that were published collide.
-use Rattle.std.proofs.Common.{◌≡◌, ◌⊎◌, ◌-◌, ℕ, true, List, [], ◌∷◌, ◌++◌, Some, All, Contains, inl, inr, refl, sym, ap, subst}
+use Rattle.std.proofs.Common.{◌≡◌, ◌⊎◌, ◌-◌, ℕ, true, List, [], ◌∷◌, ◌++◌, Option, Some, None, All, Contains, inl, inr, refl, sym, ap, subst}
 use Rattle.std.proofs.lemmas.List.Elements.{All-nil, All-push, All-set, All-append, All-weaker, All-contains, All-contains_itself, Contains-append_left, Contains-push}
 use Rattle.hn_base.specs.declared.ids.NodeId.{NodeId}
 use Rattle.hn_base.specs.declared.name.Name.{Name}
@@ -12,7 +12,7 @@ use Rattle.hn_rules.specs.declared.done.Publication.{Publication}
 use Rattle.hn_rules.specs.declared.state.State.{State}
 use Rattle.hn_rules.specs.Genuine.{TextsCollide, IsGenuine, BytesSayPublished}
 use Rattle.hn_world.proofs.Grown.{Includes, includes_front, collide_more, was_more, holds_more, bytes_more}
-use Rattle.hn_router.specs.Act.{PlainEvent, Arrive, Tick, Attach, Detach, External, Withdraw, SetCaps, Private, Addresses, Restart, IsEventInRange}
+use Rattle.hn_router.specs.Act.{PlainEvent, Arrive, IsEventInRange}
 use Rattle.hn_router.specs.Laws.{IsTrusted, GenuineStays}
 use Rattle.hn_world.specs.declared.copies.MailCopy.{MailCopy}
 use Rattle.hn_world.specs.declared.event.WEvent.{WEvent}
@@ -24,7 +24,7 @@ use Rattle.hn_world.specs.Authentic.{IsFromWithin, IsAuthentic, AuthenticUnlessI
 use Rattle.hn_world.specs.Mail.{copies_of}
 use Rattle.hn_world.specs.Replay.{Replays, IsSoundMember, IsSound}
 use Rattle.hn_world.specs.Routed.{routed}
-use Rattle.hn_world.specs.Step.{ActsAt, RouterBegins, Delivers, Drops, Stops, Does, FitsAt, acted, beside, stopped, taken}
+use Rattle.hn_world.specs.Step.{ActsAt, RouterBegins, Delivers, Drops, Stops, DoesAt, DoesElse, FitsAt, acted, beside, stopped, taken}
 use Rattle.hn_world.proofs.Copied.{copied, still_copied}
 use Rattle.hn_world.proofs.Onces.{Any, trace_of_step}
 use Rattle.hn_world.proofs.Sounds.{StayLaws, KeepsRouters, beside_keeps, sound_step, replay_keeps, all_at}
@@ -42,6 +42,15 @@ IsGenuineOr w = IsGenuineWorld w ⊎ TextsCollide w.published
 pub record AuthenticLaws : Type 0 where
   pub stay : StayLaws
   pub genuine : GenuineStays
+
+-- what happens at a router by its name is no datagram from outside
+abbrev IsTrustedAt : List Publication → Option (Name × PlainEvent) → Type 0
+IsTrustedAt published None = Unit {0}
+IsTrustedAt published (Some own) = IsTrusted published own.1
+
+trusted_within : (published : List Publication) (event : WEvent) → IsFromWithin event → IsTrustedAt published (routed event)
+trusted_within published (event.Inject name endpoint from multicast bytes) within = absurd within
+trusted_within published _ within = tt
 
 -- ---- more is published
 
@@ -168,35 +177,21 @@ module _ (laws : AuthenticLaws) where
   plainly w links moment trace (inl genuine) = inl (record { routers = genuine.routers; copies = genuine.copies })
   plainly w links moment trace (inr collide) = inr collide
 
-  genuine_by : (event : WEvent) (words : List ℕ) (notes : List Note) (before after : Parts) → IsFromWithin event → FitsAt (routed event)
-      → Does event words notes before after → IsSound before → IsGenuineOr before → IsGenuineOr after
-  genuine_by (event.Router name id) words notes before after within fits h sound genuine = genuine_new name id words notes before after h genuine
-  genuine_by (event.Link name) words notes before after within fits h sound genuine = subst IsGenuineOr (sym h.gives) (plainly before (before.links ++ name ∷ []) before.moment before.trace genuine)
-  genuine_by (event.Attach name endpoint link) words notes before after within fits h sound genuine =
-      genuine_at (beside (event.Attach name endpoint link) before) (beside_keeps (event.Attach name endpoint link) before) h.place
-      (Attach endpoint) words notes before after fits tt h.acts sound genuine
-  genuine_by (event.Detach name endpoint) words notes before after within fits h sound genuine =
-      genuine_at (beside (event.Detach name endpoint) before) (beside_keeps (event.Detach name endpoint) before) h.place (Detach endpoint) words notes before after fits tt h.acts sound genuine
-  genuine_by (event.External name prefix valid preferred) words notes before after within fits h sound genuine =
-      genuine_at (beside (event.External name prefix valid preferred) before)
-      (beside_keeps (event.External name prefix valid preferred) before) h.place (External prefix valid preferred) words notes before after fits tt h.acts sound genuine
-  genuine_by (event.Withdraw name prefix) words notes before after within fits h sound genuine =
-      genuine_at (beside (event.Withdraw name prefix) before) (beside_keeps (event.Withdraw name prefix) before) h.place (Withdraw prefix) words notes before after fits tt h.acts sound genuine
-  genuine_by (event.Caps name caps) words notes before after within fits h sound genuine =
-      genuine_at (beside (event.Caps name caps) before) (beside_keeps (event.Caps name caps) before) h.place (SetCaps caps) words notes before after fits tt h.acts sound genuine
-  genuine_by (event.Private name length) words notes before after within fits h sound genuine =
-      genuine_at (beside (event.Private name length) before) (beside_keeps (event.Private name length) before) h.place (Private length) words notes before after fits tt h.acts sound genuine
-  genuine_by (event.Addresses name list) words notes before after within fits h sound genuine =
-      genuine_at (beside (event.Addresses name list) before) (beside_keeps (event.Addresses name list) before) h.place (Addresses list) words notes before after fits tt h.acts sound genuine
-  genuine_by (event.Stop name) words notes before after within fits h sound genuine = genuine_stopped name words notes before after h genuine
-  genuine_by (event.Start name) words notes before after within fits h sound genuine =
-      genuine_at (beside (event.Start name) before) (beside_keeps (event.Start name) before) h.place Restart words notes before after fits tt h.acts sound genuine
-  genuine_by (event.Time moment) words notes before after within fits h sound genuine = subst IsGenuineOr (sym h.gives) (plainly before before.links moment before.trace genuine)
-  genuine_by (event.Tick name) words notes before after within fits h sound genuine =
-      genuine_at (beside (event.Tick name) before) (beside_keeps (event.Tick name) before) h.place Tick words notes before after fits tt h.acts sound genuine
-  genuine_by (event.Deliver copy) words notes before after within fits h sound genuine = genuine_delivered copy words notes before after h sound genuine
-  genuine_by (event.Drop copy) words notes before after within fits h sound genuine = genuine_dropped copy words notes before after h genuine
-  genuine_by (event.Inject name endpoint from multicast bytes) words notes before after within fits h sound genuine = absurd within
+  -- what an event at no router by its name leaves
+  genuine_else : (event : WEvent) (words : List ℕ) (notes : List Note) (before after : Parts) → DoesElse event words notes before after → IsSound before → IsGenuineOr before → IsGenuineOr after
+  genuine_else (event.Router name id) words notes before after h sound genuine = genuine_new name id words notes before after h genuine
+  genuine_else (event.Link name) words notes before after h sound genuine = subst IsGenuineOr (sym h.gives) (plainly before (before.links ++ name ∷ []) before.moment before.trace genuine)
+  genuine_else (event.Stop name) words notes before after h sound genuine = genuine_stopped name words notes before after h genuine
+  genuine_else (event.Time moment) words notes before after h sound genuine = subst IsGenuineOr (sym h.gives) (plainly before before.links moment before.trace genuine)
+  genuine_else (event.Deliver copy) words notes before after h sound genuine = genuine_delivered copy words notes before after h sound genuine
+  genuine_else (event.Drop copy) words notes before after h sound genuine = genuine_dropped copy words notes before after h genuine
+  genuine_else _ words notes before after h sound genuine = absurd h
+
+  genuine_by : (event : WEvent) (own : Option (Name × PlainEvent)) (words : List ℕ) (notes : List Note) (before after : Parts) → IsTrustedAt before.published own → FitsAt own
+      → DoesAt event own words notes before after → IsSound before → IsGenuineOr before → IsGenuineOr after
+  genuine_by event (Some own) words notes before after trusted fits h sound genuine =
+      genuine_at (beside event before) (beside_keeps event before) h.place own.1 words notes before after fits trusted h.acts sound genuine
+  genuine_by event None words notes before after trusted fits h sound genuine = genuine_else event words notes before after h sound genuine
 
   -- ---- a replay
 
@@ -216,7 +211,7 @@ module _ (laws : AuthenticLaws) where
           let last : IsFromWithin t.event = All-contains (λ (t : Traced). IsFromWithin t.event) (before.trace ++ t ∷ []) t entered_all (Contains-push before.trace t) in
           subst IsGenuineOr (sym step.gives)
           (plainly step.between step.between.links step.between.moment (step.between.trace ++ t ∷ [])
-          (genuine_by t.event t.words notes before step.between last step.fits step.does sound (kept front)))
+          (genuine_by t.event (routed t.event) t.words notes before step.between (trusted_within before.published t.event last) step.fits step.does sound (kept front)))
 
   kept_replay : (version : Version) (ts : List Traced) (w : Parts) → Replays version ts w → Kept w
   kept_replay version ts w h =

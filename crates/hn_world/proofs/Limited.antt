@@ -1,5 +1,5 @@
 -- The routers and the datagrams of a replayed world are within its limits.
-use Rattle.std.proofs.Common.{◌≡◌, ◌≤◌, ◌∙◌, ◌-◌, ℕ, true, List, [], All, length, refl, sym, ap, subst, arith}
+use Rattle.std.proofs.Common.{◌≡◌, ◌≤◌, ◌∙◌, ◌-◌, ℕ, true, List, [], Option, Some, None, All, length, refl, sym, ap, subst, arith}
 use Rattle.std.proofs.lemmas.List.Elements.{All-nil, All-push, All-set, All-append, All-weaker}
 use Rattle.hn_base.specs.declared.version.Version.{Version}
 use Rattle.hn_dncp.specs.Peers.{ArePeers}
@@ -10,8 +10,9 @@ use Rattle.hn_rules.specs.declared.done.Note.{Note}
 use Rattle.hn_rules.specs.declared.state.State.{State}
 use Rattle.hn_rules.specs.Lengths.{most_datagram}
 use Rattle.hn_rules.specs.Router.{IsRouter}
-use Rattle.hn_router.specs.Act.{PlainEvent, Arrive, Tick, Attach, Detach, External, Withdraw, SetCaps, Private, Addresses, Restart, IsEventInRange}
+use Rattle.hn_router.specs.Act.{PlainEvent, Arrive, IsEventInRange}
 use Rattle.hn_router.specs.Laws.{SendsAreShort, LimitStays}
+use Rattle.hn_base.specs.declared.name.Name.{Name}
 use Rattle.hn_world.specs.declared.copies.MailCopy.{MailCopy}
 use Rattle.hn_world.specs.declared.event.WEvent.{WEvent}
 use Rattle.hn_world.specs.declared.event.WEvent.TheVariants as event
@@ -22,7 +23,7 @@ use Rattle.hn_world.specs.Limits.{table_limit}
 use Rattle.hn_world.specs.Mail.{copies_of}
 use Rattle.hn_world.specs.Replay.{Replays, IsSoundMember, IsSound}
 use Rattle.hn_world.specs.Routed.{routed}
-use Rattle.hn_world.specs.Step.{ActsAt, Does, FitsAt, beside, stopped}
+use Rattle.hn_world.specs.Step.{ActsAt, DoesAt, DoesElse, FitsAt, beside, stopped}
 use Rattle.hn_world.specs.Within.{AreWithinLimits, RouterIsWithinLimits}
 use Rattle.hn_world.proofs.Copied.{copied, still_copied}
 use Rattle.hn_world.proofs.Onces.{Any}
@@ -59,59 +60,43 @@ module _ (laws : LimitLaws) where
             (copied IsShort before.members place h.member h.done.sends sends);
       })
 
-  limited_by : (event : WEvent) (words : List ℕ) (notes : List Note) (before after : Parts) → FitsAt (routed event)
-      → Does event words notes before after → IsSound before → IsLimited before → IsLimited after
-  limited_by (event.Router name id) words notes before after fits h sound limited =
+  -- what an event at no router by its name leaves
+  limited_else : (event : WEvent) (words : List ℕ) (notes : List Note) (before after : Parts) → DoesElse event words notes before after → IsSound before → IsLimited before → IsLimited after
+  limited_else (event.Router name id) words notes before after h sound limited =
       let limit : h.router.table.limit ≡ table_limit before.version = ap (λ (nodes : Nodes). nodes.limit) h.is_new.table_is in
       subst IsLimited (sym h.quietly.gives) (record {
         tables = All-push (λ (m : Member). m.router.table.limit ≡ table_limit before.version) before.members
             (record { name = name; running = true; router = h.router; attachments = [] }) limited.tables limit;
         datagrams = limited.datagrams;
       })
-  limited_by (event.Link name) words notes before after fits h sound limited = subst IsLimited (sym h.gives) (record { tables = limited.tables; datagrams = limited.datagrams })
-  limited_by (event.Attach name endpoint link) words notes before after fits h sound limited =
-      limited_at (beside (event.Attach name endpoint link) before) (beside_keeps (event.Attach name endpoint link) before) h.place (Attach endpoint) words notes before after fits h.acts sound limited
-  limited_by (event.Detach name endpoint) words notes before after fits h sound limited =
-      limited_at (beside (event.Detach name endpoint) before) (beside_keeps (event.Detach name endpoint) before) h.place (Detach endpoint) words notes before after fits h.acts sound limited
-  limited_by (event.External name prefix valid preferred) words notes before after fits h sound limited =
-      limited_at (beside (event.External name prefix valid preferred) before)
-      (beside_keeps (event.External name prefix valid preferred) before) h.place (External prefix valid preferred) words notes before after fits h.acts sound limited
-  limited_by (event.Withdraw name prefix) words notes before after fits h sound limited =
-      limited_at (beside (event.Withdraw name prefix) before) (beside_keeps (event.Withdraw name prefix) before) h.place (Withdraw prefix) words notes before after fits h.acts sound limited
-  limited_by (event.Caps name caps) words notes before after fits h sound limited =
-      limited_at (beside (event.Caps name caps) before) (beside_keeps (event.Caps name caps) before) h.place (SetCaps caps) words notes before after fits h.acts sound limited
-  limited_by (event.Private name length) words notes before after fits h sound limited =
-      limited_at (beside (event.Private name length) before) (beside_keeps (event.Private name length) before) h.place (Private length) words notes before after fits h.acts sound limited
-  limited_by (event.Addresses name list) words notes before after fits h sound limited =
-      limited_at (beside (event.Addresses name list) before) (beside_keeps (event.Addresses name list) before) h.place (Addresses list) words notes before after fits h.acts sound limited
-  limited_by (event.Stop name) words notes before after fits h sound limited =
+  limited_else (event.Link name) words notes before after h sound limited = subst IsLimited (sym h.gives) (record { tables = limited.tables; datagrams = limited.datagrams })
+  limited_else (event.Stop name) words notes before after h sound limited =
       let here : h.member.router.table.limit ≡ table_limit before.version =
       all_at (λ (m : Member). m.router.table.limit ≡ table_limit before.version) before.members h.place h.member h.is_member limited.tables in
       subst IsLimited (sym h.quietly.gives) (record {
         tables = All-set (λ (m : Member). m.router.table.limit ≡ table_limit before.version) before.members h.place (stopped h.member) here limited.tables;
         datagrams = limited.datagrams;
       })
-  limited_by (event.Start name) words notes before after fits h sound limited =
-      limited_at (beside (event.Start name) before) (beside_keeps (event.Start name) before) h.place Restart words notes before after fits h.acts sound limited
-  limited_by (event.Time moment) words notes before after fits h sound limited = subst IsLimited (sym h.gives) (record { tables = limited.tables; datagrams = limited.datagrams })
-  limited_by (event.Tick name) words notes before after fits h sound limited =
-      limited_at (beside (event.Tick name) before) (beside_keeps (event.Tick name) before) h.place Tick words notes before after fits h.acts sound limited
-  limited_by (event.Deliver copy) words notes before after fits h sound limited =
+  limited_else (event.Time moment) words notes before after h sound limited = subst IsLimited (sym h.gives) (record { tables = limited.tables; datagrams = limited.datagrams })
+  limited_else (event.Deliver copy) words notes before after h sound limited =
       let one : IsShort h.mail.bytes = all_at (λ (c : MailCopy). IsShort c.bytes) before.copies (copy - 1) h.mail h.is_copy limited.datagrams in
       let between = limited_at (λ m. m) (λ m. refl) h.mail.to.place
       (Arrive (record { endpoint = h.mail.to.endpoint; from = h.mail.from; multicast = h.mail.multicast }) h.mail.bytes) words notes before h.between tt h.acts sound limited in
       subst IsLimited (sym h.gives) (record { tables = between.tables; datagrams = still_copied IsShort copy h.mail h.between one between.datagrams })
-  limited_by (event.Drop copy) words notes before after fits h sound limited =
+  limited_else (event.Drop copy) words notes before after h sound limited =
       let one : IsShort h.mail.bytes = all_at (λ (c : MailCopy). IsShort c.bytes) before.copies (copy - 1) h.mail h.is_copy limited.datagrams in
       subst IsLimited (sym h.quietly.gives) (record { tables = limited.tables; datagrams = still_copied IsShort copy h.mail before one limited.datagrams })
-  limited_by (event.Inject name endpoint from multicast bytes) words notes before after fits h sound limited =
-      limited_at (beside (event.Inject name endpoint from multicast bytes) before)
-      (beside_keeps (event.Inject name endpoint from multicast bytes) before) h.place
-      (Arrive (record { endpoint = endpoint; from = from; multicast = multicast }) bytes) words notes before after fits h.acts sound limited
+  limited_else _ words notes before after h sound limited = absurd h
+
+  limited_by : (event : WEvent) (own : Option (Name × PlainEvent)) (words : List ℕ) (notes : List Note) (before after : Parts) → FitsAt own
+      → DoesAt event own words notes before after → IsSound before → IsLimited before → IsLimited after
+  limited_by event (Some own) words notes before after fits h sound limited =
+      limited_at (beside event before) (beside_keeps event before) h.place own.1 words notes before after fits h.acts sound limited
+  limited_by event None words notes before after fits h sound limited = limited_else event words notes before after h sound limited
 
   limited_step : (t : Traced) (before after : Parts) → Any t before after → IsSound before × IsLimited before → IsSound after × IsLimited after
   limited_step t before after (notes, step) (sound, limited) =
-      let between = limited_by t.event t.words notes before step.between step.fits step.does sound limited in
+      let between = limited_by t.event (routed t.event) t.words notes before step.between step.fits step.does sound limited in
       (sound_step laws.stay t before after (notes, step) sound, subst IsLimited (sym step.gives) (record { tables = between.tables; datagrams = between.datagrams }))
 
   limited_replay : (version : Version) (ts : List Traced) (w : Parts) → Replays version ts w → IsSound w × IsLimited w

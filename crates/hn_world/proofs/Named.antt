@@ -12,9 +12,9 @@ use Rattle.std.proofs.lemmas.List.Quantifiers.{all_pairs_push}
 use Rattle.std.proofs.lemmas.List.Sums.{position_or_len_is}
 use Rattle.std.proofs.lemmas.Option.{same_Some, slice_get_within, get_or_from_slice_get}
 use Rattle.std.proofs.lemmas.Slice.Eq.{bytes_eq-Decides}
-use Rattle.hn_base.proofs.DecidingTests.{neither_given}
 use Rattle.hn_base.proofs.PassingElements.{none_passes}
 use Rattle.hn_base.specs.Name.{name_text}
+use Rattle.hn_base.specs.declared.ids.NodeId.{NodeId}
 use Rattle.hn_base.specs.declared.name.Name.{Name}
 use Rattle.hn_base.specs.declared.version.Version.{Version}
 use Rattle.hn_rules.specs.declared.done.Note.{Note}
@@ -24,12 +24,12 @@ use Rattle.hn_world.specs.declared.event.WEvent.TheVariants as event
 use Rattle.hn_world.specs.declared.event.Traced.{Traced}
 use Rattle.hn_world.specs.declared.member.Member.{Member}
 use Rattle.hn_world.specs.declared.parts.Parts.{Parts}
-use Rattle.hn_world.specs.Names.{is_named, is_taken, router_place, link_place, NamesDiffer}
-use Rattle.hn_world.specs.Refusal.{code_if, unless_new, refusal}
+use Rattle.hn_world.specs.Names.{is_named, router_place, link_place, NamesDiffer}
+use Rattle.hn_world.specs.Refusal.{refusal}
 use Rattle.hn_world.specs.Replay.{Replays}
 use Rattle.hn_world.specs.Routed.{routed}
 use Rattle.hn_world.specs.Step.{ActsAt, DoesElse, DoesAt, attached_to, beside, stopped}
-use Rattle.hn_world.proofs.Accepted.{not_so}
+use Rattle.hn_world.proofs.Accepted.{accepts}
 use Rattle.hn_world.proofs.Acting.{arrival_of}
 use Rattle.hn_world.proofs.Onces.{Any}
 use Rattle.hn_world.proofs.SameNames.{not_same}
@@ -89,10 +89,10 @@ nowhere None fails = refl
 nowhere (Some place) fails = absurd cc
 
 -- the name of a new router is free
-name_is_free : (w : Parts) (name : List ℕ) (count most : ℕ) → unless_new w name count most ≡ None → router_place name w ≡ None
-name_is_free w name count most accepted =
-    let untaken = not_so 8 (is_taken name w) (neither_given (code_if 8 (is_taken name w)) _ accepted).0 in
-    nowhere (router_place name w) (or_parts (is_some (router_place name w)) (is_some (link_place name w)) untaken).0
+name_is_free : (w : Parts) (name : Name) (id : NodeId) → refusal w (event.Router name id) ≡ None → router_place (name_text name) w ≡ None
+name_is_free w name id accepted =
+    let place = router_place (name_text name) w in
+    nowhere place (or_parts (is_some place) (is_some (link_place (name_text name) w)) (accepts w (event.Router name id) accepted).free).0
 
 abbrev KeepsName : (Member → Member) → Type 0
 KeepsName change = (m : Member) → (change m).name ≡ m.name
@@ -104,21 +104,7 @@ beside_keeps (event.Attach name endpoint link) w m = by_link (link_place (name_t
     by_link : (at : Option ℕ) → (option_map_or (λ at. attached_to at endpoint m) at m).name ≡ m.name
     by_link None = refl
     by_link (Some at) = refl
-beside_keeps (event.Router name id) w m = refl
-beside_keeps (event.Link name) w m = refl
-beside_keeps (event.Detach name endpoint) w m = refl
-beside_keeps (event.External name prefix valid preferred) w m = refl
-beside_keeps (event.Withdraw name prefix) w m = refl
-beside_keeps (event.Caps name caps) w m = refl
-beside_keeps (event.Start name) w m = refl
-beside_keeps (event.Tick name) w m = refl
-beside_keeps (event.Inject name endpoint from multicast bytes) w m = refl
-beside_keeps (event.Private name length) w m = refl
-beside_keeps (event.Addresses name list) w m = refl
-beside_keeps (event.Stop name) w m = refl
-beside_keeps (event.Time moment) w m = refl
-beside_keeps (event.Deliver copy) w m = refl
-beside_keeps (event.Drop copy) w m = refl
+beside_keeps _ w m = refl
 
 named_acts_at : (change : Member → Member) → KeepsName change → (place : ℕ) (event : PlainEvent) (words : List ℕ) (notes : List Note) (before after : Parts)
     → ActsAt change place event words notes before after → AreNamed before → AreNamed after
@@ -129,7 +115,7 @@ named_acts_at change keeps place event words notes before after h named =
 named_else : (event : WEvent) (words : List ℕ) (notes : List Note) (before after : Parts) → refusal before event ≡ None → DoesElse event words notes before after → AreNamed before → AreNamed after
 named_else (event.Router name id) words notes before after accepted h named =
     subst AreNamed (sym h.quietly.gives)
-    (differ_push before.members (record { name = name; running = true; router = h.router; attachments = [] }) (name_is_free before (name_text name) _ _ accepted) named)
+    (differ_push before.members (record { name = name; running = true; router = h.router; attachments = [] }) (name_is_free before name id accepted) named)
 named_else (event.Link name) words notes before after accepted h named = subst AreNamed (sym h.gives) named
 named_else (event.Stop name) words notes before after accepted h named =
     subst AreNamed (sym h.quietly.gives) (differ_set before.members h.place h.member (stopped h.member) h.is_member refl named)
@@ -137,16 +123,7 @@ named_else (event.Time moment) words notes before after accepted h named = subst
 named_else (event.Deliver copy) words notes before after accepted h named =
     subst AreNamed (sym h.gives) (named_acts_at (λ m. m) (λ m. refl) h.mail.to.place (arrival_of h.mail) words notes before h.between h.acts named)
 named_else (event.Drop copy) words notes before after accepted h named = subst AreNamed (sym h.quietly.gives) named
-named_else (event.Attach name endpoint link) words notes before after accepted h named = absurd h
-named_else (event.Detach name endpoint) words notes before after accepted h named = absurd h
-named_else (event.External name prefix valid preferred) words notes before after accepted h named = absurd h
-named_else (event.Withdraw name prefix) words notes before after accepted h named = absurd h
-named_else (event.Caps name caps) words notes before after accepted h named = absurd h
-named_else (event.Start name) words notes before after accepted h named = absurd h
-named_else (event.Tick name) words notes before after accepted h named = absurd h
-named_else (event.Inject name endpoint from multicast bytes) words notes before after accepted h named = absurd h
-named_else (event.Private name length) words notes before after accepted h named = absurd h
-named_else (event.Addresses name list) words notes before after accepted h named = absurd h
+named_else _ words notes before after accepted h named = absurd h
 
 named_at : (event : WEvent) (own : Option (Name × PlainEvent)) → (words : List ℕ) (notes : List Note) (before after : Parts) → refusal before event ≡ None
     → DoesAt event own words notes before after → AreNamed before → AreNamed after

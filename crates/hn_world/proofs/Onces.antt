@@ -96,16 +96,7 @@ module _ (laws : HasLaws) (stream : ℕ → ℕ) where
   one_else (event.Drop copy) v w m n before a b begins begun h k =
       let mail : h.mail ≡ k.mail = same_Some h.mail k.mail (sym h.is_copy ∙ k.is_copy) in
       one_quiet _ _ v w m n a b (ap (λ (c : MailCopy). taken copy c before) mail) h.quietly k.quietly
-  one_else (event.Attach name endpoint link) v w m n before a b begins begun h k = absurd h
-  one_else (event.Detach name endpoint) v w m n before a b begins begun h k = absurd h
-  one_else (event.External name prefix valid preferred) v w m n before a b begins begun h k = absurd h
-  one_else (event.Withdraw name prefix) v w m n before a b begins begun h k = absurd h
-  one_else (event.Caps name caps) v w m n before a b begins begun h k = absurd h
-  one_else (event.Private name length) v w m n before a b begins begun h k = absurd h
-  one_else (event.Addresses name list) v w m n before a b begins begun h k = absurd h
-  one_else (event.Start name) v w m n before a b begins begun h k = absurd h
-  one_else (event.Tick name) v w m n before a b begins begun h k = absurd h
-  one_else (event.Inject name endpoint from multicast bytes) v w m n before a b begins begun h k = absurd h
+  one_else _ v w m n before a b begins begun h k = absurd h
 
   one_at : (event : WEvent) (own : Option (Name × PlainEvent)) (v w : List ℕ) (m n : List Note) (before a b : Parts) → drawn.Begins v stream → drawn.Begins w stream
       → DoesAt event own v m before a → DoesAt event own w n before b → AreOne v w m n a b
@@ -160,16 +151,7 @@ past_of_else (event.Stop name) words notes before after h = ap past_of h.quietly
 past_of_else (event.Time moment) words notes before after h = ap past_of h.gives
 past_of_else (event.Deliver copy) words notes before after h = ap past_of h.gives ∙ ap past_of h.acts.gives
 past_of_else (event.Drop copy) words notes before after h = ap past_of h.quietly.gives
-past_of_else (event.Attach name endpoint link) words notes before after h = absurd h
-past_of_else (event.Detach name endpoint) words notes before after h = absurd h
-past_of_else (event.External name prefix valid preferred) words notes before after h = absurd h
-past_of_else (event.Withdraw name prefix) words notes before after h = absurd h
-past_of_else (event.Caps name caps) words notes before after h = absurd h
-past_of_else (event.Private name length) words notes before after h = absurd h
-past_of_else (event.Addresses name list) words notes before after h = absurd h
-past_of_else (event.Start name) words notes before after h = absurd h
-past_of_else (event.Tick name) words notes before after h = absurd h
-past_of_else (event.Inject name endpoint from multicast bytes) words notes before after h = absurd h
+past_of_else _ words notes before after h = absurd h
 
 past_of_event : (event : WEvent) (own : Option (Name × PlainEvent)) (words : List ℕ) (notes : List Note) (before after : Parts)
     → DoesAt event own words notes before after → past_of after ≡ past_of before

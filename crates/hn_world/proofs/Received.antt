@@ -97,16 +97,7 @@ received_else (event.Drop copy) words notes before after h all =
     let n = length before.members in
     let one : IsFor n h.mail = all_at (IsFor n) before.copies (copy - 1) h.mail h.is_copy all in
     subst HaveReceivers (sym h.quietly.gives) (still_for n copy h.mail before one all)
-received_else (event.Attach name endpoint link) words notes before after h all = absurd h
-received_else (event.Detach name endpoint) words notes before after h all = absurd h
-received_else (event.External name prefix valid preferred) words notes before after h all = absurd h
-received_else (event.Withdraw name prefix) words notes before after h all = absurd h
-received_else (event.Caps name caps) words notes before after h all = absurd h
-received_else (event.Private name length) words notes before after h all = absurd h
-received_else (event.Addresses name list) words notes before after h all = absurd h
-received_else (event.Start name) words notes before after h all = absurd h
-received_else (event.Tick name) words notes before after h all = absurd h
-received_else (event.Inject name endpoint from multicast bytes) words notes before after h all = absurd h
+received_else _ words notes before after h all = absurd h
 
 received_by : (event : WEvent) (own : Option (Name × PlainEvent)) (words : List ℕ) (notes : List Note) (before after : Parts)
     → DoesAt event own words notes before after → HaveReceivers before → HaveReceivers after

@@ -8,16 +8,14 @@ use Rattle.hn_base.specs.Byte.{IsByte}
 use Rattle.hn_base.specs.Exists.{Some! }
 use Rattle.hn_base.specs.Name.{name_text}
 use Rattle.hn_base.specs.Words.{Begins}
-use Rattle.hn_base.specs.declared.ids.EpId.{EpId}
 use Rattle.hn_base.specs.declared.ids.NodeId.{NodeId}
 use Rattle.hn_base.specs.declared.name.Name.{Name}
-use Rattle.hn_base.proofs.DecidingTests.{some_there}
 use Rattle.hn_base.proofs.Elements.{found_passes}
 use Rattle.hn_base.proofs.SomeExists.{some_then}
 use Rattle.hn_rules.specs.declared.done.Done.{Done}
 use Rattle.hn_rules.specs.declared.done.Note.{Note}
 use Rattle.hn_rules.specs.declared.state.State.{State}
-use Rattle.hn_router.specs.Act.{PlainEvent, Arrive, Tick, Attach, Detach, External, Withdraw, SetCaps, Private, Addresses, Restart, IsEventInRange, IsOfBytes, Happened, HasResults}
+use Rattle.hn_router.specs.Act.{PlainEvent, Arrive, IsEventInRange, IsOfBytes, Happened, HasResults}
 use Rattle.hn_router.specs.Laws.{EventHasAResult, NewExists}
 use Rattle.hn_world.specs.declared.copies.MailCopy.{MailCopy}
 use Rattle.hn_world.specs.declared.event.WEvent.{WEvent}
@@ -25,14 +23,15 @@ use Rattle.hn_world.specs.declared.event.WEvent.TheVariants as event
 use Rattle.hn_world.specs.declared.event.Traced.{Traced}
 use Rattle.hn_world.specs.declared.member.Member.{Member}
 use Rattle.hn_world.specs.declared.parts.Parts.{Parts}
-use Rattle.hn_world.specs.Existing.{HasAStep, IsGiven, Outcome, StepExists}
+use Rattle.hn_world.specs.Existing.{HasAStep, IsGiven, IsOfBytesAt, Outcome, StepExists}
 use Rattle.hn_world.specs.Limits.{table_limit}
 use Rattle.hn_world.specs.Names.{is_named, member_named, router_place}
-use Rattle.hn_world.specs.Refusal.{copy_at, of_router, refusal, unless_able, unless_full_of_events, unless_received}
+use Rattle.hn_world.specs.Refusal.{copy_at, refusal}
 use Rattle.hn_world.specs.Replay.{IsSound, IsSoundMember}
-use Rattle.hn_world.specs.Routed.{routed}
-use Rattle.hn_world.specs.Step.{ActsAt, DoesAt, Step, acted, beside, entered, stopped, taken, with_member}
-use Rattle.hn_world.proofs.Acting.{copy_there}
+use Rattle.hn_world.specs.Routed.{named_by, routed}
+use Rattle.hn_world.specs.Step.{ActsAt, DoesAt, FitsAt, Step, acted, beside, entered, stopped, taken, with_member}
+use Rattle.hn_world.proofs.Accepted.{accepts, is_there, receiver_found, router_found}
+use Rattle.hn_world.proofs.Acting.{copy_there, named_routed}
 use Rattle.hn_world.proofs.Sounds.{all_at}
 use Rattle.std.proofs.lemmas.Option.{slice_get_within}
 
@@ -58,9 +57,9 @@ record IsThere (w : Parts) (name : Name) : Type 0 where
   is_place : router_place (name_text name) w ≡ Some place
   is_member : slice_get w.members place ≡ Some member
 
-named_there : (w : Parts) (name : Name) (asked : Member → Option ℕ) → of_router asked (member_named (name_text name) w) ≡ None → IsThere w name
-named_there w name asked accepted =
-    let (m, found, _) = some_there 7 asked (member_named (name_text name) w) accepted in
+named_there : (w : Parts) (event : WEvent) (name : Name) → named_by event ≡ Some name → refusal w event ≡ None → IsThere w name
+named_there w event name named accepted =
+    let (m, found) = router_found w event name named accepted in
     let (i, is_place, is_member) = place_of_found (is_named (name_text name)) w.members m found in
     record { place = i; member = m; is_place = is_place; is_member = is_member }
 
@@ -105,11 +104,12 @@ module _ (event : WEvent) (w : Parts) (accepted : refusal w event ≡ None) (giv
         none (record { words = done.words; notes = done.notes; world = after }) (step, happened.1))
 
     -- an event at the router of its name
-    at_name : (name : Name) (own : PlainEvent) → routed event ≡ Some (name, own) → of_router (unless_able event w) (member_named (name_text name) w) ≡ None
-        → IsEventInRange own → IsOfBytes own → HasAStep event w
-    at_name name own is able fits bytes =
-        let there = named_there w name (unless_able event w) able in
-        at_place (beside event w) there.place there.member own there.is_member fits bytes (λ words notes between acts. (
+    at_name : (own : Name × PlainEvent) → routed event ≡ Some own → HasAStep event w
+    at_name own is =
+        let there = named_there w event own.0 (named_routed event own is) accepted in
+        let fits : IsEventInRange own.1 = subst FitsAt is given.fits in
+        let bytes : IsOfBytes own.1 = subst IsOfBytesAt is given.injected in
+        at_place (beside event w) there.place there.member own.1 there.is_member fits bytes (λ words notes between acts. (
           entered (traced words) between,
           record {
             accepted = accepted;
@@ -136,7 +136,7 @@ module _ (laws : ExistenceLaws) (w : Parts) (sound : IsSound w) where
 
   some_stop : (name : Name) → refusal w (event.Stop name) ≡ None → IsGiven (event.Stop name) w → HasAStep (event.Stop name) w
   some_stop name accepted given =
-      let there = named_there w name (unless_able (event.Stop name) w) accepted in
+      let there = named_there w (event.Stop name) name refl accepted in
       quiet_step (event.Stop name) w accepted given (with_member there.place (stopped there.member) w) (record {
         place = there.place;
         member = there.member;
@@ -147,8 +147,8 @@ module _ (laws : ExistenceLaws) (w : Parts) (sound : IsSound w) where
 
   some_delivery : (copy : ℕ) → refusal w (event.Deliver copy) ≡ None → IsGiven (event.Deliver copy) w → HasAStep (event.Deliver copy) w
   some_delivery copy accepted given =
-      let (mail, found, asked) = some_there 13 (λ (c : MailCopy). of_router (unless_received w c.to.endpoint) (slice_get w.members c.to.place)) (copy_at w copy) accepted in
-      let (m, is_member, _) = some_there 7 (unless_received w mail.to.endpoint) (slice_get w.members mail.to.place) asked in
+      let (mail, found) = is_there (copy_at w copy) (accepts w (event.Deliver copy) accepted).copy in
+      let (m, is_member) = receiver_found w copy mail accepted found in
       at_place (event.Deliver copy) w accepted given laws sound (λ m. m) mail.to.place m
       (Arrive (record { endpoint = mail.to.endpoint; from = mail.from; multicast = mail.multicast }) mail.bytes) is_member tt (given.mail mail found)
       (λ words notes between acts. (
@@ -165,40 +165,24 @@ module _ (laws : ExistenceLaws) (w : Parts) (sound : IsSound w) where
 
   some_drop : (copy : ℕ) → refusal w (event.Drop copy) ≡ None → IsGiven (event.Drop copy) w → HasAStep (event.Drop copy) w
   some_drop copy accepted given =
-      let (mail, found, _) = some_there 13 (λ (c : MailCopy). unless_full_of_events w) (copy_at w copy) accepted in
+      let (mail, found) = is_there (copy_at w copy) (accepts w (event.Drop copy) accepted).copy in
       quiet_step (event.Drop copy) w accepted given (taken copy mail w)
       (record { mail = mail; is_copy = (copy_there copy w mail found).1; quietly = record { took = refl; noted = refl; gives = refl } })
 
-  some_at : (event : WEvent) → refusal w event ≡ None → IsGiven event w → HasAStep event w
-  some_at (event.Router name id) accepted given = some_new name id accepted given
-  some_at (event.Link name) accepted given =
+  some_else : (event : WEvent) → routed event ≡ None → refusal w event ≡ None → IsGiven event w → HasAStep event w
+  some_else (event.Router name id) none accepted given = some_new name id accepted given
+  some_else (event.Link name) none accepted given =
       quiet_step (event.Link name) w accepted given (record w { links = w.links ++ name ∷ [] }) (record { took = refl; noted = refl; gives = refl })
-  some_at (event.Stop name) accepted given = some_stop name accepted given
-  some_at (event.Time moment) accepted given =
+  some_else (event.Stop name) none accepted given = some_stop name accepted given
+  some_else (event.Time moment) none accepted given =
       quiet_step (event.Time moment) w accepted given (record w { moment = moment }) (record { took = refl; noted = refl; gives = refl })
-  some_at (event.Deliver copy) accepted given = some_delivery copy accepted given
-  some_at (event.Drop copy) accepted given = some_drop copy accepted given
-  some_at (event.Attach name endpoint link) accepted given =
-      at_name (event.Attach name endpoint link) w accepted given laws sound name (Attach endpoint) refl accepted given.fits given.injected
-  some_at (event.Detach name endpoint) accepted given =
-      at_name (event.Detach name endpoint) w accepted given laws sound name (Detach endpoint) refl accepted given.fits given.injected
-  some_at (event.External name prefix valid preferred) accepted given =
-      at_name (event.External name prefix valid preferred) w accepted given laws sound name (External prefix valid preferred) refl accepted given.fits given.injected
-  some_at (event.Withdraw name prefix) accepted given =
-      at_name (event.Withdraw name prefix) w accepted given laws sound name (Withdraw prefix) refl accepted given.fits given.injected
-  some_at (event.Caps name caps) accepted given =
-      at_name (event.Caps name caps) w accepted given laws sound name (SetCaps caps) refl accepted given.fits given.injected
-  some_at (event.Private name length) accepted given =
-      at_name (event.Private name length) w accepted given laws sound name (Private length) refl accepted given.fits given.injected
-  some_at (event.Addresses name list) accepted given =
-      at_name (event.Addresses name list) w accepted given laws sound name (Addresses list) refl accepted given.fits given.injected
-  some_at (event.Start name) accepted given =
-      at_name (event.Start name) w accepted given laws sound name Restart refl accepted given.fits given.injected
-  some_at (event.Tick name) accepted given =
-      at_name (event.Tick name) w accepted given laws sound name Tick refl accepted given.fits given.injected
-  some_at (event.Inject name endpoint from multicast bytes) accepted given =
-      at_name (event.Inject name endpoint from multicast bytes) w accepted given laws sound name
-      (Arrive (record { endpoint = endpoint; from = from; multicast = multicast }) bytes) refl accepted given.fits given.injected
+  some_else (event.Deliver copy) none accepted given = some_delivery copy accepted given
+  some_else (event.Drop copy) none accepted given = some_drop copy accepted given
+  some_else _ none accepted given = absurd cc
+
+  some_at : (event : WEvent) (own : Option (Name × PlainEvent)) → routed event ≡ own → refusal w event ≡ None → IsGiven event w → HasAStep event w
+  some_at event None is accepted given = some_else event is accepted given
+  some_at event (Some own) is accepted given = at_name event w accepted given laws sound own is
 
 pub some_step : ExistenceLaws → StepExists
-some_step laws event w sound accepted given = some_at laws w sound event accepted given
+some_step laws event w sound accepted given = some_at laws w sound event (routed event) refl accepted given

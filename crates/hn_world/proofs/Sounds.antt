@@ -1,6 +1,6 @@
 -- The routers of a replayed world.
 use Rattle.std.proofs.Common.{◌≡◌, ◌≤◌, ◌⊎◌, ℕ, Bool, true, false, List, [], ◌∷◌, ◌++◌, Option, Some, None, All, slice_get, nat_lt, inl, inr, refl, sym, subst, arith}
-use Rattle.std.specs.Option.{option_or, option_map_or}
+use Rattle.std.specs.Option.{option_map_or}
 use Rattle.std.proofs.lemmas.Bool.{ltb-false}
 use Rattle.std.proofs.lemmas.List.Elements.{All-nil, All-push, All-set, All-weaker, All-contains}
 use Rattle.hn_base.proofs.PartsAtPlaces.{contains_at}
@@ -19,11 +19,12 @@ use Rattle.hn_base.specs.declared.version.Version.TheVariants.{One, Two}
 use Rattle.hn_world.specs.declared.member.Member.{Member}
 use Rattle.hn_world.specs.declared.parts.Parts.{Parts}
 use Rattle.hn_world.specs.Limits.{table_limit}
-use Rattle.hn_world.specs.Refusal.{code_if, refusal}
+use Rattle.hn_world.specs.Refusal.{refusal}
 use Rattle.hn_world.specs.Names.{link_place}
 use Rattle.hn_world.specs.Routed.{routed}
 use Rattle.hn_world.specs.Step.{ActsAt, DoesElse, DoesAt, FitsAt, IsInRange, attached_to, beside, stopped}
 use Rattle.hn_world.specs.Replay.{empty_world, Goes, Replays, IsReplayed, IsSoundMember, IsSound, Always}
+use Rattle.hn_world.proofs.Accepted.{accepts}
 use Rattle.hn_world.proofs.Onces.{Any}
 
 -- ---- events one after another
@@ -94,27 +95,9 @@ beside_keeps (event.Attach name endpoint link) w m = by_link (link_place (name_t
     by_link : (at : Option ℕ) → (option_map_or (λ at. attached_to at endpoint m) at m).router ≡ m.router
     by_link None = refl
     by_link (Some at) = refl
-beside_keeps (event.Router name id) w m = refl
-beside_keeps (event.Link name) w m = refl
-beside_keeps (event.Detach name endpoint) w m = refl
-beside_keeps (event.External name prefix valid preferred) w m = refl
-beside_keeps (event.Withdraw name prefix) w m = refl
-beside_keeps (event.Caps name caps) w m = refl
-beside_keeps (event.Start name) w m = refl
-beside_keeps (event.Tick name) w m = refl
-beside_keeps (event.Inject name endpoint from multicast bytes) w m = refl
-beside_keeps (event.Private name length) w m = refl
-beside_keeps (event.Addresses name list) w m = refl
-beside_keeps (event.Stop name) w m = refl
-beside_keeps (event.Time moment) w m = refl
-beside_keeps (event.Deliver copy) w m = refl
-beside_keeps (event.Drop copy) w m = refl
+beside_keeps _ w m = refl
 
 -- ---- an event
-
-not_before : (b : Bool) (rest : Option ℕ) → option_or (code_if 10 b) rest ≡ None → b ≡ false
-not_before true rest accepted = absurd cc
-not_before false rest accepted = refl
 
 sound_later : (before : Parts) (moment : ℕ) → before.moment ≤ moment → IsSound before → All (IsSoundMember moment) before.members
 sound_later before moment rises all = All-weaker (IsSoundMember before.moment) (IsSoundMember moment) (λ m is. record { router = is.router; past = omega (arith, is.past) }) before.members all
@@ -134,21 +117,12 @@ sound_else laws (event.Stop name) words notes before after accepted fits h all =
     let here = all_at (IsSoundMember before.moment) before.members h.place h.member h.is_member all in
     subst IsSound (sym h.quietly.gives) (All-set (IsSoundMember before.moment) before.members h.place (stopped h.member) (sound_changed before.moment stopped (λ m. refl) h.member here) all)
 sound_else laws (event.Time moment) words notes before after accepted fits h all =
-    subst IsSound (sym h.gives) (sound_later before moment (ltb-false moment before.moment (not_before (nat_lt moment before.moment) _ accepted)) all)
+    subst IsSound (sym h.gives) (sound_later before moment (ltb-false moment before.moment (accepts before (event.Time moment) accepted).forward) all)
 sound_else laws (event.Deliver copy) words notes before after accepted fits h all =
     let arrival : PlainEvent = Arrive (record { endpoint = h.mail.to.endpoint; from = h.mail.from; multicast = h.mail.multicast }) h.mail.bytes in
     subst IsSound (sym h.gives) (sound_acts_at laws (λ m. m) (λ m. refl) h.mail.to.place arrival words notes before h.between tt h.acts all)
 sound_else laws (event.Drop copy) words notes before after accepted fits h all = subst IsSound (sym h.quietly.gives) all
-sound_else laws (event.Attach name endpoint link) words notes before after accepted fits h all = absurd h
-sound_else laws (event.Detach name endpoint) words notes before after accepted fits h all = absurd h
-sound_else laws (event.External name prefix valid preferred) words notes before after accepted fits h all = absurd h
-sound_else laws (event.Withdraw name prefix) words notes before after accepted fits h all = absurd h
-sound_else laws (event.Caps name caps) words notes before after accepted fits h all = absurd h
-sound_else laws (event.Private name length) words notes before after accepted fits h all = absurd h
-sound_else laws (event.Addresses name list) words notes before after accepted fits h all = absurd h
-sound_else laws (event.Start name) words notes before after accepted fits h all = absurd h
-sound_else laws (event.Tick name) words notes before after accepted fits h all = absurd h
-sound_else laws (event.Inject name endpoint from multicast bytes) words notes before after accepted fits h all = absurd h
+sound_else laws _ words notes before after accepted fits h all = absurd h
 
 sound_at : StayLaws → (event : WEvent) (own : Option (Name × PlainEvent)) (words : List ℕ) (notes : List Note) (before after : Parts) → refusal before event ≡ None → IsInRange event → FitsAt own
     → DoesAt event own words notes before after → IsSound before → IsSound after

@@ -7,6 +7,7 @@ pub mod Injected
 pub mod Routed
 pub mod Beside
 pub mod Refusal
+pub mod Asked
 pub mod Step
 pub mod Planned
 pub mod Replay

@@ -1,13 +1,10 @@
 -- Which events a world refuses, with which code.
-use Rattle.std.specs.Prelude.{ℕ, ◌+◌, ◌-◌, ◌^◌, Bool, ◌||◌, ◌==◌, not, nat_lt, nat_le, if◌then◌else◌, List, length, Option, None, Some}
+use Rattle.std.specs.Prelude.{ℕ, ◌+◌, ◌-◌, ◌^◌, Bool, true, false, ◌||◌, ◌&&◌, ◌==◌, not, nat_lt, nat_le, if◌then◌else◌, List, [], ◌∷◌, length, find, Option, None, Some, is_some, is_none}
 use Rattle.std.specs.List.{list_any, slice_get}
-use Rattle.std.specs.Option.{option_or}
-use Rattle.hn_base.specs.Codes.{unless_there}
+use Rattle.std.specs.Option.{option_and_then, option_map, option_map_or}
 use Rattle.hn_base.specs.Name.{name_text}
-use Rattle.hn_base.specs.declared.name.Name.{Name}
 use Rattle.hn_base.specs.declared.ids.EpId.{EpId}
-use Rattle.hn_base.specs.Prefix.{PlainPrefix}
-use Rattle.hn_own.specs.Addresses.{OwnAddress, may_address}
+use Rattle.hn_own.specs.Addresses.{may_address}
 use Rattle.hn_own.specs.Ports.{is_attached}
 use Rattle.hn_own.specs.OwnPrefixes.{may_delegate}
 use Rattle.hn_world.specs.declared.copies.MailCopy.{MailCopy}
@@ -15,134 +12,115 @@ use Rattle.hn_world.specs.declared.event.WEvent.{WEvent}
 use Rattle.hn_world.specs.declared.event.WEvent.TheVariants as event
 use Rattle.hn_world.specs.declared.member.Member.{Member}
 use Rattle.hn_world.specs.declared.parts.Parts.{Parts}
+use Rattle.hn_world.specs.Injected.{injected_of}
 use Rattle.hn_world.specs.Limits.{most_routers}
 use Rattle.hn_world.specs.Names.{is_taken, member_named, link_place}
 use Rattle.hn_world.specs.Routed.{named_by}
 use Rattle.hn_world.specs.Waiting.{bytes_of}
-use Rattle.hn_world.specs.Injected.{injected_of}
 
--- a code where it is so
-abbrev pub code_if : ℕ → Bool → Option ℕ
-code_if code so = if so then Some code else None
+-- whether it is so of what is there
+abbrev pub so_of : {A : Type 0} → (A → Bool) → Option A → Bool
+so_of asked it = option_map_or asked it false
 
--- 7: a name is unknown or names the other kind. What is asked then of the router of a name, or of the place of a link.
-abbrev pub of_router : (Member → Option ℕ) → Option Member → Option ℕ
-of_router asked router = unless_there 7 asked router
-
-abbrev pub of_link : (ℕ → Option ℕ) → Option ℕ → Option ℕ
-of_link asked link = unless_there 7 asked link
-
--- 12: the router is stopped
-abbrev pub unless_running : Member → Option ℕ
-unless_running m = code_if 12 (not m.running)
-
--- 11: the endpoint is not attached; it is in use
-abbrev pub unless_attached : EpId → Member → Option ℕ
-unless_attached endpoint m = code_if 11 (not (is_attached endpoint m.router.ports))
-
-abbrev pub unless_free : EpId → Member → Option ℕ
-unless_free endpoint m = code_if 11 (is_attached endpoint m.router.ports)
-
--- 14: the router already has an endpoint on that link
-abbrev pub unless_apart : ℕ → Member → Option ℕ
-unless_apart link m = code_if 14 (list_any (λ a. a.link == link) m.attachments)
-
--- 19: the list may not be the addresses of the router
-abbrev pub unless_listed : List OwnAddress → Member → Option ℕ
-unless_listed list m = code_if 19 (not (may_address list m.router.ports))
-
--- 9: the 17th endpoint of a router; its ninth delegated prefix; the 1,000,001st event
-abbrev pub unless_full_of_endpoints : Member → Option ℕ
-unless_full_of_endpoints m = code_if 9 (not (nat_lt (length m.router.ports) 16))
-
-abbrev pub unless_full_of_prefixes : PlainPrefix → Member → Option ℕ
-unless_full_of_prefixes prefix m = code_if 9 (not (may_delegate prefix m.router.delegated))
-
-abbrev pub unless_full_of_events : Parts → Option ℕ
-unless_full_of_events w = code_if 9 (nat_le 1000000 (length w.trace))
-
--- 16: 1,000,000 copies or more were made, or the copies and the injected datagrams together have 2^28 bytes or more
-abbrev pub unless_full_of_mail : Parts → Option ℕ
-unless_full_of_mail w =
-    code_if 16 (nat_le 1000000 (length w.copies) || nat_le (2 ^ 28) (bytes_of w.copies + injected_of w.trace))
-
--- of a name: 7, there is no router of that name; and 12 beside it, it is stopped
-abbrev pub unless_known : Name → Parts → Option ℕ
-unless_known name w = of_router (λ _. None) (member_named (name_text name) w)
-
-abbrev pub unless_runs : Name → Parts → Option ℕ
-unless_runs name w = of_router unless_running (member_named (name_text name) w)
-
--- of two routers: both names are looked at first
-abbrev pub unless_both_run : Name → Name → Parts → Option ℕ
-unless_both_run left right w =
-    option_or (unless_known left w) (option_or (unless_known right w) (option_or (unless_runs left w) (unless_runs right w)))
-
--- what is asked of a router that is to act: it runs, and there is room for one more event
-abbrev pub unless_acts : Parts → Member → Option ℕ
-unless_acts w m = option_or (unless_running m) (unless_full_of_events w)
-
--- of a router that is to get a delegated prefix: there is room for it
-abbrev pub unless_delegated : Parts → PlainPrefix → Member → Option ℕ
-unless_delegated w prefix m = option_or (unless_running m) (option_or (unless_full_of_prefixes prefix m) (unless_full_of_events w))
-
--- of a router that is to get addresses: it may have them
-abbrev pub unless_addressed : Parts → List OwnAddress → Member → Option ℕ
-unless_addressed w list m = option_or (unless_running m) (option_or (unless_listed list m) (unless_full_of_events w))
-
--- of an endpoint that is to do something: it is attached
-abbrev pub unless_detached : Parts → EpId → Member → Option ℕ
-unless_detached w endpoint m = option_or (unless_running m) (option_or (unless_attached endpoint m) (unless_full_of_events w))
-
--- of a router that is to send, beside this: there is room for mail
-abbrev pub unless_ticked : Parts → Member → Option ℕ
-unless_ticked w m = option_or (unless_acts w m) (unless_full_of_mail w)
-
-abbrev pub unless_received : Parts → EpId → Member → Option ℕ
-unless_received w endpoint m = option_or (unless_detached w endpoint m) (unless_full_of_mail w)
-
--- of an endpoint that is to be attached to a link
-abbrev pub unless_joined : Parts → EpId → Member → ℕ → Option ℕ
-unless_joined w endpoint m link =
-    option_or (unless_running m) (option_or (unless_free endpoint m) (option_or (unless_apart link m)
-    (option_or (unless_full_of_endpoints m) (unless_full_of_events w))))
-
--- 13: there is no copy of that number; what is asked then of a copy. Numbers of copies begin with 1.
-abbrev pub of_copy : (MailCopy → Option ℕ) → Option MailCopy → Option ℕ
-of_copy asked copy = unless_there 13 asked copy
-
+-- the copy of a number; numbers of copies begin with 1
 abbrev pub copy_at : Parts → ℕ → Option MailCopy
 copy_at w copy = if copy == 0 then None else slice_get w.copies (copy - 1)
 
--- 8: the name of a new router or link is taken; then 9, one router or link too many, and the events
-abbrev pub unless_new : Parts → List ℕ → ℕ → ℕ → Option ℕ
-unless_new w name count most =
-    option_or (code_if 8 (is_taken name w)) (option_or (code_if 9 (not (nat_lt count most))) (unless_full_of_events w))
+-- the router that an event names, if it is there
+abbrev pub named_member : WEvent → Parts → Option Member
+named_member event w = option_and_then (λ name. member_named (name_text name) w) (named_by event)
 
--- what is asked of the router that an event names
-abbrev pub unless_able : WEvent → Parts → Member → Option ℕ
-unless_able (event.Attach name endpoint link) w m = of_link (unless_joined w endpoint m) (link_place (name_text link) w)
-unless_able (event.Detach name endpoint) w m = unless_detached w endpoint m
-unless_able (event.External name prefix valid preferred) w m = unless_delegated w prefix m
-unless_able (event.Addresses name list) w m = unless_addressed w list m
-unless_able (event.Start name) w m = unless_full_of_events w
-unless_able (event.Tick name) w m = unless_ticked w m
-unless_able (event.Inject name endpoint from multicast bytes) w m = unless_received w endpoint m
-unless_able _ w m = unless_acts w m
+-- the router at which an event happens, if it is there: the one to which its copy goes, or the one that it names
+abbrev pub acting : WEvent → Parts → Option Member
+acting (event.Deliver copy) w = option_and_then (λ c. slice_get w.members c.to.place) (copy_at w copy)
+acting event w = named_member event w
 
--- the code of an event that names no router
-abbrev pub refusal_else : Parts → WEvent → Option ℕ
-refusal_else w (event.Router name id) = unless_new w (name_text name) (length w.members) (most_routers w.version)
-refusal_else w (event.Link name) = unless_new w (name_text name) (length w.links) 64
-refusal_else w (event.Time moment) = option_or (code_if 10 (nat_lt moment w.moment)) (unless_full_of_events w)
-refusal_else w (event.Deliver copy) = of_copy (λ c. of_router (unless_received w c.to.endpoint) (slice_get w.members c.to.place)) (copy_at w copy)
-refusal_else w (event.Drop copy) = of_copy (λ c. unless_full_of_events w) (copy_at w copy)
-refusal_else w _ = None
+-- 7: a name is unknown, or names the other kind; the router of a copy is not there
+abbrev pub names_nothing : WEvent → Parts → Option Member → Bool
+names_nothing (event.Attach name endpoint link) w router = is_none router || is_none (link_place (name_text link) w)
+names_nothing (event.Deliver copy) w router = is_some (copy_at w copy) && is_none router
+names_nothing event w router = is_some (named_by event) && is_none router
 
--- the code with which an event is refused; an event that is accepted has none
-abbrev pub refusal_by : Option Name → Parts → WEvent → Option ℕ
-refusal_by (Some name) w event = of_router (unless_able event w) (member_named (name_text name) w)
-refusal_by None w event = refusal_else w event
+-- 8: the name of a new router or link is taken
+abbrev pub takes_a_name : WEvent → Parts → Bool
+takes_a_name (event.Router name id) w = is_taken (name_text name) w
+takes_a_name (event.Link name) w = is_taken (name_text name) w
+takes_a_name _ w = false
 
+-- 12: the router is stopped
+abbrev pub is_stopped : WEvent → Option Member → Bool
+is_stopped (event.Start name) router = false
+is_stopped _ router = so_of (λ m. not m.running) router
+
+-- 11: the endpoint is in use, or it is not attached
+abbrev pub is_detached : EpId → Option Member → Bool
+is_detached endpoint router = so_of (λ m. not (is_attached endpoint m.router.ports)) router
+
+abbrev pub lacks_the_endpoint : WEvent → Parts → Option Member → Bool
+lacks_the_endpoint (event.Attach name endpoint link) w router = so_of (λ m. is_attached endpoint m.router.ports) router
+lacks_the_endpoint (event.Detach name endpoint) w router = is_detached endpoint router
+lacks_the_endpoint (event.Inject name endpoint from multicast bytes) w router = is_detached endpoint router
+lacks_the_endpoint (event.Deliver copy) w router = so_of (λ c. is_detached c.to.endpoint router) (copy_at w copy)
+lacks_the_endpoint _ w router = false
+
+-- 19: the list may not be the addresses of the router
+abbrev pub may_not_address : WEvent → Option Member → Bool
+may_not_address (event.Addresses name list) router = so_of (λ m. not (may_address list m.router.ports)) router
+may_not_address _ router = false
+
+-- 14: the router already has an endpoint on that link
+abbrev pub joins_twice : WEvent → Parts → Option Member → Bool
+joins_twice (event.Attach name endpoint link) w router = so_of (λ m. so_of (λ at. list_any (λ a. a.link == at) m.attachments) (link_place (name_text link) w)) router
+joins_twice _ w router = false
+
+-- 13: there is no such copy
+abbrev pub lacks_a_copy : WEvent → Parts → Bool
+lacks_a_copy (event.Deliver copy) w = is_none (copy_at w copy)
+lacks_a_copy (event.Drop copy) w = is_none (copy_at w copy)
+lacks_a_copy _ w = false
+
+-- 10: the moment would fall
+abbrev pub goes_back : WEvent → Parts → Bool
+goes_back (event.Time moment) w = nat_lt moment w.moment
+goes_back _ w = false
+
+-- 9: one router, link, endpoint of a router or delegated prefix of it too many
+abbrev pub lacks_room : WEvent → Parts → Option Member → Bool
+lacks_room (event.Router name id) w router = nat_le (most_routers w.version) (length w.members)
+lacks_room (event.Link name) w router = nat_le 64 (length w.links)
+lacks_room (event.Attach name endpoint link) w router = so_of (λ m. not (nat_lt (length m.router.ports) 16)) router
+lacks_room (event.External name prefix valid preferred) w router = so_of (λ m. not (may_delegate prefix m.router.delegated)) router
+lacks_room _ w router = false
+
+-- 16: 1,000,000 copies or more were made, or the copies and the injected datagrams together have 2^28 bytes or more
+abbrev pub is_full_of_mail : Parts → Bool
+is_full_of_mail w = nat_le 1000000 (length w.copies) || nat_le (2 ^ 28) (bytes_of w.copies + injected_of w.trace)
+
+-- and the router may answer
+abbrev pub may_answer : WEvent → Bool
+may_answer (event.Tick name) = true
+may_answer (event.Deliver copy) = true
+may_answer (event.Inject name endpoint from multicast bytes) = true
+may_answer _ = false
+
+-- the code of the first that is so
+abbrev pub first_code : List (ℕ × Bool) → Option ℕ
+first_code conditions = option_map (λ c. c.0) (find (λ c. c.1) conditions)
+
+-- the code with which an event is refused that happens at this router, if at one; 9 is also the code of one event too many
+abbrev pub refusal_at : WEvent → Parts → Option Member → Option ℕ
+refusal_at event w router = first_code (
+    (7, names_nothing event w router) ∷
+    (8, takes_a_name event w) ∷
+    (12, is_stopped event router) ∷
+    (11, lacks_the_endpoint event w router) ∷
+    (19, may_not_address event router) ∷
+    (14, joins_twice event w router) ∷
+    (13, lacks_a_copy event w) ∷
+    (10, goes_back event w) ∷
+    (9, lacks_room event w router || nat_le 1000000 (length w.trace)) ∷
+    (16, may_answer event && is_full_of_mail w) ∷ [])
+
+-- an event that is accepted has no code
 abbrev pub refusal : Parts → WEvent → Option ℕ
-refusal w event = refusal_by (named_by event) w event
+refusal w event = refusal_at event w (acting event w)

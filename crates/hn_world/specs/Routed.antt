@@ -11,8 +11,6 @@ use Rattle.hn_world.specs.Names.{router_place}
 
 -- the router at which an event happens, and what happens to it there
 abbrev pub routed : WEvent → Option (Name × PlainEvent)
-routed (event.Router name id) = None
-routed (event.Link name) = None
 routed (event.Attach name endpoint link) = Some (name, Attach endpoint)
 routed (event.Detach name endpoint) = Some (name, Detach endpoint)
 routed (event.External name prefix valid preferred) = Some (name, External prefix valid preferred)
@@ -20,14 +18,11 @@ routed (event.Withdraw name prefix) = Some (name, Withdraw prefix)
 routed (event.Caps name caps) = Some (name, SetCaps caps)
 routed (event.Private name length) = Some (name, Private length)
 routed (event.Addresses name list) = Some (name, Addresses list)
-routed (event.Stop name) = None
 routed (event.Start name) = Some (name, Restart)
-routed (event.Time moment) = None
 routed (event.Tick name) = Some (name, Tick)
-routed (event.Deliver copy) = None
-routed (event.Drop copy) = None
 routed (event.Inject name endpoint from multicast bytes) =
     Some (name, Arrive (record { endpoint = endpoint; from = from; multicast = multicast }) bytes)
+routed _ = None
 
 -- the router that an event is for
 abbrev pub named_by : WEvent → Option Name

@@ -1,7 +1,7 @@
 //! Why a call on the router of a name is refused.
 
 ghost use Rattle.std.specs.Prelude.{◌≡◌};
-ghost use Rattle.hn_world.specs.Refusal.{unless_known, unless_runs, unless_both_run};
+ghost use Rattle.hn_world.specs.Asked.{unless_known, unless_runs, unless_both_run};
 
 use crate::refusal::{STOPPED, UNKNOWN};
 use crate::world::World;

@@ -42,17 +42,7 @@ fn own_in_range(event: &WEvent)
         | WEvent::Private { .. }
         | WEvent::Addresses { .. }
         | WEvent::Inject { .. } => given_in_range(event),
-        WEvent::Router { .. }
-        | WEvent::Link { .. }
-        | WEvent::Detach { .. }
-        | WEvent::Withdraw { .. }
-        | WEvent::Caps { .. }
-        | WEvent::Stop { .. }
-        | WEvent::Start { .. }
-        | WEvent::Time { .. }
-        | WEvent::Tick { .. }
-        | WEvent::Deliver { .. }
-        | WEvent::Drop { .. } => {}
+        _ => {}
     }
 }
 

@@ -1,12 +1,10 @@
 //! Which events a world refuses, with which code. Nothing here allocates.
 
-ghost use Rattle.std.specs.Prelude.{◌≡◌, length, option_copied};
-ghost use Rattle.std.specs.List.{slice_get};
-ghost use Rattle.hn_world.specs.declared.event.WEvent.TheVariants as event;
+ghost use Rattle.std.specs.Prelude.{◌≡◌, ◌||◌, ◌&&◌, ◌==◌, nat_le, length, option_copied};
 ghost use Rattle.hn_base.specs.Name.{name_text};
-ghost use Rattle.hn_world.specs.Limits.{most_routers};
+ghost use Rattle.std.specs.List.{list_any};
 ghost use Rattle.hn_world.specs.Names.{is_taken, link_place};
-ghost use Rattle.hn_world.specs.Refusal.{code_if, of_router, unless_running, unless_attached, unless_free, unless_apart, unless_full_of_endpoints, unless_full_of_prefixes, unless_full_of_events, unless_full_of_mail, unless_acts, unless_delegated, unless_listed, unless_addressed, unless_detached, unless_ticked, unless_received, unless_joined, copy_at, unless_new, unless_able, refusal_else, refusal, of_link};
+ghost use Rattle.hn_world.specs.Refusal.{so_of, copy_at, named_member, acting, names_nothing, takes_a_name, is_stopped, is_detached, lacks_the_endpoint, may_not_address, joins_twice, lacks_a_copy, goes_back, lacks_room, is_full_of_mail, may_answer, first_code, refusal};
 ghost use Rattle.hn_world.specs.Routed.{named_by, place_by};
 
 use crate::copies::{MOST_BYTES, MailCopy};
@@ -15,7 +13,6 @@ use crate::limits::{MOST_LINKS, most_routers};
 use crate::member::Member;
 use crate::parts::Parts;
 use hn_base::{EpId, Name};
-use hn_prefix::Prefix;
 
 /// The code of a name that is unknown or names the other kind.
 pub const UNKNOWN: u8 = 7;
@@ -29,11 +26,8 @@ const FULL: u8 = 9;
 /// The code of a moment before the present one.
 pub const PAST: u8 = 10;
 
-/// The code of an endpoint that is not attached.
+/// The code of an endpoint that is in use or not attached.
 pub const NOT_ATTACHED: u8 = 11;
-
-/// The code of an endpoint that is in use.
-const IN_USE: u8 = 11;
 
 /// The code of a router that is stopped.
 pub const STOPPED: u8 = 12;
@@ -56,154 +50,63 @@ const MOST_EVENTS: usize = 1_000_000;
 /// The most copies, where further ones may be made.
 const MOST_COPIES: usize = 1_000_000;
 
-/// The code, where it is so.
-fn code_if(code: u8, so: bool) -> Option<u8>
-    ensures { result ≡ code_if code so }
+/// The code of the first that is so.
+fn first_code(conditions: &[(u8, bool)]) -> Option<u8>
+    ensures { result ≡ first_code conditions.now }
 {
-    if so { Some(code) } else { None }
+    conditions
+        .iter()
+        .find(|condition| condition.1)
+        .map(|condition| condition.0)
 }
 
-impl Member {
-    fn unless_running(&self) -> Option<u8>
-        ensures { result ≡ unless_running self.now }
-    {
-        code_if(STOPPED, !self.running)
+/// Whether the router is stopped.
+fn is_stopped(event: &WEvent, router: Option<&Member>) -> bool
+    ensures { result ≡ is_stopped event.now (option_copied router.entry) }
+{
+    match event {
+        WEvent::Start { .. } => false,
+        _ => match router {
+            Some(member) => !member.running,
+            None => false,
+        },
     }
+}
 
-    fn unless_attached(&self, endpoint: EpId) -> Option<u8>
-        ensures { result ≡ unless_attached endpoint self.now }
-    {
-        code_if(NOT_ATTACHED, !self.router.attached(endpoint))
+/// Whether an endpoint is not attached.
+fn is_detached(endpoint: EpId, router: Option<&Member>) -> bool
+    ensures { result ≡ is_detached endpoint (option_copied router.entry) }
+{
+    match router {
+        Some(member) => !member.router.attached(endpoint),
+        None => false,
     }
+}
 
-    fn unless_free(&self, endpoint: EpId) -> Option<u8>
-        ensures { result ≡ unless_free endpoint self.now }
-    {
-        code_if(IN_USE, self.router.attached(endpoint))
+/// Whether the list may not be the addresses of the router.
+fn may_not_address(event: &WEvent, router: Option<&Member>) -> bool
+    ensures { result ≡ may_not_address event.now (option_copied router.entry) }
+{
+    match event {
+        WEvent::Addresses { list, .. } => match router {
+            Some(member) => !member.router.may_address(list.as_slice()),
+            None => false,
+        },
+        _ => false,
     }
+}
 
-    fn unless_apart(&self, link: usize) -> Option<u8>
-        ensures { result ≡ unless_apart link self.now }
-    {
-        code_if(LINK_IN_USE, self.has_link(link))
-    }
-
-    fn unless_listed(&self, list: &[(EpId, u128)]) -> Option<u8>
-        ensures { result ≡ unless_listed list.now self.now }
-    {
-        code_if(UNLISTED, !self.router.may_address(list))
-    }
-
-    fn unless_full_of_endpoints(&self) -> Option<u8>
-        ensures { result ≡ unless_full_of_endpoints self.now }
-    {
-        code_if(FULL, !self.router.has_room())
-    }
-
-    fn unless_full_of_prefixes(&self, prefix: &Prefix) -> Option<u8>
-        ensures { result ≡ unless_full_of_prefixes prefix.now self.now }
-    {
-        code_if(FULL, !self.router.may_have(prefix))
+/// Whether the router may answer.
+fn may_answer(event: &WEvent) -> bool
+    ensures { result ≡ may_answer event.now }
+{
+    match event {
+        WEvent::Tick { .. } | WEvent::Deliver { .. } | WEvent::Inject { .. } => true,
+        _ => false,
     }
 }
 
 impl Parts {
-    fn unless_full_of_events(&self) -> Option<u8>
-        ensures { result ≡ unless_full_of_events self.now }
-    {
-        code_if(FULL, self.trace.as_slice().len() >= MOST_EVENTS)
-    }
-
-    fn unless_full_of_mail(&self) -> Option<u8>
-        ensures { result ≡ unless_full_of_mail self.now }
-    {
-        let many = self.copies.len() >= MOST_COPIES;
-        code_if(
-            FULL_OF_MAIL,
-            many || self.copies.bytes() + self.trace.injected() >= MOST_BYTES,
-        )
-    }
-
-    fn unless_acts(&self, member: &Member) -> Option<u8>
-        ensures { result ≡ unless_acts self.now member.now }
-    {
-        member.unless_running().or(self.unless_full_of_events())
-    }
-
-    fn unless_delegated(&self, prefix: &Prefix, member: &Member) -> Option<u8>
-        ensures { result ≡ unless_delegated self.now prefix.now member.now }
-    {
-        member.unless_running().or(
-            member
-                .unless_full_of_prefixes(prefix)
-                .or(self.unless_full_of_events()),
-        )
-    }
-
-    fn unless_addressed(&self, list: &[(EpId, u128)], member: &Member) -> Option<u8>
-        ensures { result ≡ unless_addressed self.now list.now member.now }
-    {
-        member.unless_running().or(member.unless_listed(list).or(self.unless_full_of_events()))
-    }
-
-    fn unless_detached(&self, endpoint: EpId, member: &Member) -> Option<u8>
-        ensures { result ≡ unless_detached self.now endpoint member.now }
-    {
-        member.unless_running().or(
-            member
-                .unless_attached(endpoint)
-                .or(self.unless_full_of_events()),
-        )
-    }
-
-    fn unless_ticked(&self, member: &Member) -> Option<u8>
-        ensures { result ≡ unless_ticked self.now member.now }
-    {
-        self.unless_acts(member).or(self.unless_full_of_mail())
-    }
-
-    fn unless_received(&self, endpoint: EpId, member: &Member) -> Option<u8>
-        ensures { result ≡ unless_received self.now endpoint member.now }
-    {
-        self.unless_detached(endpoint, member)
-            .or(self.unless_full_of_mail())
-    }
-
-    fn unless_joined(&self, endpoint: EpId, member: &Member, link: usize) -> Option<u8>
-        ensures { result ≡ unless_joined self.now endpoint member.now link }
-    {
-        let full = member
-            .unless_full_of_endpoints()
-            .or(self.unless_full_of_events());
-        member.unless_running().or(
-            member
-                .unless_free(endpoint)
-                .or(member.unless_apart(link).or(full)),
-        )
-    }
-
-    /// Whether a name is taken, by a router or a link.
-    fn is_taken(&self, name: &Name) -> bool
-        ensures { result ≡ is_taken (name_text name.now) self.now }
-    {
-        self.members.place_of(name).is_some() || self.links.place_of(name).is_some()
-    }
-
-    fn unless_new(&self, name: &Name, count: usize, most: usize) -> Option<u8>
-        ensures { result ≡ unless_new self.now (name_text name.now) count most }
-    {
-        code_if(TAKEN, self.is_taken(name)).or(code_if(FULL, count >= most).or(
-            self.unless_full_of_events(),
-        ))
-    }
-
-    fn refuses_router(&self, name: &Name) -> Option<u8>
-        ensures { result ≡ unless_new self.now (name_text name.now) (length self.now.members) (most_routers self.now.version) }
-    {
-        let count = self.members.as_slice().len();
-        self.unless_new(name, count, most_routers(self.version))
-    }
-
     /// The copy of a number.
     pub(crate) fn copy_at(&self, copy: u64) -> Option<&MailCopy>
         ensures { option_copied result ≡ copy_at self.now copy }
@@ -216,72 +119,156 @@ impl Parts {
         }
     }
 
-    fn refuses_attach(&self, endpoint: EpId, member: &Member, link: &Name) -> Option<u8>
-        ensures { result ≡ of_link (unless_joined self.now endpoint member.now) (link_place (name_text link.now) self.now) }
+    /// The router that an event names, which is at this place.
+    fn named_member(&self, event: &WEvent, place: Option<usize>) -> Option<&Member>
+        requires { place ≡ place_by (named_by event.now) self.now }
+        ensures { option_copied result ≡ named_member event.now self.now }
+    {
+        match place {
+            Some(place) => self.members.get(place),
+            None => None,
+        }
+    }
+
+    /// The router at which an event happens: the one to which its copy goes, or the one that it names, which is at this
+    /// place.
+    fn acting(&self, event: &WEvent, place: Option<usize>) -> Option<&Member>
+        requires { place ≡ place_by (named_by event.now) self.now }
+        ensures { option_copied result ≡ acting event.now self.now }
+    {
+        match event {
+            WEvent::Deliver { copy } => match self.copy_at(*copy) {
+                Some(copy) => self.members.get(copy.to.place),
+                None => None,
+            },
+            _ => self.named_member(event, place),
+        }
+    }
+
+    /// Whether a name is unknown, or the router of a copy.
+    fn names_nothing(&self, event: &WEvent, router: Option<&Member>) -> bool
+        ensures { result ≡ names_nothing event.now self.now (option_copied router.entry) }
+    {
+        match event {
+            WEvent::Attach { link, .. } => {
+                router.is_none() || self.links.place_of(link).is_none()
+            }
+            WEvent::Deliver { copy } => self.copy_at(*copy).is_some() && router.is_none(),
+            _ => event.named().is_some() && router.is_none(),
+        }
+    }
+
+    /// Whether a name is taken, by a router or a link.
+    fn is_taken(&self, name: &Name) -> bool
+        ensures { result ≡ is_taken (name_text name.now) self.now }
+    {
+        self.members.place_of(name).is_some() || self.links.place_of(name).is_some()
+    }
+
+    /// Whether the name of a new router or link is taken.
+    fn takes_a_name(&self, event: &WEvent) -> bool
+        ensures { result ≡ takes_a_name event.now self.now }
+    {
+        match event {
+            WEvent::Router { name, .. } | WEvent::Link { name } => self.is_taken(name),
+            _ => false,
+        }
+    }
+
+    /// Whether the endpoint is in use, or not attached.
+    fn lacks_the_endpoint(&self, event: &WEvent, router: Option<&Member>) -> bool
+        ensures { result ≡ lacks_the_endpoint event.now self.now (option_copied router.entry) }
+    {
+        match event {
+            WEvent::Attach { endpoint, .. } => match router {
+                Some(member) => member.router.attached(*endpoint),
+                None => false,
+            },
+            WEvent::Detach { endpoint, .. } => is_detached(*endpoint, router),
+            WEvent::Inject { endpoint, .. } => is_detached(*endpoint, router),
+            WEvent::Deliver { copy } => match self.copy_at(*copy) {
+                Some(copy) => is_detached(copy.to.endpoint, router),
+                None => false,
+            },
+            _ => false,
+        }
+    }
+
+    /// Whether a router has an endpoint on the link of a name.
+    fn is_joined(&self, member: &Member, link: &Name) -> bool
+        ensures { result ≡ so_of (λ at. list_any (λ a. a.link == at) member.now.attachments) (link_place (name_text link.now) self.now) }
     {
         match self.links.place_of(link) {
-            Some(link) => self.unless_joined(endpoint, member, link),
-            None => Some(UNKNOWN),
+            Some(link) => member.has_link(link),
+            None => false,
         }
     }
 
-    fn refuses_copy(&self, copy: &MailCopy) -> Option<u8>
-        ensures { result ≡ of_router (unless_received self.now copy.now.to.endpoint) (slice_get self.now.members copy.now.to.place) }
-    {
-        match self.members.get(copy.to.place) {
-            Some(member) => self.unless_received(copy.to.endpoint, member),
-            None => Some(UNKNOWN),
-        }
-    }
-
-    fn refuses_deliver(&self, copy: u64) -> Option<u8>
-        ensures { result ≡ refusal self.now (event.Deliver copy) }
-    {
-        match self.copy_at(copy) {
-            Some(copy) => self.refuses_copy(copy),
-            None => Some(NO_COPY),
-        }
-    }
-
-    fn refuses_drop(&self, copy: u64) -> Option<u8>
-        ensures { result ≡ refusal self.now (event.Drop copy) }
-    {
-        match self.copy_at(copy) {
-            Some(_) => self.unless_full_of_events(),
-            None => Some(NO_COPY),
-        }
-    }
-
-    /// What is asked of the router that an event names.
-    fn unless_able(&self, event: &WEvent, member: &Member) -> Option<u8>
-        ensures { result ≡ unless_able event.now self.now member.now }
+    /// Whether the router already has an endpoint on that link.
+    fn joins_twice(&self, event: &WEvent, router: Option<&Member>) -> bool
+        ensures { result ≡ joins_twice event.now self.now (option_copied router.entry) }
     {
         match event {
-            WEvent::Attach { endpoint, link, .. } => self.refuses_attach(*endpoint, member, link),
-            WEvent::Detach { endpoint, .. } => self.unless_detached(*endpoint, member),
-            WEvent::External { prefix, .. } => self.unless_delegated(prefix, member),
-            WEvent::Addresses { list, .. } => self.unless_addressed(list.as_slice(), member),
-            WEvent::Start { .. } => self.unless_full_of_events(),
-            WEvent::Tick { .. } => self.unless_ticked(member),
-            WEvent::Inject { endpoint, .. } => self.unless_received(*endpoint, member),
-            _ => self.unless_acts(member),
+            WEvent::Attach { link, .. } => match router {
+                Some(member) => self.is_joined(member, link),
+                None => false,
+            },
+            _ => false,
         }
     }
 
-    /// The code with which an event is refused that names no router.
-    fn refusal_else(&self, event: &WEvent) -> Option<u8>
-        ensures { result ≡ refusal_else self.now event.now }
+    /// Whether there is no such copy.
+    fn lacks_a_copy(&self, event: &WEvent) -> bool
+        ensures { result ≡ lacks_a_copy event.now self.now }
     {
         match event {
-            WEvent::Router { name, .. } => self.refuses_router(name),
-            WEvent::Link { name } => self.unless_new(name, self.links.len(), MOST_LINKS),
-            WEvent::Time { moment } => {
-                code_if(PAST, *moment < self.moment.get()).or(self.unless_full_of_events())
-            }
-            WEvent::Deliver { copy } => self.refuses_deliver(*copy),
-            WEvent::Drop { copy } => self.refuses_drop(*copy),
-            _ => None,
+            WEvent::Deliver { copy } | WEvent::Drop { copy } => self.copy_at(*copy).is_none(),
+            _ => false,
         }
+    }
+
+    /// Whether the moment would fall.
+    fn goes_back(&self, event: &WEvent) -> bool
+        ensures { result ≡ goes_back event.now self.now }
+    {
+        match event {
+            WEvent::Time { moment } => *moment < self.moment.get(),
+            _ => false,
+        }
+    }
+
+    /// Whether it is one router, link, endpoint or delegated prefix too many.
+    fn lacks_room(&self, event: &WEvent, router: Option<&Member>) -> bool
+        ensures { result ≡ lacks_room event.now self.now (option_copied router.entry) }
+    {
+        match event {
+            WEvent::Router { .. } => self.members.as_slice().len() >= most_routers(self.version),
+            WEvent::Link { .. } => self.links.len() >= MOST_LINKS,
+            WEvent::Attach { .. } => match router {
+                Some(member) => !member.router.has_room(),
+                None => false,
+            },
+            WEvent::External { prefix, .. } => match router {
+                Some(member) => !member.router.may_have(prefix),
+                None => false,
+            },
+            _ => false,
+        }
+    }
+
+    /// Whether it is too many, or one event too many.
+    fn is_full(&self, event: &WEvent, router: Option<&Member>) -> bool
+        ensures { result ≡ (lacks_room event.now self.now (option_copied router.entry) || nat_le 1000000 (length self.now.trace)) }
+    {
+        self.lacks_room(event, router) || self.trace.as_slice().len() >= MOST_EVENTS
+    }
+
+    /// Whether the router may answer, and there are as many copies or bytes of mail as there may be before that.
+    fn is_full_of_mail(&self, event: &WEvent) -> bool
+        ensures { result ≡ (may_answer event.now && is_full_of_mail self.now) }
+    {
+        let many = self.copies.len() >= MOST_COPIES;
+        may_answer(event) && (many || self.copies.bytes() + self.trace.injected() >= MOST_BYTES)
     }
 
     /// The code with which an event is refused, whose router is at this place; `None` if and only if it is accepted.
@@ -290,10 +277,18 @@ impl Parts {
         requires { place ≡ place_by (named_by event.now) self.now }
         ensures { result ≡ refusal self.now event.now }
     {
-        match (event.named(), place) {
-            (None, _) => self.refusal_else(event),
-            (Some(_), Some(place)) => self.unless_able(event, self.members.at(place)),
-            (Some(_), None) => Some(UNKNOWN),
-        }
+        let router = self.acting(event, place);
+        first_code(&[
+            (UNKNOWN, self.names_nothing(event, router)),
+            (TAKEN, self.takes_a_name(event)),
+            (STOPPED, is_stopped(event, router)),
+            (NOT_ATTACHED, self.lacks_the_endpoint(event, router)),
+            (UNLISTED, may_not_address(event, router)),
+            (LINK_IN_USE, self.joins_twice(event, router)),
+            (NO_COPY, self.lacks_a_copy(event)),
+            (PAST, self.goes_back(event)),
+            (FULL, self.is_full(event, router)),
+            (FULL_OF_MAIL, self.is_full_of_mail(event)),
+        ])
     }
 }

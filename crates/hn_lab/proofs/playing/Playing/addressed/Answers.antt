@@ -2,7 +2,7 @@ use Rattle.std.proofs.Common.{◌≡◌, refl, append_assoc}
 use Rattle.hn_io.specs.declared.fault.IoFault.TheVariants.{NoMemory}
 use Rattle.hn_lab.specs.declared.end.Stop.TheVariants.{Cut}
 use Rattle.std.specs.Prelude.{string_bytes}
-use Rattle.hn_world.specs.Refusal.{unless_runs}
+use Rattle.hn_world.specs.Asked.{unless_runs}
 use Rattle.hn_lab.specs.AddressReports.{IsAddressedLine}
 use Rattle.hn_lab.specs.Line.{Tells}
 use Rattle.hn_lab.proofs.AddressTexts.{addressed_line, tells_addressed}

@@ -2,7 +2,7 @@ use Rattle.std.proofs.Common.{◌∙◌, refl, sym}
 use Rattle.hn_io.specs.declared.fault.IoFault.TheVariants.{NoMemory}
 use Rattle.hn_lab.specs.declared.end.Stop.TheVariants.{Refused, Cut}
 use Rattle.std.specs.Prelude.{string_bytes}
-use Rattle.hn_world.specs.Refusal.{unless_both_run}
+use Rattle.hn_world.specs.Asked.{unless_both_run}
 use Rattle.hn_lab.specs.Line.{Compares}
 use Rattle.hn_lab.proofs.TextReports.{compares, line_reported, report_refused, report_starved}
 use Rattle.hn_lab.specs.Stage.{stage_of}

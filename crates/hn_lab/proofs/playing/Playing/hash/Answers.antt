@@ -2,7 +2,7 @@ use Rattle.std.proofs.Common.{◌≡◌, ◌∙◌, refl, ap, append_assoc}
 use Rattle.hn_io.specs.declared.fault.IoFault.TheVariants.{NoMemory}
 use Rattle.hn_lab.specs.declared.end.Stop.TheVariants.{Cut}
 use Rattle.std.specs.Prelude.{string_bytes}
-use Rattle.hn_world.specs.Refusal.{unless_runs}
+use Rattle.hn_world.specs.Asked.{unless_runs}
 use Rattle.hn_lab.specs.Line.{IsOf}
 use Rattle.hn_lab.specs.Reports.{hash_line}
 use Rattle.hn_lab.proofs.TextReports.{hashed, line_reported, report_refused, report_starved}

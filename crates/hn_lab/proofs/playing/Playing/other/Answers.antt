@@ -1,7 +1,7 @@
 use Rattle.std.proofs.Common.{◌≡◌, None, sym, subst}
 use Rattle.hn_script.specs.declared.line.Line.{Line}
 use Rattle.hn_script.specs.declared.line.Line.TheVariants as line
-use Rattle.hn_world.specs.Refusal.{unless_known, unless_runs, unless_both_run}
+use Rattle.hn_world.specs.Asked.{unless_known, unless_runs, unless_both_run}
 use Rattle.hn_lab.specs.AddressReports.{addresses_lines, IsAddressedLine}
 use Rattle.hn_lab.specs.AdvertReports.{IsAdvertLine}
 use Rattle.hn_lab.specs.AuditReports.{IsAuditLine}

@@ -2,7 +2,7 @@ use Rattle.std.proofs.Common.{refl}
 use Rattle.hn_io.specs.declared.fault.IoFault.TheVariants.{NoMemory}
 use Rattle.hn_lab.specs.declared.end.Stop.TheVariants.{Cut}
 use Rattle.std.specs.Prelude.{string_bytes}
-use Rattle.hn_world.specs.Refusal.{unless_known}
+use Rattle.hn_world.specs.Asked.{unless_known}
 use Rattle.hn_lab.specs.Line.{IsOf}
 use Rattle.hn_lab.specs.Reports.{show_line}
 use Rattle.hn_lab.proofs.TextReports.{line_reported, report_refused, report_starved}

@@ -1,7 +1,7 @@
 use Rattle.std.proofs.Common.{List, refl, sym, subst}
 use Rattle.hn_io.specs.declared.fault.IoFault.TheVariants.{NoMemory}
 use Rattle.hn_lab.specs.declared.end.Stop.TheVariants.{Cut}
-use Rattle.hn_world.specs.Refusal.{unless_runs}
+use Rattle.hn_world.specs.Asked.{unless_runs}
 use Rattle.hn_deleg.specs.Used.{AreUsable}
 use Rattle.hn_deleg.specs.declared.delegated.Delegated.{Delegated}
 use Rattle.hn_rules.specs.Seen.{seen_by}

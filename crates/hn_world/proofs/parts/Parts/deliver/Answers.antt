@@ -3,8 +3,7 @@ use Rattle.std.specs.Prelude.{option_copied}
 use Rattle.hn_router.specs.Act.{Arrive}
 use Rattle.hn_rules.specs.declared.running.Origin.{Origin}
 use Rattle.hn_world.specs.Planned.{IsPlanned}
-use Rattle.hn_world.specs.declared.copies.MailCopy.{MailCopy}
-use Rattle.hn_world.specs.Refusal.{copy_at, unless_received}
+use Rattle.hn_world.specs.Refusal.{copy_at}
 use Rattle.hn_world.proofs.Acting.{receiver_within, stays_within, delivered_step}
 use Rattle.hn_world.proofs.parts.Parts.deliver.Goals as goal
 
@@ -12,13 +11,13 @@ pub plan-requires-clause-there : goal.plan-requires-clause-there
 plan-requires-clause-there g c =
     let mail = c.in-Some.mail.now in
     let at : copy_at c.args.self.now c.args.copy ≡ Some mail = sym c.copy_at.ensures ∙ ap option_copied c.in-Some.is in
-    receiver_within (λ (m : MailCopy). unless_received c.args.self.now m.to.endpoint) c.args.copy c.args.self.now mail c.requires.accepted at
+    receiver_within c.args.copy c.args.self.now mail c.requires.accepted at
 
 pub finish-requires-clause-there : goal.finish-requires-clause-there
 finish-requires-clause-there g c =
     let mail = c.in-Some.mail.now in
     let at : copy_at c.args.self.now c.args.copy ≡ Some mail = sym c.copy_at.ensures ∙ ap option_copied c.in-Some.is in
-    receiver_within (λ (m : MailCopy). unless_received c.args.self.now m.to.endpoint) c.args.copy c.args.self.now mail c.requires.accepted at
+    receiver_within c.args.copy c.args.self.now mail c.requires.accepted at
 
 pub take-requires : goal.take-requires
 take-requires g c =

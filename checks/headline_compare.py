@@ -3,7 +3,9 @@ import re
 from typing import Dict, Iterator, List, Optional, Tuple
 
 PLACE = re.compile(r'`(\S+\.(?:rt|antt)): ([^`]+)`$')
-ROW = re.compile(r'\| `(\S+\.antt)` \| (.*) \|$')
+ROW = re.compile(r'\| `(\S+/specs)` \| (.*) \|$')
+FILE = re.compile(r'-- ==== (\S+\.antt)$')
+HEAD = re.compile(r'(?:abbrev pub|unfoldable pub|abbrev|pub record|pub data|record|data|pub) (\w+)')
 CLAUSE = re.compile(r'ensures (\w+) ')
 
 
@@ -25,20 +27,34 @@ def _items(lines: List[str]) -> Iterator[Tuple[str, str]]:
             end = lines.index('```', at + 2) if '```' in lines[at + 2:] else len(lines)
             yield from _in_block(place.group(1), place.group(2), lines[at + 2:end])
             at = end
+        elif line == '```text' and FILE.match(lines[at + 1] if at + 1 < len(lines) else ''):
+            end = lines.index('```', at + 1) if '```' in lines[at + 1:] else len(lines)
+            yield from _definitions(lines[at + 1:end])
+            at = end
         elif row:
             for part in row.group(2).split(', '):
-                yield '%s: %s' % (row.group(1), part.split(' ')[0]), part
+                yield '%s/%s.antt' % (row.group(1), part.split(' ')[0]), part
         else:
             yield section, line
         at += 1
 
 
+def _definitions(lines: List[str]) -> Iterator[Tuple[str, str]]:
+    """The definitions of the block, each by its file and its name."""
+    file = ''
+    for text in '\n'.join(lines).split('\n\n'):
+        begins = FILE.match(text)
+        heads = [HEAD.match(line) for line in text.split('\n') if not line.startswith('--')]
+        if begins:
+            file = begins.group(1)
+        elif heads and heads[0]:
+            yield '%s: %s' % (file, heads[0].group(1)), text
+        else:
+            yield '%s: what is no definition' % file, text
+
+
 def _in_block(file: str, names: str, lines: List[str]) -> Iterator[Tuple[str, str]]:
-    """The definitions of a block, or the clauses and comments of a contract."""
-    if file.endswith('.antt'):
-        for name, text in zip(names.split(', '), '\n'.join(lines).split('\n\n')):
-            yield '%s: %s' % (file, name), text
-        return
+    """The clauses and comments of a contract."""
     clause: Optional[str] = None
     for line in lines:
         match = CLAUSE.match(line)

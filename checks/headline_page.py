@@ -1,5 +1,6 @@
 """Makes the page with the headline: its clauses, the signs, the definitions, and the counts."""
 import hashlib
+import os
 from itertools import groupby
 from typing import Dict, Iterable, Iterator, List, Set, Tuple
 
@@ -89,10 +90,6 @@ class Headline:
             ('all clauses of `run`', self.count(steps(self._seeds(self.contract.clauses)))),
         ]
 
-    def types(self) -> List[Node]:
-        """The types that the shown definitions name."""
-        return sorted(node for node in self._named() if node.is_type)
-
     def begins(self) -> List[Node]:
         """The definitions that the shown text names, and that are neither shown nor listed."""
         known = set(self.shown) | set(self.listed)
@@ -151,8 +148,8 @@ def key(found: Headline) -> List[str]:
     return ['| %s | %s |' % (row.shown, row.says) for row in text.KEY if set(row.signs.split()) & set(used)]
 
 
-def mark(lines: List[str]) -> str:
-    """A mark that changes with the text of a definition, its comments aside."""
+def mark(lines: Iterable[str]) -> str:
+    """A mark that changes with the text of definitions, their comments aside."""
     return hashlib.sha256('\n'.join(lines).encode('utf-8')).hexdigest()[:MARK]
 
 
@@ -169,35 +166,49 @@ def _clauses(found: Headline) -> List[str]:
 
 
 def _definitions(found: Headline) -> List[str]:
-    """A block for each definition, or for several of one file that follow each other."""
-    lines: List[str] = []
-    for _, nodes in groupby(found.shown, lambda node: node.file):
-        group = list(nodes)
-        lines += ['`%s`' % _place(group), '```text']
-        for node in group:
+    """A block of the definitions. Before those of one file that follow each other their file is named."""
+    lines: List[str] = ['```text']
+    for file, nodes in groupby(found.shown, lambda node: node.file):
+        lines += ['-- ==== %s' % file, '']
+        for node in nodes:
             lines += found.sources.entity(node).shown + ['']
-        lines[-1:] = ['```', '']
-    return lines
+    return lines[:-1] + ['```', '']
 
 
 def _place(nodes: List[Node]) -> str:
-    """The place of several definitions or types of one file."""
+    """The place of several definitions of one file."""
     return '%s: %s' % (nodes[0].file, ', '.join(node.name for node in nodes))
 
 
 def _places(nodes: List[Node]) -> str:
-    """The places of definitions or types, by their files."""
+    """The places of definitions, by their files."""
     return '; '.join('`%s`' % _place(list(group)) for _, group in groupby(nodes, lambda node: node.file)) + '.'
 
 
 def _others(found: Headline) -> List[str]:
-    """A row for each file: each definition with its length and its mark."""
+    """A row for each crate: of each file how many definitions, their lines and their mark."""
     rows: Dict[str, List[str]] = {}
+    for file, nodes in groupby(sorted(found.listed), lambda node: node.file):
+        codes = [found.sources.entity(node).code for node in nodes]
+        lines = [line for code in codes for line in code]
+        folder, name = os.path.split(file)
+        rows.setdefault(folder, []).append('%s %d %d %s' % (name[:-len('.antt')], len(codes), len(lines), mark(lines)))
+    table = ['| `%s` | %s |' % (folder, ', '.join(files)) for folder, files in rows.items()]
+    return ['| Folder | Files |', '|---|---|'] + table + ['']
+
+
+def told(sources: Sources) -> str:
+    """What the README says of both halves of one world."""
+    found = Headline(sources)
+    return '{:,} definitions with {:,} lines in {:,} files'.format(*found.count(found.of_one_world)[:3])
+
+
+def others(sources: Sources) -> Iterator[str]:
+    """A line for each definition that is listed: its place, its number of lines and its mark."""
+    found = Headline(sources)
     for node in sorted(found.listed):
         code = found.sources.entity(node).code
-        rows.setdefault(node.file, []).append('%s %d %s' % (node.name, len(code), mark(code)))
-    table = ['| `%s` | %s |' % (file, ', '.join(names)) for file, names in rows.items()]
-    return ['| File | Definitions |', '|---|---|'] + table + ['']
+        yield '%s %d %s' % (node.place, len(code), mark(code))
 
 
 def _counts(found: Headline) -> List[str]:
@@ -213,7 +224,7 @@ def page(sources: Sources) -> str:
     lines = [text.BEGINNING, '## The clauses', '', text.CLAUSES, ''] + _clauses(found)
     lines += ['## The signs', '', text.SIGNS, '', '| Sign | Says |', '|---|---|'] + key(found) + ['']
     lines += ['## The definitions', '', text.DEFINITIONS, ''] + _definitions(found)
-    lines += [text.TYPES + ' ' + _places(found.types()), '', text.BEGINS + ' ' + _places(found.begins()), '']
+    lines += [text.BEGINS + ' ' + _places(found.begins()), '']
     lines += ['## The others', '', text.OTHERS, ''] + _others(found)
     lines += ['## The counts', '', text.COUNTS, ''] + _counts(found)
     return '\n'.join(lines).rstrip('\n') + '\n'

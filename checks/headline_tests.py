@@ -8,7 +8,7 @@ import unittest
 from typing import Dict, List, Set
 
 from headline_compare import difference, items
-from headline_page import HALVES, Headline, NoSuchSign, page
+from headline_page import HALVES, Headline, NoSuchSign, others, page
 from sources.closure import Node, NotFound, Sources
 
 ROOT = os.path.dirname(os.path.dirname(os.path.abspath(__file__)))
@@ -210,6 +210,7 @@ class OfThisRepository(unittest.TestCase):
         cls.root = os.path.join(cls.folder.name, 'copy')
         shutil.copytree(os.path.join(ROOT, 'checks'), os.path.join(cls.root, 'checks'))
         os.mkdir(os.path.join(cls.root, 'docs'))
+        shutil.copy(os.path.join(ROOT, 'README.md'), cls.root)
         for crate in os.listdir(os.path.join(ROOT, 'crates')):
             for part in ('specs', 'src'):
                 source = os.path.join(ROOT, 'crates', crate, part)
@@ -266,11 +267,14 @@ class OfThisRepository(unittest.TestCase):
         self.change_definition(node, ' ≡ ', ' ≢ ')
         self.assertEqual(self.differs(), '%s changed' % node.place)
 
-    def test_a_change_of_a_listed_definition_is_named(self) -> None:
-        """One sign of a definition that is listed, which has as many lines as before."""
+    def test_a_change_of_a_listed_definition_is_seen(self) -> None:
+        """One sign of a definition of a file that is listed, which has as many lines as before: the file is named."""
         node = self.first_with(self.headline.listed, ' ≡ ')
+        before = list(others(self.sources))
         self.change_definition(node, ' ≡ ', ' ≢ ')
-        self.assertEqual(self.differs(), '%s changed' % node.place)
+        self.assertEqual(self.differs(), '%s changed' % node.file)
+        after = list(others(Sources(self.root)))
+        self.assertEqual([now.split(' ')[:2] for was, now in zip(before, after) if was != now], [node.place.split(' ')])
 
     def test_a_changed_comment_of_a_shown_definition_is_named(self) -> None:
         """The comment above a definition is a part of the page."""
@@ -320,12 +324,15 @@ class OfThisRepository(unittest.TestCase):
         return {node.name for node in self.sources.cited_by_clauses(self.headline.file, 'run', clauses)}
 
     def test_what_goes_and_appears_is_named(self) -> None:
-        """A page that lacks a row's first definition, and one that has it alone."""
-        node = sorted(self.headline.listed)[0]
-        first = items(self.page)[node.place].strip()
-        without = self.page.replace('| %s, ' % first, '| ', 1)
-        self.assertEqual(difference(without, self.page), '%s appeared' % node.place)
-        self.assertEqual(difference(self.page, without), '%s went' % node.place)
+        """A page that lacks a file, or a definition, and one that has it."""
+        file = sorted(self.headline.listed)[0].file
+        shown = self.headline.shown[1]
+        text = '\n'.join(self.sources.entity(shown).shown) + '\n\n'
+        for name, lacking in ((file, items(self.page)[file].strip() + ', '), (shown.place, text)):
+            without = self.page.replace(lacking, '', 1)
+            self.assertNotEqual(without, self.page)
+            self.assertEqual(difference(without, self.page), '%s appeared' % name)
+            self.assertEqual(difference(self.page, without), '%s went' % name)
 
     def test_a_sign_that_the_key_lacks_is_refused(self) -> None:
         """The fault names the definition and the sign."""
@@ -333,6 +340,16 @@ class OfThisRepository(unittest.TestCase):
         self.change_definition(node, ' ≡ ', ' ≅ ')
         with self.assertRaisesRegex(NoSuchSign, '%s uses `≅`' % node.place):
             page(Sources(self.root))
+
+    def assert_numbers_of_the_readme(self) -> None:
+        """A README with another number is refused."""
+        path = os.path.join(self.root, 'README.md')
+        with open(path, encoding='utf-8') as file:
+            text = file.read()
+        for changed, status in ((text.replace(' definitions with ', '1 definitions with '), 1), (text, 0)):
+            with open(path, 'w', encoding='utf-8') as file:
+                file.write(changed)
+            self.assertEqual(self.run_program().returncode, status)
 
     def run_program(self, *words: str) -> 'subprocess.CompletedProcess[str]':
         """Runs the program of the copy."""
@@ -345,10 +362,11 @@ class OfThisRepository(unittest.TestCase):
         self.assertEqual(self.run_program().returncode, 1)
         self.assertEqual(self.run_program('--write').returncode, 0)
         self.assertEqual(self.run_program().returncode, 0)
+        self.assert_numbers_of_the_readme()
         node = self.first_with(self.headline.listed, ' ≡ ')
         self.change_definition(node, ' ≡ ', ' ≢ ')
         ran = self.run_program()
-        self.assertEqual((ran.returncode, ran.stdout), (1, 'docs/HEADLINE.md: %s changed\n' % node.place))
+        self.assertEqual((ran.returncode, ran.stdout), (1, 'docs/HEADLINE.md: %s changed\n' % node.file))
         self.assertEqual(self.run_program('--read').returncode, 2)
 
 

@@ -17,3 +17,5 @@ mod Edits
 mod Facts
 mod Refused
 mod Restful
+mod SomeElections
+mod SomeAdverts

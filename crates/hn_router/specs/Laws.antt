@@ -1,22 +1,27 @@
 -- Laws of the router.
-use Rattle.std.specs.Prelude.{◌≡◌, ℕ, ◌^◌, ◌<◌, ◌≤◌, ◌⊎◌, ◌==◌, nat_lt, not, if◌then◌else◌, IsTrue, List, ◌∷◌, ◌++◌, filter, All}
+use Rattle.std.specs.Prelude.{◌≡◌, ℕ, ◌^◌, ◌<◌, ◌≤◌, ◌⊎◌, ◌==◌, nat_lt, not, if◌then◌else◌, IsTrue, List, ◌∷◌, ◌++◌, filter, length, All}
 use Rattle.hn_base.specs.declared.ids.EpId.{EpId}
 use Rattle.hn_base.specs.declared.ids.NodeId.{NodeId}
 use Rattle.hn_base.specs.Addr.{IsLinkLocal}
+use Rattle.hn_base.specs.Exists.{Some! }
 use Rattle.hn_base.specs.Words.{Begins}
+use Rattle.hn_base.specs.declared.letter.Letter.{Letter}
+use Rattle.hn_advert.specs.Advert.{IsInRange}
+use Rattle.hn_advert.specs.declared.advert.Advert.{Advert}
 use Rattle.hn_tlv.specs.Grammar.{FirstFault}
 use Rattle.hn_rules.specs.declared.state.State.{State}
 use Rattle.hn_rules.specs.declared.done.Done.{Done}
 use Rattle.hn_rules.specs.declared.done.Publication.{Publication}
 use Rattle.hn_rules.specs.declared.running.Origin.{Origin}
 use Rattle.hn_rules.specs.declared.running.Running.{Running}
-use Rattle.hn_router.specs.Advertising.{IsAdvertBytes}
+use Rattle.hn_router.specs.Advertising.{IsAdvertAt, IsAdvertBytes}
 use Rattle.hn_router.specs.New.{IsNew}
 use Rattle.hn_own.specs.Ports.{endpoints_of}
 use Rattle.hn_router.specs.Act.{PlainEvent, Arrive, Tick, Attach, Detach, is_refused, IsEventInRange, IsOfBytes, IsEvent, Happened, HasResults}
 use Rattle.hn_rules.specs.Genuine.{IsGenuine, TextsCollide, BytesSayPublished}
 use Rattle.hn_router.specs.Sends.{IsShortSend, IsSendOfBytes}
 use Rattle.hn_rules.specs.Router.{IsRouter}
+use Rattle.hn_rules.specs.Seen.{IsElectedAt}
 use Rattle.hn_rules.specs.Assigning.{IsRunAssigned}
 use Rattle.hn_rules.specs.Rested.{IsRested}
 use Rattle.hn_rules.specs.Still.{at_moment, IsUneventful}
@@ -80,6 +85,14 @@ EndpointsFollow =
 -- A router has at most one advertisement on an endpoint at its moment.
 abbrev pub RouterHasOneAdvert : Type 0
 RouterHasOneAdvert = (s : State) (e : EpId) (a b : List ℕ) → IsAdvertBytes s e a → IsAdvertBytes s e b → a ≡ b
+
+-- It cannot be that there is no answer of who is elected, nor that nothing is advertised. The numbers of what is advertised
+-- fit their fields.
+abbrev pub ElectedExists : Type 0
+ElectedExists = (s : State) (e : EpId) (letter : Letter) → IsRouter s → Some! (IsElectedAt s e letter)
+
+abbrev pub AdvertExists : Type 0
+AdvertExists = (s : State) (e : EpId) → IsRouter s → Some! (λ (a : Advert). IsAdvertAt s e a × IsInRange a)
 
 -- ---- limits
 

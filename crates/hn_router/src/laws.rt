@@ -1,18 +1,19 @@
 //! Laws of the router. Each is the contract of a function that does nothing: call it to know its law.
 
 ghost use Rattle.hn_router.specs.Laws.{OneResult, EventHasAResult, NewExists, NewIsUnique, NewIsRouter, RouterStays, MomentStays};
-ghost use Rattle.hn_router.specs.Laws.{MomentIsNow, EndpointsFollow, RouterHasOneAdvert, SendsAreShort, SendsAreBytes, LimitStays, RefusedInputStays};
+ghost use Rattle.hn_router.specs.Laws.{MomentIsNow, EndpointsFollow, RouterHasOneAdvert, ElectedExists, AdvertExists, SendsAreShort, SendsAreBytes, LimitStays, RefusedInputStays};
 ghost use Rattle.hn_router.specs.Laws.{RestfulTickStays, GenuineStays};
 
-use hn_deleg::usable_is_unique;
+use hn_data::items_are_unique;
+use hn_deleg::{inside_keeps_the_order, lifetimes_fit, usable_exists, usable_is_unique};
 use hn_graph::{own_is_reachable, reachable_is_a_node};
-use hn_link::{common_link_is_unique, elected_is_unique};
+use hn_link::{common_link_exists, common_link_is_unique, elected_is_unique};
 use hn_own::{none_are_well, own_data_exists, own_data_is_unique};
 use hn_rules::{
     changes_keep_bytes, changes_keep_genuine, changes_keep_hashed, changes_keep_short,
     changes_keep_the_limit, next_due_is_one, refresh_makes_a_router, restful_tick,
     router_stays_later, rules_have_a_result, rules_have_one_result, rules_keep_a_router,
-    rules_keep_the_endpoints, rules_keep_the_rest, rules_make_changes,
+    rules_keep_the_endpoints, rules_keep_the_rest, rules_make_changes, view_is_a_network,
 };
 use hn_store::loss_keeps_table;
 use hn_tlv::{first_fault_is_unique, list_is_unique, list_or_first_fault};
@@ -101,6 +102,27 @@ pub fn router_has_one_advert()
     usable_is_unique();
     common_link_is_unique();
     elected_is_unique();
+}
+
+/// It cannot be that there is no answer of who is elected on an endpoint's Common Link; with `elected_is_unique` there is
+/// exactly one.
+pub fn elected_exists()
+    ensures { ElectedExists }
+{
+    items_are_unique();
+    common_link_exists();
+    view_is_a_network();
+}
+
+/// It cannot be that a router advertises nothing on an endpoint at its moment; with `router_has_one_advert` there is exactly
+/// one advertisement. Its numbers fit their fields.
+pub fn advert_exists()
+    ensures { AdvertExists }
+{
+    usable_exists();
+    lifetimes_fit();
+    inside_keeps_the_order();
+    elected_exists();
 }
 
 /// What a router sends fits a datagram.

@@ -33,7 +33,7 @@ use Rattle.hn_world.specs.declared.member.Member.{Member}
 use Rattle.hn_world.specs.declared.parts.Parts.{Parts}
 use Rattle.hn_world.specs.Laws.{WorldIsSound, WorldHasItsTrace, WorldHasItsVersion}
 use Rattle.hn_world.specs.Mail.{address_of, on_link_at, on_link, gets, copy_for, copies_on, copies_of_send, copies_of}
-use Rattle.hn_world.specs.Names.{is_named, member_named, is_on, link_of}
+use Rattle.hn_world.specs.Names.{is_named, is_on, link_of}
 use Rattle.hn_world.specs.Refusal.{so_of, copy_at, acting, names_nothing, is_stopped, lacks_the_endpoint, lacks_a_copy, lacks_room, is_full_of_mail, first_code, refusal}
 use Rattle.hn_world.specs.Replay.{empty_world, Goes, Replays, IsReplayed, IsSoundMember}
 use Rattle.hn_world.specs.Step.{ActsAt, Acts, Delivers, Does, Step, acted, entered, taken}

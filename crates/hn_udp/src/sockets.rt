@@ -1,13 +1,25 @@
 ghost use Rattle.std.specs.Prelude.{◌≡◌, Err};
+ghost use Rattle.std.specs.Net.Socket.{socket_port};
+ghost use Rattle.hn_udp.specs.Loopback.{IsLoopback};
 
 use hn_io::IoFault;
 use std::io;
 use std::io::ErrorKind;
-use std::net::{Ipv4Addr, SocketAddr, SocketAddrV4, UdpSocket};
+use std::net::{Ipv4Addr, Net, SocketAddr, SocketAddrV4, UdpSocket};
 
-/// A port of this machine.
-pub(crate) fn address(port: u16) -> SocketAddr {
+/// A port of this machine: its address at 127.0.0.1.
+pub(crate) fn address(port: u16) -> SocketAddr
+    ensures loopback { IsLoopback result }
+    ensures port { socket_port result ≡ port }
+{
     SocketAddr::V4(SocketAddrV4::new(Ipv4Addr::LOCALHOST, port))
+}
+
+/// Asks the system for a socket that is bound to an address, which is one of 127.0.0.1.
+pub(crate) fn bind<R: Net>(net: &R, at: SocketAddr) -> io::Result<UdpSocket>
+    requires loopback { IsLoopback at }
+{
+    UdpSocket::bind(net, at)
 }
 
 /// Whether the system had nothing to give.
@@ -16,8 +28,10 @@ fn is_empty(error: &io::Error) -> bool {
     kind == ErrorKind::WouldBlock || kind == ErrorKind::TimedOut
 }
 
-/// Sends a datagram. A call that is interrupted by a signal is tried again, as std does.
-pub(crate) fn send(socket: &UdpSocket, bytes: &[u8], to: SocketAddr) -> Result<(), IoFault> {
+/// Sends a datagram to an address of this machine. A call that is interrupted by a signal is tried again, as std does.
+pub(crate) fn send(socket: &UdpSocket, bytes: &[u8], to: SocketAddr) -> Result<(), IoFault>
+    requires loopback { IsLoopback to }
+{
     for _ in 0..u64::MAX {
         match socket.send_to(bytes, to) {
             Ok(_) => return Ok(()),

@@ -65,7 +65,7 @@ impl<R: Net> UdpWire<R> {
 
     /// A socket that is bound to a port.
     fn open(&self, port: u16) -> io::Result<UdpSocket> {
-        let socket = UdpSocket::bind(&self.rt, sockets::address(port))?;
+        let socket = sockets::bind(&self.rt, sockets::address(port))?;
         if self.waits(port) {
             socket.set_read_timeout(Some(Duration::from_millis(WAIT)))?;
         } else {

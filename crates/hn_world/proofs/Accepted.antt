@@ -1,5 +1,5 @@
 -- What an accepted event says.
-use Rattle.std.proofs.Common.{◌≡◌, ◌∙◌, ◌<◌, ℕ, Bool, true, false, List, [], ◌∷◌, Option, None, Some, length, nat_le, slice_get, refl, sym, ap, subst}
+use Rattle.std.proofs.Common.{◌≡◌, ◌∙◌, ◌<◌, ℕ, Bool, true, false, [], ◌∷◌, Option, None, Some, length, nat_le, slice_get, refl, sym, ap, subst}
 use Rattle.std.specs.Prelude.{is_none, is_some, ◌&&◌, ◌||◌}
 use Rattle.std.specs.Option.{option_and_then}
 use Rattle.std.proofs.lemmas.Bool.{leb-false, or_parts}
@@ -11,7 +11,8 @@ use Rattle.hn_world.specs.declared.event.WEvent.TheVariants as event
 use Rattle.hn_world.specs.declared.member.Member.{Member}
 use Rattle.hn_world.specs.declared.parts.Parts.{Parts}
 use Rattle.hn_world.specs.Names.{member_named}
-use Rattle.hn_world.specs.Refusal.{copy_at, acting, names_nothing, takes_a_name, is_stopped, lacks_the_endpoint, may_not_address, joins_twice, lacks_a_copy, goes_back, lacks_room, may_answer, is_full_of_mail, first_code, refusal}
+use Rattle.hn_world.specs.Refusal.{names_nothing, takes_a_name, is_stopped, lacks_the_endpoint, may_not_address, joins_twice, lacks_a_copy, goes_back, lacks_room, may_answer, is_full_of_mail}
+use Rattle.hn_world.specs.Refusal.{copy_at, acting, first_code, refusal}
 use Rattle.hn_world.specs.Routed.{named_by}
 
 -- where no code comes, no condition holds

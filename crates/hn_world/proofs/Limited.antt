@@ -9,7 +9,6 @@ use Rattle.hn_store.specs.declared.stored.HeldNode.{HeldNode}
 use Rattle.hn_rules.specs.declared.done.Note.{Note}
 use Rattle.hn_rules.specs.declared.state.State.{State}
 use Rattle.hn_rules.specs.Lengths.{most_datagram}
-use Rattle.hn_rules.specs.Router.{IsRouter}
 use Rattle.hn_router.specs.Act.{PlainEvent, Arrive, IsEventInRange}
 use Rattle.hn_router.specs.Laws.{SendsAreShort, LimitStays}
 use Rattle.hn_base.specs.declared.name.Name.{Name}

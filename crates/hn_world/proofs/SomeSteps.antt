@@ -17,7 +17,6 @@ use Rattle.hn_rules.specs.declared.done.Note.{Note}
 use Rattle.hn_rules.specs.declared.state.State.{State}
 use Rattle.hn_router.specs.Act.{PlainEvent, Arrive, IsEventInRange, IsOfBytes, Happened, HasResults}
 use Rattle.hn_router.specs.Laws.{EventHasAResult, NewExists}
-use Rattle.hn_world.specs.declared.copies.MailCopy.{MailCopy}
 use Rattle.hn_world.specs.declared.event.WEvent.{WEvent}
 use Rattle.hn_world.specs.declared.event.WEvent.TheVariants as event
 use Rattle.hn_world.specs.declared.event.Traced.{Traced}
@@ -25,7 +24,7 @@ use Rattle.hn_world.specs.declared.member.Member.{Member}
 use Rattle.hn_world.specs.declared.parts.Parts.{Parts}
 use Rattle.hn_world.specs.Existing.{HasAStep, IsGiven, IsOfBytesAt, Outcome, StepExists}
 use Rattle.hn_world.specs.Limits.{table_limit}
-use Rattle.hn_world.specs.Names.{is_named, member_named, router_place}
+use Rattle.hn_world.specs.Names.{is_named, router_place}
 use Rattle.hn_world.specs.Refusal.{copy_at, refusal}
 use Rattle.hn_world.specs.Replay.{IsSound, IsSoundMember}
 use Rattle.hn_world.specs.Routed.{named_by, routed}

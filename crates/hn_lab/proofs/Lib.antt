@@ -32,3 +32,10 @@ mod AddressTexts
 mod UlaCounts
 mod UlaSets
 mod UlaTexts
+mod SomeEnds
+mod SomeEvents
+mod SomeTurns
+mod SomeReports
+mod SomeChoices
+mod SomeLines
+mod Transcripts

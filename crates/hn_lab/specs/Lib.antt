@@ -22,3 +22,5 @@ pub mod Play
 pub mod Output
 pub mod Laws
 pub mod Lab
+pub mod Existing
+pub mod Transcripts

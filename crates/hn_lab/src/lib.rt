@@ -8,6 +8,7 @@ mod carrying;
 mod choosing;
 mod delivery;
 mod end;
+mod existing;
 mod flow;
 mod input;
 mod law;
@@ -30,6 +31,10 @@ mod text;
 mod ula_report;
 
 pub use end::End;
+pub use existing::{
+    lab_is_of_transcript, play_exists, script_has_a_play, transcript_exists,
+    written_is_of_transcript,
+};
 pub use input::read_all;
 pub use law::{
     at_most_one_cut_play, at_most_one_play, broken_text_is_a_front, cut_text_is_a_front,

@@ -14,9 +14,11 @@ ghost use Rattle.hn_lab.specs.declared.end.End.TheVariants as ends;
 ghost use Rattle.hn_lab.specs.Lab.{play_status, Plays, IsLineWritten, IsLabOf, IsLabRun, StatusOfScript, HasDonePlay, HasRefusal};
 ghost use Rattle.hn_lab.specs.Reports.{refused_line};
 ghost use Rattle.hn_lab.specs.Stage.{route_of};
+ghost use Rattle.hn_lab.specs.Transcripts.{IsLabTranscript};
 
 use crate::carrying::Base;
 use crate::end::End;
+use crate::existing::lab_is_of_transcript;
 use crate::input::read_all;
 use crate::law::at_most_one_play;
 use crate::output::write_refusal;
@@ -199,7 +201,8 @@ fn play_bytes<K: Sink, W: Wire>(
     }
 }
 
-/// Reads a script, plays it, and writes its transcript. With a base, at most 65,534, copies that are delivered go over the
+/// Reads a script, plays it, and writes its transcript. By mail a script has exactly one transcript, as `IsOfTranscript` says: a
+/// front of it is written, and with status `DONE` or `REFUSED` the whole. With a base, at most 65,534, copies that are delivered go over the
 /// wire from this port to the port after it.
 pub fn lab<S: Source, K: Sink, W: Wire>(
     alloc: Global,
@@ -210,6 +213,8 @@ pub fn lab<S: Source, K: Sink, W: Wire>(
 ) -> Played
     requires base { IfSome base (λ port. port ≤ 65534) }
     ensures lab { result.status ≢ SOURCE_FAILED → IsLabRun (route_of base (W.waiting wire.old)) (route_of base (W.waiting wire.new)) (S.left src.old)
+        result.status result.world (K.held out.old) (K.held out.new) }
+    ensures transcript { base ≡ None → result.status ≢ SOURCE_FAILED → IsLabTranscript (route_of base (W.waiting wire.new)) (S.left src.old)
         result.status result.world (K.held out.old) (K.held out.new) }
     ensures no_world { (result.status ≡ SOURCE_FAILED) ⊎ (result.status ≡ NO_MEMORY) → result.world ≡ None }
     ensures done_world { result.status ≡ DONE → IsSome result.world }
@@ -230,6 +235,7 @@ pub fn lab<S: Source, K: Sink, W: Wire>(
     ensures unwired { base ≡ None → (wire.new ≡ wire.old) × (result.status ≢ WIRE_FAILED) }
     ensures bounded { (read : List ℕ) × (length read ≤ 2 ^ 24 + 1) × Consumes (S.left src.old) (S.left src.new) read }
 {
+    lab_is_of_transcript();
     match read_all(alloc, src) {
         Ok(bytes) => play_bytes(alloc, &bytes, out, wire, base),
         Err(IoFault::Failed) => Played::without_world(SOURCE_FAILED),

@@ -1,7 +1,7 @@
-use Rattle.std.proofs.Common.{ℕ, List, refl, subst, lit<}
+use Rattle.std.proofs.Common.{ℕ, List, Option, refl, subst, lit<, arith}
 use Rattle.std.specs.Io.KnownBytes.{Appends}
-use Rattle.hn_lab.specs.Lab.{IsLabOf, StatusOfScript}
-use Rattle.hn_lab.specs.Stage.{route_of}
+use Rattle.hn_lab.specs.Lab.{IsLabOf, IsLabRun, StatusOfScript}
+use Rattle.hn_lab.specs.Stage.{Mail, route_of}
 use Rattle.hn_lab.proofs.PlayScripts.{lab_run, starved_run, appends_nothing, among_all}
 use Rattle.hn_lab.proofs.scripts.lab.Goals as goal
 
@@ -18,6 +18,17 @@ returns-in-Ok-clause-lab g c _ =
     lab_run first last result.status result.world before after (g.S.Source.left c.args.src.now)
     (g.S.Source.left c.read_all.new.src) c.in-Ok.bytes.items c.in-Ok.ensures.all c.in-Ok.ensures.whole lab only
 
+pub returns-in-Ok-clause-transcript : goal.returns-in-Ok-clause-transcript
+returns-in-Ok-clause-transcript g c none some =
+    let last = route_of c.args.base (g.W.Wire.waiting c.play_bytes.new.wire) in
+    let left = g.S.Source.left c.args.src.now in
+    let result = c.play_bytes.result in
+    let before = g.K.Sink.held c.args.out.now in
+    let after = g.K.Sink.held c.play_bytes.new.out in
+    let run : IsLabRun Mail last left result.status result.world before after =
+    subst (λ (base : Option ℕ). IsLabRun (route_of base (g.W.Wire.waiting c.args.wire.now)) last left result.status result.world before after) none (returns-in-Ok-clause-lab g c some) in
+    record { run = run; of_script = c.lab_is_of_transcript.ensures last left result.status result.world before after run (c.play_bytes.ensures.unwired none).1 }
+
 pub returns-in-Ok-clause-statuses : goal.returns-in-Ok-clause-statuses
 returns-in-Ok-clause-statuses g c = among_all c.play_bytes.result.status c.play_bytes.ensures.statuses
 
@@ -29,3 +40,15 @@ returns-in-Err-NoMemory-clause-lab g c _ =
     let w = g.W.Wire.waiting c.args.wire.now in
     starved_run (route_of c.args.base w) (route_of c.args.base w) c.without_world-in-Err-NoMemory.result.status c.without_world-in-Err-NoMemory.result.world _ _ (g.S.Source.left c.args.src.now)
     c.without_world-in-Err-NoMemory.ensures.status c.without_world-in-Err-NoMemory.ensures.no_world (appends_nothing (g.K.Sink.held c.args.out.now))
+
+pub returns-in-Err-NoMemory-clause-transcript : goal.returns-in-Err-NoMemory-clause-transcript
+returns-in-Err-NoMemory-clause-transcript g c none some =
+    let w = g.W.Wire.waiting c.args.wire.now in
+    let last = route_of c.args.base w in
+    let left = g.S.Source.left c.args.src.now in
+    let result = c.without_world-in-Err-NoMemory.result in
+    let held = g.K.Sink.held c.args.out.now in
+    let six = c.without_world-in-Err-NoMemory.ensures.status in
+    let run : IsLabRun Mail last left result.status result.world held held =
+    subst (λ (base : Option ℕ). IsLabRun (route_of base w) last left result.status result.world held held) none (returns-in-Err-NoMemory-clause-lab g c some) in
+    record { run = run; of_script = c.lab_is_of_transcript.ensures last left result.status result.world held held run (λ five. omega (arith, six, five)) }

@@ -41,7 +41,7 @@ returns-in_err-may_happen-clause-ends c waiting text =
     let q : Playing = record { world = c.args.self.now.world; loss = c.args.self.now.loss; words = c.decide.new.draw; base = c.args.self.now.base; senders = c.args.self.now.senders } in
     let s = stage_of q waiting text in
     let a = stage_of c.may_happen.new.self waiting text in
-    let is = c.in_ok-decided.ensures in
+    let is = c.in_ok-decided.ensures.decided in
     let chosen = has_chosen name Decides (decided_event name) (λ made. ula_line name made ∷ []) made is.0 c.in_ok-router.router.now p s c.in_ok-router.ensures.found is.1 is.2 refl in
     let why = c.in_err-may_happen.field-0.0 in
     leaving_on (OtherEnds (line.Ula name)) why c.from_residual-in_err-may_happen.result p a c.from_residual-in_err-may_happen.ensures.1
@@ -75,7 +75,7 @@ returns-clause-ends c waiting text =
     let q : Playing = record { world = c.args.self.now.world; loss = c.args.self.now.loss; words = c.decide.new.draw; base = c.args.self.now.base; senders = c.args.self.now.senders } in
     let s = stage_of q waiting text in
     let a = stage_of c.may_happen.new.self waiting text in
-    let is = c.in_ok-decided.ensures in
+    let is = c.in_ok-decided.ensures.decided in
     let chosen = has_chosen name Decides (decided_event name) (λ made. ula_line name made ∷ []) made is.0 c.in_ok-router.router.now p s c.in_ok-router.ensures.found is.1 is.2 refl in
     choice_left name Decides (decided_event name) (λ made. ula_line name made ∷ []) made c.in_ok-of.field-0 p s a chosen
     (subst (λ (e : Option WEvent). MayHappen e None s a) c.decided_event.ensures.event (c.in_ok-may_happen.ensures.ends waiting text))

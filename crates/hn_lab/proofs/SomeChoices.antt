@@ -1,5 +1,5 @@
 -- Choices are made, and exchanges go on to an end: it cannot be that they do not.
-use Rattle.std.proofs.Common.{◌≡◌, ◌+◌, ◌<◌, ◌≤◌, ◌^◌, ◌∙◌, ℕ, List, [], ◌∷◌, ◌++◌, Contains, length, get_or, Option, None, Some, refl, sym, ap, subst, inl, inr, arith}
+use Rattle.std.proofs.Common.{◌≡◌, ◌+◌, ◌<◌, ◌^◌, ◌∙◌, ℕ, List, length, get_or, Option, None, Some, refl, sym, subst, arith}
 use Rattle.std.specs.Prelude.{All}
 use Rattle.std.proofs.lemmas.Option.{same_Some, slice_get-get_or}
 use Rattle.hn_addr.specs.Addresses.{IsChoice}
@@ -15,7 +15,7 @@ use Rattle.hn_base.proofs.Elements.{all_of}
 use Rattle.hn_base.proofs.SomeExists.{some_then}
 use Rattle.hn_rules.specs.Router.{IsRouter}
 use Rattle.hn_rules.specs.declared.state.State.{State}
-use Rattle.hn_sync.specs.Exchange.{EndOfExchange, ExchangeEnds, HasAnEnd, unless_exchange}
+use Rattle.hn_sync.specs.Exchange.{ExchangeEnds, HasAnEnd, unless_exchange}
 use Rattle.hn_sync.specs.Laws.{ExchangeExists, ExchangeRepairs}
 use Rattle.hn_ula.specs.Laws.{AnnouncedIsPrefix, DecisionExists, HasADecision}
 use Rattle.hn_ula.specs.Ula.{Decides}
@@ -23,7 +23,7 @@ use Rattle.hn_ula.specs.declared.decision.Ula.{Ula}
 use Rattle.hn_ula.specs.declared.decision.Ula.TheVariants as ula
 use Rattle.hn_world.specs.Existing.{IsOfBytesAt}
 use Rattle.hn_world.specs.Names.{member_named}
-use Rattle.hn_world.specs.Refusal.{unless_running, unless_runs}
+use Rattle.hn_world.specs.Asked.{unless_running, unless_runs}
 use Rattle.hn_world.specs.Replay.{words_of}
 use Rattle.hn_world.specs.Routed.{routed}
 use Rattle.hn_world.specs.Step.{FitsAt, IsInRange}
@@ -31,8 +31,7 @@ use Rattle.hn_world.specs.declared.event.WEvent.{WEvent}
 use Rattle.hn_world.specs.declared.member.Member.{Member}
 use Rattle.hn_world.specs.declared.parts.Parts.{Parts}
 use Rattle.hn_lab.specs.Choosing.{Chooses, MakesChoice, MayHappen, chosen_event, decided_event}
-use Rattle.hn_lab.specs.Existing.{ComesToAnEnd, Ending, GoesOn, IsFit, IsOn, stop_by}
-use Rattle.hn_lab.specs.Process.{ThenProcess}
+use Rattle.hn_lab.specs.Existing.{ComesToAnEnd, GoesOn, IsFit}
 use Rattle.hn_lab.specs.Stage.{Stage}
 use Rattle.hn_lab.specs.Syncing.{Exchanges, SyncEnds}
 use Rattle.hn_lab.specs.Tells.{TellsLines}

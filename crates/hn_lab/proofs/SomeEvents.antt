@@ -4,9 +4,8 @@ use Rattle.std.proofs.Common.{Option, None, Some, refl, sym, ap, subst, inl, inr
 use Rattle.std.specs.Prelude.{◌==◌, ◌||◌}
 use Rattle.std.proofs.lemmas.Option.{same_Some}
 use Rattle.hn_base.specs.Exists.{Some! }
-use Rattle.hn_base.specs.Words.{Begins, IsAt, Took}
+use Rattle.hn_base.specs.Words.{Begins, Took}
 use Rattle.hn_base.specs.declared.version.Version.{Version}
-use Rattle.hn_base.proofs.DecidingTests.{some_there}
 use Rattle.hn_base.proofs.FirstWords.{begins_both}
 use Rattle.hn_base.proofs.SomeExists.{some_then}
 use Rattle.hn_rules.specs.declared.done.Note.{Note}
@@ -18,19 +17,20 @@ use Rattle.hn_world.specs.declared.parts.Parts.{Parts}
 use Rattle.hn_world.specs.Existing.{HasAStep, IsOfBytesAt, Outcome, ReplayedStepExists}
 use Rattle.hn_world.specs.Laws.{EachEventIsEntered, WorldHasItsTrace, WorldHasItsVersion}
 use Rattle.hn_world.specs.Receivers.{is_away}
-use Rattle.hn_world.specs.Refusal.{copy_at, of_router, refusal, unless_received}
+use Rattle.hn_world.specs.Refusal.{refusal}
 use Rattle.hn_world.specs.Replay.{empty_world, Goes, Replays, IsReplayed}
 use Rattle.hn_world.specs.Routed.{routed}
 use Rattle.hn_world.specs.Step.{FitsAt, IsInRange, Step}
 use Rattle.hn_world.specs.Waiting.{first_waiting}
 use Rattle.hn_lab.specs.declared.carrying.Carried.TheVariants.{Same}
 use Rattle.hn_lab.specs.Carrying.{Carries}
-use Rattle.hn_lab.specs.Delivery.{EventNotes, EventEnds, DeliveryEnds, Delivers}
+use Rattle.hn_lab.specs.Delivery.{EventNotes, EventEnds, DeliveryEnds}
 use Rattle.hn_lab.specs.Events.{CopyEnds, Flow, HasWaiting, TreatmentEnds, drawn, is_lost}
-use Rattle.hn_lab.specs.Existing.{ComesToAnEnd, Ending, GoesOn, IsFit, IsOn, stop_by}
+use Rattle.hn_lab.specs.Existing.{ComesToAnEnd, GoesOn, IsFit, IsOn, stop_by}
 use Rattle.hn_lab.specs.Process.{Process}
 use Rattle.hn_lab.specs.Stage.{Stage, Route, Mail}
 use Rattle.hn_lab.proofs.RunCopies.{some_copy}
+use Rattle.hn_lab.proofs.RunDeliveries.{delivered_copy}
 use Rattle.hn_lab.proofs.RunEvents.{one_more}
 use Rattle.hn_lab.proofs.SomeEnds.{ends_until}
 
@@ -164,8 +164,7 @@ module _ (laws : EventLaws) where
   by_mail : (copy : ℕ) (notes : List Note) (p a : Stage) → p.route ≡ Mail → EventNotes (event.Deliver copy) notes None p a → DeliveryEnds copy notes None p a
   by_mail copy notes p a mail happens =
       let accepted = happens.step.step.accepted in
-      let asked = λ (c : MailCopy). of_router (unless_received p.world c.to.endpoint) (slice_get p.world.members c.to.place) in
-      let c = some_there 13 asked (copy_at p.world copy) accepted in
+      let c = delivered_copy p.world copy accepted in
       let carries : Carries c.0.bytes Same p.route p.route = subst (λ (route : Route). Carries c.0.bytes Same route route) (sym mail) (refl, refl) in
       (p, (accepted, refl), inr (record { mail = c.0; is_copy = c.1; carried = Same; route = p.route; carries = carries; comes = happens }))
 

@@ -1,5 +1,5 @@
 -- By mail each line ends, and lines have a play: it cannot be that they have none.
-use Rattle.std.proofs.Common.{◌≡◌, ◌+◌, ◌-◌, ◌*◌, ◌/◌, ◌%◌, ◌<◌, ◌^◌, ℕ, List, [], ◌∷◌, ◌++◌, Option, None, Some, refl, ap, inl, inr, arith}
+use Rattle.std.proofs.Common.{◌≡◌, ◌-◌, ◌*◌, ◌/◌, ◌%◌, ◌<◌, ◌^◌, ℕ, List, [], ◌∷◌, Option, None, Some, refl, ap, inl, arith}
 use Rattle.std.specs.Prelude.{All, bit_or, bit_xor}
 use Rattle.std.specs.Option.{option_or}
 use Rattle.std.proofs.lemmas.Nat.{div_below, or_of_32, pow_pos}
@@ -23,33 +23,31 @@ use Rattle.hn_script.specs.declared.line.Line.{Line}
 use Rattle.hn_script.specs.declared.line.Line.TheVariants as line
 use Rattle.hn_world.specs.Names.{member_named}
 use Rattle.hn_world.specs.Replay.{Replays}
-use Rattle.hn_world.specs.Refusal.{unless_attached, unless_both_run, unless_known, unless_running, unless_runs}
+use Rattle.hn_world.specs.Asked.{unless_attached, unless_both_run, unless_known, unless_running, unless_runs}
 use Rattle.hn_world.specs.declared.event.WEvent.{WEvent}
 use Rattle.hn_world.specs.declared.event.WEvent.TheVariants as event
 use Rattle.hn_world.specs.declared.member.Member.{Member}
 use Rattle.hn_lab.specs.declared.end.End.{End}
 use Rattle.hn_lab.specs.declared.end.End.TheVariants as end
-use Rattle.hn_lab.specs.declared.end.Stop.{Stop}
-use Rattle.hn_lab.specs.declared.end.Stop.TheVariants.{Refused}
 use Rattle.hn_lab.specs.declared.senders.Sending.{Sending}
 use Rattle.hn_lab.specs.AddressReports.{addresses_lines, IsAddressedLine}
 use Rattle.hn_lab.specs.AdvertReports.{IsAdvertLine}
 use Rattle.hn_lab.specs.AuditReports.{IsAuditLine}
 use Rattle.hn_lab.specs.Delivery.{DeliveryEnds, EventEnds, EventNotes}
-use Rattle.hn_lab.specs.Existing.{ComesToAnEnd, Ending, GoesOn, HasAPlay, IsFit, IsOn, PlayExists, PlayEnd, ScriptHasAPlay, stop_by}
+use Rattle.hn_lab.specs.Existing.{ComesToAnEnd, GoesOn, HasAPlay, IsFit, IsOn, PlayExists, ScriptHasAPlay, stop_by}
 use Rattle.hn_lab.specs.Laws.{IsUnbroken}
-use Rattle.hn_lab.specs.Line.{Compares, Delivered, EndsBy, Follows, IsOf, LineEnds, Noted, OtherEnds, Sets, Tells, event_of, injection, mail_report, receiver, seeded, unless_elects}
-use Rattle.hn_lab.specs.Play.{begun, IsPlay, LineSaid, LinesDone, StopsAt}
+use Rattle.hn_lab.specs.Line.{Compares, EndsBy, Follows, IsOf, LineEnds, Noted, OtherEnds, Sets, Tells, event_of, injection, mail_report, receiver, seeded, unless_elects}
+use Rattle.hn_lab.specs.Play.{begun, IsPlay}
 use Rattle.hn_lab.specs.PrefixReports.{AreUsedLines, prefixes_lines, IsElectLine}
-use Rattle.hn_lab.specs.Process.{Process, ThenProcess, Unless}
+use Rattle.hn_lab.specs.Process.{Process, ThenProcess}
 use Rattle.hn_lab.specs.Reports.{hash_line, refused_line, show_line}
 use Rattle.hn_lab.specs.Sending.{Solicits, ending, ending_all, starting}
 use Rattle.hn_lab.specs.Stage.{Stage, Mail, telling}
-use Rattle.hn_lab.specs.Tells.{IsOneLine, Reports, ReportsLines, TellsLines, note_lines}
+use Rattle.hn_lab.specs.Tells.{IsOneLine, Reports, TellsLines, note_lines}
 use Rattle.hn_lab.specs.UlaReports.{IsUlasLine, ula_line}
 use Rattle.hn_lab.proofs.SomeChoices.{ChoiceLaws, EventFits, ends_address, ends_sync, ends_ula}
 use Rattle.hn_lab.proofs.SomeEnds.{ends_after, ends_nothing, ends_report, ends_then, fit_told}
-use Rattle.hn_lab.proofs.SomeEvents.{EndsNoted, EventLaws, ends_delivery, ends_event, ends_event_whatever, ends_flow, weaker}
+use Rattle.hn_lab.proofs.SomeEvents.{EndsNoted, ends_delivery, ends_event, ends_event_whatever, ends_flow, weaker}
 use Rattle.hn_lab.proofs.SomeReports.{ReportLaws, runs_there, some_addressed_line, some_advert_line, some_audit_line, some_compared, some_elect, some_line, some_told, some_ulas_line, some_used}
 use Rattle.hn_lab.proofs.SomeTurns.{TurnLaws, ends_runs, ends_solicits, ends_turns}
 

@@ -1,7 +1,6 @@
 -- What reports tell: it cannot be that there is nothing to tell.
-use Rattle.std.proofs.Common.{◌≡◌, ◌≢◌, ◌⊎◌, ◌+◌, ℕ, Bool, true, false, not, IsTrue, List, [], ◌∷◌, ◌++◌, Contains, filter, Option, None, Some, refl, sym, inl, inr}
+use Rattle.std.proofs.Common.{◌≡◌, ◌+◌, ℕ, Bool, true, false, not, IsTrue, List, [], ◌∷◌, filter, Option, None, Some, refl, inl, inr}
 use Rattle.std.specs.Prelude.{◌↔◌, codes}
-use Rattle.std.specs.Fmt.{decimal}
 use Rattle.std.specs.Option.{option_or}
 use Rattle.hn_addr.specs.Laws.{StillAddressesStay}
 use Rattle.hn_advert.specs.Advert.{advert_bytes}
@@ -21,14 +20,12 @@ use Rattle.hn_base.proofs.SomeExists.{some_by, some_is, some_then}
 use Rattle.hn_deleg.specs.Laws.{UsableExists}
 use Rattle.hn_router.specs.Laws.{AdvertExists, ElectedExists}
 use Rattle.hn_rules.specs.Laws.{EntriesAreAsKnown, OwnAddressesAreSaid, OwnVersionIsSaid, ViewIsNetwork}
-use Rattle.hn_rules.specs.Nodes.{leaves_of}
 use Rattle.hn_rules.specs.Router.{IsRouter}
 use Rattle.hn_rules.specs.Seen.{seen_by}
 use Rattle.hn_world.specs.Existing.{RoutersAgreeSomehow}
 use Rattle.hn_world.specs.Laws.{WorldIsSound}
-use Rattle.hn_world.specs.Leaves.{Agrees}
 use Rattle.hn_world.specs.Names.{is_named, member_named}
-use Rattle.hn_world.specs.Refusal.{code_if, of_router, unless_both_run, unless_known, unless_running, unless_runs}
+use Rattle.hn_world.specs.Asked.{code_if, of_router, unless_both_run, unless_known, unless_running, unless_runs}
 use Rattle.hn_world.specs.Replay.{IsReplayed}
 use Rattle.hn_world.specs.declared.member.Member.{Member}
 use Rattle.hn_world.specs.declared.parts.Parts.{Parts}

@@ -12,9 +12,8 @@ use Rattle.hn_base.specs.Name.{name_text}
 use Rattle.hn_base.specs.declared.ids.EpId.{EpId}
 use Rattle.hn_base.specs.declared.name.Name.{Name}
 use Rattle.hn_base.proofs.Elements.{found_passes}
-use Rattle.hn_base.proofs.SomeExists.{some_by, some_is, some_then}
+use Rattle.hn_base.proofs.SomeExists.{some_by, some_then}
 use Rattle.hn_radv.specs.Sender.{PlainSender, solicited, is_due, draws, sent}
-use Rattle.hn_router.specs.Advertising.{IsAdvertAt}
 use Rattle.hn_router.specs.Laws.{AdvertExists}
 use Rattle.hn_rules.specs.Router.{IsRouter}
 use Rattle.hn_world.specs.Laws.{WorldIsSound}
@@ -24,17 +23,15 @@ use Rattle.hn_world.specs.Replay.{IsReplayed, IsSoundMember}
 use Rattle.hn_world.specs.declared.event.WEvent.TheVariants as event
 use Rattle.hn_world.specs.declared.member.Member.{Member}
 use Rattle.hn_world.specs.declared.parts.Parts.{Parts}
-use Rattle.hn_lab.specs.declared.end.Stop.{Stop}
 use Rattle.hn_lab.specs.declared.senders.Sending.{Sending}
 use Rattle.hn_lab.specs.declared.senders.Shape.{Shape}
 use Rattle.hn_lab.specs.Delivery.{EventEnds}
 use Rattle.hn_lab.specs.Events.{Flow, Passes, Round, Runs, Ticks}
-use Rattle.hn_lab.specs.Existing.{ComesToAnEnd, Ending, GoesOn, IsFit, IsOn, stop_by}
-use Rattle.hn_lab.specs.Process.{Nothing, ThenProcess, Until}
+use Rattle.hn_lab.specs.Existing.{ComesToAnEnd, IsFit, IsOn}
+use Rattle.hn_lab.specs.Process.{Nothing, ThenProcess}
 use Rattle.hn_lab.specs.Senders.{shape_of, sends_at, sender_endpoints, IsSenderAt}
-use Rattle.hn_lab.specs.Sending.{ra_line, IsAsked, IsDue, line_if, sending_now, with_this, drawing, MayTurn, TurnEnds, Turns, TickEnds, Solicits}
+use Rattle.hn_lab.specs.Sending.{ra_line, IsAsked, line_if, sending_now, with_this, drawing, MayTurn, TurnEnds, Turns, TickEnds, Solicits}
 use Rattle.hn_lab.specs.Stage.{Stage}
-use Rattle.hn_lab.specs.Tells.{TellsLines}
 use Rattle.hn_lab.proofs.SomeEnds.{ends_each, ends_nothing, ends_then, ends_until, fit_told}
 use Rattle.hn_lab.proofs.SomeEvents.{EventLaws, ends_event_whatever, ends_flow, weaker}
 

@@ -1,6 +1,5 @@
 -- By mail a script has one transcript, and what is written is a front of it.
-use Rattle.std.proofs.Common.{◌≡◌, ◌≢◌, ◌∙◌, ◌⊎◌, ℕ, List, [], ◌∷◌, ◌++◌, append-nil, append_assoc, Option, None, Some, refl, sym, ap, subst, inl, inr, arith}
-use Rattle.std.specs.Prelude.{⊤}
+use Rattle.std.proofs.Common.{◌≡◌, ◌≢◌, ◌∙◌, ℕ, List, [], ◌∷◌, ◌++◌, append-nil, append_assoc, Option, Some, refl, sym, ap, subst, inl, inr, arith}
 use Rattle.std.proofs.lemmas.Grind.{flat_map-append}
 use Rattle.hn_base.specs.Exists.{Some! }
 use Rattle.hn_base.proofs.SomeExists.{some_then}
@@ -11,8 +10,8 @@ use Rattle.hn_script.specs.declared.script.Script.{Script}
 use Rattle.hn_world.specs.declared.parts.Parts.{Parts}
 use Rattle.hn_lab.specs.declared.end.End.{End}
 use Rattle.hn_lab.specs.declared.end.End.TheVariants.{Done, Refused, WireFailed}
-use Rattle.hn_lab.specs.Existing.{PlayEnd, ScriptHasAPlay}
-use Rattle.hn_lab.specs.Lab.{HasDonePlay, HasRefusal, IsBrokenPlay, IsStarvedPlay, IsWholePlay, Plays, status_of}
+use Rattle.hn_lab.specs.Existing.{ScriptHasAPlay}
+use Rattle.hn_lab.specs.Lab.{IsBrokenPlay, IsStarvedPlay, IsWholePlay, Plays, status_of}
 use Rattle.hn_lab.specs.Laws.{AtMostOnePlay, CutTextsAreFronts, IsUnbroken}
 use Rattle.hn_lab.specs.Output.{IsCutText, IsFrontOf}
 use Rattle.hn_lab.specs.Play.{begun, IsPlay}

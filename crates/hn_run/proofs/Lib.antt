@@ -1,5 +1,6 @@
 mod HexDigits
 mod Forms
+mod OneForm
 mod Streams
 mod Cut
 mod Decodes

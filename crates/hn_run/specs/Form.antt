@@ -57,6 +57,10 @@ IsFormOf (Soak n seed) words =
     (program count_word seed_word : List ℕ) × (words ≡ program ∷ codes "soak" ∷ count_word ∷ seed_word ∷ [])
     × IsNumberText 2 32 count_word n × IsNumberText 0 (2 ^ 64 - 1) seed_word seed
 
+-- the words ask for no form
+abbrev pub AsksNothing : List (List ℕ) → Type 0
+AsksNothing words = (form : Form) → IsFormOf form words → ⊥
+
 -- forms that read the source
 abbrev pub HasSource : Form → Type 0
 HasSource (Soak n seed) = ⊥
@@ -79,3 +83,19 @@ IsWired _ = ⊥
 abbrev pub IsTimed : Form → Type 0
 IsTimed (Node call) = Unit {0}
 IsTimed _ = ⊥
+
+-- What a form does not use is as before, and what it does not make is not there. These facts say so: of the source, of the wire,
+-- of the clock, of the world, and of the router that was served.
+pub record LeavesUnused (form : Form) (Unread Unwired Untimed NoWorld NotServed : Type 0) : Type 0 where
+  pub unread : ¬ HasSource form → Unread
+  pub unwired : ¬ IsWired form → Unwired
+  pub untimed : ¬ IsTimed form → Untimed
+  pub no_world : ¬ IsPlayed form → NoWorld
+  pub not_served : ¬ IsTimed form → NotServed
+
+-- the statuses with which a form may end
+abbrev pub statuses_of : Form → List ℕ
+statuses_of (Udp base) = 0 ∷ 2 ∷ 3 ∷ 4 ∷ 5 ∷ 6 ∷ []
+statuses_of (Node call) = 0 ∷ 2 ∷ 3 ∷ 4 ∷ 5 ∷ 6 ∷ []
+statuses_of (Soak n seed) = 0 ∷ 2 ∷ 4 ∷ 6 ∷ []
+statuses_of _ = 0 ∷ 2 ∷ 3 ∷ 4 ∷ 6 ∷ []

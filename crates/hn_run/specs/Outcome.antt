@@ -5,7 +5,10 @@ use Rattle.hn_base.specs.Input.{IsWhole}
 use Rattle.hn_io.specs.declared.fault.IoFault.TheVariants.{Failed, NoMemory}
 use Rattle.hn_lab.specs.Lab.{IsScriptPlay, IsUnread, StatusOfScript}
 use Rattle.hn_lab.specs.Stage.{Mail}
+use Rattle.hn_lab.specs.Transcripts.{IsOfTranscript}
+use Rattle.hn_script.specs.Script.{IsScript}
 use Rattle.hn_script.specs.Soak.{soak_text}
+use Rattle.hn_script.specs.declared.script.Script.{Script}
 use Rattle.hn_world.specs.declared.parts.Parts.{Parts}
 use Rattle.hn_run.specs.Decode.{SpellsTlvs, WritesDecode, CutsDecode}
 use Rattle.hn_run.specs.Watch.{IsCapture, WritesWatch, CutsWatch, StarvesWatch}
@@ -36,9 +39,11 @@ pub record IsWatchRun (left : Option (List ℕ)) (status : ℕ) (before after : 
   pub holds : WatchHolds bytes status before after
   pub only : (datagrams : List (List ℕ)) → IsCapture bytes datagrams → status ≢ 2
 
--- what `soak` comes to: the play of its script by mail, or out of memory before it began
+-- What `soak` comes to: the play of its script by mail, or out of memory before it began. What is written is of the one
+-- transcript of the script.
 pub record IsSoakRun (n seed status : ℕ) (world : Option Parts) (before after : Option (List ℕ)) : Type 0 where
   pub written : List ℕ
   pub comes : IsScriptPlay Mail Mail (soak_text n seed) status world written ⊎ IsUnread status world written
+  pub of_script : (script : Script) → IsScript script (soak_text n seed) → IsOfTranscript script status world written
   pub only : StatusOfScript Mail (soak_text n seed) status
   pub appends : Appends before after written

@@ -1,4 +1,4 @@
-ghost use Rattle.std.specs.Prelude.{◌≡◌, ◌≢◌, ◌+◌, ◌^◌, ◌≤◌, ◌⊎◌, ℕ, List, [], ◌∷◌, None, map, length, Contains, IfSome, string_bytes};
+ghost use Rattle.std.specs.Prelude.{◌≡◌, ◌≢◌, ◌↔◌, ◌+◌, ◌^◌, ◌≤◌, ◌⊎◌, ℕ, List, [], ◌∷◌, None, map, length, Contains, IfSome, string_bytes};
 ghost use Rattle.std.specs.Io.KnownBytes.{Consumes};
 ghost use Rattle.hn_io.specs.Faults.{IsCaused};
 ghost use Rattle.hn_world.specs.Replay.{IsReplayed, Always, Throughout};
@@ -10,7 +10,8 @@ ghost use Rattle.hn_audit.specs.Laws.{SettledAreSound};
 ghost use Rattle.hn_audit.specs.Staying.{QuietStays};
 ghost use Rattle.hn_lab.specs.Lab.{IsLabRun};
 ghost use Rattle.hn_lab.specs.Stage.{Mail, Ports};
-ghost use Rattle.hn_run.specs.Form.{IsFormOf, HasSource, IsPlayed, IsWired, IsTimed};
+ghost use Rattle.hn_lab.specs.Transcripts.{IsLabTranscript};
+ghost use Rattle.hn_run.specs.Form.{IsFormOf, AsksNothing, LeavesUnused, statuses_of};
 ghost use Rattle.hn_run.specs.Outcome.{IsDecodeRun, IsWatchRun, IsSoakRun};
 ghost use Rattle.hn_run.specs.Node.{IsNodeRun, plain_call};
 ghost use Rattle.hn_run.specs.declared.words.Form.{Form};
@@ -79,14 +80,14 @@ pub fn run<S: Source, K: Sink, W: Wire, C: Clock>(
     clock: &mut C,
 ) -> Outcome
     // Bad usage is what no form's words are; then nothing is touched.
-    ensures form { result.status ≡ BAD_USAGE → (form : Form) → IsFormOf form (map string_bytes words.now) → ⊥ }
-    ensures bad_usage { ((form : Form) → IsFormOf form (map string_bytes words.now) → ⊥) → result.status ≡ BAD_USAGE }
+    ensures bad_usage { result.status ≡ BAD_USAGE ↔ AsksNothing (map string_bytes words.now) }
     ensures untouched { result.status ≡ BAD_USAGE → (src.new ≡ src.old) × (out.new ≡ out.old) × (wire.new ≡ wire.old) × (clock.new ≡ clock.old) }
 
     // What each form comes to. After status 3 there is no more to say; it is said of the bytes that were read, which are
-    // all that the source has, where it tells them.
+    // all that the source has, where it tells them. By mail, with `lab` and `soak`, a script has exactly one transcript: it
+    // cannot be that it has none, and a front of it is written, with status 0 or 2 the whole.
     ensures lab { IsFormOf Form.Lab (map string_bytes words.now) → result.status ≢ SOURCE_FAILED
-        → IsLabRun Mail Mail (S.left src.old) result.status result.world (K.held out.old) (K.held out.new) }
+        → IsLabTranscript Mail (S.left src.old) result.status result.world (K.held out.old) (K.held out.new) }
     ensures udp { (base : ℕ) → IsFormOf (Form.Udp base) (map string_bytes words.now) → result.status ≢ SOURCE_FAILED
         → IsLabRun (Ports base (W.waiting wire.old)) (Ports base (W.waiting wire.new)) (S.left src.old) result.status result.world (K.held out.old) (K.held out.new) }
     ensures node { (call : NodeCall) → IsFormOf (Form.Node call) (map string_bytes words.now) → result.status ≢ SOURCE_FAILED
@@ -100,11 +101,8 @@ pub fn run<S: Source, K: Sink, W: Wire, C: Clock>(
         → IsSoakRun n seed result.status result.world (K.held out.old) (K.held out.new) }
 
     // What a form does not use stays as it is, and what it does not make is not there.
-    ensures unread { (form : Form) → IsFormOf form (map string_bytes words.now) → ¬ HasSource form → src.new ≡ src.old }
-    ensures unwired { (form : Form) → IsFormOf form (map string_bytes words.now) → ¬ IsWired form → wire.new ≡ wire.old }
-    ensures untimed { (form : Form) → IsFormOf form (map string_bytes words.now) → ¬ IsTimed form → clock.new ≡ clock.old }
-    ensures no_world { (form : Form) → IsFormOf form (map string_bytes words.now) → ¬ IsPlayed form → result.world ≡ None }
-    ensures not_served { (form : Form) → IsFormOf form (map string_bytes words.now) → ¬ IsTimed form → result.served ≡ None }
+    ensures unused { (form : Form) → IsFormOf form (map string_bytes words.now)
+        → LeavesUnused form (src.new ≡ src.old) (wire.new ≡ wire.old) (clock.new ≡ clock.old) (result.world ≡ None) (result.served ≡ None) }
 
     // The world is the replay of its trace. At each moment of its past two routers with equal hashes have equal leaves, or
     // a collision exists; and a running router that is settled and quiet is sound.
@@ -124,10 +122,8 @@ pub fn run<S: Source, K: Sink, W: Wire, C: Clock>(
     ensures served_within { IfSome result.served (λ s. IsWithinLimits One s.router) }
 
     // Where each status comes from. After 3 nothing was written, and no clock was read. Reading ends after 2^24 + 1 bytes.
-    ensures statuses { Contains (DONE ∷ BAD_USAGE ∷ REFUSED ∷ SOURCE_FAILED ∷ SINK_FAILED ∷ WIRE_FAILED ∷ NO_MEMORY ∷ []) result.status }
+    ensures statuses { (form : Form) → IsFormOf form (map string_bytes words.now) → Contains (statuses_of form) result.status }
     ensures nothing { (result.status ≡ BAD_USAGE) ⊎ ((result.status ≡ SOURCE_FAILED) ⊎ (result.status ≡ NO_MEMORY)) → (result.world ≡ None) × (result.served ≡ None) }
-    ensures sourced { result.status ≡ SOURCE_FAILED → (form : Form) → IsFormOf form (map string_bytes words.now) → HasSource form }
-    ensures wired { result.status ≡ WIRE_FAILED → (form : Form) → IsFormOf form (map string_bytes words.now) → IsWired form }
     ensures source { IsCaused (result.status ≡ SOURCE_FAILED) (S.faults src.old) (S.faults src.new) (S.never_fails src.old) (S.never_fails src.new) }
     ensures sink { IsCaused (result.status ≡ SINK_FAILED) (K.faults out.old) (K.faults out.new) (K.never_fails out.old) (K.never_fails out.new) }
     ensures wire { IsCaused (result.status ≡ WIRE_FAILED) (W.faults wire.old) (W.faults wire.new) (W.never_fails wire.old) (W.never_fails wire.new) }

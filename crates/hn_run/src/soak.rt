@@ -11,7 +11,7 @@ ghost use Rattle.hn_run.specs.Outcome.{IsSoakRun};
 use crate::status::{DONE, NO_MEMORY, REFUSED, SINK_FAILED};
 use hn_base::NoMemory;
 use hn_io::Sink;
-use hn_lab::{Played, play};
+use hn_lab::{Played, lab_is_of_transcript, play};
 use hn_script::{
     fault_excludes_script, lines_are_of_version, script_is_limited, script_is_unique, soak_script,
 };
@@ -39,6 +39,7 @@ pub fn soak<K: Sink, W: Wire>(alloc: Global, n: u32, seed: u64, out: &mut K, wir
     lines_are_of_version();
     script_is_unique();
     fault_excludes_script();
+    lab_is_of_transcript();
     match soak_script(alloc, n, seed) {
         Ok(script) => play(alloc, script, out, wire, None),
         Err(NoMemory) => Played::without_world(NO_MEMORY),

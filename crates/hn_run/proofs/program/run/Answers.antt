@@ -1,24 +1,35 @@
-use Rattle.std.proofs.Common.{[], ◌∷◌}
+use Rattle.std.proofs.Common.{map, refl}
+use Rattle.std.specs.String.{string_bytes}
 use Rattle.hn_run.specs.declared.words.Form.TheVariants.{Lab, Udp, Node, Decode, Watch, Soak}
 use Rattle.hn_run.specs.Node.{IsNodeRun, PlainCall}
 use Rattle.hn_run.proofs.Nodes.{as_called, call_in_range}
-use Rattle.hn_run.proofs.Sources.{Contains-more}
+use Rattle.hn_run.proofs.OneForm.{ends_alike, without_wire}
 use Rattle.hn_run.proofs.program.run.Goals as goal
 
+pub returns-in-Some-Lab-clause-lab : goal.returns-in-Some-Lab-clause-lab
+returns-in-Some-Lab-clause-lab g c asked good =
+    rw (c.of_play.ensures.status, c.of_play.ensures.world) (c.lab.ensures.transcript refl (rw c.of_play.ensures.status at good))
+
 pub returns-in-Some-Lab-clause-statuses : goal.returns-in-Some-Lab-clause-statuses
-returns-in-Some-Lab-clause-statuses g c =
-    rw c.of_play.ensures.status (Contains-more (0 ∷ []) (2 ∷ 3 ∷ 4 ∷ 5 ∷ 6 ∷ []) 1 c.lab.result.status c.lab.ensures.statuses)
+returns-in-Some-Lab-clause-statuses g c form asked =
+    let words = map string_bytes c.args.words.now in
+    let read = rw c.in-Some-Lab.field-0-is at c.in-Some-Lab.ensures.found in
+    let ends = without_wire c.lab.result.status c.lab.ensures.statuses (c.lab.ensures.unwired refl).1 in
+    rw c.of_play.ensures.status (ends_alike Lab form words c.lab.result.status read asked ends)
 
 pub returns-in-Some-Udp-clause-statuses : goal.returns-in-Some-Udp-clause-statuses
-returns-in-Some-Udp-clause-statuses g c =
-    rw c.of_play-in-Some-Udp.ensures.status (Contains-more (0 ∷ []) (2 ∷ 3 ∷ 4 ∷ 5 ∷ 6 ∷ []) 1 c.lab-in-Some-Udp.result.status c.lab-in-Some-Udp.ensures.statuses)
+returns-in-Some-Udp-clause-statuses g c form asked =
+    let words = map string_bytes c.args.words.now in
+    let read = rw c.in-Some-Udp.field-0-is at c.in-Some-Udp.ensures.found in
+    let status = c.lab-in-Some-Udp.result.status in
+    rw c.of_play-in-Some-Udp.ensures.status (ends_alike (Udp c.in-Some-Udp.base) form words status read asked c.lab-in-Some-Udp.ensures.statuses)
 
 pub returns-in-Some-Soak-clause-statuses : goal.returns-in-Some-Soak-clause-statuses
-returns-in-Some-Soak-clause-statuses g c =
+returns-in-Some-Soak-clause-statuses g c form asked =
+    let words = map string_bytes c.args.words.now in
+    let read = rw c.in-Some-Soak.field-0-is at c.in-Some-Soak.ensures.found in
     let status = c.soak.result.status in
-    let usage = Contains-more (0 ∷ []) (2 ∷ 4 ∷ 6 ∷ []) 1 status c.soak.ensures.statuses in
-    let source = Contains-more (0 ∷ 1 ∷ 2 ∷ []) (4 ∷ 6 ∷ []) 3 status usage in
-    rw c.of_play-in-Some-Soak.ensures.status (Contains-more (0 ∷ 1 ∷ 2 ∷ 3 ∷ 4 ∷ []) (6 ∷ []) 5 status source)
+    rw c.of_play-in-Some-Soak.ensures.status (ends_alike (Soak c.in-Some-Soak.n c.in-Some-Soak.seed) form words status read asked c.soak.ensures.statuses)
 
 pub returns-in-None-clause-lab : goal.returns-in-None-clause-lab
 returns-in-None-clause-lab g c asked _ = absurd (c.in-None.ensures.none Lab asked)
@@ -49,8 +60,10 @@ returns-in-Some-Node-clause-node g c call asked good =
     as_called P c.in-Some-Node.call call _ read asked (c.node.ensures.node good)
 
 pub returns-in-Some-Node-clause-statuses : goal.returns-in-Some-Node-clause-statuses
-returns-in-Some-Node-clause-statuses g c =
-    Contains-more (0 ∷ []) (2 ∷ 3 ∷ 4 ∷ 5 ∷ 6 ∷ []) 1 c.node.result.status c.node.ensures.statuses
+returns-in-Some-Node-clause-statuses g c form asked =
+    let words = map string_bytes c.args.words.now in
+    let read = rw c.in-Some-Node.field-0-is at c.in-Some-Node.ensures.found in
+    ends_alike (Node c.in-Some-Node.call) form words c.node.result.status read asked c.node.ensures.statuses
 
 pub returns-in-None-clause-node : goal.returns-in-None-clause-node
 returns-in-None-clause-node g c call asked _ = absurd (c.in-None.ensures.none (Node call) asked)

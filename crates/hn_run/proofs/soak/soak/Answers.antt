@@ -1,36 +1,69 @@
-use Rattle.std.proofs.Common.{◌≡◌, ℕ, zero, suc, [], ◌∷◌, inl, inr, refl, sym, subst, lit<, arith}
+use Rattle.std.proofs.Common.{◌≡◌, ◌⊎◌, ℕ, zero, suc, List, [], ◌∷◌, Option, None, inl, inr, refl, sym, subst, lit<, arith}
+use Rattle.std.specs.Io.KnownBytes.{Appends}
 use Rattle.std.specs.Prelude.{Contains}
-use Rattle.hn_lab.specs.Lab.{HasDonePlay, HasRefusal}
+use Rattle.hn_lab.specs.Lab.{HasDonePlay, HasRefusal, IsLabRun, IsScriptPlay, IsUnread, StatusOfScript}
 use Rattle.hn_lab.specs.Stage.{Mail}
+use Rattle.hn_script.specs.Soak.{soak_text}
+use Rattle.hn_world.specs.declared.parts.Parts.{Parts}
 use Rattle.hn_run.proofs.Streams.{Appends-none}
 use Rattle.hn_run.proofs.soak.soak.Goals as goal
+
+-- a soak is a run of `lab` on the text of its script
+abbrev as_lab : (bytes : List ℕ) (status : ℕ) (world : Option Parts) (written : List ℕ) (before after : Option (List ℕ))
+    → IsScriptPlay Mail Mail bytes status world written ⊎ IsUnread status world written → StatusOfScript Mail bytes status
+    → Appends before after written → IsLabRun Mail Mail None status world before after
+as_lab bytes status world written before after comes only appends = record {
+  bytes = bytes;
+  are_whole = tt;
+  written = written;
+  comes = inr comes;
+  only = only;
+  appends = appends;
+}
 
 pub returns-in-Ok-clause-soak : goal.returns-in-Ok-clause-soak
 returns-in-Ok-clause-soak g c =
     let plays = c.play.ensures.plays in
+    let status = c.play.result.status in
+    let before = g.K.Sink.held c.args.out.now in
+    let after = g.K.Sink.held c.play.new.out in
+    let bytes = soak_text c.args.n c.args.seed in
+    let comes : IsScriptPlay Mail Mail bytes status c.play.result.world plays.0 ⊎ IsUnread status c.play.result.world plays.0 =
+    inl (record { script = c.in-Ok.script; is_script = c.in-Ok.ensures; plays = plays.1 }) in
+    let only : StatusOfScript Mail bytes status = record {
+      done = λ script is done. c.play.ensures.done (subst (HasDonePlay Mail) (c.script_is_unique.ensures _ script c.in-Ok.script is c.in-Ok.ensures) done);
+      refused = λ script is refused. c.play.ensures.refused (subst (HasRefusal Mail) (c.script_is_unique.ensures _ script c.in-Ok.script is c.in-Ok.ensures) refused);
+      no_script = λ fault is. absurd (c.fault_excludes_script.ensures _ fault c.in-Ok.script is c.in-Ok.ensures);
+    } in
+    let run = as_lab bytes status c.play.result.world plays.0 before after comes only plays.2 in
     record {
       written = plays.0;
-      comes = inl (record { script = c.in-Ok.script; is_script = c.in-Ok.ensures; plays = plays.1 });
-      only = record {
-        done = λ script is done. c.play.ensures.done (subst (HasDonePlay Mail) (c.script_is_unique.ensures _ script c.in-Ok.script is c.in-Ok.ensures) done);
-        refused = λ script is refused. c.play.ensures.refused (subst (HasRefusal Mail) (c.script_is_unique.ensures _ script c.in-Ok.script is c.in-Ok.ensures) refused);
-        no_script = λ fault is. absurd (c.fault_excludes_script.ensures _ fault c.in-Ok.script is c.in-Ok.ensures);
-      };
+      comes = comes;
+      of_script = c.lab_is_of_transcript.ensures Mail None status c.play.result.world before after run (c.play.ensures.unwired refl).1;
+      only = only;
       appends = plays.2;
     }
 
 pub returns-in-Err-clause-soak : goal.returns-in-Err-clause-soak
 returns-in-Err-clause-soak g c =
     let six = c.without_world.ensures.status in
+    let status = c.without_world.result.status in
+    let world = c.without_world.result.world in
+    let held = g.K.Sink.held c.args.out.now in
+    let bytes = soak_text c.args.n c.args.seed in
+    let comes : IsScriptPlay Mail Mail bytes status world [] ⊎ IsUnread status world [] = inr (six, c.without_world.ensures.no_world, refl) in
+    let only : StatusOfScript Mail bytes status = record {
+      done = λ script is done two. absurd (omega (arith, six, two));
+      refused = λ script is refused none. absurd (omega (arith, six, none));
+      no_script = λ fault is none. absurd (omega (arith, six, none));
+    } in
+    let run = as_lab bytes status world [] held held comes only (Appends-none held) in
     record {
       written = [];
-      comes = inr (six, c.without_world.ensures.no_world, refl);
-      only = record {
-        done = λ script is done two. absurd (omega arith);
-        refused = λ script is refused none. absurd (omega arith);
-        no_script = λ fault is none. absurd (omega arith);
-      };
-      appends = Appends-none (g.K.Sink.held c.args.out.now);
+      comes = comes;
+      of_script = c.lab_is_of_transcript.ensures Mail None status world held held run (λ five. omega (arith, six, five));
+      only = only;
+      appends = Appends-none held;
     }
 
 -- a status that is not that of a failed wire

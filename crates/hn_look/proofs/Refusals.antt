@@ -20,7 +20,8 @@ use Rattle.hn_lab.specs.Told.{Told, told, bytes_of}
 use Rattle.hn_lab.specs.declared.end.End.{End}
 use Rattle.hn_lab.specs.declared.end.End.TheVariants.{Done, Refused, WireFailed}
 use Rattle.hn_world.specs.declared.parts.Parts.{Parts}
-use Rattle.hn_look.specs.Look.{EndsRefused}
+use Rattle.hn_look.specs.Look.{EndsRefused, IsLookRun}
+use Rattle.hn_look.proofs.Streams.{Appends-none}
 
 -- ---- the line has one `r`
 
@@ -167,3 +168,15 @@ pub line_found : (transcript line found : List ℕ) → EndsRefused transcript l
     → ((front : List ℕ) (number code : ℕ) → transcript ≡ front ++ refused_line number code → found ≡ refused_line number code) → found ≡ line
 line_found transcript line found ends finds =
     finds ends.front ends.number ends.code (ends.transcript_is ∙ ap (λ xs. ends.front ++ xs) ends.line_is) ∙ sym ends.line_is
+
+-- a play that ran out of memory before there was anything to look at
+pub unseen : (Starving : Type 0) (sees : Parts → ℕ → List ℕ → Type 0) (left : Option (List ℕ)) (world : Option Parts) (status : ℕ) (held after : List ℕ)
+    (before : Option (List ℕ)) → held ≡ [] → IsLabRun Mail Mail left status world (Some held) (Some after) → status ≡ 6
+    → IsLookRun Starving sees left status before before
+unseen Starving sees left world status held after before none run six = record {
+  played = status;
+  world = world;
+  transcript = after;
+  plays = subst (λ (xs : List ℕ). IsLabRun Mail Mail left status world (Some xs) (Some after)) none run;
+  comes = inl (six, six, Appends-none before);
+}

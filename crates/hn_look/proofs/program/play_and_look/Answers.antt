@@ -1,7 +1,14 @@
-use Rattle.std.proofs.Common.{refl}
+use Rattle.std.proofs.Common.{◌≡◌, refl, rules}
 use Rattle.hn_look.proofs.Looks.{status_of_look, without_wire}
-use Rattle.hn_look.proofs.Refusals.{ends_so}
+use Rattle.hn_look.proofs.Refusals.{ends_so, unseen}
 use Rattle.hn_look.proofs.program.play_and_look.Goals as goal
+
+pub returns-then-played-ne-REFUSED-clause-look : goal.returns-then-played-ne-REFUSED-clause-look
+returns-then-played-ne-REFUSED-clause-look g c good =
+    let status = c.lab-played.result.status in
+    let six : status ≡ 6 = search rules in
+    unseen _ _ (g.S.Source.left c.args.src.now) c.lab-played.result.world status _ _ (g.K.Sink.held c.args.out.now) c.new-transcript.ensures.held
+    (c.lab-played.ensures.lab good) six
 
 pub returns-then-played-ne-REFUSED-clause-statuses : goal.returns-then-played-ne-REFUSED-clause-statuses
 returns-then-played-ne-REFUSED-clause-statuses g c = without_wire c.lab-played.result.status c.lab-played.ensures.statuses (c.lab-played.ensures.unwired refl).1

@@ -80,6 +80,10 @@ impl<T: Drop> Sequence<T> {
 
 impl<T: Copy> Sequence<T> {
     /// The same elements, in new memory.
+    ///
+    /// # Errors
+    ///
+    /// Out of memory.
     pub fn copy(&self, alloc: Global) -> Result<Sequence<T>, NoMemory>
         ensures { IfOk result (λ copy. copy ≡ self.now) }
     {
@@ -89,6 +93,10 @@ impl<T: Copy> Sequence<T> {
     }
 
     /// These elements, in new memory.
+    ///
+    /// # Errors
+    ///
+    /// Out of memory.
     pub fn copy_of(alloc: Global, items: &[T]) -> Result<Sequence<T>, NoMemory>
         ensures { IfOk result (λ copy. copy ≡ items.now) }
     {

@@ -31,6 +31,11 @@ impl<T> Model for Shared<T> {
 impl<T: Drop> Clone for Shared<T> {
     ghost is_clone = { λ s copy. copy ≡ s };
 
+    /// One more owner of the value.
+    ///
+    /// # Errors
+    ///
+    /// Out of memory, as `AllocError`.
     fn clone(&self) -> Result<Shared<T>, AllocError> {
         Ok(Shared {
             inner: self.inner.clone()?,
@@ -40,6 +45,10 @@ impl<T: Drop> Clone for Shared<T> {
 
 impl<T: Drop> Shared<T> {
     /// The value, with one owner.
+    ///
+    /// # Errors
+    ///
+    /// Out of memory.
     pub fn new(alloc: Global, value: T) -> Result<Shared<T>, NoMemory>
         ensures { IfOk result (λ s. s ≡ value) }
     {
@@ -48,7 +57,7 @@ impl<T: Drop> Shared<T> {
         })
     }
 
-    /// The value.
+    /// The value. Never allocates.
     pub fn get(&self) -> &T
         ensures { result.now ≡ self.now }
     {
@@ -58,6 +67,10 @@ impl<T: Drop> Shared<T> {
 
 impl<T: Exact> Shared<T> {
     /// The value, to change it: where it has other owners, a clone of it first.
+    ///
+    /// # Errors
+    ///
+    /// Out of memory; the value is as before then.
     pub fn edit(&mut self) -> Result<&mut T, NoMemory>
         ensures* writes_back { sem 𝓛 (lends_shared T.row self.entry result) }
         ensures value { IfOk result (λ x. x.now ≡ self.old) }

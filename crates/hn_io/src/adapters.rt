@@ -37,6 +37,11 @@ impl<R: Read> Source for ReaderSource<R> {
     ghost never_fails = { λ _. ⊥ };
 
     /// A read that is interrupted by a signal is tried again, as std does.
+    ///
+    /// # Errors
+    ///
+    /// `Failed` where the reader fails, and the count of faults rises. When a call fails the system decides: no clause
+    /// says.
     fn read(&mut self, buf: &mut [u8]) -> Result<usize, IoFault> {
         for _ in 0..u64::MAX {
             match self.reader.read(buf) {
@@ -77,6 +82,11 @@ impl<W: Write> Sink for WriterSink<W> {
     ghost never_fails = { λ _. ⊥ };
 
     /// A write that is interrupted by a signal is tried again, as std does. A writer that takes no byte has failed.
+    ///
+    /// # Errors
+    ///
+    /// `Failed` where the writer fails, and the count of faults rises. When a call fails the system decides: no clause
+    /// says.
     fn write(&mut self, piece: &[u8]) -> Result<usize, IoFault> {
         for _ in 0..u64::MAX {
             match self.writer.write(piece) {

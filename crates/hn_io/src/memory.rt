@@ -96,6 +96,11 @@ impl Source for MemSource {
     ghost never_fails = { λ s. s.calls.fails ≡ [] };
 
     /// Reads as many bytes as are left and fit. Never allocates. The buffer changes only in the bytes that are read.
+    /// The answer is 0 if and only if nothing is left and the call does not fail.
+    ///
+    /// # Errors
+    ///
+    /// `Failed` if and only if the number of the call is listed.
     fn read(&mut self, buf: &mut [u8]) -> Result<usize, IoFault>
         requires { 0 < length buf.old }
         ensures count { IfOk result (λ n. n ≤ length buf.new) }
@@ -170,6 +175,10 @@ impl Sink for MemSink {
     ghost never_fails = { λ s. s.calls.fails ≡ [] };
 
     /// Takes the whole piece, or nothing.
+    ///
+    /// # Errors
+    ///
+    /// `Failed` if and only if the number of the call is listed; else out of memory.
     fn write(&mut self, piece: &[u8]) -> Result<usize, IoFault>
         requires { 0 < length piece.now }
         ensures count { IfOk result (λ n. n ≡ length piece.now) }

@@ -6,7 +6,7 @@ use crate::fault::IoFault;
 
 /// What bytes are written to.
 pub trait Sink {
-    /// How many calls have failed so far. The count never falls.
+    /// How many calls have failed so far; it stops at 2^64 - 1. The count never falls.
     ghost faults: { Self → ℕ };
 
     /// The bytes that it holds, where the sink tells them.
@@ -15,7 +15,11 @@ pub trait Sink {
     /// Holds of a sink whose calls never fail, now and later. Out of memory is no failure.
     ghost never_fails: { Self → Type 0 };
 
-    /// Writes the front of `piece`, at least one byte, and answers how many.
+    /// Writes the front of `piece`, at least one byte, and answers how many. `piece` is not empty.
+    ///
+    /// # Errors
+    ///
+    /// `Failed` if and only if the count of faults rises; else out of memory. What the sink holds is as before then.
     fn write(&mut self, piece: &[u8]) -> Result<usize, IoFault>
         requires { 0 < length piece.now }
         ensures some { IfOk result (λ n. 0 < n) }

@@ -6,7 +6,7 @@ use crate::fault::IoFault;
 
 /// What bytes are read from.
 pub trait Source {
-    /// How many calls have failed so far. The count never falls.
+    /// How many calls have failed so far; it stops at 2^64 - 1. The count never falls.
     ghost faults: { Self → ℕ };
 
     /// The bytes that are left, where the source tells them.
@@ -15,7 +15,14 @@ pub trait Source {
     /// Holds of a source whose calls never fail, now and later. Out of memory is no failure.
     ghost never_fails: { Self → Type 0 };
 
-    /// Reads the next bytes into the front of `buf`, and answers how many; 0 is the end of input.
+    /// Reads the next bytes into the front of `buf`, and answers how many; 0 is the end of input. Where the source
+    /// tells what is left, 0 comes exactly if nothing is left and the call does not fail; else no clause says when.
+    /// `buf` is not empty.
+    ///
+    /// # Errors
+    ///
+    /// `Failed` if and only if the count of faults rises; else out of memory. What is left is as before then, and after
+    /// out of memory the buffer. No clause says what the buffer has after `Failed`.
     fn read(&mut self, buf: &mut [u8]) -> Result<usize, IoFault>
         requires { 0 < length buf.old }
         ensures count { IfOk result (λ n. n ≤ length buf.new) }

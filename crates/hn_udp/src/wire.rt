@@ -132,6 +132,10 @@ impl<R: Net> Wire for UdpWire<R> {
 
     ghost never_fails = { λ _. ⊥ };
 
+    /// # Errors
+    ///
+    /// `Failed` where a socket fails, and the count of faults rises. When it comes the system decides: no clause says.
+    /// Else out of memory.
     fn send(&mut self, from: u16, to: u16, bytes: &[u8]) -> Result<(), IoFault> {
         let sent = self.put(from, to, bytes);
         if let Err(IoFault::Failed) = sent {
@@ -141,6 +145,11 @@ impl<R: Net> Wire for UdpWire<R> {
     }
 
     /// A datagram of more than 65,507 bytes is a fault.
+    ///
+    /// # Errors
+    ///
+    /// `Failed` where a socket fails, and the count of faults rises. When it comes the system decides: no clause says.
+    /// Else out of memory.
     fn take(&mut self, at: u16, buf: &mut [u8]) -> Result<Option<(usize, u16)>, IoFault> {
         match self.get(at, buf) {
             Ok(Some((count, _))) if count > MOST_WIRE_BYTES => {}

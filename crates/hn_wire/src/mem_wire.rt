@@ -58,8 +58,8 @@ impl MemWire {
         }
     }
 
-    /// The port that the datagram at a place, from 0, among those that wait at a port came from, and its bytes. Never
-    /// allocates.
+    /// The port that the datagram at a place, from 0, among those that wait at a port came from, and its bytes; `None`
+    /// if and only if nothing waits at that place. Never allocates.
     pub fn waits(&self, port: u16, place: usize) -> Option<(u16, &[u8])>
         ensures { option_map (λ t. record { from = t.0; bytes = t.1.now }) result ≡ waits_at port place self.now.waiting }
     {
@@ -81,6 +81,9 @@ impl Wire for MemWire {
 
     ghost never_fails = { λ w. w.calls.fails ≡ [] };
 
+    /// # Errors
+    ///
+    /// `Failed` if and only if the number of the call is listed; else out of memory.
     fn send(&mut self, from: u16, to: u16, bytes: &[u8]) -> Result<(), IoFault>
         requires { length bytes.now ≤ 65507 }
         ensures sent { OnOk result (self.new.waiting ≡ self.old.waiting ++ record { from = from; to = to; bytes = bytes.now } ∷ []) }
@@ -102,7 +105,12 @@ impl Wire for MemWire {
         }
     }
 
-    /// Never allocates. The buffer changes only where a datagram is taken.
+    /// Never allocates. The buffer changes only where a datagram is taken. `None` if and only if nothing waits at the
+    /// port and the call does not fail.
+    ///
+    /// # Errors
+    ///
+    /// `Failed` if and only if the number of the call is listed.
     fn take(&mut self, at: u16, buf: &mut [u8]) -> Result<Option<(usize, u16)>, IoFault>
         requires { length buf.old ≡ 65536 }
         ensures count { IfOk result (λ got. IfSome got (λ t. t.0 ≤ 65507)) }

@@ -7,7 +7,7 @@ use hn_io::IoFault;
 
 /// What datagrams are sent over, from port to port.
 pub trait Wire {
-    /// How many calls have failed so far. The count never falls.
+    /// How many calls have failed so far; it stops at 2^64 - 1. The count never falls.
     ghost faults: { Self → ℕ };
 
     /// The datagrams that wait, in the order in which they were sent, where the wire tells them.
@@ -16,7 +16,11 @@ pub trait Wire {
     /// Holds of a wire whose calls never fail, now and later. Out of memory is no failure.
     ghost never_fails: { Self → Type 0 };
 
-    /// Sends a datagram from one port to another.
+    /// Sends a datagram from one port to another. It has at most 65,507 bytes.
+    ///
+    /// # Errors
+    ///
+    /// `Failed` if and only if the count of faults rises; else out of memory. What waits is as before then.
     fn send(&mut self, from: u16, to: u16, bytes: &[u8]) -> Result<(), IoFault>
         requires { length bytes.now ≤ 65507 }
         ensures sent { OnOk result (Sends (record { from = from; to = to; bytes = bytes.now }) (waiting self.old) (waiting self.new)) }
@@ -25,7 +29,13 @@ pub trait Wire {
             (never_fails self.old) (never_fails self.new) };
 
     /// Takes the first datagram that waits at a port into the front of `buf`, and answers how many bytes it has and the
-    /// port that it came from; `None` if none waits there.
+    /// port that it came from; where the wire tells what waits, `None` exactly if nothing waits there and the call does
+    /// not fail; else no clause says when. `buf` has 65,536 bytes, and a datagram at most 65,507.
+    ///
+    /// # Errors
+    ///
+    /// `Failed` if and only if the count of faults rises; else out of memory. What waits is as before then, and after
+    /// out of memory the buffer. No clause says what the buffer has after `Failed`.
     fn take(&mut self, at: u16, buf: &mut [u8]) -> Result<Option<(usize, u16)>, IoFault>
         requires { length buf.old ≡ 65536 }
         ensures count { IfOk result (λ got. IfSome got (λ t. t.0 ≤ 65507)) }

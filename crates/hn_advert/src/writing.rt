@@ -72,6 +72,10 @@ fn push_option(out: &mut Vec<u8>, info: &Info) -> Result<(), NoMemory>
 /// The bytes of a Router Advertisement (RFC 4861, sections 4.2 and 4.6.2): with hop limit 64, a Prefix Information option
 /// with the flags L and A for each prefix, in order, and zero in each field that `Advert` does not have. The checksum is
 /// left to the IP stack.
+///
+/// # Errors
+///
+/// Out of memory.
 pub fn bytes(alloc: Global, advert: &Advert) -> Result<Bytes, NoMemory>
     ensures written { IfOk result (λ bytes. bytes ≡ advert_bytes advert.now) }
     ensures read_back { IfOk result (λ bytes. IsAdvert bytes advert.now) }

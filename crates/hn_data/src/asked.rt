@@ -31,7 +31,8 @@ pub fn linked(a: &NodeData, x: NodeId, e: EpId, b: &NodeData, y: NodeId, f: EpId
     is_in_set(a.peers(), &there) && is_in_set(b.peers(), &back)
 }
 
-/// The priorities of the first HNCP-Version of the data (RFC 7788, section 10.1). Never allocates.
+/// The priorities of the first HNCP-Version of the data (RFC 7788, section 10.1); `None` if and only if the data have
+/// none. Never allocates.
 pub fn version(a: &NodeData) -> Option<Caps>
     ensures some { HasItems a.now (λ items. option_map plain_caps result ≡ version_of items) }
     ensures each { (items : List PlainItem) → AreItems a.now items → option_map plain_caps result ≡ version_of items }
@@ -55,7 +56,8 @@ fn interval_at(intervals: &[Interval], e: EpId) -> Option<u32>
 }
 
 /// The keep-alive interval of an endpoint, in milliseconds: that of the first Keep-Alive Interval for it, else of the
-/// first for endpoint 0, else 20,000 (RFC 7787, section 6.1.5; RFC 7788, section 3). Never allocates.
+/// first for endpoint 0, else 20,000 (RFC 7787, section 6.1.5; RFC 7788, section 3). An interval of 0 says that no
+/// keep-alives are sent. Never allocates.
 pub fn keep_alive(a: &NodeData, e: EpId) -> u32
     ensures some { HasItems a.now (λ items. result ≡ keep_alive_of (filter_map interval_of items) e.0) }
     ensures each { (items : List PlainItem) → AreItems a.now items → result ≡ keep_alive_of (filter_map interval_of items) e.0 }

@@ -67,7 +67,7 @@ impl NodeData {
     /// # Errors
     ///
     /// `Malformed` if and only if the bytes are no list of TLVs (RFC 7787, section 7), with the first fault, as
-    /// `hn_tlv::check` gives it, which never allocates.
+    /// `hn_tlv::check` gives it, which never allocates. Otherwise `NoMemory`.
     pub fn from_bytes(alloc: Global, bytes: &[u8]) -> Result<NodeData, ListFault>
         ensures data { IfOk result (λ d. d ≡ bytes.now) }
         ensures listed { OnOk result (HasTlvs bytes.now) }
@@ -80,6 +80,10 @@ impl NodeData {
     }
 
     /// The items that are encoded in the pieces, in strictly ascending order of their bytes, each once.
+    ///
+    /// # Errors
+    ///
+    /// Out of memory.
     pub fn from_items(alloc: Global, items: &[Bytes]) -> Result<NodeData, NoMemory>
         requires { All IsEncoded items.now }
         ensures set { IfOk result (λ d. IsAscendingSet items.now d) }
@@ -110,7 +114,8 @@ impl NodeData {
     }
 
     /// The TLV at a place: its item, or why it has none (RFC 7787, section 7; RFC 7788, section 10), and the place
-    /// after it. `None` if and only if the place is the end. Never allocates.
+    /// after it. `None` if and only if the place is the end. A fault if and only if the TLV decodes to no item, with
+    /// its first cause. Up to the place the data are a list of TLVs. Never allocates.
     pub fn item(&self, at: usize) -> Option<(Result<Item<'_>, ItemFault>, usize)>
         requires { IsTlvPlace self.now at }
         // What is answered is so.
@@ -131,6 +136,10 @@ impl NodeData {
     }
 
     /// The same data, which shares its memory.
+    ///
+    /// # Errors
+    ///
+    /// Out of memory.
     pub fn share(&self) -> Result<NodeData, NoMemory>
         ensures { IfOk result (λ shared. shared ≡ self.now) }
     {

@@ -10,7 +10,8 @@ pub struct PeerLink {
     pub peer_endpoint: EpId,
 }
 
-/// The keep-alive interval of an endpoint, in milliseconds; endpoint 0 is each of them (RFC 7787, section 7.3.2).
+/// The keep-alive interval of an endpoint, in milliseconds; endpoint 0 is each of them (RFC 7787, section 7.3.2). An
+/// interval of 0 says that no keep-alives are sent.
 #[derive(Clone, Copy)]
 pub struct Interval {
     pub endpoint: EpId,

@@ -15,6 +15,10 @@ pub struct Entry {
 
 impl Entry {
     /// The same entry, which shares the memory of its data.
+    ///
+    /// # Errors
+    ///
+    /// Out of memory.
     pub fn copy(&self) -> Result<Entry, NoMemory>
         ensures { IfOk result (λ copy. copy ≡ self.now) }
     {

@@ -11,6 +11,10 @@ use hn_tlv::{ListFault, check, list_continues};
 use std::alloc::Global;
 
 /// The first line of the text of a datagram: `tlvs C` with the number of its TLVs, and LF.
+///
+/// # Errors
+///
+/// Out of memory.
 pub fn first_line(alloc: Global, count: usize) -> Result<String, NoMemory>
     ensures { IfOk result (λ text. string_bytes text ≡ tlvs_line count) }
 {
@@ -25,6 +29,10 @@ pub fn first_line(alloc: Global, count: usize) -> Result<String, NoMemory>
 /// Sub-TLVs have lines down to level 7, where the level of the datagram's own TLVs is 0. So have the TLVs of a Node
 /// State's node data, if these are a list of TLVs. If there are no such lines, `subs=` or `body=` at the end of the line
 /// shows the bytes, if there are any.
+///
+/// # Errors
+///
+/// Out of memory. Nothing is said of the text that was lent then.
 pub fn push_next(out: &mut String, bytes: &[u8], at: usize) -> Result<usize, NoMemory>
     requires inside { at < length bytes.now }
     requires list { HasTlvs (drop at bytes.now) }

@@ -65,6 +65,10 @@ fn text_of(alloc: Global, leaves: &[Leaf]) -> Result<Vec<u8>, NoMemory>
 /// Compares two lists of leaves, by their network hashes and then one by one. Of a collision it gives the two texts:
 /// those whose hashes are the network hashes, where these texts differ, else the first two node data in one place
 /// that differ. Only a collision takes memory.
+///
+/// # Errors
+///
+/// Out of memory, and only where two inputs collide.
 pub fn agree(alloc: Global, a: &[Leaf], b: &[Leaf]) -> Result<Agreement, NoMemory>
     ensures differ { (result ≡ Ok Agreement.Differ) ↔ (network_hash a.now ≢ network_hash b.now) }
     ensures same { (result ≡ Ok Agreement.Same) ↔ (a.now ≡ b.now) }

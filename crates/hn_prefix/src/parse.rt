@@ -28,6 +28,10 @@ impl Error for BadText {}
 /// The address that a text decodes to: eight groups of one to four hexadecimal digits with colons between them, or
 /// fewer with one `::`, which represents one zero group or more (RFC 4291, section 2.2, forms 1 and 2). Neither a
 /// dotted form nor a zone is read. Never allocates.
+///
+/// # Errors
+///
+/// `BadText` if and only if the text is of no address.
 pub fn parse_address(text: &[u8]) -> Result<u128, BadText>
     // What is read is a text of the address,
     ensures found { IfOk result (IsAddressText text.now) }
@@ -47,6 +51,10 @@ impl Prefix {
     /// The prefix that a text decodes to: an address as `parse_address` reads it, `/`, and the length in one to three
     /// decimal digits (RFC 4291, section 2.3). A length above 128 and a bit set past the length are refused.
     /// Never allocates.
+    ///
+    /// # Errors
+    ///
+    /// `BadText` if and only if the text is of no prefix.
     pub fn parse(text: &[u8]) -> Result<Prefix, BadText>
         // What is read is a text of the prefix,
         ensures found { IfOk result (IsPrefixText text.now) }

@@ -112,8 +112,9 @@ impl Sender {
         };
     }
 
-    /// Whether one is due now, at most 2^48 ms (RFC 4861, section 6.2.4). If so it counts as sent. With the fourth and each
-    /// later one a word says when the next is due. No other call takes a word. Never allocates.
+    /// Whether one is due now, at most 2^48 ms (RFC 4861, section 6.2.4). If so it counts as sent. `false` if and only
+    /// if the moment of the next one has not come; sender and draw are as before then. With the fourth and each later
+    /// one a word says when the next is due. No other call takes a word. Never allocates.
     pub fn due<D: Draw>(&mut self, now: Moment, draw: &mut D) -> bool
         requires { now ≤ 2 ^ 48 }
         ensures answer { result ≡ is_due now self.old }

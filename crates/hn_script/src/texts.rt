@@ -5,7 +5,8 @@ ghost use Rattle.hn_script.specs.Texts.{words_of, lines_of};
 
 use hn_base::split_once;
 
-/// The first of the lines of these bytes, without its LF, and the bytes after that; `None` if there are no bytes.
+/// The first of the lines of these bytes, without its LF, and the bytes after that; `None` if and only if there are no
+/// bytes.
 pub fn next_line(bytes: &[u8]) -> Option<(&[u8], &[u8])>
     ensures found { IfSome result (λ next. lines_of bytes.now ≡ next.0.now ∷ lines_of next.1.now) }
     ensures shorter { IfSome result (λ next. length next.1.now < length bytes.now) }

@@ -91,7 +91,8 @@ fn first(bytes: &[u8]) -> Result<Option<(Tlv<'_>, usize)>, TlvFault>
     }
 }
 
-/// The TLV that begins at the place `at`, and the place after its padding; `None` at the end. Never allocates.
+/// The TLV that begins at the place `at`, and the place after its padding; `None` at the end, which `at` does not pass.
+/// Never allocates.
 ///
 /// # Errors
 ///

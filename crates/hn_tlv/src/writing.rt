@@ -11,8 +11,8 @@ pub fn padding(len: usize) -> usize
     (4 - len % 4) % 4
 }
 
-/// How many bytes a TLV takes whose value has `len` bytes: 4 for its type and length, and `len`
-/// rounded up to a multiple of 4 (RFC 7787, section 7). Never allocates.
+/// How many bytes a TLV takes whose value has `len` bytes, at most 65,535: 4 for its type and length, and `len` rounded
+/// up to a multiple of 4 (RFC 7787, section 7). Never allocates.
 pub fn size(len: usize) -> usize
     requires { len ≤ 65535 }
     ensures exact { result ≡ tlv_size len }
@@ -23,8 +23,8 @@ pub fn size(len: usize) -> usize
     HEADER_SIZE + len.next_multiple_of(4)
 }
 
-/// Writes the one spelling of the TLV with this type and value (RFC 7787, section 7). `out` is as
-/// long as the TLV, by `size`. Never allocates.
+/// Writes the one spelling of the TLV with this type and value (RFC 7787, section 7). The value has at most 65,535
+/// bytes, and `out` is as long as the TLV, by `size`. Never allocates.
 pub fn write_to(kind: u16, value: &[u8], out: &mut [u8])
     requires value_fits { length value.now ≤ 65535 }
     requires out_fits { length out.old ≡ tlv_size (length value.now) }

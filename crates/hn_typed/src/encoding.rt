@@ -12,6 +12,10 @@ use std::alloc::Global;
 
 /// The one TLV that is written for the item (RFC 7787, section 7; RFC 7788, section 10), under the conditions of
 /// `write`.
+///
+/// # Errors
+///
+/// Out of memory.
 pub fn encode(alloc: Global, item: &Item<'_>) -> Result<Bytes, NoMemory>
     requires short { length (value_of (plain_item item.now)) ≤ 65535 }
     requires priority { HasPriority (plain_item item.now) }

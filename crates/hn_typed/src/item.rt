@@ -44,6 +44,7 @@ pub enum Item<'a> {
         subs: &'a [u8],
     },
     /// The keep-alive interval of an endpoint, in milliseconds; endpoint 0 is each of them (RFC 7787, section 7.3.2).
+    /// An interval of 0 says that no keep-alives are sent.
     KeepAlive {
         endpoint: EpId,
         interval: u32,
@@ -58,7 +59,8 @@ pub enum Item<'a> {
     External {
         subs: &'a [u8],
     },
-    /// A delegated prefix, and its valid and preferred lifetime in seconds (RFC 7788, section 10.2.1).
+    /// A delegated prefix, and its valid and preferred lifetime in seconds; 4294967295 is one that never ends (RFC
+    /// 7788, section 10.2.1).
     Delegated {
         valid: u32,
         preferred: u32,

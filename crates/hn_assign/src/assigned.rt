@@ -32,6 +32,6 @@ pub struct Wish {
     pub endpoint: EpId,
     /// The endpoints of the link of `endpoint`: its Common Link (RFC 7788, section 6.1).
     pub common: Endpoints,
-    /// The length of the prefixes that the link gets, 1 to 64.
+    /// The length of the prefixes that the link gets, 1 to 64 bits.
     pub length: u8,
 }

@@ -14,6 +14,10 @@ pub type AdvertisedPrefixes = Sequence<Advertised>;
 
 /// The advertised prefixes as a router sees them: the Assigned-Prefix TLVs of the other reachable nodes that have an
 /// HNCP-Version, and the router's own published assignments (RFC 7695, section 2; RFC 7788, section 10.3).
+///
+/// # Errors
+///
+/// Out of memory.
 pub fn gather(alloc: Global, view: &View<'_>, held: &Held) -> Result<AdvertisedPrefixes, NoMemory>
     requires { IsNetwork view.now.own.0 view.now.nodes.now }
     ensures { IfOk result (AreAdvertised (plain_view view.entry.now) held.now.assigned) }

@@ -35,6 +35,10 @@ impl Held {
     }
 
     /// The same, in new memory.
+    ///
+    /// # Errors
+    ///
+    /// Out of memory.
     pub fn copy(&self, alloc: Global) -> Result<Held, NoMemory>
         ensures { IfOk result (λ copy. copy ≡ self.now) }
     {

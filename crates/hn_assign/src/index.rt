@@ -177,8 +177,8 @@ impl Index {
         valid(&self.short, own, common, c) && valid(self.starting_in(&c.prefix), own, common, c)
     }
 
-    /// The first free prefix of a length inside another, in cyclic order from a place; `None` if and only if nothing
-    /// is free. Nothing is where the other one is longer. Never allocates.
+    /// The first free prefix of a length, at most 64, inside another, in cyclic order from a place; `None` if and only
+    /// if nothing is free. Nothing is where the other one is longer. Never allocates.
     pub fn first_free(&self, outer: &Prefix, start: u128, len: u8) -> Option<Prefix>
         requires { len ≤ 64 }
         ensures first { IfSome result (IsFirstFree outer.now start (map (λ a. a.prefix) self.now) len) }

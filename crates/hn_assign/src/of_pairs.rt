@@ -45,6 +45,10 @@ impl<T: Paired + Copy> OfPairs<T> {
     }
 
     /// The same, in new memory.
+    ///
+    /// # Errors
+    ///
+    /// Out of memory.
     pub fn copy(&self, alloc: Global) -> Result<OfPairs<T>, NoMemory>
         ensures { IfOk result (λ copy. copy ≡ self.now) }
     {
@@ -53,7 +57,7 @@ impl<T: Paired + Copy> OfPairs<T> {
         })
     }
 
-    /// What is held of a pair, if anything is. Never allocates.
+    /// What is held of a pair; `None` if and only if nothing is. Never allocates.
     pub fn find(&self, pair: &Pair) -> Option<T>
         ensures { HasAt T.pair_of pair.now result self.now }
     {

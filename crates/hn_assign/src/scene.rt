@@ -17,7 +17,7 @@ pub struct Scene<'a> {
 }
 
 impl Scene<'_> {
-    /// The best prefix for the pair.
+    /// The best prefix for the pair (RFC 7695, section 4.1); `None` if and only if there is none. Never allocates.
     pub fn best(&self) -> Option<Advertised>
         ensures { IsBestFor (plain_scene self.entry.now) result }
     {
@@ -25,7 +25,7 @@ impl Scene<'_> {
         self.known.best(self.own, common, &self.wish.delegated)
     }
 
-    /// Whether an assignment of the pair is valid.
+    /// Whether an assignment of the pair is valid (RFC 7695, section 4.1). Never allocates.
     pub fn is_valid(&self, c: &Assigned) -> bool
         ensures { IsTrue result ↔ IsValidFor (plain_scene self.entry.now) c.now }
     {

@@ -20,7 +20,12 @@ use std::alloc::Global;
 /// First the assignments and backoffs of other pairs are destroyed. Then each pair has its turn, in ascending order by
 /// delegated prefix and endpoint, and sees what those before it changed. Last, assignments that were kept for 10,000 ms
 /// are marked applied (RFC 7695, section 4.3). One word of the draw is taken for each backoff that is set and one for
-/// each assignment that is made, in order.
+/// each assignment that is made, in order. Each assignment that is held is inside its delegated prefix, and was made at
+/// that moment or before.
+///
+/// # Errors
+///
+/// Out of memory. Words may have been taken then.
 pub fn subroutine<D: Draw>(
     alloc: Global,
     view: &View<'_>,

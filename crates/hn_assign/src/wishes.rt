@@ -48,7 +48,11 @@ impl Wishes {
         self.items.as_slice()
     }
 
-    /// Adds a wish at its place in the order; `false` if and only if the pair has one already, which then stays.
+    /// Adds a wish at its place in the order; `false` exactly if the pair has one already, which then stays.
+    ///
+    /// # Errors
+    ///
+    /// Out of memory; nothing has changed then.
     pub fn add(&mut self, wish: Wish) -> Result<bool, NoMemory>
         requires { IsFitting wish }
         ensures added { IfOk result (λ added. added ≡ true

@@ -19,6 +19,10 @@ const MOST: usize = 32;
 /// are the greatest that its announcements leave, in milliseconds.
 ///
 /// The work is near linear in the announcements.
+///
+/// # Errors
+///
+/// Out of memory.
 pub fn used(alloc: Global, view: &View<'_>) -> Result<Sequence<Delegated>, NoMemory>
     ensures { IfOk result (AreUsable (plain_view view.entry.now)) }
 {

@@ -4,7 +4,8 @@ ghost use Rattle.hn_dncp.specs.Ask.{may_ask, asked};
 use crate::port::Port;
 use hn_base::Moment;
 
-/// The least time between two requests for the network state that are sent on an endpoint, in milliseconds.
+/// The least time between two requests for the network state that are sent on an endpoint, in milliseconds (RFC 7787,
+/// section 4.4).
 pub const LEAST_TIME_BETWEEN_REQUESTS: u64 = 200;
 
 impl Port {

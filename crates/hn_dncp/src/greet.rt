@@ -20,7 +20,10 @@ pub enum Greet {
 
 impl Port {
     /// A datagram's sender is named by a Node Endpoint TLV (RFC 7787, section 4.5). By unicast a known peer's contact
-    /// and address are renewed, and an unknown sender is added; by multicast nothing changes.
+    /// and address are renewed, and an unknown sender is added where there is room; by multicast nothing changes.
+    ///
+    /// `Known` exactly if the sender is a peer; `Unknown` exactly if it is none and the datagram came by multicast;
+    /// `Full` exactly if it is none, the datagram came by unicast, and the endpoint has 64 peers; else `Added`.
     ///
     /// # Errors
     ///

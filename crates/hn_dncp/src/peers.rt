@@ -55,6 +55,9 @@ impl Model for Peers {
 impl Clone for Peers {
     ghost is_clone = { λ peers copy. copy ≡ peers };
 
+    /// # Errors
+    ///
+    /// Out of memory, as `AllocError`.
     fn clone(&self) -> Result<Peers, AllocError> {
         Ok(Peers {
             items: self.items.clone()?,
@@ -109,7 +112,7 @@ impl Peers {
         self.items.iter().any(|peer| peer.is(node, endpoint))
     }
 
-    /// The peer that is that endpoint of that node, if there is one. Never allocates.
+    /// The peer that is that endpoint of that node; `None` if and only if there is none. Never allocates.
     pub fn find(&self, node: NodeId, endpoint: EpId) -> Option<&Neighbour>
         ensures { option_copied result ≡ find (is_peer node endpoint) self.now }
     {

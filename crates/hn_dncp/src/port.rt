@@ -41,6 +41,9 @@ impl Port {
 impl Clone for Port {
     ghost is_clone = { λ port copy. copy ≡ port };
 
+    /// # Errors
+    ///
+    /// Out of memory, as `AllocError`.
     fn clone(&self) -> Result<Port, AllocError> {
         Ok(Port {
             id: self.id,

@@ -13,6 +13,10 @@ use std::alloc::Global;
 
 /// The identifiers of the nodes that can be reached from the own node, the own one among them, in ascending order (RFC
 /// 7787, section 4.6). The nodes are in strictly ascending order of their identifiers, and the own one is among them.
+///
+/// # Errors
+///
+/// Out of memory.
 pub fn reach(alloc: Global, own: NodeId, nodes: &[Entry]) -> Result<NodeIds, NoMemory>
     requires { IsNetwork own.0 nodes.now }
     ensures ascending { IfOk result (IsStrictlySortedBy node_cmp) }

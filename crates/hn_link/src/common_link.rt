@@ -20,6 +20,10 @@ fn is_joined(nodes: &[Entry], node: &Entry, link: &PeerLink, e: EpId) -> bool
 /// in ascending order of node and endpoint (RFC 7788, section 6.1).
 ///
 /// The work is near linear in the peers of the own node.
+///
+/// # Errors
+///
+/// Out of memory.
 pub fn common(alloc: Global, view: &View<'_>, e: EpId) -> Result<Endpoints, NoMemory>
     requires { IsNetwork view.now.own.0 view.now.nodes.now }
     ensures { IfOk result (IsCommonLink (plain_view view.entry.now) e.0) }

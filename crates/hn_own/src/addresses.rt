@@ -35,6 +35,9 @@ impl Model for Addresses {
 impl Clone for Addresses {
     ghost is_clone = { λ addresses copy. copy ≡ addresses };
 
+    /// # Errors
+    ///
+    /// Out of memory, as `AllocError`.
     fn clone(&self) -> Result<Addresses, AllocError> {
         Ok(Addresses {
             items: self.items.clone()?,
@@ -87,7 +90,11 @@ impl Addresses {
         }
     }
 
-    /// These addresses.
+    /// These addresses, which are in strictly ascending order and at most 64.
+    ///
+    /// # Errors
+    ///
+    /// Out of memory.
     pub fn of(alloc: Global, list: &[(EpId, u128)]) -> Result<Addresses, NoMemory>
         requires { AreAddresses list.now }
         ensures { IfOk result (λ addresses. addresses ≡ list.now) }
@@ -106,6 +113,10 @@ impl Addresses {
     }
 
     /// The addresses in order, in new memory.
+    ///
+    /// # Errors
+    ///
+    /// Out of memory.
     pub fn copy(&self, alloc: Global) -> Result<Sequence<(EpId, u128)>, NoMemory>
         ensures addresses { IfOk result (λ copy. copy ≡ self.now) }
         ensures kept { AreAddresses self.now }

@@ -67,6 +67,10 @@ impl HeldPairs {
     }
 
     /// What is held for other posts than endpoint 0, that of a private link, in new memory.
+    ///
+    /// # Errors
+    ///
+    /// Out of memory.
     pub fn without_private(&self, alloc: Global) -> Result<HeldPairs, NoMemory>
         ensures { IfOk result (λ held. held ≡ without_private self.now) }
     {
@@ -76,7 +80,11 @@ impl HeldPairs {
         Ok(HeldPairs { held })
     }
 
-    /// What the router publishes of the assignments.
+    /// What the router publishes of the assignments: at most 544, each with priority 2.
+    ///
+    /// # Errors
+    ///
+    /// Out of memory.
     pub fn published(&self, alloc: Global) -> Result<Sequence<AssignedPrefix>, NoMemory>
         ensures published { IfOk result (λ published. published ≡ published_in self.now.assigned) }
         ensures few { IfOk result (λ published. length published ≤ 544) }

@@ -235,6 +235,10 @@ fn add_address_pieces(
 
 impl OwnItems {
     /// The own items of a router as it is.
+    ///
+    /// # Errors
+    ///
+    /// Out of memory.
     pub fn of(
         alloc: Global,
         caps: Caps,
@@ -290,6 +294,10 @@ impl OwnItems {
 
 impl OwnData {
     /// The node data of own items that are published now.
+    ///
+    /// # Errors
+    ///
+    /// Out of memory.
     pub fn new(alloc: Global, items: OwnItems, now: Moment) -> Result<OwnData, NoMemory>
         requires { AreFew items }
         ensures items { IfOk result (λ own. own.items ≡ items) }
@@ -306,21 +314,21 @@ impl OwnData {
         })
     }
 
-    /// The items.
+    /// The items. Never allocates.
     pub fn items(&self) -> &OwnItems
         ensures { result.now ≡ self.now.items }
     {
         &self.items
     }
 
-    /// When they were published.
+    /// When they were published, in milliseconds. Never allocates.
     pub fn born(&self) -> Moment
         ensures { result ≡ self.now.born }
     {
         self.born
     }
 
-    /// The node data.
+    /// The node data, which have fewer than 36,864 bytes. Never allocates.
     pub fn body(&self) -> &NodeData
         ensures body { result.now ≡ self.now.body }
         ensures short { length result.now < 36864 }
@@ -328,7 +336,7 @@ impl OwnData {
         &self.body
     }
 
-    /// The hash of the node data.
+    /// The hash of the node data. Never allocates.
     pub fn hash(&self) -> [u8; 8]
         ensures { result ≡ self.now.hash }
     {

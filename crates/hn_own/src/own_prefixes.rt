@@ -25,7 +25,7 @@ pub struct OwnPrefix {
 }
 
 impl OwnPrefix {
-    /// A prefix whose lifetimes in seconds begin now.
+    /// A prefix whose lifetimes in seconds begin now; 4294967295 is one that never ends. Never allocates.
     pub fn new(now: Moment, prefix: Prefix, valid: u32, preferred: u32) -> OwnPrefix
         requires { now ≤ 2 ^ 48 }
         ensures { result ≡ own_prefix now prefix valid preferred }
@@ -89,6 +89,9 @@ impl Model for OwnPrefixes {
 impl Clone for OwnPrefixes {
     ghost is_clone = { λ prefixes copy. copy ≡ prefixes };
 
+    /// # Errors
+    ///
+    /// Out of memory, as `AllocError`.
     fn clone(&self) -> Result<OwnPrefixes, AllocError> {
         Ok(OwnPrefixes {
             items: self.items.clone()?,
@@ -119,6 +122,10 @@ impl OwnPrefixes {
     }
 
     /// The prefixes in order, in new memory.
+    ///
+    /// # Errors
+    ///
+    /// Out of memory.
     pub fn copy(&self, alloc: Global) -> Result<Sequence<OwnPrefix>, NoMemory>
         ensures prefixes { IfOk result (λ copy. copy ≡ self.now) }
         ensures kept { AreOwnPrefixes self.now }
@@ -140,7 +147,12 @@ impl OwnPrefixes {
         self.has(prefix) || self.items.len() < MOST_PREFIXES
     }
 
-    /// Adds a prefix at its place in the order, or puts it in place of the same one.
+    /// Adds a prefix at its place in the order, or puts it in place of the same one. It may be added, as `may_have`
+    /// says.
+    ///
+    /// # Errors
+    ///
+    /// Out of memory; the prefixes are as before then.
     pub fn put(&mut self, own: OwnPrefix) -> Result<(), NoMemory>
         requires { may_delegate own.prefix self.old ≡ true }
         ensures put { OnOk result (self.new ≡ delegated_with own self.old) }

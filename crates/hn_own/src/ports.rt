@@ -30,6 +30,9 @@ impl Model for Ports {
 impl Clone for Ports {
     ghost is_clone = { λ ports copy. copy ≡ ports };
 
+    /// # Errors
+    ///
+    /// Out of memory, as `AllocError`.
     fn clone(&self) -> Result<Ports, AllocError> {
         Ok(Ports {
             items: self.items.clone()?,
@@ -81,7 +84,7 @@ impl Ports {
         self.items.as_slice()
     }
 
-    /// Whether there is room for one more. Never allocates.
+    /// Whether there is room for one more: they are fewer than 16. Never allocates.
     pub fn has_room(&self) -> bool
         ensures { result ≡ nat_lt (length self.now) 16 }
     {
@@ -89,13 +92,17 @@ impl Ports {
     }
 
     /// The numbers of the endpoints in order.
+    ///
+    /// # Errors
+    ///
+    /// Out of memory.
     pub fn endpoints(&self, alloc: Global) -> Result<Vec<EpId>, NoMemory>
         ensures { IfOk result (λ endpoints. endpoints.items ≡ endpoints_of self.now) }
     {
         Ok(self.items.iter().map(|port| port.id).collect(alloc)?)
     }
 
-    /// The endpoint of a number, if it is attached. Never allocates.
+    /// The endpoint of a number; `None` if and only if it is not attached. Never allocates.
     pub fn find(&self, at: EpId) -> Option<&Port>
         ensures { option_copied result ≡ port_at at self.now }
     {
@@ -136,7 +143,8 @@ impl Ports {
         Ok(Ports { items })
     }
 
-    /// Adds an endpoint at its place in the order.
+    /// Adds an endpoint at its place in the order. Its number is not 0, none is attached with it, and fewer than 16 are
+    /// attached.
     ///
     /// # Errors
     ///

@@ -45,6 +45,10 @@ pub fn length_at(private: Option<LinkLength>, endpoint: EpId) -> u8
 
 impl Ports {
     /// The posts of a router with these endpoints and this private link, or none, in order of their numbers.
+    ///
+    /// # Errors
+    ///
+    /// Out of memory.
     pub fn posts(&self, alloc: Global, private: Option<LinkLength>) -> Result<Vec<EpId>, NoMemory>
         ensures { IfOk result (λ posts. posts.items ≡ posts_of private self.now) }
     {

@@ -51,7 +51,8 @@ fn has_wrong_hash(state: &State<'_>, hash: [u8; 8]) -> bool
 }
 
 impl Table {
-    /// What is known of a node: the router's own number and hash, or those held. Never allocates.
+    /// What is known of a node: the router's own number and hash, or those held; `None` if and only if the node is
+    /// neither the router's own nor held. Never allocates.
     pub fn known_of(&self, own: &OwnLeaf, node: NodeId) -> Option<Part>
         ensures { result ≡ known_of self.now.entries own.now node.0 }
     {
@@ -167,10 +168,16 @@ impl Table {
         Took::Renumbered
     }
 
-    /// Takes a node state that arrives (RFC 7787, section 4.4).
+    /// Takes a node state that arrives (RFC 7787, section 4.4). The answer is that of the first line of the rule
+    /// (`IsAnswer`) whose condition holds. In this order they are `Stale`, `Full`, `TooLong`, `BadHash`, `Own`,
+    /// `BadBody`, `Kept` and `Ask`, and else `Renumbered`.
     ///
-    /// After out of memory the table is as it was. Beyond reading the data it takes time that grows with the logarithm
-    /// of the number of nodes, and a node that was not held moves the entries after its own.
+    /// Beyond reading the data it takes time that grows with the logarithm of the number of nodes, and a node that was
+    /// not held moves the entries after its own.
+    ///
+    /// # Errors
+    ///
+    /// Out of memory; the table is as it was.
     pub fn take(
         &mut self,
         alloc: Global,

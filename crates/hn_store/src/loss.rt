@@ -9,7 +9,7 @@ use crate::stored::HeldNode;
 use crate::table::Table;
 use hn_base::{Moment, NodeId, sooner};
 
-/// How long a node stays held that is not reachable, in milliseconds.
+/// How long a node stays held that is not reachable, in milliseconds (RFC 7787, section 4.6; RFC 7788, section 3).
 pub const GRACE: u64 = 42_000;
 
 /// Whether identifiers do not fall from place to place.
@@ -117,7 +117,8 @@ impl Table {
         has_to_mark(&self.nodes, reach)
     }
 
-    /// Removes the nodes that are lost for 42,000 ms or more, and answers how many these were. Never allocates.
+    /// Removes the nodes that are lost for 42,000 ms or more (RFC 7787, section 4.6), and answers how many these were.
+    /// Never allocates.
     pub fn forget(&mut self, now: Moment) -> usize
         ensures nodes { self.new ≡ remembered now self.old }
         ensures count { result ≡ count_by (is_forgotten now) self.old.entries }

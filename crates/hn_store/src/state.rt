@@ -29,7 +29,7 @@ pub struct State<'a> {
 pub enum Took {
     /// Its data are held now.
     Kept,
-    /// The node has a new sequence number, and the same data.
+    /// It carries no data, and has a newer sequence number with the hash that is held.
     Renumbered,
     /// It carries no data, and its data are not held: they are to be asked for.
     Ask,

@@ -57,6 +57,9 @@ impl Stored {
 impl Clone for Stored {
     ghost is_clone = { λ stored copy. copy ≡ stored };
 
+    /// # Errors
+    ///
+    /// Out of memory, as `AllocError`.
     fn clone(&self) -> Result<Stored, AllocError> {
         let Ok(body) = self.body.share() else {
             return Err(AllocError);
@@ -76,6 +79,9 @@ impl Clone for Stored {
 impl Clone for HeldNode {
     ghost is_clone = { λ node copy. copy ≡ node };
 
+    /// # Errors
+    ///
+    /// Out of memory, as `AllocError`.
     fn clone(&self) -> Result<HeldNode, AllocError> {
         Ok(HeldNode {
             id: self.id,

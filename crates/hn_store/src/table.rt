@@ -54,7 +54,7 @@ impl Table {
         Table::sized(alloc, LIMIT)
     }
 
-    /// A table of at most this many nodes that holds none. Never allocates.
+    /// A table of at most this many nodes, 256 or 1,024, that holds none. Never allocates.
     pub fn sized(alloc: Global, limit: usize) -> Table
         requires { (limit ≡ 256) ⊎ (limit ≡ 1024) }
         ensures { result ≡ record { limit = limit; entries = [] } }
@@ -88,7 +88,7 @@ impl Table {
         self.nodes.as_slice()
     }
 
-    /// What it holds of a node. Never allocates.
+    /// What it holds of a node; `None` if and only if the node is not held. Never allocates.
     pub fn get(&self, id: NodeId) -> Option<&Stored>
         ensures held { option_copied result ≡ held self.now.entries id.0 }
         ensures intact { IfSome result (λ stored. IsIntact stored.now) }
@@ -100,7 +100,8 @@ impl Table {
     }
 
     /// What it holds of a node, which is looked for at a place first. The place moves past the node where it is found.
-    /// Where the nodes of a table are looked for in ascending order from place 0 on, most are found at once. Never allocates.
+    /// `None` if and only if the node is not held. Where the nodes of a table are looked for in ascending order from
+    /// place 0 on, most are found at once. Never allocates.
     pub fn next_to(&self, place: &mut usize, id: NodeId) -> Option<&Stored>
         ensures held { option_copied result ≡ held self.now.entries id.0 }
         ensures intact { IfSome result (λ stored. IsIntact stored.now) }
@@ -115,6 +116,10 @@ impl Table {
     }
 
     /// The identifiers of the nodes, in ascending order.
+    ///
+    /// # Errors
+    ///
+    /// Out of memory.
     pub fn ids(&self, alloc: Global) -> Result<NodeIds, NoMemory>
         ensures ids { IfOk result (λ ids. ids ≡ map (λ node. node.id) self.now.entries) }
         ensures ascending { IfOk result (IsStrictlySortedBy node_cmp) }
@@ -124,6 +129,10 @@ impl Table {
     }
 
     /// The same table. The copy shares the memory of the node data.
+    ///
+    /// # Errors
+    ///
+    /// Out of memory.
     pub fn copy(&self) -> Result<Table, NoMemory>
         ensures { IfOk result (λ copy. copy ≡ self.now) }
     {
@@ -134,6 +143,11 @@ impl Table {
 impl Clone for Table {
     ghost is_clone = { λ table copy. copy ≡ table };
 
+    /// The clone shares the memory of the node data.
+    ///
+    /// # Errors
+    ///
+    /// Out of memory, as `AllocError`.
     fn clone(&self) -> Result<Table, AllocError> {
         Ok(Table {
             limit: self.limit,

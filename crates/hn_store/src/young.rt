@@ -22,8 +22,9 @@ pub(crate) fn young_until(age: u32, at: Moment) -> Moment
 }
 
 impl Table {
-    /// Whether the data of each node are surely younger than 2^32 - 2^15 ms at a moment. No node is looked at. Never
-    /// allocates.
+    /// Whether the data of each node are surely younger than 2^32 - 2^15 ms at a moment (RFC 7787, section 4.6). No
+    /// node is looked at. `false` may come wherever: no clause says when. A caller that gets it looks at each node.
+    /// Never allocates.
     pub fn is_young(&self, now: Moment) -> bool
         ensures { IsTrue result → All (λ node. age_of now node.stored < 2 ^ 32 - 2 ^ 15) self.now.entries }
     {

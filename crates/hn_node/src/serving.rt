@@ -48,7 +48,7 @@ fn served(node: Node, end: ServeEnd) -> Served
 ///
 /// # Errors
 ///
-/// Out of memory.
+/// Out of memory, but not where the count of faults of the wire rose. Nothing is said of what was sent and taken then.
 pub fn serve<W: Wire, C: Clock, D: Draw>(
     alloc: Global,
     router: Router,

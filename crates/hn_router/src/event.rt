@@ -2,6 +2,10 @@ use hn_base::{Addr, Caps, EpId, LinkLength};
 use hn_prefix::Prefix;
 
 /// What may happen to a router.
+///
+/// Refused are an arrival and a detachment at an endpoint that is not attached; an attachment of endpoint 0, of an
+/// endpoint that is attached, and of a seventeenth; a ninth delegated prefix; and a list that may not be the own
+/// addresses.
 #[derive(Clone, Copy)]
 pub enum Event<'a> {
     /// A datagram arrives at an endpoint.

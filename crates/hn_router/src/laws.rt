@@ -155,7 +155,7 @@ pub fn limit_stays()
     changes_keep_the_limit();
 }
 
-/// Refused input changes only the moment.
+/// Refused input changes only the moment, and the one at which something is next due, which is 0 then.
 pub fn refused_input_stays()
     ensures { RefusedInputStays }
 {

@@ -201,8 +201,9 @@ impl Router {
         event_of_bytes(event);
     }
 
-    /// What an event would do; the router stays as it is. Each datagram that it sends has at most 65,507 bytes. Whether there is
-    /// memory or not, it cannot be that the event has no result over a stream of words; with `one_result` it has exactly one.
+    /// What an event would do; the router stays as it is. Each datagram that it sends has at most 65,507 bytes. The
+    /// notes are those of `act`. The moment is not before the router's, and at most 2^48 ms. Whether there is memory or
+    /// not, it cannot be that the event has no result over a stream of words; with `one_result` it has exactly one.
     ///
     /// # Errors
     ///
@@ -267,10 +268,18 @@ impl Router {
         self.state.moment = Present::new(now);
     }
 
-    /// An event happens to the router at a moment. Each datagram that it sends has at most 65,507 bytes. A tick before `due_at`
-    /// takes no memory, and only the moment changes. After a tick that does nothing `due_at` is the moment at which something is
-    /// next due. Whether there is memory or not, it cannot be that the event has no result over a stream of words; with
-    /// `one_result` it has exactly one.
+    /// An event happens to the router at a moment that is not before its own, and at most 2^48 ms. Each datagram that
+    /// it sends has at most 65,507 bytes. A tick before `due_at` takes no memory, and only the moment changes. After a
+    /// tick that does nothing `due_at` is the moment at which something is next due. Whether there is memory or not, it
+    /// cannot be that the event has no result over a stream of words; with `one_result` it has exactly one.
+    ///
+    /// The notes, in order: `Refused` exactly if the event is refused; then there is no other, and but for the moment
+    /// and `due_at`, which is 0, the router is as before. Of an arrival that is not refused, `Far` exactly if its
+    /// source is not link-local; else `Malformed` exactly if the bytes are no list of TLVs, with their first fault. Of
+    /// a list of TLVs, `Ignored` exactly for each TLV that the item table refuses, with its cause, and for each Node
+    /// Endpoint that is refused, with 7, 6 or 5; `PeersFull` exactly if an unknown sender is greeted by unicast at an
+    /// endpoint with 64 peers; and for each Node State one note, `Own` exactly if the table answers that it claims the
+    /// own identifier, and else `Took` with the answer.
     ///
     /// # Errors
     ///
@@ -345,7 +354,7 @@ impl Router {
         self.state.moment.get()
     }
 
-    /// The nodes that were reachable at the last refresh, in ascending order. Never allocates.
+    /// The nodes that were reachable at the last refresh, in ascending order (RFC 7787, section 4.6). Never allocates.
     pub fn reach(&self) -> &[NodeId]
         ensures { result.now ≡ self.now.reach }
     {
@@ -359,7 +368,7 @@ impl Router {
         self.state.table.get()
     }
 
-    /// The network state hash of the last refresh. Never allocates.
+    /// The network state hash of the last refresh (RFC 7787, section 4.1). Never allocates.
     pub fn net(&self) -> [u8; 8]
         ensures { result ≡ self.now.net }
     {
@@ -373,9 +382,9 @@ impl Router {
         self.state.own.get().born()
     }
 
-    /// Whether an endpoint is attached. Ask before `Arrive` and `Detach`, which are refused at an endpoint that is not attached,
-    /// and before `Attach`, which is refused at one that is. After an event that is refused only the moment is another, and the
-    /// note is `Refused`. Never allocates.
+    /// Whether an endpoint is attached. Ask before `Arrive` and `Detach`, which are refused at an endpoint that is not
+    /// attached, and before `Attach`, which is refused at one that is. After an event that is refused only the moment
+    /// is another and `due_at` is 0, and the note is `Refused`. Never allocates.
     pub fn attached(&self, endpoint: EpId) -> bool
         ensures { result ≡ is_attached endpoint self.now.ports }
     {
@@ -413,7 +422,8 @@ impl Router {
         self.state.ports.get().may_address(list)
     }
 
-    /// The length of the prefixes of its private link, if it has one. Never allocates.
+    /// The length of the prefixes of its private link, 1 to 64 bits; `None` if and only if it has none. Never
+    /// allocates.
     pub fn private(&self) -> Option<LinkLength>
         ensures { result ≡ self.now.private }
     {

@@ -10,7 +10,7 @@ use crate::running::Running;
 use hn_base::{Bytes, NoMemory, NodeId};
 use std::alloc::Global;
 
-/// What an answer is about.
+/// What an answer is about (RFC 7787, sections 7.1 and 7.2).
 #[derive(Clone, Copy)]
 pub enum Subject {
     /// A Request Network State.

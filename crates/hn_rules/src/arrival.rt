@@ -179,6 +179,10 @@ impl Running {
     }
 
     /// A datagram that is a list of TLVs arrives.
+    ///
+    /// # Errors
+    ///
+    /// Out of memory. No clause says what the `Running` is then.
     pub fn arrival<D: Draw>(
         &mut self,
         alloc: Global,

@@ -147,6 +147,10 @@ impl State {
     }
 
     /// What the router asks, as it sees the network: a wish for each pair of a usable delegated prefix and a post.
+    ///
+    /// # Errors
+    ///
+    /// Out of memory.
     pub fn wishes(&self, alloc: Global, usable: &[Delegated]) -> Result<Wishes, NoMemory>
         requires router { IsRouter self.now }
         requires usable { AreUsable (seen_by self.now) usable.now }
@@ -193,7 +197,12 @@ impl Running {
         Ok(touched)
     }
 
-    /// The assignment of prefixes: whether it made, changed or destroyed an assignment.
+    /// The assignment of prefixes: whether it made, changed or destroyed an assignment. After `false` what a refresh
+    /// makes still holds. No clause says that something was touched after `true`.
+    ///
+    /// # Errors
+    ///
+    /// Out of memory. No clause says what the `Running` is then.
     pub fn assign<D: Draw>(&mut self, alloc: Global, draw: &mut D) -> Result<bool, NoMemory>
         requires { IsRouter self.old.state }
         ensures ran { OnOk result (Ran IsAssigning (D.words draw.old) (D.words draw.new) self.old self.new) }

@@ -10,7 +10,12 @@ use hn_own::OwnPrefix;
 use hn_prefix::Prefix;
 
 impl Running {
-    /// A delegated prefix is added, or replaces the same one; its lifetimes are in seconds.
+    /// A delegated prefix is added, or replaces the same one; its lifetimes are in seconds, and 4294967295 is one that
+    /// never ends (RFC 7788, section 10.2.1). It is there already, or fewer than 8 are.
+    ///
+    /// # Errors
+    ///
+    /// Out of memory. No clause says what the `Running` is then.
     pub fn put_prefix(&mut self, prefix: Prefix, valid: u32, preferred: u32) -> Result<(), NoMemory>
         requires { may_delegate prefix self.old.state.delegated ≡ true }
         ensures { OnOk result (self.new ≡ delegating prefix valid preferred self.old) }
@@ -20,6 +25,10 @@ impl Running {
     }
 
     /// A delegated prefix is withdrawn.
+    ///
+    /// # Errors
+    ///
+    /// Out of memory. No clause says what the `Running` is then.
     pub fn remove_prefix(&mut self, prefix: &Prefix) -> Result<(), NoMemory>
         ensures { OnOk result (self.new ≡ withdrawing prefix.now self.old) }
     {
@@ -27,7 +36,12 @@ impl Running {
         Ok(())
     }
 
-    /// The delegated prefixes go whose valid lifetime has ended: whether there are some.
+    /// The delegated prefixes go whose valid lifetime has ended: whether there are some. After `false` nothing was
+    /// changed. No clause says that something was after `true`.
+    ///
+    /// # Errors
+    ///
+    /// Out of memory. No clause says what the `Running` is then.
     pub fn end_prefixes(&mut self) -> Result<bool, NoMemory>
         ensures rule { OnOk result (self.new ≡ ending self.old) }
         ensures untouched { IfOk result (λ touched. touched ≡ false → self.new ≡ self.old) }

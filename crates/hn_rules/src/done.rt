@@ -22,14 +22,15 @@ pub struct Outgoing {
 pub enum Note {
     /// A datagram came from an address that is not link-local.
     Far,
-    /// A datagram is no list of TLVs (RFC 7787, section 7).
+    /// A datagram is no list of TLVs (RFC 7787, section 7): the place of its first fault, in bytes, and the cause, as
+    /// `hn_tlv::check` gives them.
     Malformed { place: usize, why: u8 },
     /// A TLV was not followed: 1 to 4 as `hn_typed` refuses it; of a Node Endpoint 5 where the sender was named already,
     /// 6 with the own identifier, 7 with endpoint 0.
     Ignored { kind: u16, why: u8 },
     /// What came of the state of another node (RFC 7787, section 4.4).
     Took { node: NodeId, how: Took },
-    /// Another node claims the own identifier, with this sequence number.
+    /// Another node claims the own identifier, with this sequence number. It stands in place of `Took`.
     Own { number: u32 },
     /// An endpoint has no room for one more peer.
     PeersFull,

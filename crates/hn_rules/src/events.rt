@@ -30,7 +30,11 @@ fn are_same(a: &Option<LinkLength>, b: &Option<LinkLength>) -> bool
 }
 
 impl Running {
-    /// An endpoint is attached.
+    /// An endpoint is attached. Its number is not 0, it is not attached yet, and fewer than 16 are.
+    ///
+    /// # Errors
+    ///
+    /// Out of memory. No clause says what the `Running` is then.
     pub fn add_port<D: Draw>(
         &mut self,
         alloc: Global,
@@ -48,6 +52,10 @@ impl Running {
     }
 
     /// An endpoint is detached, with its peers and its addresses.
+    ///
+    /// # Errors
+    ///
+    /// Out of memory. No clause says what the `Running` is then.
     pub fn remove_port(&mut self, at: EpId) -> Result<(), NoMemory>
         ensures { OnOk result (self.new ≡ detaching at self.old) }
     {
@@ -64,6 +72,10 @@ impl Running {
     }
 
     /// The private link is set or ended. Where its length changes, what is held for it is destroyed.
+    ///
+    /// # Errors
+    ///
+    /// Out of memory. No clause says what the `Running` is then.
     pub fn put_private(
         &mut self,
         alloc: Global,
@@ -80,7 +92,12 @@ impl Running {
         Ok(())
     }
 
-    /// The router gets these addresses.
+    /// The router gets these addresses, in strictly ascending order, at most 64, each of an attached endpoint (RFC
+    /// 7788, section 10.4).
+    ///
+    /// # Errors
+    ///
+    /// Out of memory. No clause says what the `Running` is then.
     pub fn put_addresses(&mut self, alloc: Global, list: &[(EpId, u128)]) -> Result<(), NoMemory>
         requires { may_address list.now self.old.state.ports ≡ true }
         ensures { OnOk result (self.new ≡ setting_addresses list.now self.old) }
@@ -135,6 +152,10 @@ impl Running {
     }
 
     /// A restart.
+    ///
+    /// # Errors
+    ///
+    /// Out of memory. No clause says what the `Running` is then.
     pub fn restart<D: Draw>(&mut self, alloc: Global, draw: &mut D) -> Result<(), NoMemory>
         ensures { OnOk result (Ran IsRestarting (D.words draw.old) (D.words draw.new) self.old self.new) }
     {

@@ -189,6 +189,10 @@ impl Running {
     }
 
     /// A refresh. Where nothing was touched that it makes and no age is due, it changes nothing and computes nothing.
+    ///
+    /// # Errors
+    ///
+    /// Out of memory. No clause says what the `Running` is then.
     pub fn refresh<D: Draw>(
         &mut self,
         alloc: Global,

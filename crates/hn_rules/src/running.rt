@@ -18,6 +18,8 @@ pub struct Origin {
 }
 
 /// A router in the middle of an event, what came of it so far, and what an arrival carries from TLV to TLV.
+///
+/// After out of memory no clause says what it is: `Router::plan` of `hn_router` works on a copy, and drops it.
 #[derive(Drop)]
 pub struct Running {
     pub state: State,
@@ -29,6 +31,10 @@ pub struct Running {
 
 impl Running {
     /// Where an event begins.
+    ///
+    /// # Errors
+    ///
+    /// Out of memory.
     pub fn begin(alloc: Global, state: &State, now: Moment) -> Result<Running, NoMemory>
         requires { now ≤ 2 ^ 48 }
         ensures { IfOk result (λ begun. begun ≡ begun_at now state.now) }
@@ -44,6 +50,10 @@ impl Running {
     }
 
     /// Takes a note.
+    ///
+    /// # Errors
+    ///
+    /// Out of memory. No clause says what the `Running` is then.
     pub fn note(&mut self, note: Note) -> Result<(), NoMemory>
         ensures { OnOk result (self.new ≡ noted note self.old) }
     {

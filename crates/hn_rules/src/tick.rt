@@ -124,7 +124,12 @@ impl Running {
         Ok(true)
     }
 
-    /// The expired peers of each endpoint go: whether there are some.
+    /// The expired peers of each endpoint go: whether there are some (RFC 7787, section 6.1.5). After `false` nothing
+    /// was changed. No clause says that something was after `true`.
+    ///
+    /// # Errors
+    ///
+    /// Out of memory. No clause says what the `Running` is then.
     pub fn expire_ports(&mut self, alloc: Global) -> Result<bool, NoMemory>
         ensures rule { OnOk result (IsExpiry self.old self.new) }
         ensures untouched { IfOk result (λ touched. touched ≡ false → self.new ≡ self.old) }
@@ -141,7 +146,11 @@ impl Running {
         Ok(touched)
     }
 
-    /// Lost nodes are forgotten.
+    /// Nodes are forgotten that are lost for 42,000 ms or more (RFC 7787, section 4.6).
+    ///
+    /// # Errors
+    ///
+    /// Out of memory. No clause says what the `Running` is then.
     pub fn forget(&mut self) -> Result<(), NoMemory>
         ensures { OnOk result (self.new ≡ forgetting self.old) }
     {
@@ -205,6 +214,10 @@ impl Running {
     }
 
     /// What is due at each endpoint.
+    ///
+    /// # Errors
+    ///
+    /// Out of memory. No clause says what the `Running` is then.
     pub fn tick_ports<D: Draw>(&mut self, alloc: Global, draw: &mut D) -> Result<(), NoMemory>
         ensures { OnOk result (Ran IsPortsTick (D.words draw.old) (D.words draw.new) self.old self.new) }
     {

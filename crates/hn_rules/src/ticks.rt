@@ -36,6 +36,10 @@ impl Running {
     }
 
     /// A tick.
+    ///
+    /// # Errors
+    ///
+    /// Out of memory. No clause says what the `Running` is then.
     pub fn tick<D: Draw>(&mut self, alloc: Global, draw: &mut D) -> Result<(), NoMemory>
         requires { IsRouter self.old.state }
         ensures { OnOk result (Ran IsTick (D.words draw.old) (D.words draw.new) self.old self.new) }

@@ -60,9 +60,9 @@ pub enum Unsettled {
     },
 }
 
-/// Why a running router is not quiet: what the assignment subroutine, run once more on one of its set with a due backoff
-/// for each pair without an assignment, would do at a pair of a delegated prefix and an endpoint. Endpoint 0 is the
-/// private link.
+/// Why a running router is not quiet: what the assignment subroutine, run once more on one of its set with a due
+/// backoff for each pair without an assignment, would do at a pair of a delegated prefix and an endpoint (RFC 7695,
+/// section 4.1). Endpoint 0 is the private link.
 #[derive(Clone, Copy)]
 pub enum Unquiet {
     /// It has an assignment for a pair that it does not ask for, and would give its prefix up.

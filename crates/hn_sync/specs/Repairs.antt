@@ -29,8 +29,8 @@ pub record HoldsAs (s : State) (n : Entry) : Type 0 where
   pub number : stored.number ≡ n.number
   pub body : stored.body ≡ n.body
 
--- The router held a sequence number of the node that is not older, with the same data where the numbers are equal
--- (RFC 7787, section 4.4), and it holds the same still. Its moment of loss may be another one (section 4.6).
+-- The router held a sequence number of the node that is not older, with the same hash of its data where the numbers are
+-- equal (RFC 7787, section 4.4), and it holds the same still. Its moment of loss may be another one (section 4.6).
 pub record KeepsNewer (before after : State) (n : Entry) : Type 0 where
   pub stored : Stored
   pub was_held : held before.table.entries n.id.0 ≡ Some stored

@@ -36,9 +36,11 @@ pub trait Exchange {
     ///
     /// # Errors
     ///
-    /// `Refused`, and then the world is as before: 7, a name is unknown, which is asked of both first; 12, one of the two is
-    /// stopped; 18, no endpoints of the two are joined. `Refused` where the next of the events is refused: 9, it would be the
-    /// 1,000,001st event; 16, there is too much mail. Out of memory. What happened before stands then.
+    /// `Refused`, and then the world and the draw are as before: 7, a name is unknown, which is asked of both first;
+    /// 12, one of the two is stopped; 18, no endpoints of the two are joined. `Refused` where the next of the events is
+    /// refused: 9, it would be the 1,000,001st event; 16, there is too much mail; what happened before stands then. Out
+    /// of memory, but not where 7, 12 or 18 comes; a front of the exchange stands then, and nothing is said of the
+    /// draw.
     fn sync<D: Draw>(
         &mut self,
         alloc: Global,

@@ -8,7 +8,7 @@ use crate::world::World;
 use hn_base::Name;
 
 impl World {
-    /// The code where there is no router of that name. Never allocates.
+    /// The code 7 where there is no router of that name; `None` if and only if there is one. Never allocates.
     pub fn unless_known(&self, name: &Name) -> Option<u8>
         ensures { result ≡ unless_known name.now self.now }
     {
@@ -18,7 +18,8 @@ impl World {
         }
     }
 
-    /// The code where there is no router of that name, or it is stopped. Never allocates.
+    /// The code 7 where there is no router of that name, 12 where it is stopped; `None` if and only if it runs. Never
+    /// allocates.
     pub fn unless_runs(&self, name: &Name) -> Option<u8>
         ensures { result ≡ unless_runs name.now self.now }
     {
@@ -32,7 +33,8 @@ impl World {
         }
     }
 
-    /// The code where one of two routers is unknown or stopped; both names are looked at first. Never allocates.
+    /// The code 7 where one of two routers is unknown, which is asked of both first, and 12 where one is stopped;
+    /// `None` if and only if both run. Never allocates.
     pub fn unless_both_run(&self, left: &Name, right: &Name) -> Option<u8>
         ensures { result ≡ unless_both_run left.now right.now self.now }
     {

@@ -16,8 +16,8 @@ use hn_hash::{Agreement, agree};
 use std::alloc::Global;
 
 impl World {
-    /// How two routers agree: whether their network state hashes differ, their lists of leaves are the same, or two inputs
-    /// collide.
+    /// How two routers of the world agree: whether their network state hashes differ, their lists of leaves are the
+    /// same, or two inputs collide.
     ///
     /// # Errors
     ///

@@ -17,7 +17,7 @@ pub enum WEvent {
     Link {
         name: Name,
     },
-    /// A router's endpoint is attached to a link.
+    /// A router's endpoint is attached to a link. The endpoint is not 0.
     Attach {
         name: Name,
         endpoint: EpId,

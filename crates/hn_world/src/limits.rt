@@ -15,7 +15,7 @@ const MOST_ROUTERS_OF_TWO: usize = 128;
 /// The most links.
 pub const MOST_LINKS: usize = 64;
 
-/// The most routers of a world.
+/// The most routers of a world: 64 in version 1, 128 in version 2.
 pub fn most_routers(version: Version) -> usize
     ensures { result ≡ most_routers version }
 {
@@ -25,7 +25,7 @@ pub fn most_routers(version: Version) -> usize
     }
 }
 
-/// How many other nodes a router of a world holds at most.
+/// How many other nodes a router of a world holds at most: 256 in version 1, 1,024 in version 2.
 pub fn table_limit(version: Version) -> usize
     ensures limit { result ≡ table_limit version }
     ensures sized { (result ≡ 256) ⊎ (result ≡ 1024) }

@@ -74,7 +74,8 @@ fn is_named(member: &Member, name: &Name) -> bool
 }
 
 impl Member {
-    /// The link to which an endpoint is attached. Never allocates.
+    /// The link to which an endpoint is attached, by its place in order of definition; `None` if and only if it is
+    /// attached to none. Never allocates.
     pub fn link_of(&self, endpoint: EpId) -> Option<usize>
         ensures { result ≡ link_of endpoint self.now }
     {

@@ -149,7 +149,8 @@ impl World {
     ///
     /// # Errors
     ///
-    /// `Refused`, which is found without taking memory, and out of memory. The world is as before then.
+    /// `Refused`, which is found without taking memory, and out of memory. The world is as before then. After `Refused`
+    /// no random word was taken. Out of memory does not come of an event that is refused.
     pub fn apply<D: Draw>(
         &mut self,
         alloc: Global,
@@ -177,7 +178,7 @@ impl World {
         Ok(notes)
     }
 
-    /// The moment of the world, in milliseconds. Never allocates.
+    /// The moment of the world, in milliseconds, at most 2^48. Never allocates.
     pub fn moment(&self) -> Moment
         ensures moment { result ≡ self.now.moment }
         ensures in_range { result ≤ 2 ^ 48 }

@@ -1,6 +1,7 @@
 mod Ways
 mod WhereLinksLead
 mod Marking
+mod LeftToMark
 mod MarkedIds
 mod Progress
 mod Staying

@@ -46,7 +46,7 @@ set_only found p k h =
     (cases_eq k p)
 
 -- one fewer is left to mark
-count_set : (found : List Bool) (p : ℕ) → p < length found → get_or found p false ≡ false → count_by not (set found p true) + 1 ≡ count_by not found
+pub count_set : (found : List Bool) (p : ℕ) → p < length found → get_or found p false ≡ false → count_by not (set found p true) + 1 ≡ count_by not found
 count_set found p lt un =
     let e = sum_by-set (λ b. cond (not b) 1 0) found p true false lt in
     let one : ◌≡◌ {A = ℕ} (cond (not (get_or found p false)) 1 0) 1 = ap (λ b. cond (not b) 1 0) un in

@@ -28,9 +28,12 @@ pub fn reach(alloc: Global, own: NodeId, nodes: &[Entry]) -> Result<NodeIds, NoM
         unreachable!()
     };
     mark(&[start], &mut found, &mut visits)?;
+    let mut visited = 0;
     let mut places = Vec::new(alloc);
     while let Some(place) = visits.pop() {
-        next_places(nodes, &nodes[place], &found, &mut places)?;
+        visited += 1;
+        let left = visited + visits.len() < nodes.len();
+        next_places(nodes, &nodes[place], &found, left, &mut places)?;
         mark(&places, &mut found, &mut visits)?;
     }
     found_ids(alloc, nodes, &found)

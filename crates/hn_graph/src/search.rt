@@ -1,6 +1,6 @@
 //! The parts of the search for reachable nodes. A node is named by its place among all nodes.
 
-ghost use Rattle.std.specs.Prelude.{◌≡◌, ◌<◌, ◌≤◌, ◌↔◌, ℕ, length, All, IfOk, IfErr, OnOk, IfSome, IfNone, IsTrue, Some, slice_get};
+ghost use Rattle.std.specs.Prelude.{◌≡◌, ◌<◌, ◌≤◌, ◌↔◌, ℕ, length, All, IfOk, IfErr, OnOk, IfSome, IfNone, IsTrue, Some, false, slice_get};
 ghost use Rattle.std.specs.List.{Contains};
 ghost use Rattle.std.specs.List.Sorted.{IsStrictlySortedBy};
 ghost use Rattle.std.specs.Ordering.{nat_cmp};
@@ -124,18 +124,24 @@ fn open_place(
     }
 }
 
-/// The places that are not marked yet to which a path may go from the node; they take the place of others.
+/// The places that are not marked yet to which a path may go from the node; they take the place of others. Where none
+/// is left to mark, none is looked for.
 pub(crate) fn next_places(
     nodes: &[Entry],
     node: &Entry,
     found: &[bool],
+    left: bool,
     places: &mut Vec<usize>,
 ) -> Result<(), NoMemory>
     requires ascending { IsStrictlySortedBy nat_cmp (ids_of nodes.now) }
     requires marks { length found.now ≡ length nodes.now }
+    requires none_left { left ≡ false → (place : ℕ) → place < length found.now → IsPlaceMarked found.now place }
     ensures { OnOk result (ArePlacesNext nodes.now node.now found.now places.new.items) }
 {
     places.clear();
+    if !left {
+        return Ok(());
+    }
     if node.age >= AGE_LIMIT {
         return Ok(());
     }

@@ -16,6 +16,7 @@ pub struct Tlv<'a> {
 }
 
 // The type, the length and the bytes after them.
+#[inline(always)]
 fn split_header(bytes: &[u8]) -> Option<(u16, u16, &[u8])>
     ensures none { IfNone result (length bytes.now < 4) }
     ensures fit { IfSome result (λ found. (found.0 < 2 ^ 16) × (found.1 < 2 ^ 16)) }
@@ -31,6 +32,7 @@ fn split_header(bytes: &[u8]) -> Option<(u16, u16, &[u8])>
 }
 
 // The first of `count` pad bytes that is missing or is not zero, with its place in `bytes`.
+#[inline(always)]
 fn padding_fault(bytes: &[u8], count: usize) -> Option<TlvFault>
     ensures none { IfNone result (bytes.now ≡ replicate count 0 ++ drop count bytes.now) }
     ensures found { IfSome result (λ fault. IsPaddingFault count bytes.now fault.place fault.why) }
@@ -47,6 +49,7 @@ fn padding_fault(bytes: &[u8], count: usize) -> Option<TlvFault>
 }
 
 // The TLV that begins the bytes, and what follows its value.
+#[inline(always)]
 fn split_value(bytes: &[u8]) -> Result<(Tlv<'_>, &[u8]), TlvFault>
     requires { 0 < length bytes.now }
     ensures valid { IfOk result (λ found. IsTlv (plain found.0)) }
@@ -71,6 +74,7 @@ fn split_value(bytes: &[u8]) -> Result<(Tlv<'_>, &[u8]), TlvFault>
 }
 
 // The TLV that begins the bytes, and the place after its padding.
+#[inline(always)]
 fn first(bytes: &[u8]) -> Result<Option<(Tlv<'_>, usize)>, TlvFault>
     ensures { MatchResult result
         (λ found. MatchOption found (bytes.now ≡ []) (λ f. IsTlvAt bytes.now 0 (plain f.0) f.1))
@@ -100,6 +104,7 @@ fn first(bytes: &[u8]) -> Result<Option<(Tlv<'_>, usize)>, TlvFault>
 /// left, at `at`; `VALUE_CUT`, the value passes the end, at `at`; and of the pad bytes from left to
 /// right the first that is missing, `PADDING_CUT`, or is not zero, `PADDING_NOT_ZERO`, at the place
 /// of that byte (RFC 7787, section 7).
+#[inline(always)]
 pub fn next(bytes: &[u8], at: usize) -> Result<Option<(Tlv<'_>, usize)>, TlvFault>
     requires { at ≤ length bytes.now }
     // What is read is what is there.

@@ -16,6 +16,7 @@ use std::alloc::Global;
 /// # Errors
 ///
 /// Out of memory.
+#[inline(always)]
 pub fn encode(alloc: Global, item: &Item<'_>) -> Result<Bytes, NoMemory>
     requires short { length (value_of (plain_item item.now)) ≤ 65535 }
     requires priority { HasPriority (plain_item item.now) }

@@ -14,6 +14,7 @@ ghost use Rattle.hn_typed.specs.Reading.{IsFirstIn, IsPastField};
 use crate::fault::FIELDS_CUT;
 
 /// A number of 4 bytes.
+#[inline(always)]
 pub(crate) fn word(bytes: &[u8]) -> Result<(u32, &[u8]), u8>
     ensures fault { IfErr result (IsFirstIn (Word 0) bytes.now) }
     ensures fits { IfOk result (λ found. found.0 < 2 ^ 32) }
@@ -29,6 +30,7 @@ pub(crate) fn word(bytes: &[u8]) -> Result<(u32, &[u8]), u8>
 }
 
 /// A hash of 8 bytes.
+#[inline(always)]
 pub(crate) fn hash(bytes: &[u8]) -> Result<(&[u8; 8], &[u8]), u8>
     ensures fault { IfErr result (IsFirstIn (Hash []) bytes.now) }
     ensures hash { IfOk result (λ found. IsHash found.0.now) }

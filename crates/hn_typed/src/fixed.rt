@@ -26,6 +26,7 @@ impl Model for FixedPart {
 
 impl FixedPart {
     /// No bytes.
+    #[inline(always)]
     pub(crate) fn new() -> FixedPart
         ensures { result ≡ [] }
     {
@@ -36,6 +37,7 @@ impl FixedPart {
     }
 
     /// How many bytes there are.
+    #[inline(always)]
     pub(crate) fn len(&self) -> usize
         ensures exact { result ≡ length self.now }
         ensures small { result ≤ 25 }
@@ -44,6 +46,7 @@ impl FixedPart {
     }
 
     /// The bytes.
+    #[inline(always)]
     pub(crate) fn as_slice(&self) -> &[u8]
         ensures { result.now ≡ self.now }
     {
@@ -51,6 +54,7 @@ impl FixedPart {
     }
 
     /// These bytes at the end.
+    #[inline(always)]
     pub(crate) fn then(mut self, more: &[u8]) -> FixedPart
         requires { length self + length more.now ≤ 25 }
         ensures { result ≡ self ++ more.now }
@@ -63,6 +67,7 @@ impl FixedPart {
     }
 
     /// A number of 4 bytes at the end.
+    #[inline(always)]
     pub(crate) fn word(self, number: u32) -> FixedPart
         requires { length self + 4 ≤ 25 }
         ensures { result ≡ self ++ word number }
@@ -71,6 +76,7 @@ impl FixedPart {
     }
 
     /// A hash at the end.
+    #[inline(always)]
     pub(crate) fn hash(self, hash: &[u8; 8]) -> FixedPart
         requires { length self + 8 ≤ 25 }
         ensures exact { result ≡ self ++ hash.now }
@@ -80,6 +86,7 @@ impl FixedPart {
     }
 
     /// A prefix length and its prefix bytes at the end.
+    #[inline(always)]
     pub(crate) fn prefix(self, prefix: &Prefix) -> FixedPart
         requires { length self + 17 ≤ 25 }
         ensures exact { result ≡ self ++ prefix_field prefix.now }

@@ -14,6 +14,7 @@ use crate::subs::subs_after;
 use hn_base::{Caps, EpId, NodeId};
 
 /// The item that a value of this kind decodes to: a table with a row for each kind.
+#[inline(always)]
 pub(crate) fn read_value(kind: u16, value: &[u8]) -> Result<Item<'_>, u8>
     ensures { ReadsValue kind value.now result }
 {
@@ -34,6 +35,7 @@ pub(crate) fn read_value(kind: u16, value: &[u8]) -> Result<Item<'_>, u8>
     }
 }
 
+#[inline(always)]
 fn request_network(value: &[u8]) -> Result<Item<'_>, u8>
     ensures { ReadsValue 1 value.now result }
 {
@@ -41,6 +43,7 @@ fn request_network(value: &[u8]) -> Result<Item<'_>, u8>
     Ok(Item::RequestNetwork { subs })
 }
 
+#[inline(always)]
 fn request_node(value: &[u8]) -> Result<Item<'_>, u8>
     ensures { ReadsValue 2 value.now result }
 {
@@ -50,6 +53,7 @@ fn request_node(value: &[u8]) -> Result<Item<'_>, u8>
     Ok(Item::RequestNode { node, subs })
 }
 
+#[inline(always)]
 fn node_endpoint(value: &[u8]) -> Result<Item<'_>, u8>
     ensures { ReadsValue 3 value.now result }
 {
@@ -63,6 +67,7 @@ fn node_endpoint(value: &[u8]) -> Result<Item<'_>, u8>
     })
 }
 
+#[inline(always)]
 fn network_state(value: &[u8]) -> Result<Item<'_>, u8>
     ensures { ReadsValue 4 value.now result }
 {
@@ -72,6 +77,7 @@ fn network_state(value: &[u8]) -> Result<Item<'_>, u8>
     Ok(Item::NetworkState { hash, subs })
 }
 
+#[inline(always)]
 fn node_state(value: &[u8]) -> Result<Item<'_>, u8>
     ensures { ReadsValue 5 value.now result }
 {
@@ -90,6 +96,7 @@ fn node_state(value: &[u8]) -> Result<Item<'_>, u8>
     })
 }
 
+#[inline(always)]
 fn peer(value: &[u8]) -> Result<Item<'_>, u8>
     ensures { ReadsValue 8 value.now result }
 {

@@ -17,6 +17,7 @@ use hn_tlv::Tlv;
 /// The first of these, from left to right: a prefix length above 128, `NO_PREFIX`; fixed fields or prefix bytes are
 /// missing, `FIELDS_CUT`; a bit is set past the prefix length, `NO_PREFIX`; after the fixed part stands neither
 /// nothing nor a pad of zeros and a list of TLVs, `NO_SUBS`; the user agent is not in UTF-8, `NO_TEXT`.
+#[inline(always)]
 pub fn read<'a>(tlv: &Tlv<'a>) -> Result<Item<'a>, ItemFault>
     // What is answered is so.
     ensures item { IfOk result (λ item. IsItem (plain tlv.now) (plain_item item)) }

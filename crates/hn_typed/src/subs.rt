@@ -20,6 +20,7 @@ fn are_zeros(bytes: &[u8]) -> bool
 /// # Errors
 ///
 /// `NO_SUBS`: there are no such zeros, or what follows them is no list of TLVs.
+#[inline(always)]
 pub(crate) fn subs_after(len: usize, after: &[u8]) -> Result<&[u8], u8>
     ensures found { IfOk result (λ subs. ThenSubs len after.now subs.now) }
     ensures fault { IfErr result (λ why. (subs : List ℕ) → IsFirstCause [] (Subs subs) len after.now why) }

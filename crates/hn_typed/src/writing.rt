@@ -39,6 +39,7 @@ struct Beginning {
     fixed: FixedPart,
 }
 
+#[inline(always)]
 fn begun(kind: u16, fixed: FixedPart) -> Beginning
     ensures { (result.kind ≡ kind) × (result.fixed ≡ fixed) }
 {
@@ -46,6 +47,7 @@ fn begun(kind: u16, fixed: FixedPart) -> Beginning
 }
 
 // The number of the item's kind, and its fields with each reserved bit zero: a table with a row for each kind.
+#[inline(always)]
 fn beginning_of(item: &Item<'_>) -> Beginning
     ensures kind { result.kind ≡ kind_of (plain_item item.now) }
     ensures fixed { result.fixed ≡ fixed_of (plain_item item.now) }
@@ -119,6 +121,7 @@ enum Tail<'a> {
 }
 
 // What stands after the item's fixed part.
+#[inline(always)]
 fn tail_of<'a>(item: &Item<'a>) -> Tail<'a>
     ensures bytes { IsTailOf result (plain_item item.now) }
     ensures text { HasText (plain_item item.now) }
@@ -161,6 +164,7 @@ struct Parts<'a> {
 }
 
 // The TLV of the item, in parts.
+#[inline(always)]
 fn parts_of<'a>(item: &Item<'a>) -> Parts<'a>
     ensures kind { result.kind ≡ kind_of (plain_item item.now) }
     ensures fixed { result.fixed ≡ fixed_of (plain_item item.now) }
@@ -186,6 +190,7 @@ fn parts_of<'a>(item: &Item<'a>) -> Parts<'a>
 }
 
 // Adds bytes at the end, where there is room for them.
+#[inline(always)]
 fn put(out: &mut Vec<u8>, bytes: &[u8])
     requires room { vec_len out.old + length bytes.now ≤ vec_capacity out.old }
     ensures bytes { All IsByte bytes.now }
@@ -201,6 +206,7 @@ fn put(out: &mut Vec<u8>, bytes: &[u8])
 }
 
 // Adds so many zeros at the end, where there is room for them.
+#[inline(always)]
 fn put_zeros(out: &mut Vec<u8>, count: usize)
     requires few { count ≤ 3 }
     requires room { vec_len out.old + count ≤ vec_capacity out.old }
@@ -228,6 +234,7 @@ pub fn value_len(item: &Item<'_>) -> usize
 /// # Errors
 ///
 /// `NoMemory`, and then `out` is as before.
+#[inline(always)]
 pub fn write(item: &Item<'_>, out: &mut Vec<u8>) -> Result<(), NoMemory>
     requires short { length (value_of (plain_item item.now)) ≤ 65535 }
     requires priority { HasPriority (plain_item item.now) }

@@ -277,6 +277,19 @@ impl Parts {
         requires { place ≡ place_by (named_by event.now) self.now }
         ensures { result ≡ refusal self.now event.now }
     {
+        // Most events are deliveries. Where the kind is known, so are most conditions.
+        if matches!(event, WEvent::Deliver { .. }) {
+            return self.first_refusal(event, place);
+        }
+        self.first_refusal(event, place)
+    }
+
+    /// The code of the first condition that holds.
+    #[inline(always)]
+    fn first_refusal(&self, event: &WEvent, place: Option<usize>) -> Option<u8>
+        requires { place ≡ place_by (named_by event.now) self.now }
+        ensures { result ≡ refusal self.now event.now }
+    {
         let router = self.acting(event, place);
         first_code(&[
             (UNKNOWN, self.names_nothing(event, router)),

@@ -1,6 +1,6 @@
 //! What node data keep beside their bytes, read from the TLVs one by one.
 
-ghost use Rattle.std.specs.Prelude.{◌≡◌, ◌↔◌, ℕ, List, [], ◌∷◌, ◌++◌, option_to_list, IsTrue, OnOk};
+ghost use Rattle.std.specs.Prelude.{◌≡◌, ◌↔◌, ℕ, List, [], ◌∷◌, ◌++◌, option_to_list, IsTrue, IfOk, OnOk};
 ghost use Rattle.std.specs.Option.{option_map};
 ghost use Rattle.hn_tlv.specs.Grammar.{PlainTlv, HasTlvs};
 ghost use Rattle.hn_tlv.specs.View.{plain};
@@ -127,19 +127,20 @@ pub(crate) fn push_said<T: Drop>(list: &mut Vec<T>, said: Option<T>) -> Result<(
 }
 
 impl Kept {
-    /// Nothing, as of no items.
-    pub(crate) fn new(alloc: Global) -> Kept
-        ensures { AreKept [] result }
+    /// Nothing, as of no items, with room for so many peers.
+    pub(crate) fn with_room(alloc: Global, peers: usize) -> Result<Kept, NoMemory>
+        ensures { IfOk result (AreKept []) }
     {
-        Kept {
+        let peers = Vec::with_capacity(alloc, peers)?;
+        Ok(Kept {
             version: None,
             external: false,
-            peers: Vec::new(alloc),
+            peers,
             intervals: Vec::new(alloc),
             delegations: Vec::new(alloc),
             assigned: Vec::new(alloc),
             addresses: Vec::new(alloc),
-        }
+        })
     }
 
     // Adds what an item says.

@@ -15,7 +15,7 @@ fn in_order<'a>(alloc: Global, pieces: &'a [Bytes]) -> Result<Vec<&'a [u8]>, NoM
     ensures ascending { IfOk result (λ sorted. IsStrictlySortedBy (slice_cmp nat_cmp) (map (λ piece. piece.now) sorted.items)) }
     ensures same { IfOk result (λ sorted. (piece : List ℕ) → Contains (map (λ p. p.now) sorted.items) piece ↔ Contains pieces.now piece) }
 {
-    let mut sorted = Vec::new(alloc);
+    let mut sorted = Vec::with_capacity(alloc, pieces.len())?;
     for piece in pieces {
         sorted.push(piece.as_slice())?;
     }

@@ -26,12 +26,19 @@ fn add_all(kept: &mut Kept, bytes: &[u8]) -> Result<(), NoMemory>
     Ok(())
 }
 
+/// How many bytes a Peer without sub-TLVs has.
+const PEER_SIZE: usize = 16;
+
+/// For so many Peers there is room from the beginning, if the data have the bytes for them.
+const MANY_PEERS: usize = 64;
+
 /// What the bytes say.
 pub(crate) fn read_kept(alloc: Global, bytes: &[u8]) -> Result<Kept, NoMemory>
     requires { HasTlvs bytes.now }
     ensures { IfOk result (IsKeptBeside bytes.now) }
 {
-    let mut kept = Kept::new(alloc);
+    let peers = (bytes.len() / PEER_SIZE).min(MANY_PEERS);
+    let mut kept = Kept::with_room(alloc, peers)?;
     add_all(&mut kept, bytes)?;
     sort_to_set(&mut kept.peers);
     Ok(kept)

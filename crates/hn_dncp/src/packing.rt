@@ -12,11 +12,27 @@ pub const MOST_DATAGRAM_BYTES: usize = 4_000;
 /// Datagrams, in the order in which they are sent.
 pub type Datagrams = Sequence<Bytes>;
 
-// The Node Endpoint with which a datagram begins.
-fn sender(alloc: Global, own: NodeId, endpoint: EpId) -> Result<Vec<u8>, NoMemory>
+// How many bytes a Node Endpoint without sub-TLVs has.
+const SENDER_SIZE: usize = 12;
+
+// Room for a datagram with as many TLVs from the front as it holds, in bytes.
+fn room(tlvs: &[Bytes]) -> usize {
+    let mut room = SENDER_SIZE;
+    for tlv in tlvs {
+        let more = room.saturating_add(tlv.len());
+        if more > MOST_DATAGRAM_BYTES && room > SENDER_SIZE {
+            return room;
+        }
+        room = more;
+    }
+    room
+}
+
+// The Node Endpoint with which a datagram begins, with room for so many bytes.
+fn sender(alloc: Global, own: NodeId, endpoint: EpId, room: usize) -> Result<Vec<u8>, NoMemory>
     ensures { IfOk result (λ bytes. bytes.items ≡ spelling (sender_tlv own endpoint)) }
 {
-    let mut bytes = Vec::new(alloc);
+    let mut bytes = Vec::with_capacity(alloc, room)?;
     let item = Item::NodeEndpoint {
         node: own,
         endpoint,
@@ -38,7 +54,7 @@ fn fill(
     ensures filled { IfOk result (λ filled.
         IsFilled own endpoint (take filled.1 tlvs.now) (drop filled.1 tlvs.now) filled.0) }
 {
-    let mut datagram = sender(alloc, own, endpoint)?;
+    let mut datagram = sender(alloc, own, endpoint, room(tlvs))?;
     datagram.extend_from_slice(tlvs[0].as_slice())?;
     for count in 1..tlvs.len() {
         let tlv = tlvs[count].as_slice();

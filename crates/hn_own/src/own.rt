@@ -282,7 +282,7 @@ impl OwnItems {
         ensures pieces { IfOk result (λ pieces. pieces.items ≡ pieces_of now self.now) }
         ensures writable { IfOk result (λ _. All IsWritable (items_of now self.now)) }
     {
-        let mut pieces = Vec::new(alloc);
+        let mut pieces = Vec::with_capacity(alloc, self.links.len() + 2)?;
         pieces.push(encode_version(alloc, self.caps)?)?;
         add_link_pieces(alloc, &mut pieces, self.links.as_slice())?;
         add_external_piece(alloc, &mut pieces, now, self.delegated.as_slice())?;

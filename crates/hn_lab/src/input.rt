@@ -9,8 +9,12 @@ use std::alloc::Global;
 
 const CHUNK: usize = 4096;
 
-/// Reads a source to its end, or to one byte past the limit, to see that there are more. The first call that fails ends
-/// the reading.
+/// Reads a source to its end, or to one byte past the limit of 2^24 bytes, to see that there are more. The first call
+/// that fails ends the reading.
+///
+/// # Errors
+///
+/// `Failed` if and only if the count of faults of the source rose; else out of memory.
 pub fn read_all<S: Source>(alloc: Global, src: &mut S) -> Result<Vec<u8>, IoFault>
     ensures all { IfOk result (λ bytes. Consumes (S.left src.old) (S.left src.new) bytes.items) }
     ensures whole { IfOk result (λ bytes. length bytes.items ≤ SOURCE_LIMIT → IsWhole (S.left src.old) bytes.items) }

@@ -44,6 +44,10 @@ fn note_text(alloc: Global, note: &Note) -> Result<String, AllocError>
 }
 
 /// The line on a note of the router of a name.
+///
+/// # Errors
+///
+/// Out of memory, as `AllocError`.
 pub fn note_line(alloc: Global, name: &Name, note: &Note) -> Result<String, AllocError>
     ensures { IfOk result (λ line. string_bytes line ≡ note_line name.now note.now) }
 {

@@ -10,6 +10,11 @@ use hn_io::{IoFault, Sink};
 use std::alloc::Global;
 
 /// Hands a piece to a sink, and what a write leaves over again, until it is written whole or a call fails.
+///
+/// # Errors
+///
+/// `Failed` if and only if the count of faults of the sink rose; else out of memory. After either a proper front of the
+/// piece was written.
 pub fn write_piece<K: Sink>(out: &mut K, piece: &[u8]) -> Result<(), IoFault>
     ensures ok { OnOk result (Appends (K.held out.old) (K.held out.new) piece.now) }
     ensures cut { OnErr result (AppendsPart (K.held out.old) (K.held out.new) piece.now) }
@@ -25,6 +30,11 @@ pub fn write_piece<K: Sink>(out: &mut K, piece: &[u8]) -> Result<(), IoFault>
 }
 
 /// Writes the line of a refusal.
+///
+/// # Errors
+///
+/// `Failed` if and only if the count of faults of the sink rose; else out of memory. After either a proper front of the
+/// line was written.
 pub fn write_refusal<K: Sink>(
     alloc: Global,
     out: &mut K,

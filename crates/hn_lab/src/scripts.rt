@@ -115,6 +115,15 @@ fn base_of(base: Option<u16>) -> Option<Base>
 
 /// Plays a script, whose lines are of its version, and writes its transcript. With a base, at most 65,534, copies that are
 /// delivered go over the wire from this port to the port after it.
+///
+/// There is no world if and only if the status is 6.
+///
+/// # Errors
+///
+/// The status says them. 2 comes exactly if a line is refused, and neither 4 nor 5 comes. Over a wire that does not
+/// tell what waits, it comes only if a line is refused in some play over it. 4 and 5 come if and only if the count of
+/// faults of the sink or the wire rose in this call; 5 never comes without a base. 6 comes out of memory; no clause
+/// says when.
 pub fn play<K: Sink, W: Wire>(
     alloc: Global,
     script: Script,
@@ -202,8 +211,17 @@ fn play_bytes<K: Sink, W: Wire>(
 }
 
 /// Reads a script, plays it, and writes its transcript. By mail a script has exactly one transcript, as `IsOfTranscript` says: a
-/// front of it is written, and with status `DONE` or `REFUSED` the whole. With a base, at most 65,534, copies that are delivered go over the
-/// wire from this port to the port after it.
+/// front of it is written, and with status `DONE` or `REFUSED` the whole. With a base, at most 65,534, copies that are
+/// delivered go over the wire from this port to the port after it.
+///
+/// There is no world if and only if the status is 3 or 6, or the bytes of the source are no script.
+///
+/// # Errors
+///
+/// The status says them. 2 comes exactly if the bytes are no script or a line is refused, and none of 3 to 5 comes.
+/// Over a wire that does not tell what waits, a play comes to 2 only if a line is refused in some play over it. 3, 4
+/// and 5 come if and only if the count of faults of the source, the sink or the wire rose in this call; 5 never comes
+/// without a base. 6 comes out of memory; no clause says when.
 pub fn lab<S: Source, K: Sink, W: Wire>(
     alloc: Global,
     src: &mut S,

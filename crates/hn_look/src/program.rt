@@ -42,6 +42,13 @@ fn play_and_look<S: Source, K: Sink>(alloc: Global, form: &Form, src: &mut S, ou
 /// it as `hncp lab` does; then it looks at the world that the script led to, up to the line that is refused, if one is.
 /// `log` writes what happened, event by event, `table` what the router of a name holds, and `why` whether it is settled
 /// and quiet, and if not, why.
+///
+/// # Errors
+///
+/// The status says them, and there is none but 0 to 4 and 6. 1 comes if and only if the words ask for no form. 2 comes
+/// exactly if the bytes are no script, a line of the play is refused, the name of `table` or `why` is unknown, or that
+/// of `why` is of a router that is stopped, and neither 3 nor 4 comes. 3 and 4 come if and only if the count of faults
+/// of the source or the sink rose in this call. 6 comes out of memory; no clause says when.
 pub fn run<S: Source, K: Sink>(alloc: Global, words: &[String], src: &mut S, out: &mut K) -> u8
     // Bad usage is what no form's words are; then nothing is touched.
     ensures form { result ≡ BAD_USAGE → (form : Form) → IsFormOf form (map string_bytes words.now) → ⊥ }

@@ -8,6 +8,11 @@ use hn_lab::{pieces_append, write_piece};
 use memchr::memchr;
 
 /// Hands a text that ends with LF to a sink line by line, each with its LF.
+///
+/// # Errors
+///
+/// `Failed` if and only if the count of faults of the sink rose; else out of memory. After either a proper front of the
+/// text was written.
 pub fn write_lines<K: Sink>(out: &mut K, text: &[u8]) -> Result<(), IoFault>
     ensures ok { OnOk result (Appends (K.held out.old) (K.held out.new) text.now) }
     ensures cut { OnErr result (AppendsPart (K.held out.old) (K.held out.new) text.now) }

@@ -8,6 +8,10 @@ use hn_watch::Seen;
 use std::alloc::{AllocError, Global};
 
 /// The first line: how many datagrams there are, and how many of them are malformed.
+///
+/// # Errors
+///
+/// Out of memory, as `AllocError`.
 pub fn watch_line(alloc: Global, datagrams: u64, malformed: u64) -> Result<String, AllocError>
     ensures { IfOk result (λ line. string_bytes line ≡ watch_line datagrams malformed) }
 {
@@ -15,6 +19,10 @@ pub fn watch_line(alloc: Global, datagrams: u64, malformed: u64) -> Result<Strin
 }
 
 /// The line of a node that was seen.
+///
+/// # Errors
+///
+/// Out of memory, as `AllocError`.
 pub fn seen_line(alloc: Global, seen: &Seen) -> Result<String, AllocError>
     ensures { IfOk result (λ line. string_bytes line ≡ seen_line seen.now) }
 {

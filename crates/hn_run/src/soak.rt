@@ -18,7 +18,7 @@ use hn_script::{
 use hn_wire::Wire;
 use std::alloc::Global;
 
-/// Plays the script of a soak of `n` routers, and writes its transcript. The wire is not used.
+/// Plays the script of a soak of `n` routers, 2 to 32, and writes its transcript. The wire is not used.
 pub fn soak<K: Sink, W: Wire>(alloc: Global, n: u32, seed: u64, out: &mut K, wire: &mut W) -> Played
     requires at_least { 2 ≤ n }
     requires at_most { n ≤ 32 }

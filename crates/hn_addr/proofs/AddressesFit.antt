@@ -1,5 +1,5 @@
 -- The addresses that a router sets fit their fields.
-use Rattle.std.proofs.Common.{◌≡◌, ◌+◌, ◌<◌, ◌^◌, ℕ, List, [], ◌∷◌, Contains, filter, sym, subst, inl, inr}
+use Rattle.std.proofs.Common.{◌+◌, List, [], ◌∷◌, Contains, filter, sym, subst, inl, inr}
 use Rattle.std.specs.Prelude.{All}
 use Rattle.std.proofs.lemmas.List.Elements.{All-contains, All-nil, All-push}
 use Rattle.hn_assign.specs.declared.assigned.Assigned.{Assigned}

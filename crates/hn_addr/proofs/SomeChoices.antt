@@ -1,5 +1,5 @@
 -- Over each stream of words a router has a choice: it cannot be that there is none.
-use Rattle.std.proofs.Common.{◌∙◌, ◌+◌, ◌≡◌, ◌⊎◌, ◌≤◌, ℕ, List, [], ◌∷◌, ◌++◌, Contains, filter, refl, ap, inl, inr, sym, subst, arith}
+use Rattle.std.proofs.Common.{◌∙◌, ◌+◌, ◌≡◌, ◌⊎◌, ◌≤◌, ℕ, List, [], ◌∷◌, filter, refl, ap, inl, inr, sym, subst, arith}
 use Rattle.std.specs.Ordering.{nat_cmp}
 use Rattle.std.proofs.lemmas.List.{append-nil}
 use Rattle.hn_assign.specs.declared.assigned.Assigned.{Assigned}

@@ -1,6 +1,6 @@
 -- What a router advertises on an endpoint: it cannot be that there is nothing.
-use Rattle.std.proofs.Common.{◌≡◌, ◌<◌, ◌≤◌, ◌+◌, ◌^◌, ℕ, zero, suc, List, [], ◌∷◌, ◌++◌, length, take, slice_get, Contains, Option, Some, None, refl, sym, ap, subst, inl, inr, arith}
-use Rattle.std.specs.Prelude.{All, is_some}
+use Rattle.std.proofs.Common.{◌≡◌, ◌<◌, ◌≤◌, ◌+◌, ◌^◌, ℕ, zero, suc, List, [], ◌∷◌, ◌++◌, length, take, slice_get, Contains, Some, refl, sym, subst, inl, inr, arith}
+use Rattle.std.specs.Prelude.{is_some}
 use Rattle.std.proofs.lemmas.List.{take_all}
 use Rattle.std.specs.List.{AllByRecursion}
 use Rattle.std.proofs.lemmas.List.Elements.{All-contains, recursion_from_All}
@@ -12,7 +12,7 @@ use Rattle.hn_base.specs.declared.letter.Letter.TheVariants.{H}
 use Rattle.hn_base.proofs.Elements.{all_of}
 use Rattle.hn_base.proofs.PartsAtPlaces.{contains_at}
 use Rattle.hn_base.proofs.SomeExists.{some_by, some_is, some_then}
-use Rattle.hn_advert.specs.Advert.{IsInfo, IsInRange}
+use Rattle.hn_advert.specs.Advert.{IsInfo}
 use Rattle.hn_advert.specs.declared.advert.Info.{Info}
 use Rattle.hn_assign.specs.declared.assigned.Assigned.{Assigned}
 use Rattle.hn_deleg.specs.declared.delegated.Delegated.{Delegated}
@@ -22,7 +22,7 @@ use Rattle.hn_own.specs.Ranges.{IsRangedHeld}
 use Rattle.hn_rules.specs.Router.{IsRouter}
 use Rattle.hn_rules.specs.Seen.{seen_by}
 use Rattle.hn_rules.specs.declared.state.State.{State}
-use Rattle.hn_router.specs.Advertising.{AreInfos, IsAdvertAt, IsInfoOf, IsLifetime}
+use Rattle.hn_router.specs.Advertising.{AreInfos, IsInfoOf, IsLifetime}
 use Rattle.hn_router.specs.Infos.{IsInfoFrom}
 use Rattle.hn_router.specs.Laws.{AdvertExists, ElectedExists}
 use Rattle.hn_router.proofs.InfoLists.{AreInfosOf, infos_none, infos_more_at, infos_same_at, infos_are}

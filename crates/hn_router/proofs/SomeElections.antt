@@ -1,9 +1,8 @@
 -- Who is elected, or that nobody stands for election: it cannot be that there is no answer.
-use Rattle.std.proofs.Common.{◌≡◌, ◌↔◌, ◌<◌, ◌∙◌, List, [], ◌∷◌, Contains, Option, Some, None, Ordering, refl, sym, ap, subst, inl, inr}
+use Rattle.std.proofs.Common.{◌≡◌, ◌↔◌, ◌<◌, ◌∙◌, List, [], ◌∷◌, Contains, Option, Some, None, Ordering, sym, ap, subst, inl, inr}
 use Rattle.std.specs.Prelude.{MatchOption}
 use Rattle.std.specs.Cmp.{IsTotalOrder}
 use Rattle.std.specs.Ordering.{on}
-use Rattle.std.specs.declared.cmp.Ordering.TheVariants.{Less}
 use Rattle.std.proofs.lemmas.Option.{same_Some}
 use Rattle.std.proofs.lemmas.Cmp.{on_total, then_total, nat_cmp_total}
 use Rattle.hn_base.specs.Exists.{Some! }
@@ -21,9 +20,7 @@ use Rattle.hn_data.specs.declared.view.Entry.{Entry}
 use Rattle.hn_link.specs.Election.{priority_of, rank_of, rank_cmp, IsElectionCandidate, IsElected, HasNoCandidate}
 use Rattle.hn_link.specs.Laws.{CommonLinkExists}
 use Rattle.hn_rules.specs.Laws.{ViewIsNetwork}
-use Rattle.hn_rules.specs.Router.{IsRouter}
-use Rattle.hn_rules.specs.Seen.{seen_by, IsElectedAt}
-use Rattle.hn_rules.specs.declared.state.State.{State}
+use Rattle.hn_rules.specs.Seen.{seen_by}
 use Rattle.hn_router.specs.Laws.{ElectedExists}
 use Rattle.hn_typed.specs.Item.{PlainCaps}
 

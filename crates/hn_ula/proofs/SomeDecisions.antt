@@ -1,6 +1,6 @@
 -- Over each stream of words a router decides something: it cannot be that it does not.
-use Rattle.std.proofs.Common.{◌≡◌, ◌≢◌, ◌⊎◌, ◌∙◌, ◌+◌, ◌-◌, ◌*◌, ◌/◌, ◌^◌, ◌<◌, ◌≤◌, ℕ, List, [], ◌∷◌, refl, ap, sym, subst, inl, inr, arith}
-use Rattle.std.specs.Cmp.{nat_cmp_is, ranked}
+use Rattle.std.proofs.Common.{◌≡◌, ◌≢◌, ◌+◌, ◌-◌, ◌*◌, ◌/◌, ◌^◌, ◌<◌, ◌≤◌, ℕ, List, [], ◌∷◌, refl, sym, inl, inr, arith}
+use Rattle.std.specs.Cmp.{ranked}
 use Rattle.std.specs.Ordering.{nat_cmp, ordering_then}
 use Rattle.std.specs.declared.cmp.Ordering.{Ordering}
 use Rattle.std.specs.declared.cmp.Ordering.TheVariants.{Less, Equal, Greater}
@@ -14,7 +14,7 @@ use Rattle.hn_base.proofs.FirstWords.{begins_next}
 use Rattle.hn_base.proofs.SomeExists.{some_by, some_least, some_then}
 use Rattle.hn_rules.specs.declared.state.State.{State}
 use Rattle.hn_ula.specs.Laws.{HasADecision, DecisionExists}
-use Rattle.hn_ula.specs.Ula.{local_block, IsLocal, IsOwnOf, IsGreatestOwn, MustGo, HasTwo, IsToAnnounce, Withdraws, Announces, Decides, made_of}
+use Rattle.hn_ula.specs.Ula.{IsLocal, IsOwnOf, IsGreatestOwn, MustGo, HasTwo, IsToAnnounce, Withdraws, Announces, made_of}
 use Rattle.hn_ula.specs.declared.decision.Ula.{Ula}
 use Rattle.hn_ula.specs.declared.decision.Ula.TheVariants.{Keep, Announce, Withdraw}
 

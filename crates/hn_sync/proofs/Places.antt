@@ -45,7 +45,9 @@ acts_few change place e words notes before after h = ap (λ (w : Parts). length 
 else_few : (e : WEvent) (words : List ℕ) (notes : List Note) (before after : Parts) → refusal before e ≡ None → routed e ≡ None
     → DoesElse e words notes before after → length before.members ≤ 128 → length after.members ≤ 128
 else_few (event.Router name id) words notes before after accepted none h few =
-    let less = leb-false (most_routers before.version) (length before.members) (below_most (is_taken (name_text name) before) (nat_le (most_routers before.version) (length before.members)) (nat_le 1000000 (length before.trace)) accepted) in
+    let full = nat_le (most_routers before.version) (length before.members) in
+    let less = leb-false (most_routers before.version) (length before.members)
+    (below_most (is_taken (name_text name) before) full (nat_le 1000000 (length before.trace)) accepted) in
     let top = most before.version in
     let made : length after.members ≡ length (before.members ++ record { name = name; running = true; router = h.router; attachments = [] } ∷ []) =
     ap (λ (w : Parts). length w.members) h.quietly.gives in

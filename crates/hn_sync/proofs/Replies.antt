@@ -17,7 +17,6 @@ use Rattle.hn_rules.specs.Answers.{with_answer}
 use Rattle.hn_rules.specs.Nodes.{entry_of}
 use Rattle.hn_rules.specs.Requests.{IsNetworkRequest, with_state}
 use Rattle.hn_store.specs.Laws.{HeldIsOfAnEntry}
-use Rattle.hn_typed.specs.Item.{PlainItem}
 use Rattle.hn_typed.specs.Item as item
 use Rattle.hn_sync.proofs.Answered.{AnswersAre, with_more}
 use Rattle.hn_sync.proofs.Entries.{IsFit, Knows, item_of, Says}

@@ -25,7 +25,6 @@ use Rattle.hn_rules.specs.Router.{IsRouter}
 use Rattle.hn_rules.specs.Rules.{IsSole, begun_at}
 use Rattle.hn_store.specs.Nodes.{IsTable}
 use Rattle.hn_typed.specs.Fields.{IsHash}
-use Rattle.hn_typed.specs.Item.{PlainItem}
 use Rattle.hn_typed.specs.Item as item
 use Rattle.hn_sync.proofs.Answered.{AnswersAre}
 use Rattle.hn_sync.proofs.Arrivals.{sends_of, HasArrived}

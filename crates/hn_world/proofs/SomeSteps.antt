@@ -1,28 +1,23 @@
 -- An event that a world accepts has a result: it cannot be that there is none.
 use Rattle.std.proofs.Common.{◌≡◌, ◌∙◌, ℕ, Bool, List, [], ◌∷◌, ◌++◌, Option, Some, None, true, cond, find, length, nat_lt, position, slice_get, refl, sym, ap, subst, arith}
-use Rattle.std.specs.Prelude.{All}
 use Rattle.std.specs.List.{position_or_len}
 use Rattle.std.proofs.lemmas.Bool.{lt-ltb}
 use Rattle.std.proofs.lemmas.List.Folds.{find_at}
-use Rattle.hn_base.specs.Byte.{IsByte}
-use Rattle.hn_base.specs.Exists.{Some! }
 use Rattle.hn_base.specs.Name.{name_text}
-use Rattle.hn_base.specs.Words.{Begins}
 use Rattle.hn_base.specs.declared.ids.NodeId.{NodeId}
 use Rattle.hn_base.specs.declared.name.Name.{Name}
-use Rattle.hn_base.proofs.Elements.{found_passes}
 use Rattle.hn_base.proofs.SomeExists.{some_then}
 use Rattle.hn_rules.specs.declared.done.Done.{Done}
 use Rattle.hn_rules.specs.declared.done.Note.{Note}
 use Rattle.hn_rules.specs.declared.state.State.{State}
-use Rattle.hn_router.specs.Act.{PlainEvent, Arrive, IsEventInRange, IsOfBytes, Happened, HasResults}
+use Rattle.hn_router.specs.Act.{PlainEvent, Arrive, IsEventInRange, IsOfBytes, HasResults}
 use Rattle.hn_router.specs.Laws.{EventHasAResult, NewExists}
 use Rattle.hn_world.specs.declared.event.WEvent.{WEvent}
 use Rattle.hn_world.specs.declared.event.WEvent.TheVariants as event
 use Rattle.hn_world.specs.declared.event.Traced.{Traced}
 use Rattle.hn_world.specs.declared.member.Member.{Member}
 use Rattle.hn_world.specs.declared.parts.Parts.{Parts}
-use Rattle.hn_world.specs.Existing.{HasAStep, IsGiven, IsOfBytesAt, Outcome, StepExists}
+use Rattle.hn_world.specs.Existing.{HasAStep, IsGiven, IsOfBytesAt, StepExists}
 use Rattle.hn_world.specs.Limits.{table_limit}
 use Rattle.hn_world.specs.Names.{is_named, router_place}
 use Rattle.hn_world.specs.Refusal.{copy_at, refusal}

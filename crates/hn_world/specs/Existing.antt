@@ -2,6 +2,7 @@
 use Rattle.std.specs.Prelude.{◌≡◌, ℕ, List, All, Contains, Option, None, Some}
 use Rattle.hn_base.specs.Byte.{IsByte}
 use Rattle.hn_base.specs.Exists.{Some! }
+use Rattle.hn_base.specs.Name.{name_text}
 use Rattle.hn_base.specs.Words.{Begins}
 use Rattle.hn_base.specs.declared.name.Name.{Name}
 use Rattle.hn_hash.specs.declared.leaf.Leaf.{Leaf}
@@ -15,6 +16,7 @@ use Rattle.hn_world.specs.declared.event.WEvent.TheVariants as event
 use Rattle.hn_world.specs.declared.member.Member.{Member}
 use Rattle.hn_world.specs.declared.parts.Parts.{Parts}
 use Rattle.hn_world.specs.Leaves.{Agrees}
+use Rattle.hn_world.specs.Names.{member_named}
 use Rattle.hn_world.specs.Refusal.{copy_at, refusal}
 use Rattle.hn_world.specs.Replay.{IsReplayed, IsSound}
 use Rattle.hn_world.specs.Routed.{routed}
@@ -71,3 +73,9 @@ abbrev pub RoutersAgreeSomehow : Type 0
 RoutersAgreeSomehow =
     (w : Parts) (a b : Member) → IsReplayed w → Contains w.members a → Contains w.members b
     → Some! (Agrees (leaves_of a.router) (leaves_of b.router))
+
+-- the routers of two names agree in some way: it cannot be that they do not
+unfoldable pub AgreeSomehow : Name → Name → Parts → Type 0
+AgreeSomehow a b w =
+    (m n : Member) → member_named (name_text a) w ≡ Some m → member_named (name_text b) w ≡ Some n
+    → Some! (Agrees (leaves_of m.router) (leaves_of n.router))

@@ -21,12 +21,12 @@ use Rattle.hn_world.specs.Existing.{HasAStep, IsGiven, IsOfBytesAt, StepExists}
 use Rattle.hn_world.specs.Limits.{table_limit}
 use Rattle.hn_world.specs.Names.{is_named, router_place}
 use Rattle.hn_world.specs.Refusal.{copy_at, refusal}
-use Rattle.hn_world.specs.Replay.{IsSound, IsSoundMember}
+use Rattle.hn_world.specs.Replay.{IsSoundWorld, IsSoundMember}
 use Rattle.hn_world.specs.Routed.{named_by, routed}
 use Rattle.hn_world.specs.Step.{ActsAt, DoesAt, FitsAt, Step, acted, beside, entered, stopped, taken, with_member}
 use Rattle.hn_world.proofs.Accepted.{accepts, is_there, receiver_found, router_found}
-use Rattle.hn_world.proofs.Acting.{copy_there, named_routed}
-use Rattle.hn_world.proofs.Sounds.{all_at}
+use Rattle.hn_world.proofs.DoneAsPlanned.{copy_there, named_routed}
+use Rattle.hn_world.proofs.SoundRouters.{all_at}
 use Rattle.std.proofs.lemmas.Option.{slice_get_within}
 
 -- the laws of routers on which it rests
@@ -74,7 +74,7 @@ module _ (event : WEvent) (w : Parts) (accepted : refusal w event ≡ None) (giv
 
   -- ---- at a router
 
-  module _ (laws : ExistenceLaws) (sound : IsSound w) where
+  module _ (laws : ExistenceLaws) (sound : IsSoundWorld w) where
     -- what an event does at the router of a place, as the world's event wants it
     at_place : (change : Member → Member) (place : ℕ) (m : Member) (own : PlainEvent) → slice_get w.members place ≡ Some m → IsEventInRange own → IsOfBytes own
         → ((words : List ℕ) (notes : List Note) (between : Parts) → ActsAt change place own words notes w between → (after : Parts) × Step (traced words) notes w after)
@@ -117,7 +117,7 @@ module _ (event : WEvent) (w : Parts) (accepted : refusal w event ≡ None) (giv
 
 -- ---- each event
 
-module _ (laws : ExistenceLaws) (w : Parts) (sound : IsSound w) where
+module _ (laws : ExistenceLaws) (w : Parts) (sound : IsSoundWorld w) where
   some_new : (name : Name) (id : NodeId) → refusal w (event.Router name id) ≡ None → IsGiven (event.Router name id) w → HasAStep (event.Router name id) w
   some_new name id accepted given =
       let (router, is_new) = laws.new id (table_limit w.version) w.moment in

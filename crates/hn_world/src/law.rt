@@ -5,7 +5,7 @@ ghost use Rattle.hn_rules.specs.declared.done.Note.{Note};
 ghost use Rattle.hn_world.specs.declared.event.Traced.{Traced};
 ghost use Rattle.hn_world.specs.declared.parts.Parts.{Parts};
 ghost use Rattle.hn_world.specs.Names.{NamesDiffer};
-ghost use Rattle.hn_world.specs.Replay.{IsReplayed, IsSound, Always};
+ghost use Rattle.hn_world.specs.Replay.{IsReplayed, IsSoundWorld, Always};
 ghost use Rattle.hn_world.specs.Step.{Step};
 ghost use Rattle.hn_world.specs.Within.{AreWithinLimits, RouterIsWithinLimits};
 ghost use Rattle.hn_world.specs.Authentic.{AuthenticUnlessInjected};
@@ -82,7 +82,7 @@ pub fn at_most_one_world()
 /// Each router of a world is one, and no later than the world, at each moment of the world's past.
 pub fn always_sound()
     ensures sound { WorldIsSound }
-    ensures always { (w : Parts) → IsReplayed w → Always IsSound w }
+    ensures always { (w : Parts) → IsReplayed w → Always IsSoundWorld w }
 {
     new_is_router();
     router_stays();

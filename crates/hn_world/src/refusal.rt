@@ -5,7 +5,7 @@ ghost use Rattle.hn_base.specs.Name.{name_text};
 ghost use Rattle.hn_base.specs.declared.name.Name.{Name};
 ghost use Rattle.std.specs.List.{list_any};
 ghost use Rattle.hn_world.specs.declared.event.WEvent.TheVariants as event;
-ghost use Rattle.hn_world.specs.Names.{is_taken, link_place};
+ghost use Rattle.hn_world.specs.Names.{is_taken_name, link_place};
 ghost use Rattle.hn_world.specs.Refusal.{so_of, copy_at, named_member, acting, names_nothing, takes_a_name, is_stopped, is_detached, lacks_the_endpoint, may_not_address};
 ghost use Rattle.hn_world.specs.Refusal.{joins_twice, lacks_a_copy, goes_back, lacks_room, is_full_of_mail, may_answer, first_code, refusal, refusal_at};
 ghost use Rattle.hn_world.specs.Routed.{named_by, place_by};
@@ -163,7 +163,7 @@ impl Parts {
 
     /// Whether a name is taken, by a router or a link.
     fn is_taken(&self, name: &Name) -> bool
-        ensures { result ≡ is_taken (name_text name.now) self.now }
+        ensures { result ≡ is_taken_name (name_text name.now) self.now }
     {
         self.members.place_of(name).is_some() || self.links.place_of(name).is_some()
     }

@@ -17,6 +17,7 @@ mod PlayScripts
 mod PrefixTexts
 mod AuditTexts
 mod LawAlike
+mod LawBreaks
 mod LawCarry
 mod LawChoosings
 mod LawEvents

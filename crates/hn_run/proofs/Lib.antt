@@ -15,3 +15,4 @@ mod NinthPrefix
 mod Nodes
 mod Ported
 mod NodeSources
+mod LeftOnWire

@@ -1,6 +1,5 @@
 mod HexDigits
 mod Forms
-mod OneForm
 mod Streams
 mod Cut
 mod Decodes

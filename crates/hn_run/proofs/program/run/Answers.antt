@@ -4,7 +4,7 @@ use Rattle.hn_run.specs.declared.words.Form.TheVariants.{Lab, Udp, Node, Decode,
 use Rattle.hn_run.specs.Node.{IsNodeRun, PlainCall}
 use Rattle.hn_run.proofs.LeftOnWire.{leaves_of_base}
 use Rattle.hn_run.proofs.Nodes.{as_called, call_in_range}
-use Rattle.hn_run.proofs.OneForm.{ends_alike, without_wire}
+use Rattle.hn_run.proofs.Forms.{ends_alike, without_wire}
 use Rattle.hn_run.proofs.program.run.Goals as goal
 
 pub returns-in-Some-Lab-clause-lab : goal.returns-in-Some-Lab-clause-lab

@@ -1,4 +1,5 @@
 mod RunStops
+mod RunAnswers
 mod RunEvents
 mod RunCopies
 mod RunTimes
@@ -10,12 +11,12 @@ mod Choosings
 mod RunSyncs
 mod TextLines
 mod TextReports
+mod LineEnds
 mod TextStreams
 mod Sendings
 mod PlayLines
 mod PlayScripts
 mod PrefixTexts
-mod AuditTexts
 mod LawAlike
 mod LawBreaks
 mod LawCarry
@@ -23,6 +24,7 @@ mod LawChoosings
 mod LawEvents
 mod LawLines
 mod LawPlays
+mod LawReports
 mod LawSendings
 mod LawSyncs
 mod LawTells
@@ -32,7 +34,6 @@ mod AddressSets
 mod AddressTexts
 mod UlaCounts
 mod UlaSets
-mod UlaTexts
 mod SomeEnds
 mod SomeEvents
 mod SomeTurns

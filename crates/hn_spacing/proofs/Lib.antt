@@ -1,0 +1,4 @@
+pub mod RaText
+pub mod FoundFirst
+pub mod Keeping
+pub mod WhoSends

@@ -2,3 +2,10 @@ pub mod RaText
 pub mod FoundFirst
 pub mod Keeping
 pub mod WhoSends
+pub mod OtherLines
+pub mod Invariants
+pub mod KeptSenders
+pub mod KeptEvents
+pub mod Spaced
+pub mod KeptLines
+pub mod SpacedPlays

@@ -1,5 +1,6 @@
 -- What the line on a Router Advertisement tells: its router and its endpoint.
-use Rattle.std.proofs.Common.{◌≡◌, ◌∙◌, ℕ, zero, suc, ◌+◌, ◌*◌, ◌/◌, ◌%◌, ◌^◌, ◌<◌, ◌≤◌, Bool, true, false, List, [], ◌∷◌, ◌++◌, append_assoc, length, refl, sym, ap, subst, inl, inr, lit<, arith}
+use Rattle.std.proofs.Common.{◌≡◌, ◌∙◌, ℕ, zero, suc, ◌+◌, ◌*◌, ◌/◌, ◌%◌, ◌^◌, ◌<◌, ◌≤◌, Bool, true, false, List, [], ◌∷◌, ◌++◌, append_assoc}
+use Rattle.std.proofs.Common.{length, refl, sym, ap, inl, inr, lit<, arith}
 use Rattle.std.specs.Prelude.{◌==◌, if◌then◌else◌}
 use Rattle.std.specs.Fmt.{decimal, digits, digits_onto, digit_glyph}
 use Rattle.std.specs.List.{list_all}
@@ -79,7 +80,8 @@ short_number m n small same =
 -- ---- the line
 
 -- its parts, each before a space
-parts : (a b c d : List ℕ) → 114 ∷ 97 ∷ 32 ∷ (a ++ 32 ∷ [] ++ b ++ 32 ∷ [] ++ c ++ 32 ∷ [] ++ d ++ 10 ∷ []) ≡ 114 ∷ 97 ∷ 32 ∷ (a ++ 32 ∷ (b ++ 32 ∷ (c ++ 32 ∷ (d ++ 10 ∷ []))))
+parts : (a b c d : List ℕ) → 114 ∷ 97 ∷ 32 ∷ (a ++ 32 ∷ [] ++ b ++ 32 ∷ [] ++ c ++ 32 ∷ [] ++ d ++ 10 ∷ [])
+    ≡ 114 ∷ 97 ∷ 32 ∷ (a ++ 32 ∷ (b ++ 32 ∷ (c ++ 32 ∷ (d ++ 10 ∷ []))))
 parts a b c d = simp (append_assoc {A = ℕ}) refl
 
 pub ra_tells : (name other : Name) (e f : EpId) (now past : ℕ) (bytes others : List ℕ) → e.0 < 2 ^ 32
@@ -89,7 +91,7 @@ ra_tells name other e f now past bytes others small same =
     let second = parts (name_text name) (decimal e.0) (decimal now) (hex_text bytes) in
     let both = sym first ∙ same ∙ second in
     let after : name_text other ++ 32 ∷ (decimal f.0 ++ 32 ∷ (decimal past ++ 32 ∷ (hex_text others ++ 10 ∷ [])))
-        ≡ name_text name ++ 32 ∷ (decimal e.0 ++ 32 ∷ (decimal now ++ 32 ∷ (hex_text bytes ++ 10 ∷ []))) = cc in
+    ≡ name_text name ++ 32 ∷ (decimal e.0 ++ 32 ∷ (decimal now ++ 32 ∷ (hex_text bytes ++ 10 ∷ []))) = cc in
     let names = same_split 32 (name_text other) _ (name_text name) _ (name_lacks_space other) (name_lacks_space name) after in
     let numbers = same_split 32 (decimal f.0) _ (decimal e.0) _ (decimal_lacks_space f.0) (decimal_lacks_space e.0) names.1 in
     (names.0, short_number f.0 e.0 small numbers.0)

@@ -1,5 +1,5 @@
 -- The sender of an endpoint, where senders are changed, added and left out.
-use Rattle.std.proofs.Common.{◌≡◌, ◌∙◌, ℕ, Bool, true, false, not, List, filter, Option, None, Some, refl, sym, ap, inl, inr, slice_get}
+use Rattle.std.proofs.Common.{◌≡◌, ◌∙◌, ℕ, Bool, true, false, not, List, filter, Option, None, Some, refl, sym, ap, inl, inr}
 use Rattle.std.specs.Prelude.{◌==◌, ◌&&◌, if◌then◌else◌, find, position, nat_le, nat_lt}
 use Rattle.std.specs.List.{slice_set}
 use Rattle.std.specs.Option.{option_map}
@@ -11,7 +11,7 @@ use Rattle.std.proofs.lemmas.Slice.Eq.{bytes_eq-Decides}
 use Rattle.hn_base.specs.Name.{name_text}
 use Rattle.hn_base.specs.declared.ids.EpId.{EpId}
 use Rattle.hn_base.specs.declared.name.Name.{Name}
-use Rattle.hn_radv.specs.Sender.{PlainSender, started_sender}
+use Rattle.hn_radv.specs.Sender.{PlainSender}
 use Rattle.hn_lab.specs.declared.senders.Sending.{Sending}
 use Rattle.hn_lab.specs.declared.senders.Shape.{Shape}
 use Rattle.hn_lab.specs.Senders.{sender_number, is_sender_of, sends_at, IsSenderAt, without_sender, without_senders, with_sender}
@@ -69,7 +69,8 @@ choice_out : (b : Bool) (o : Option Sending) → option_map (λ s. s.sender) (if
 choice_out true o = refl
 choice_out false o = refl
 
-by_filter : (name : Name) (e : EpId) (senders : List Sending) (q : Sending → Bool) (b : Bool) → ((s : Sending) → sends_at name e s ≡ true → q s ≡ b) → StaysOrNot name e senders (filter q senders)
+by_filter : (name : Name) (e : EpId) (senders : List Sending) (q : Sending → Bool) (b : Bool) → ((s : Sending) → sends_at name e s ≡ true → q s ≡ b)
+    → StaysOrNot name e senders (filter q senders)
 by_filter name e senders q b same =
     (b, ap (option_map (λ s. s.sender)) (find-filter (sends_at name e) q b same senders) ∙ choice_out b (find (sends_at name e) senders))
 
@@ -130,10 +131,12 @@ module _ (name : Name) (e : EpId) (s : Sending) (senders : List Sending) where
   with_this_one here =
       let own = is_of name e s here in
       let others = without_sender s.name s.endpoint senders in
-      let same : is_other name e s.name s.endpoint ≡ false =
-      ap not (and_from (bytes_eq (name_text name) (name_text s.name)) (e.0 == s.endpoint.0) ((bytes_eq-Decides (name_text name) (name_text s.name)).1 (sym own.0)) (eq-eqb e.0 s.endpoint.0 (sym own.1))) in
+      let texts = (bytes_eq-Decides (name_text name) (name_text s.name)).1 (sym own.0) in
+      let numbers = eq-eqb e.0 s.endpoint.0 (sym own.1) in
+      let same : is_other name e s.name s.endpoint ≡ false = ap not (and_from (bytes_eq (name_text name) (name_text s.name)) (e.0 == s.endpoint.0) texts numbers) in
       let gone : find (sends_at name e) others ≡ None =
       find-filter (sends_at name e) (λ t. not (sends_at s.name s.endpoint t)) false (λ t sends. told_apart name e s.name s.endpoint t sends ∙ same) senders in
       let gone_before : find (sends_at name e) (filter (λ t. nat_le (sender_number t) (sender_number s)) others) ≡ None =
       find-filter (sends_at name e) (λ t. nat_le (sender_number t) (sender_number s)) (nat_le e.0 s.endpoint.0) front others ∙ none_either (nat_le e.0 s.endpoint.0) _ gone in
-      ap (option_map (λ s. s.sender)) (find-placed_first (sends_at name e) (λ t. nat_le (sender_number t) (sender_number s)) (λ t. nat_lt (sender_number s) (sender_number t)) others s gone_before here)
+      ap (option_map (λ s. s.sender)) (find-placed_first (sends_at name e) (λ t. nat_le (sender_number t) (sender_number s))
+      (λ t. nat_lt (sender_number s) (sender_number t)) others s gone_before here)

@@ -17,6 +17,7 @@ pub mod Choosing
 pub mod AddressReports
 pub mod UlaReports
 pub mod Syncing
+pub mod Report
 pub mod Line
 pub mod Play
 pub mod Output

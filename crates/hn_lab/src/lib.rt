@@ -18,7 +18,9 @@ mod notes;
 mod of_line;
 mod output;
 mod playing;
+mod plays;
 mod prefix_reports;
+mod report;
 mod reports;
 mod rounds;
 mod scripts;
@@ -27,7 +29,6 @@ mod sending;
 mod set;
 mod stream;
 mod syncing;
-mod text;
 mod ula_report;
 
 pub use end::End;

@@ -1,5 +1,5 @@
 -- The lines of a script keep what stays over turns and other lines, and so does a play.
-use Rattle.std.proofs.Common.{◌≡◌, inl, inr, ℕ, false, List, [], ◌∷◌, ◌++◌, Option, None, Some, refl, sym, ap, subst}
+use Rattle.std.proofs.Common.{◌≡◌, ◌∙◌, inl, inr, ℕ, false, List, [], ◌∷◌, ◌++◌, Option, None, Some, refl, sym, ap, subst}
 use Rattle.std.specs.List.{AllByRecursion}
 use Rattle.hn_addr.specs.Addresses.{IsChoice}
 use Rattle.hn_base.specs.declared.name.Name.{Name}
@@ -10,24 +10,26 @@ use Rattle.hn_ula.specs.Ula.{Decides}
 use Rattle.hn_world.specs.declared.event.WEvent.{WEvent}
 use Rattle.hn_world.specs.declared.event.WEvent.TheVariants as event
 use Rattle.hn_world.specs.declared.member.Member.{Member}
-use Rattle.hn_world.specs.Asked.{unless_known, unless_runs, unless_both_run}
 use Rattle.hn_world.specs.declared.parts.Parts.{Parts}
 use Rattle.hn_lab.specs.declared.end.Stop.{Stop}
 use Rattle.hn_lab.specs.declared.end.Stop.TheVariants.{Refused, WireFailed, Cut}
-use Rattle.hn_lab.specs.AddressReports.{addresses_lines, IsAddressedLine, address_line}
-use Rattle.hn_lab.specs.AdvertReports.{IsAdvertLine}
-use Rattle.hn_lab.specs.AuditReports.{IsAuditLine}
+use Rattle.hn_lab.specs.declared.report.About.{About}
+use Rattle.hn_lab.specs.declared.report.About.TheVariants as about
+use Rattle.hn_lab.specs.declared.report.Report.{Report}
+use Rattle.hn_lab.specs.declared.report.Report.TheVariants as report
+use Rattle.hn_lab.specs.AddressReports.{address_line}
 use Rattle.hn_lab.specs.Choosing.{chosen_event, decided_event}
 use Rattle.hn_lab.specs.Delivery.{EventNotes, EventEnds, DeliveryEnds}
-use Rattle.hn_lab.specs.Line.{Noted, Delivered, Sets, Tells, IsOf, Compares, OtherEnds, Follows, EndsBy, LineEnds, event_of, receiver, injection, seeded, unless_elects, mail_report}
+use Rattle.hn_lab.specs.Line.{Noted, Delivered, Sets, OtherEnds, Follows, EndsAs, EndsBy, LineEnds, event_of, report_of, receiver, injection, seeded}
 use Rattle.hn_lab.specs.Play.{LineSaid, LinesDone, StopsAt}
-use Rattle.hn_lab.specs.PrefixReports.{AreUsedLines, prefixes_lines, IsElectLine, use_line, prefix_line}
+use Rattle.hn_lab.specs.PrefixReports.{use_line, prefix_line}
 use Rattle.hn_lab.specs.Process.{Unless, ThenProcess}
-use Rattle.hn_lab.specs.Reports.{show_line, hash_line, note_line, refused_line}
+use Rattle.hn_lab.specs.Report.{IsAbout, IsReport, ReportEnds, unless_report, unless_elects}
+use Rattle.hn_lab.specs.Reports.{note_line, refused_line}
 use Rattle.hn_lab.specs.Sending.{Solicits, starting, ending, ending_all}
 use Rattle.hn_lab.specs.Stage.{Stage}
-use Rattle.hn_lab.specs.Tells.{TellsLines, TellsSome, ReportsLines, Reports, IsOneLine, note_lines}
-use Rattle.hn_lab.specs.UlaReports.{ula_line, IsUlasLine}
+use Rattle.hn_lab.specs.Tells.{TellsLines, TellsSome, Reports, note_lines}
+use Rattle.hn_lab.specs.UlaReports.{ula_line}
 use Rattle.hn_spacing.proofs.Invariants.{IsInvariant}
 use Rattle.hn_spacing.proofs.Keeping.{Keeps, keeps_at, keeps_nothing, keeps_unless, keeps_then}
 use Rattle.hn_spacing.proofs.KeptEvents.{keeps_noting, keeps_event, keeps_delivery, keeps_flow, keeps_run, keeps_choice, keeps_sync}
@@ -35,14 +37,25 @@ use Rattle.hn_spacing.proofs.OtherLines.{begins_ra, AreNoRaLines, no_ra_map}
 
 -- ---- what reports and notes tell are other lines
 
-used_no_ra : (name : Name) (m : Member) (lines : List (List ℕ)) → AreUsedLines name m lines → AreNoRaLines lines
-used_no_ra name m lines h = subst AreNoRaLines (sym h.lines_are) (refl, no_ra_map (use_line name) (λ d. refl) h.used)
+one_line : (line other : List ℕ) (lines : List (List ℕ)) → begins_ra other ≡ false → line ≡ other → lines ≡ line ∷ [] → AreNoRaLines lines
+one_line line other lines no_ra is are = subst AreNoRaLines (sym are) (ap begins_ra is ∙ no_ra, tt)
 
-prefixes_no_ra : (name : Name) (m : Member) (lines : List (List ℕ)) → lines ≡ prefixes_lines name m → AreNoRaLines lines
-prefixes_no_ra name m lines h = subst AreNoRaLines (sym h) (refl, no_ra_map (prefix_line name) (λ c. refl) m.router.held.assigned)
+about_no_ra : (what : About) (name : Name) (w : Parts) (m : Member) (lines : List (List ℕ)) → IsAbout what name w m lines → AreNoRaLines lines
+about_no_ra about.Show name w m lines h = one_line h.0 _ lines refl h.1 h.2
+about_no_ra about.Hash name w m lines h = one_line h.0 _ lines refl h.1 h.2
+about_no_ra about.Used name w m lines h = subst AreNoRaLines (sym h.lines_are) (refl, no_ra_map (use_line name) (λ d. refl) h.used)
+about_no_ra about.Prefixes name w m lines h = subst AreNoRaLines (sym h) (refl, no_ra_map (prefix_line name) (λ c. refl) m.router.held.assigned)
+about_no_ra (about.Elect e letter) name w m lines h = one_line h.0 _ lines refl h.1.line_is h.2
+about_no_ra (about.Advert e) name w m lines h = one_line h.0 _ lines refl h.1.line_is h.2
+about_no_ra about.Audit name w m lines h = one_line h.0 _ lines refl h.1.line_is h.2
+about_no_ra about.Addresses name w m lines h = subst AreNoRaLines (sym h) (refl, no_ra_map (address_line name) (λ a. refl) m.router.addresses)
+about_no_ra about.Addressed name w m lines h = one_line h.0 _ lines refl h.1.line_is h.2
+about_no_ra about.Ulas name w m lines h = one_line h.0 _ lines refl h.1.line_is h.2
 
-addresses_no_ra : (name : Name) (m : Member) (lines : List (List ℕ)) → lines ≡ addresses_lines name m → AreNoRaLines lines
-addresses_no_ra name m lines h = subst AreNoRaLines (sym h) (refl, no_ra_map (address_line name) (λ a. refl) m.router.addresses)
+report_no_ra : (of : Report) (w : Parts) (lines : List (List ℕ)) → IsReport of w lines → AreNoRaLines lines
+report_no_ra (report.Router name what) w lines h = about_no_ra what name w h.0 lines h.2
+report_no_ra (report.Compare left right) w lines h = one_line h.0 _ lines refl h.1.is_line.line_is h.2
+report_no_ra report.Mail w lines h = one_line h.0 _ lines refl h.1 h.2
 
 notes_no_ra : (name : Option Name) (notes : List Note) → AreNoRaLines (note_lines name notes)
 notes_no_ra None notes = tt
@@ -51,17 +64,10 @@ notes_no_ra (Some name) notes = no_ra_map (note_line name) (λ n. refl) notes
 module _ (Holds : Stage → Type 0) (MayBe : Line → Type 0) (invariant : IsInvariant Holds MayBe) where
   -- ---- forms of lines
 
-  -- a report of several lines, and one of one line, by the world before it
-  reports_lines : (unless : Parts → Option ℕ) (AreReport : Parts → List (List ℕ) → Type 0) → ((w : Parts) (lines : List (List ℕ)) → AreReport w lines → AreNoRaLines lines)
-      → Keeps Holds (λ stop p a. ReportsLines (unless p.world) (AreReport p.world) stop p a)
-  reports_lines unless AreReport no_ra = keeps_at Holds (λ p. ReportsLines (unless p.world) (AreReport p.world))
-      (λ p. keeps_then Holds (Unless (unless p.world)) (TellsSome (AreReport p.world)) (keeps_unless Holds (unless p.world))
-      (λ c q a h. invariant.tells h.0 (no_ra p.world h.0 h.1) c q a h.2))
-
-  reports_line : (unless : Parts → Option ℕ) (IsReport : Parts → List ℕ → Type 0) → ((w : Parts) (line : List ℕ) → IsReport w line → begins_ra line ≡ false)
-      → Keeps Holds (λ stop p a. Reports (unless p.world) (IsReport p.world) stop p a)
-  reports_line unless IsReport no_ra =
-      reports_lines unless (λ w. IsOneLine (IsReport w)) (λ w lines h. subst AreNoRaLines (sym h.2) (no_ra w h.0 h.1, tt))
+  report_ends : (of : Report) → Keeps Holds (ReportEnds of)
+  report_ends of = keeps_at Holds (λ p. Reports (unless_report of p.world) (IsReport of p.world))
+      (λ p. keeps_then Holds (Unless (unless_report of p.world)) (TellsSome (IsReport of p.world)) (keeps_unless Holds (unless_report of p.world))
+      (λ c q a h. invariant.tells h.0 (report_no_ra of p.world h.0 h.1) c q a h.2))
 
   noted : (event : WEvent) (name : Option Name) → Keeps Holds (Noted event name)
   noted event name c p a h =
@@ -88,20 +94,6 @@ module _ (Holds : Stage → Type 0) (MayBe : Line → Type 0) (invariant : IsInv
   other_ends (line.Deliver copy) may = keeps_at Holds (λ p. Delivered copy (receiver p.world copy)) (λ p. delivered copy (receiver p.world copy))
   other_ends line.Flow may = keeps_flow Holds MayBe invariant
   other_ends (line.Inject name endpoint how bytes) may = noted (injection name endpoint how bytes) (Some name)
-  other_ends (line.Show name) may = reports_line (unless_known name) (λ w. IsOf name w (show_line name)) (λ w line h. ap begins_ra h.2)
-  other_ends (line.Hash name) may = reports_line (unless_runs name) (λ w. IsOf name w (hash_line name)) (λ w line h. ap begins_ra h.2)
-  other_ends (line.Used name) may = reports_lines (unless_runs name) (λ w. Tells name w (AreUsedLines name)) (λ w lines h. used_no_ra name h.0 lines h.2)
-  other_ends (line.Prefixes name) may =
-      reports_lines (unless_runs name) (λ w. Tells name w (λ m lines. lines ≡ prefixes_lines name m)) (λ w lines h. prefixes_no_ra name h.0 lines h.2)
-  other_ends (line.Elect name e letter) may = reports_line (unless_elects name e) (λ w. Tells name w (IsElectLine name e letter)) (λ w line h. ap begins_ra h.2.line_is)
-  other_ends (line.Advert name e) may = reports_line (unless_elects name e) (λ w. Tells name w (IsAdvertLine name e)) (λ w line h. ap begins_ra h.2.line_is)
-  other_ends (line.Audit name) may = reports_line (unless_runs name) (λ w. Tells name w (IsAuditLine name w)) (λ w line h. ap begins_ra h.2.line_is)
-  other_ends (line.Compare left right) may = reports_line (unless_both_run left right) (Compares left right) (λ w line h. ap begins_ra h.is_line.line_is)
-  other_ends line.Mail may = reports_line (λ w. None) (λ w line. line ≡ mail_report w) (λ w line h. ap begins_ra h)
-  other_ends (line.Addresses name) may =
-      reports_lines (unless_runs name) (λ w. Tells name w (λ m lines. lines ≡ addresses_lines name m)) (λ w lines h. addresses_no_ra name h.0 lines h.2)
-  other_ends (line.Addressed name) may = reports_line (unless_runs name) (λ w. Tells name w (IsAddressedLine name w)) (λ w line h. ap begins_ra h.2.line_is)
-  other_ends (line.Ulas name) may = reports_line (unless_runs name) (λ w. Tells name w (IsUlasLine name w)) (λ w line h. ap begins_ra h.2.line_is)
   other_ends (line.Address name) may = keeps_choice Holds MayBe invariant name IsChoice (chosen_event name) (λ made. []) (λ made. tt)
   other_ends (line.Ula name) may = keeps_choice Holds MayBe invariant name Decides (decided_event name) (λ made. ula_line name made ∷ []) (λ made. (refl, tt))
   other_ends (line.Sync left right) may = keeps_sync Holds MayBe invariant left right
@@ -119,9 +111,13 @@ module _ (Holds : Stage → Type 0) (MayBe : Line → Type 0) (invariant : IsInv
   follows (event.Start name) = sets (ending_all name) (invariant.ending_all name)
   follows _ = keeps_nothing Holds
 
+  ends_as : (l : Line) (of : Option Report) → MayBe l → Keeps Holds (EndsAs l of)
+  ends_as l (Some of) may = report_ends of
+  ends_as l None may = other_ends l may
+
   ends_by : (l : Line) (event : Option WEvent) → MayBe l → Keeps Holds (EndsBy l event)
   ends_by l (Some event) may = keeps_then Holds (EventEnds event) (Follows event) (keeps_event Holds MayBe invariant event) (follows event)
-  ends_by l None may = other_ends l may
+  ends_by l None may = ends_as l (report_of l) may
 
   line_ends : (l : Line) → MayBe l → Keeps Holds (LineEnds l)
   line_ends l may = ends_by l (event_of l) may

@@ -4,8 +4,8 @@ from typing import Dict, Iterator, List, Optional, Tuple
 
 PLACE = re.compile(r'`(\S+\.(?:rt|antt)): ([^`]+)`$')
 ROW = re.compile(r'\| `(\S+/specs)` \| (.*) \|$')
-FILE = re.compile(r'-- ==== (\S+\.antt)$')
-HEAD = re.compile(r'(?:abbrev pub|unfoldable pub|abbrev|pub record|pub data|record|data|pub) (\w+)')
+FILE = re.compile(r'=== (\S+\.antt)$')
+HEAD = re.compile(r'(?:abbrev pub|unfoldable pub|abbrev|pub record|pub data|record|data|pub) ([^\s:]+)')
 CLAUSE = re.compile(r'ensures (\w+) ')
 
 
@@ -32,7 +32,7 @@ def _items(lines: List[str]) -> Iterator[Tuple[str, str]]:
             yield from _definitions(lines[at + 1:end])
             at = end
         elif row:
-            for part in row.group(2).split(', '):
+            for part in row.group(2).split('; '):
                 yield '%s/%s.antt' % (row.group(1), part.split(' ')[0]), part
         else:
             yield section, line

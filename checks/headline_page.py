@@ -14,8 +14,11 @@ FILE = 'hn_run/src/program.rt'
 FUNCTION = 'run'
 HALVES = ('headline', 'settled')
 """The clauses that the page is about: their definitions are shown, listed and counted."""
-BESIDE = ('replayed', 'stays', 'authentic')
+BESIDE = ('replayed', 'stays', 'within_limits', 'authentic')
 """The clauses that are shown beside them."""
+ALONE = ('lab',)
+"""The clauses that are shown beside them, without the others of their paragraph."""
+CLAUSES = HALVES + BESIDE + ALONE
 OVER_TIME = ('hn_world/specs/Replay.antt: Always', 'hn_world/specs/Replay.antt: Throughout')
 """The definitions that say of which worlds a half is said. What is said of one world does not rest on them."""
 NEAR = 2
@@ -40,25 +43,27 @@ class Headline:
         if rust is None or not rust.has_function(FUNCTION):
             raise NotFound('%s in %s' % (FUNCTION, FILE))
         self.contract: Contract = rust.contract(FUNCTION)
-        for clause in HALVES + BESIDE:
+        for clause in CLAUSES:
             if clause not in self.contract.clauses:
                 raise NotFound('the clause %s of %s in %s' % (clause, FUNCTION, self.file))
-        self.of_one_world = sources.steps(self._seeds(HALVES, OVER_TIME))
-        self.with_worlds = sources.steps(self._seeds(HALVES))
+        self.of_one_world = sources.steps(self.seeds(HALVES, OVER_TIME))
+        self.with_worlds = sources.steps(self.seeds(HALVES))
         self.shown = self._shown()
         self.listed = [node for node in self.of_one_world if not node.is_type and node not in self.shown]
 
-    def _seeds(self, clauses: Iterable[str], without: Tuple[str, ...] = ()) -> List[Node]:
+    def seeds(self, clauses: Iterable[str], without: Tuple[str, ...] = ()) -> List[Node]:
         found = self.sources.cited_by_clauses(self.file, FUNCTION, clauses)
         return [node for node in found if node.place not in without]
 
     def _shown(self) -> List[Node]:
         """The definitions that are shown, each after the clause or definition that first names it."""
-        beside = self.sources.steps(self._seeds(BESIDE))
+        beside = self.sources.steps(self.seeds(BESIDE))
         near = {node for node, steps in self.with_worlds.items() if steps <= NEAR}
         near |= {node for node, steps in beside.items() if steps <= NEAR_BESIDE}
+        near -= _chosen(text.IN_WORDS, near, 'of those near the clauses')
+        near |= _chosen(text.ALONE, set(self.sources.steps(self.seeds(ALONE))), 'of ' + ', '.join(ALONE))
         order: Dict[Node, None] = {}
-        self._read_from(self._seeds(HALVES + BESIDE), near, order)
+        self._read_from(self.seeds(CLAUSES), near, order)
         return [node for node in order if not node.is_type]
 
     def _read_from(self, nodes: List[Node], near: Set[Node], order: Dict[Node, None]) -> None:
@@ -66,6 +71,10 @@ class Headline:
             if node in near and node not in order:
                 order[node] = None
                 self._read_from(self.sources.cites(node), near, order)
+
+    def mark(self, found: Iterable[Node]) -> str:
+        """A mark that changes with each of some definitions and types."""
+        return mark(line for node in sorted(found) for line in self.sources.entity(node).code)
 
     def count(self, found: Iterable[Node]) -> Tuple[int, int, int, int, int]:
         """How many definitions, their lines and files; how many types, and their lines."""
@@ -78,36 +87,26 @@ class Headline:
     def _lines(self, nodes: List[Node]) -> int:
         return sum(len(self.sources.entity(node).code) for node in nodes)
 
-    def counts(self) -> List[Tuple[str, Tuple[int, int, int, int, int]]]:
-        """The rows of the table of counts."""
+    def counted(self) -> List[Tuple[str, List[Node]]]:
+        """The rows of the table of counts: what each counts."""
         steps = self.sources.steps
         return [
-            ('`headline`, of one world', self.count(steps(self._seeds(HALVES[:1], OVER_TIME)))),
-            ('`settled`, of one world', self.count(steps(self._seeds(HALVES[1:], OVER_TIME)))),
-            ('both, of one world', self.count(self.of_one_world)),
-            ('both, with how a world comes about', self.count(self.with_worlds)),
-            ('these with `replayed`, `stays` and `authentic`', self.count(steps(self._seeds(HALVES + BESIDE)))),
-            ('all clauses of `run`', self.count(steps(self._seeds(self.contract.clauses)))),
+            ('`headline`, of one world', list(steps(self.seeds(HALVES[:1], OVER_TIME)))),
+            ('`settled`, of one world', list(steps(self.seeds(HALVES[1:], OVER_TIME)))),
+            ('both, of one world', list(self.of_one_world)),
+            ('both, with how a world comes about', list(self.with_worlds)),
+            ('these seven clauses', list(steps(self.seeds(CLAUSES)))),
+            ('all clauses of `run`', list(steps(self.seeds(self.contract.clauses)))),
         ]
 
-    def begins(self) -> List[Node]:
-        """The definitions that the shown text names, and that are neither shown nor listed."""
-        known = set(self.shown) | set(self.listed)
-        return sorted(node for node in self._named() if not node.is_type and node not in known)
-
-    def _named(self) -> Set[Node]:
-        """What the shown clauses and definitions name."""
-        clauses = self._seeds(name for name in self.contract.clauses if self._is_beside(name))
-        return set(clauses).union(*map(self.sources.cites, self.shown))
-
-    def _is_beside(self, clause: str) -> bool:
-        """Whether a clause stands in a paragraph that is shown."""
-        paragraphs = [self.contract.paragraph(name) for name in HALVES + BESIDE]
-        return self.contract.paragraph(clause) in paragraphs
+    def named(self) -> List[Node]:
+        """The definitions that the shown clauses and definitions name, and that are not shown."""
+        found = set(self.seeds(CLAUSES)).union(*map(self.sources.cites, self.shown))
+        return sorted(node for node in found if not node.is_type and node not in self.shown)
 
     def signs(self) -> Iterator[Tuple[str, str]]:
         """Each sign and each word of the kit that the page shows, with the place at which it stands."""
-        for name in HALVES + BESIDE:
+        for name in CLAUSES:
             for sign in self._signs_of_clause(name):
                 yield sign, '%s: %s (%s)' % (self.file, FUNCTION, name)
         for node in self.shown:
@@ -129,6 +128,14 @@ class Headline:
         for cited in spec.cited(found):
             if self.sources.of_spec(node.file, cited) is None:
                 yield cited[0]
+
+
+def _chosen(places: Dict[str, str], known: Set[Node], what: str) -> Set[Node]:
+    """The definitions of a choice, by files and names. Each is one of those that are known."""
+    found = {Node(file, name) for file, names in places.items() for name in names.split()}
+    for node in sorted(found - known):
+        raise NotFound('%s, which checks/headline_text.py names, %s' % (node.place, what))
+    return found
 
 
 def _plain_signs(shown: str) -> Iterator[str]:
@@ -154,11 +161,12 @@ def mark(lines: Iterable[str]) -> str:
 
 
 def _clauses(found: Headline) -> List[str]:
-    """The paragraphs of the contract that the clauses stand in."""
+    """The paragraphs of the contract that the clauses stand in, and of those of some clauses the comment and the clause."""
     paragraphs: List[List[str]] = []
     for name in HALVES + BESIDE:
         if found.contract.paragraph(name) not in paragraphs:
             paragraphs.append(found.contract.paragraph(name))
+    paragraphs += [found.contract.comment(name) + found.contract.clauses[name] for name in ALONE]
     lines = ['`%s: %s`' % (found.file, FUNCTION), '```text']
     for paragraph in paragraphs:
         lines += [line[4:] for line in paragraph] + ['']
@@ -169,7 +177,7 @@ def _definitions(found: Headline) -> List[str]:
     """A block of the definitions. Before those of one file that follow each other their file is named."""
     lines: List[str] = ['```text']
     for file, nodes in groupby(found.shown, lambda node: node.file):
-        lines += ['-- ==== %s' % file, '']
+        lines += ['=== %s' % file, '']
         for node in nodes:
             lines += found.sources.entity(node).shown + ['']
     return lines[:-1] + ['```', '']
@@ -186,14 +194,16 @@ def _places(nodes: List[Node]) -> str:
 
 
 def _others(found: Headline) -> List[str]:
-    """A row for each crate: of each file how many definitions, their lines and their mark."""
+    """A row for each crate: of each file its lines that are listed, their mark, and what the shown text names of it."""
+    named = found.named()
     rows: Dict[str, List[str]] = {}
     for file, nodes in groupby(sorted(found.listed), lambda node: node.file):
-        codes = [found.sources.entity(node).code for node in nodes]
-        lines = [line for code in codes for line in code]
+        lines = [line for node in nodes for line in found.sources.entity(node).code]
+        names = ', '.join(node.name for node in named if node.file == file)
         folder, name = os.path.split(file)
-        rows.setdefault(folder, []).append('%s %d %d %s' % (name[:-len('.antt')], len(codes), len(lines), mark(lines)))
-    table = ['| `%s` | %s |' % (folder, ', '.join(files)) for folder, files in rows.items()]
+        row = '%s %d %s' % (name[:-len('.antt')], len(lines), mark(lines))
+        rows.setdefault(folder, []).append(row + (' (%s)' % names if names else ''))
+    table = ['| `%s` | %s |' % (folder, '; '.join(files)) for folder, files in rows.items()]
     return ['| Folder | Files |', '|---|---|'] + table + ['']
 
 
@@ -204,17 +214,19 @@ def told(sources: Sources) -> str:
 
 
 def others(sources: Sources) -> Iterator[str]:
-    """A line for each definition that is listed: its place, its number of lines and its mark."""
+    """A line for each definition that the clauses rest on and that is not shown: its place, its lines and its mark."""
     found = Headline(sources)
-    for node in sorted(found.listed):
+    of_clauses = sources.steps(found.seeds(CLAUSES))
+    for node in sorted(node for node in of_clauses if not node.is_type and node not in found.shown):
         code = found.sources.entity(node).code
         yield '%s %d %s' % (node.place, len(code), mark(code))
 
 
 def _counts(found: Headline) -> List[str]:
-    table = ['| What | Definitions | Lines | Files | Types | Lines |', '|---|---|---|---|---|---|']
-    for what, numbers in found.counts():
-        table.append('| %s | %s |' % (what, ' | '.join('{:,}'.format(number) for number in numbers)))
+    table = ['| What | Definitions | Lines | Files | Types | Lines | Mark |', '|---|---|---|---|---|---|---|']
+    for what, nodes in found.counted():
+        numbers = ['{:,}'.format(number) for number in found.count(nodes)]
+        table.append('| %s |' % ' | '.join([what] + numbers + [found.mark(nodes)]))
     return table + ['']
 
 
@@ -224,7 +236,7 @@ def page(sources: Sources) -> str:
     lines = [text.BEGINNING, '## The clauses', '', text.CLAUSES, ''] + _clauses(found)
     lines += ['## The signs', '', text.SIGNS, '', '| Sign | Says |', '|---|---|'] + key(found) + ['']
     lines += ['## The definitions', '', text.DEFINITIONS, ''] + _definitions(found)
-    lines += [text.BEGINS + ' ' + _places(found.begins()), '']
     lines += ['## The others', '', text.OTHERS, ''] + _others(found)
+    lines += [text.FARTHER + ' ' + _places([node for node in found.named() if node not in found.listed]), '']
     lines += ['## The counts', '', text.COUNTS, ''] + _counts(found)
     return '\n'.join(lines).rstrip('\n') + '\n'

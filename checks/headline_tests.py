@@ -1,12 +1,15 @@
 """Tries the page with the headline: on small sources, and on a copy of these with one thing changed."""
 import os
+import re
 import shutil
 import subprocess
 import sys
 import tempfile
 import unittest
 from typing import Dict, List, Set
+from unittest import mock
 
+import headline_text
 from headline_compare import difference, items
 from headline_page import HALVES, Headline, NoSuchSign, others, page
 from sources.closure import Node, NotFound, Sources
@@ -276,6 +279,34 @@ class OfThisRepository(unittest.TestCase):
         after = list(others(Sources(self.root)))
         self.assertEqual([now.split(' ')[:2] for was, now in zip(before, after) if was != now], [node.place.split(' ')])
 
+    def test_a_change_of_what_a_transcript_is_is_named(self) -> None:
+        """Of the clause that stands alone, the definition of what cannot be missing."""
+        self.change('hn_base/specs/Exists.antt', '→ ⊥', '→ ¬ ⊥')
+        self.assertEqual(self.differs(), 'hn_base/specs/Exists.antt: Some! changed')
+
+    def test_a_change_of_a_far_definition_is_seen(self) -> None:
+        """One sign of a definition that is neither shown nor listed: the mark of a count tells it."""
+        self.change('hn_lab/specs/Lab.antt', 'status_of WireFailed = 5', 'status_of WireFailed = 6')
+        self.assertTrue(self.differs().startswith('the section "The counts" changed: | these seven clauses | '))
+
+    def test_a_choice_that_chooses_nothing_is_refused(self) -> None:
+        """A definition that the page leaves out, or shows of a clause that stands alone, and that is not of it."""
+        for choice in (headline_text.IN_WORDS, headline_text.ALONE):
+            with mock.patch.dict(choice, {'hn_typed/specs/Item.antt': 'IsNowhere'}):
+                with self.assertRaisesRegex(NotFound, 'hn_typed/specs/Item.antt: IsNowhere, which checks/headline_text.py'):
+                    page(self.sources)
+
+    def test_each_definition_that_is_left_out_is_pointed_to(self) -> None:
+        """What the shown text names is shown, or stands after it with its file."""
+        after = self.page.split('## The others', 1)[1]
+        for node in self.headline.named():
+            folder, file = os.path.split(node.file)
+            row = next((line for line in after.split('\n') if line.startswith('| `%s` |' % folder)), '')
+            listed = re.search(r'\b%s \d+ \w+ \(([^)]*)\)' % file[:-len('.antt')], row)
+            told = re.search(r'`%s: ([^`]*)`' % re.escape(node.file), after)
+            names = [name for found in (listed, told) if found for name in found.group(1).split(', ')]
+            self.assertIn(node.name, names)
+
     def test_a_changed_comment_of_a_shown_definition_is_named(self) -> None:
         """The comment above a definition is a part of the page."""
         node = next(node for node in self.headline.shown if self.sources.entity(node).shown[0].startswith('-- '))
@@ -310,11 +341,11 @@ class OfThisRepository(unittest.TestCase):
 
     def assert_grown(self, node: Node) -> None:
         """The counts have two definitions and five lines more, and no file more."""
-        before = dict(self.headline.counts())
-        for what, numbers in Headline(Sources(self.root)).counts():
+        before, after = dict(self.headline.counted()), Headline(Sources(self.root))
+        for what, nodes in after.counted():
             grown = 0 if node.name not in self.names_of_row(what) else 1
-            definitions, lines, files = before[what][:3]
-            self.assertEqual(numbers[:3], (definitions + 2 * grown, lines + 5 * grown, files), what)
+            definitions, lines, files = self.headline.count(before[what])[:3]
+            self.assertEqual(after.count(nodes)[:3], (definitions + 2 * grown, lines + 5 * grown, files), what)
         self.assertEqual(self.names(), {'%s: IsAnew' % node.file, '%s: IsBelow' % node.file})
 
     def names_of_row(self, what: str) -> Set[str]:
@@ -328,7 +359,7 @@ class OfThisRepository(unittest.TestCase):
         file = sorted(self.headline.listed)[0].file
         shown = self.headline.shown[1]
         text = '\n'.join(self.sources.entity(shown).shown) + '\n\n'
-        for name, lacking in ((file, items(self.page)[file].strip() + ', '), (shown.place, text)):
+        for name, lacking in ((file, items(self.page)[file].strip() + '; '), (shown.place, text)):
             without = self.page.replace(lacking, '', 1)
             self.assertNotEqual(without, self.page)
             self.assertEqual(difference(without, self.page), '%s appeared' % name)

@@ -1,4 +1,4 @@
-"""The words of the page with the headline that no source says, and the key of the signs."""
+"""The words of the page with the headline that no source says, which definitions it shows, and the key of the signs."""
 from typing import NamedTuple
 
 
@@ -10,51 +10,71 @@ class Row(NamedTuple):
     says: str
 
 
+IN_WORDS = {
+    'hn_audit/specs/Reached.antt': 'AreOnOneLink IsOfOne IsRunning',
+    'hn_audit/specs/Settled.antt': 'AreLinked HoldsState IsSameEndpoint UseSame',
+    'hn_audit/specs/Sound.antt': 'ElectSame IsHeldOn Uses',
+    'hn_base/specs/Prefix.antt': 'IsWithin Overlaps PlainPrefix',
+    'hn_hash/specs/Agreement.antt': 'CollidesInPlace',
+    'hn_hash/specs/Network.antt': 'leaf_text',
+    'hn_rules/specs/Nodes.antt': 'leaf_of',
+    'hn_world/specs/Replay.antt': 'Goes IsReplayed empty_world',
+    'hn_world/specs/Within.antt': 'AreWithinLimits',
+}
+"""The definitions near the clauses that are not shown: each says what the comment where it is named says."""
+
+ALONE = {
+    'hn_base/specs/Exists.antt': 'Some!',
+    'hn_lab/specs/Transcripts.antt': 'IsLabTranscript IsOfTranscript IsTranscript IsWrittenOf Transcript',
+}
+"""The definitions that are shown of the clauses that stand without the others of their paragraph."""
+
 BEGINNING = '''# The headline on one page
 
-For a reader who knows HNCP and doubts the claim: the clauses of `run`, the function that the program calls, as the checker reads them, and the definitions that these stand on. [ASSURANCE](ASSURANCE.md) says them in words, and what they do not say. To read up to "The others" takes ten minutes.
+For a reader who knows HNCP and doubts the claim: seven clauses of `run`, the function that the program calls, and the definitions that say what they claim. [ASSURANCE](ASSURANCE.md) has them in words, and what they do not say. Up to "The others" takes ten minutes.
 
-`checks/headline --write` makes the page from the sources. `checks/headline` fails where a clause, a definition or a count is no longer what the page says, and names it.
+`checks/headline --write` makes the page from the sources. `checks/headline` fails where a clause, a definition or a count is not what the page says, and names the first.
 '''
 
-CLAUSES = '''With their comments, as they stand.'''
+CLAUSES = '''As they stand, with their comments. Beside `lab` each other form has a clause. That of `soak` says the same of the script of a soak: `hn_run/specs/Outcome.antt: IsSoakRun`, field `of_script`.'''
 
 SIGNS = '''`×` binds closer than `⊎`, `⊎` closer than `↔`, and `↔` closer than `→`. A comment stands after `--` or `//`.'''
 
-DEFINITIONS = '''A step leads from a text to a definition that it names. These are the definitions within two steps of `headline` and `settled`, and those that `replayed`, `stays` and `authentic` name themselves. Each comes after the clause or definition that first names it. Files are below `crates/`.'''
+DEFINITIONS = '''Each comes after what first names it. Files are below `crates/`. What is named and not shown is a type of the program, as `State`, or stands under "The others" with its file.'''
 
-BEGINS = '''They also name types of the program, as `State`, and these, which the page does not follow further. With `Step` begins how a world comes about:'''
+OTHERS = '''The two halves, of one world, rest on these too. Told of each file are its lines of them, the first four hexadecimal digits of their SHA-256, and in brackets those that the text above names. `checks/headline --others` prints each that the seven clauses rest on, with its file.'''
 
-OTHERS = '''The two halves, of one world, rest on these from the third step on: of each file how many definitions, their lines, and the first four hexadecimal digits of the SHA-256 of these, so the check sees a change that keeps the length. `checks/headline --others` prints each definition.'''
+FARTHER = '''The text names these too. With `Goes` begins how a world comes about, and with `IsPlay` how a script is played:'''
 
-COUNTS = '''A definition is an `abbrev`, `unfoldable`, `record` or `data` of a folder `specs/`. Its lines are those that are neither empty nor a comment. All that is named is followed, and counted once. "Of one world" leaves out `Always` and `Throughout`, which say of which worlds a half is claimed.
-
-Types are those that the definitions name, and those in their fields. What comes from the kit is not counted.'''
+COUNTS = '''A definition is an `abbrev`, `unfoldable`, `record` or `data` of a folder `specs/`; its lines are those that are neither empty nor a comment. All that is named is followed, but for what comes from the kit. "Of one world" leaves out `Always` and `Throughout`, which say of which worlds a half is claimed. Types are those that definitions or their fields name.'''
 
 KEY = (
-    Row('`ensures c { A }`', 'ensures { }', 'the clause `c`: whenever the function answers, `A` holds'),
-    Row('`result`', 'result', 'its answer'),
+    Row('`ensures c { A }`, `result`', 'ensures { } result', 'the clause `c`: whenever the function answers, `A` holds; its answer'),
+    Row('`map string_bytes words.now`', 'string_bytes words', 'the words of the command line, as bytes'),
+    Row('`S.left src.old`, `K.held out.new`', 'S src K out',
+        'what the source has left before, the sink holds after the call, if they tell that'),
+    Row('`SOURCE_FAILED`', 'SOURCE_FAILED', 'the status 3'),
     Row('`(x : T) → A`', '( : ) →', 'for each `x` of type `T`, `A`'),
     Row('`(x : T) × A`', '×', 'there is an `x` of type `T`, and `A`'),
     Row('`A → B`, `A ↔ B`', '→ ↔', 'if `A` then `B`; `A` if and only if `B`'),
     Row('`A × B`, `A ⊎ B`', '× ⊎', '`A` and `B`; `A` or `B`, or both'),
-    Row('`¬ A`', '¬', 'not `A`'),
+    Row('`¬ A`, `⊥`', '¬ ⊥', 'not `A`; what is never so'),
     Row('`a ≡ b`, `a ≢ b`', '≡ ≢', '`a` is equal to `b`; they differ'),
     Row('`a < b`', '<', '`a` is less than `b`'),
     Row('`λ x. a`', 'λ .', 'the function that gives `a` for `x`'),
-    Row('`x.f`, `x.0`', '.', 'the field `f` of `x`; the number that an identifier or endpoint has'),
-    Row('`abbrev pub f : T → U`, `f x = a`', 'abbrev pub : =', '`f` takes a `T` and gives a `U`; for `x` it is `a`'),
-    Row('`unfoldable pub`', 'unfoldable', 'the same'),
+    Row('`x.f`, `x.0`', '.', 'the field `f` of `x`; the number of an identifier or endpoint'),
+    Row('`abbrev pub f : T → U`, `f x = a`', 'abbrev pub unfoldable : =',
+        '`f` takes a `T` and gives a `U`; for `x` it is `a`; so with `unfoldable`'),
     Row('`Type 0`', 'Type', 'a claim: `T → Type 0` is a claim about a `T`; or a type of values'),
     Row('`pub record R (x : T) : Type 0 where`', 'record where',
         'the claim `R x`, or the type `R`: there is a value for each field, and each field that is a claim holds'),
     Row('`pub data D : Type 0 where`', 'data', 'a `D` is made in one of these ways'),
     Row('`record { f = a; g = b }`', 'record { ; }', 'the value with these fields'),
-    Row('`ℕ`, `List T`', 'ℕ List', 'a natural number; a list'),
-    Row('`[]`, `x ∷ xs`, `xs ++ ys`', '[] ∷ ++', 'the empty list; `x`, then `xs`; `xs`, then `ys`'),
-    Row('`length xs`, `map f xs`', 'length map', 'how many elements; each element by `f`'),
-    Row('`filter_map f xs`, `flat_map f xs`', 'filter_map flat_map',
-        'what `f` gives of each element, if it gives something; the lists that `f` gives, one after another'),
+    Row('`ℕ`', 'ℕ', 'a natural number'),
+    Row('`List T`, `[]`, `x ∷ xs`, `xs ++ ys`', 'List [] ∷ ++', 'a list; the empty one; `x`, then `xs`; `xs`, then `ys`'),
+    Row('`length xs`', 'length', 'how many elements'),
+    Row('`map f xs`, `filter_map f xs`', 'map filter_map', 'each element by `f`; what `f` gives of each, if something'),
+    Row('`flat_map f xs`', 'flat_map', 'the lists that `f` gives, one after another'),
     Row('`count_by p xs`', 'count_by', 'of how many elements `p` is true'),
     Row('`Contains xs x`, `All P xs`', 'Contains All', '`x` is an element; `P` holds of each element'),
     Row('`IsTrue b`', 'IsTrue', 'the Boolean `b` is true'),

@@ -18,6 +18,7 @@ mod PlayLines
 mod PlayScripts
 mod PrefixTexts
 mod LawAlike
+mod LawBreaks
 mod LawCarry
 mod LawChoosings
 mod LawEvents

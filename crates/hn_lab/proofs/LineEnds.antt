@@ -1,5 +1,5 @@
 -- How a report ends, and what is done in the world.
-use Rattle.std.proofs.Common.{◌≡◌, ◌≢◌, ℕ, List, [], Option, None, Some, Result, Ok, Err, inl, refl}
+use Rattle.std.proofs.Common.{◌≡◌, ◌≢◌, ℕ, List, [], Option, None, Some, Result, Ok, Err, inl, refl, sym, subst}
 use Rattle.std.specs.Prelude.{◌↔◌, IfOk, IsTrue}
 use Rattle.hn_io.specs.declared.fault.IoFault.TheVariants.{NoMemory}
 use Rattle.hn_script.specs.declared.line.Line.{Line}
@@ -54,3 +54,7 @@ acts (line.Sync left right) event report run seed loss deliver flow = refl
 acts (line.Radv name endpoint) event report run seed loss deliver flow = refl
 acts (line.Solicit name endpoint) event report run seed loss deliver flow = refl
 acts _ event report run seed loss deliver flow = absurd cc
+
+-- what is done by a line is done by the same line
+pub act_of : (l same : Line) (r : Result (List (List ℕ)) WorldFault) (p a : Stage) → l ≡ same → IsAnsweredLeaving (OtherEnds same) r p a → IsAnsweredLeaving (OtherEnds l) r p a
+act_of l same r p a is done = subst (λ (x : Line). IsAnsweredLeaving (OtherEnds x) r p a) (sym is) done

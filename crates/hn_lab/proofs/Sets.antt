@@ -1,10 +1,11 @@
 -- The set of a router in a world: who is in it.
-use Rattle.std.proofs.Common.{◌≡◌, ◌==◌, ◌&&◌, ℕ, true, false, Bool, IsTrue, All, Contains, List, Option, Some, refl, subst, sym, ◌∙◌}
+use Rattle.std.proofs.Common.{◌≡◌, ◌==◌, ◌&&◌, ◌≤◌, ◌<◌, ◌+◌, ℕ, true, false, Bool, IsTrue, All, Contains, List, length, take, get_or, Option, Some, refl, subst, sym, ◌∙◌}
 use Rattle.std.specs.Prelude.{◌↔◌}
 use Rattle.std.specs.List.{filter, list_any}
 use Rattle.std.specs.Option.{option_map_or}
 use Rattle.std.proofs.lemmas.Bool.{and_parts, eqb-true, eq-eqb}
-use Rattle.std.proofs.lemmas.List.Elements.{All-contains}
+use Rattle.std.proofs.lemmas.List.{take_all}
+use Rattle.std.proofs.lemmas.List.Elements.{All-contains, All-more, Contains-get_or}
 use Rattle.hn_base.proofs.AscendingLists.{Contains-from_map}
 use Rattle.hn_base.proofs.Elements.{all_of, any_from, any_of, found_passes, from_filter_map}
 use Rattle.hn_base.proofs.Keys.{same_node}
@@ -98,3 +99,21 @@ named_runs name w m is at = record {
   there = (found_passes (is_named name) w.members m at).0;
   running = subst (λ (o : Option Member). IsTrue (option_map_or (λ n. n.running) o false)) at is;
 }
+
+-- ---- members that are asked one after another
+
+module _ (P : Member → Type 0) (members : List Member) (index : ℕ) where
+  -- not all are so where one is not
+  pub one_is_not : (m : Member) (answer : Bool) → m ≡ get_or members index m → index < length members → answer ≡ false → IsTrue answer ↔ P m → IsTrue false ↔ All P members
+  one_is_not m answer at within no is =
+      let there = subst (Contains members) (sym at) (Contains-get_or members index m within) in
+      (λ yes. absurd cc, λ all. sym no ∙ is.1 (All-contains P members m all there))
+
+  -- so far all are, and the next one is
+  pub one_more : (m : Member) (answer : Bool) → m ≡ get_or members index m → index < length members → IsTrue answer → IsTrue answer ↔ P m
+      → All P (take index members) → All P (take (index + 1) members)
+  one_more m answer at within yes is so_far = All-more P members index m within so_far (subst P at (is.0 yes))
+
+  -- all are
+  pub all_are : All P (take index members) → length members ≤ index → IsTrue true ↔ All P members
+  all_are so_far end = (λ yes. subst (All P) (take_all index members end) so_far, λ all. refl)

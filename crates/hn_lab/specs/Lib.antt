@@ -22,6 +22,7 @@ pub mod Line
 pub mod Play
 pub mod Output
 pub mod Laws
+pub mod Breaking
 pub mod Lab
 pub mod Existing
 pub mod Transcripts

@@ -11,7 +11,7 @@ ghost use Rattle.hn_lab.specs.Told.{Told};
 ghost use Rattle.hn_lab.specs.UlaReports.{ula_text, ula_line};
 ghost use Rattle.hn_world.specs.Names.{member_named};
 ghost use Rattle.hn_world.specs.Asked.{unless_runs};
-ghost use Rattle.hn_world.specs.Step.{IsInRange};
+ghost use Rattle.hn_world.specs.Step.{IsWorldEventInRange};
 ghost use Rattle.hn_world.specs.declared.member.Member.{Member};
 
 use crate::lines::Lines;
@@ -37,7 +37,7 @@ fn running<'a>(world: &'a World, name: &Name) -> &'a Router
 /// The event by which a choice of addresses is made true.
 fn chosen_event(name: Name, choice: Choice) -> Option<WEvent>
     ensures event { result ≡ chosen_event name choice }
-    ensures in_range { IfSome result IsInRange }
+    ensures in_range { IfSome result IsWorldEventInRange }
 {
     match choice {
         Choice::Keep => None,
@@ -48,7 +48,7 @@ fn chosen_event(name: Name, choice: Choice) -> Option<WEvent>
 /// The event by which a decision is made true; a prefix is announced for ever.
 fn decided_event(name: Name, decided: &Ula) -> Option<WEvent>
     ensures event { result ≡ decided_event name decided.now }
-    ensures in_range { IfSome result IsInRange }
+    ensures in_range { IfSome result IsWorldEventInRange }
 {
     match decided {
         Ula::Keep => None,
@@ -92,7 +92,7 @@ fn ula_line(alloc: Global, name: &Name, decided: &Ula) -> Result<Lines, NoMemory
 
 /// An event happens, if there is one. Nothing comes up.
 fn may_happen(playing: &mut Playing, alloc: Global, event: Option<WEvent>) -> Result<(), WorldFault>
-    requires { IfSome event IsInRange }
+    requires { IfSome event IsWorldEventInRange }
     ensures { (route : Route) (text : List Told) → IsAnswered (MayHappen event) result (stage_of playing.old route text)
         (stage_of playing.new route text) }
 {

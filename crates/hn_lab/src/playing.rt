@@ -1,5 +1,5 @@
 ghost use Rattle.std.specs.Prelude.{◌≡◌, ◌<◌, ◌+◌, List, [], None, OnOk, length};
-ghost use Rattle.hn_world.specs.Step.{IsInRange};
+ghost use Rattle.hn_world.specs.Step.{IsWorldEventInRange};
 ghost use Rattle.hn_audit.specs.Staying.{QuietStays};
 ghost use Rattle.hn_lab.specs.Delivery.{EventNotes, EventEnds};
 ghost use Rattle.hn_lab.specs.Ended.{IsAnsweredWith, IsAnswered};
@@ -48,7 +48,7 @@ impl Playing {
         alloc: Global,
         event: WEvent,
     ) -> Result<Sequence<Note>, WorldFault>
-        requires { IsInRange event }
+        requires { IsWorldEventInRange event }
         ensures ends { (route : Route) (text : List Told) → IsAnsweredWith (λ notes. EventNotes event notes None)
             (EventEnds event)
             result (stage_of self.old route text) (stage_of self.new route text) }
@@ -68,7 +68,7 @@ impl Playing {
     ///
     /// It is refused, or memory ended.
     pub(crate) fn event(&mut self, alloc: Global, event: WEvent) -> Result<(), WorldFault>
-        requires { IsInRange event }
+        requires { IsWorldEventInRange event }
         ensures ends { (route : Route) (text : List Told)
             → IsAnswered (EventEnds event) result (stage_of self.old route text) (stage_of self.new route text) }
         ensures entered { OnOk result ((length self.old.world.trace < 1000000)

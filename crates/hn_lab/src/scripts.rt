@@ -4,12 +4,7 @@ ghost use Rattle.std.specs.List.{AllByRecursion};
 ghost use Rattle.hn_io.specs.Faults.{IsCaused};
 ghost use Rattle.hn_script.specs.Laws.{IsLimited};
 ghost use Rattle.hn_script.specs.Line.{IsOfVersion};
-ghost use Rattle.hn_world.specs.Replay.{IsReplayed, Always, Throughout};
-ghost use Rattle.hn_world.specs.Authentic.{AuthenticUnlessInjected};
-ghost use Rattle.hn_world.specs.Leaves.{EqualHashesAgree};
-ghost use Rattle.hn_world.specs.Within.{AreWithinLimits};
-ghost use Rattle.hn_audit.specs.Laws.{SettledAreSound};
-ghost use Rattle.hn_audit.specs.Staying.{QuietStays};
+ghost use Rattle.hn_world.specs.Replay.{IsReplayed};
 ghost use Rattle.hn_lab.specs.declared.end.End.TheVariants as ends;
 ghost use Rattle.hn_lab.specs.Lab.{play_status, Plays, IsLineWritten, IsLabOf, IsLabRun, StatusOfScript, HasDonePlay, HasRefusal};
 ghost use Rattle.hn_lab.specs.Reports.{refused_line};
@@ -24,14 +19,13 @@ use crate::law::at_most_one_play;
 use crate::output::write_refusal;
 use crate::playing::Playing;
 use crate::plays::play_lines;
-use hn_audit::{quiet_homes_always_stay, settled_are_always_sound};
 use hn_io::{IoFault, Sink, Source};
 use hn_script::{
     ParseFault, Script, ScriptFault, fault_excludes_script, lines_are_of_version, parse,
     script_is_limited, script_is_unique,
 };
 use hn_wire::Wire;
-use hn_world::{World, always_authentic, always_within_limits, equal_hashes_always_agree};
+use hn_world::World;
 use std::alloc::Global;
 
 /// The input was read to its end and the whole text was written.
@@ -121,11 +115,6 @@ fn play_over<K: Sink, W, C: Carrier<W>>(
     ensures no_world { result.status ≡ NO_MEMORY → result.world ≡ None }
     ensures world { result.status ≢ NO_MEMORY → IsSome result.world }
     ensures replayed { IfSome result.world IsReplayed }
-    ensures headline { IfSome result.world (Always EqualHashesAgree) }
-    ensures settled { IfSome result.world (Always SettledAreSound) }
-    ensures stays { IfSome result.world (Throughout QuietStays) }
-    ensures within_limits { IfSome result.world (Always AreWithinLimits) }
-    ensures authentic { IfSome result.world (Always AuthenticUnlessInjected) }
     ensures statuses { Contains (DONE ∷ REFUSED ∷ SINK_FAILED ∷ WIRE_FAILED ∷ NO_MEMORY ∷ []) result.status }
     ensures caused { IsCaused (result.status ≡ SINK_FAILED) (K.faults out.old) (K.faults out.new)
         (K.never_fails out.old) (K.never_fails out.new) }
@@ -133,11 +122,6 @@ fn play_over<K: Sink, W, C: Carrier<W>>(
         (C.never_fails outside.old) (C.never_fails outside.new) }
 {
     at_most_one_play();
-    equal_hashes_always_agree();
-    settled_are_always_sound();
-    quiet_homes_always_stay();
-    always_within_limits();
-    always_authentic();
     let mut playing = Playing::new(alloc, script.version);
     let end = play_lines(
         &mut playing,
@@ -186,11 +170,6 @@ pub fn play<K: Sink, W: Wire>(
     ensures no_world { result.status ≡ NO_MEMORY → result.world ≡ None }
     ensures world { result.status ≢ NO_MEMORY → IsSome result.world }
     ensures replayed { IfSome result.world IsReplayed }
-    ensures headline { IfSome result.world (Always EqualHashesAgree) }
-    ensures settled { IfSome result.world (Always SettledAreSound) }
-    ensures stays { IfSome result.world (Throughout QuietStays) }
-    ensures within_limits { IfSome result.world (Always AreWithinLimits) }
-    ensures authentic { IfSome result.world (Always AuthenticUnlessInjected) }
     ensures statuses { Contains (DONE ∷ REFUSED ∷ SINK_FAILED ∷ WIRE_FAILED ∷ NO_MEMORY ∷ []) result.status }
     ensures caused { IsCaused (result.status ≡ SINK_FAILED) (K.faults out.old) (K.faults out.new)
         (K.never_fails out.old) (K.never_fails out.new) }
@@ -219,11 +198,6 @@ fn play_bytes<K: Sink, W: Wire>(
     ensures no_world { result.status ≡ NO_MEMORY → result.world ≡ None }
     ensures done_world { result.status ≡ DONE → IsSome result.world }
     ensures replayed { IfSome result.world IsReplayed }
-    ensures headline { IfSome result.world (Always EqualHashesAgree) }
-    ensures settled { IfSome result.world (Always SettledAreSound) }
-    ensures stays { IfSome result.world (Throughout QuietStays) }
-    ensures within_limits { IfSome result.world (Always AreWithinLimits) }
-    ensures authentic { IfSome result.world (Always AuthenticUnlessInjected) }
     ensures statuses { Contains (DONE ∷ REFUSED ∷ SINK_FAILED ∷ WIRE_FAILED ∷ NO_MEMORY ∷ []) result.status }
     ensures caused { IsCaused (result.status ≡ SINK_FAILED) (K.faults out.old) (K.faults out.new)
         (K.never_fails out.old) (K.never_fails out.new) }
@@ -269,11 +243,6 @@ pub fn lab<S: Source, K: Sink, W: Wire>(
     ensures no_world { (result.status ≡ SOURCE_FAILED) ⊎ (result.status ≡ NO_MEMORY) → result.world ≡ None }
     ensures done_world { result.status ≡ DONE → IsSome result.world }
     ensures replayed { IfSome result.world IsReplayed }
-    ensures headline { IfSome result.world (Always EqualHashesAgree) }
-    ensures settled { IfSome result.world (Always SettledAreSound) }
-    ensures stays { IfSome result.world (Throughout QuietStays) }
-    ensures within_limits { IfSome result.world (Always AreWithinLimits) }
-    ensures authentic { IfSome result.world (Always AuthenticUnlessInjected) }
     ensures statuses { Contains (DONE ∷ REFUSED ∷ SOURCE_FAILED ∷ SINK_FAILED ∷ WIRE_FAILED ∷ NO_MEMORY ∷ []) result.status }
     ensures unwritten { result.status ≡ SOURCE_FAILED → out.new ≡ out.old }
     ensures source_caused { IsCaused (result.status ≡ SOURCE_FAILED) (S.faults src.old) (S.faults src.new)

@@ -4,7 +4,7 @@ ghost use Rattle.std.specs.Prelude.{◌≡◌, ◌≢◌, ◌≤◌, ◌<◌, Li
 ghost use Rattle.std.specs.List.{slice_get};
 ghost use Rattle.hn_io.specs.Faults.{IsCaused};
 ghost use Rattle.hn_script.specs.declared.line.Line.TheVariants as line;
-ghost use Rattle.hn_world.specs.Step.{IsInRange};
+ghost use Rattle.hn_world.specs.Step.{IsWorldEventInRange};
 ghost use Rattle.hn_world.specs.declared.event.WEvent.TheVariants as an_event;
 ghost use Rattle.hn_lab.specs.declared.end.Stop.{Stop};
 ghost use Rattle.hn_lab.specs.declared.senders.Sending.{Sending};
@@ -185,7 +185,7 @@ fn silence(
     event: WEvent,
     name: Name,
 ) -> Result<(), WorldFault>
-    requires { IsInRange event }
+    requires { IsWorldEventInRange event }
     ensures { (route : Route) (text : List Told) → IsAnswered (ThenProcess (EventEnds event) (Sets (ending_all name))) result
         (stage_of playing.old route text) (stage_of playing.new route text) }
 {
@@ -201,7 +201,7 @@ pub(crate) fn happen<K: Sink>(
     out: &mut K,
     event: WEvent,
 ) -> Result<(), Stop>
-    requires { IsInRange event }
+    requires { IsWorldEventInRange event }
     ensures ends { (route : Route) (text : List Told) → EndsWriting (ThenProcess (EventEnds event) (Follows event)) result
         (stage_of playing.old route text) (stage_of playing.new route text) (K.held out.old) (K.held out.new) }
     ensures unbroken { result ≢ Err Stop.WireFailed }

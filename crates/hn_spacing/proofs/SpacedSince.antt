@@ -1,5 +1,5 @@
 -- A sender is kept spaced, and so are its `ra` lines since a stage.
-use Rattle.std.proofs.Common.{◌≡◌, ◌∙◌, ◌+◌, ◌%◌, ◌≤◌, ℕ, Bool, true, false, List, [], ◌∷◌, ◌++◌, append_assoc, append-nil}
+use Rattle.std.proofs.Common.{◌≡◌, ◌∙◌, ◌+◌, ◌%◌, ◌^◌, ◌<◌, ◌≤◌, ℕ, Bool, true, false, List, [], ◌∷◌, ◌++◌, append_assoc, append-nil}
 use Rattle.std.proofs.Common.{get_or, Option, None, Some, sym, ap, arith}
 use Rattle.std.specs.Prelude.{⊤, IfSome, if◌then◌else◌}
 use Rattle.std.specs.List.{All}
@@ -9,8 +9,8 @@ use Rattle.hn_base.specs.declared.ids.EpId.{EpId}
 use Rattle.hn_base.specs.declared.name.Name.{Name}
 use Rattle.hn_radv.specs.Sender.{PlainSender, solicited, draws, sent}
 use Rattle.hn_lab.specs.Told.{Told}
-use Rattle.hn_spacing.specs.Spacing.{IsRaOf, AreApart, AreSpaced}
-use Rattle.hn_spacing.proofs.KeptSenders.{IsKept}
+use Rattle.hn_spacing.specs.Spacing.{IsRaOf, AreRasApart, AreRasSpaced}
+use Rattle.hn_spacing.proofs.KeptBySenders.{IsKept, IsNoRaOf, IsOnlyOf}
 
 -- ---- a sender
 
@@ -45,7 +45,7 @@ spaced_is_kept name e = record {
   told_other = λ s text t other h. h;
   ends = λ s text h. tt;
   asked = λ s now word text h. asked_spaced s now word h;
-  sends = λ s word text t due h. sent_spaced s t.world.moment word;
+  sends = λ s now word text t due only h. sent_spaced s now word;
   begins = λ may s now text h. tt;
 }
 
@@ -61,52 +61,62 @@ in_time None next moment now reaches ahead due = absurd reaches
 in_time (Some l) next moment now reaches ahead due = omega arith
 
 module _ (name : Name) (e : EpId) (base : List Told) where
+  -- what a line of text says was sent before
+  abbrev pub AreReached : Told → Option ℕ → Type 0
+  AreReached t last = (moment : ℕ) → moment < 2 ^ 64 → IsRaOf name e moment t → Reaches last moment
+
   -- its sender sent last when the last of its lines came up
   pub record IsLast (new : List Told) (s : PlainSender) : Type 0 where
     pub spaced : IsSpaced s
-    pub after : All (λ t. IsRaOf name e t → Reaches s.last t.world.moment) new
+    pub after : All (λ t. AreReached t s.last) new
 
   pub record SpacedLines (s : Option PlainSender) (text : List Told) : Type 0 where
     pub new : List Told
     pub text_is : text ≡ base ++ new
-    pub spaced : AreSpaced name e new
+    pub spaced : AreRasSpaced name e new
     pub sender : IfSome s (IsLast new)
 
   one_more : (text new : List Told) (t : Told) → text ≡ base ++ new → text ++ t ∷ [] ≡ base ++ (new ++ t ∷ [])
   one_more text new t is = ap (λ (x : List Told). x ++ t ∷ []) is ∙ append_assoc base new (t ∷ [])
 
   -- another line comes up
-  last_stays : (s : Option PlainSender) (new : List Told) (t : Told) → ¬ IsRaOf name e t → IfSome s (IsLast new) → IfSome s (IsLast (new ++ t ∷ []))
+  last_stays : (s : Option PlainSender) (new : List Told) (t : Told) → IsNoRaOf name e t → IfSome s (IsLast new) → IfSome s (IsLast (new ++ t ∷ []))
   last_stays None new t other h = tt
   last_stays (Some s) new t other h = record {
     spaced = h.spaced;
-    after = All-push (λ (u : Told). IsRaOf name e u → Reaches s.last u.world.moment) new t h.after (λ ra. absurd (other ra));
+    after = All-push (λ (u : Told). AreReached u s.last) new t h.after (λ moment fits ra. absurd (other moment ra));
   }
 
-  told_other : (s : Option PlainSender) (text : List Told) (t : Told) → ¬ IsRaOf name e t → SpacedLines s text → SpacedLines s (text ++ t ∷ [])
+  told_other : (s : Option PlainSender) (text : List Told) (t : Told) → IsNoRaOf name e t → SpacedLines s text → SpacedLines s (text ++ t ∷ [])
   told_other s text t other h = record {
     new = h.new ++ t ∷ [];
     text_is = one_more text h.new t h.text_is;
-    spaced = all_pairs_push (AreApart name e) h.new t h.spaced (λ k d within first ra. absurd (other ra));
+    spaced = all_pairs_push (AreRasApart name e) h.new t h.spaced (λ k d within first second fits fits_too was ra. absurd (other second ra));
     sender = last_stays s h.new t other h.sender;
   }
 
   -- it sends
-  module _ (s : PlainSender) (word : ℕ) (text : List Told) (t : Told) (due : s.next ≤ t.world.moment) (h : SpacedLines (Some s) text) where
-    is_in_time : (u : Told) → (IsRaOf name e u → Reaches s.last u.world.moment) → IsRaOf name e u → u.world.moment + 3000 ≤ t.world.moment
-    is_in_time u after ra = in_time s.last s.next u.world.moment t.world.moment (after ra) h.sender.spaced due
+  module _ (s : PlainSender) (now word : ℕ) (text : List Told) (t : Told) (due : s.next ≤ now) (only : IsOnlyOf name e now t) (h : SpacedLines (Some s) text) where
+    was_in_time : (u : Told) → AreReached u s.last → (moment : ℕ) → moment < 2 ^ 64 → IsRaOf name e moment u → moment + 3000 ≤ now
+    was_in_time u reached moment fits ra = in_time s.last s.next moment now (reached moment fits ra) h.sender.spaced due
 
-    it_sends : SpacedLines (Some (sent t.world.moment word s)) (text ++ t ∷ [])
+    apart : (u : Told) → AreReached u s.last → AreRasApart name e u t
+    apart u reached first second fits fits_too was ra =
+        let before = was_in_time u reached first fits was in
+        let is = only second fits_too ra in
+        omega arith
+
+    it_sends : SpacedLines (Some (sent now word s)) (text ++ t ∷ [])
     it_sends = record {
       new = h.new ++ t ∷ [];
       text_is = one_more text h.new t h.text_is;
-      spaced = all_pairs_push (AreApart name e) h.new t h.spaced (λ k d within first ra. is_in_time (get_or h.new k d) (h.sender.after k d within) first);
+      spaced = all_pairs_push (AreRasApart name e) h.new t h.spaced (λ k d within. apart (get_or h.new k d) (h.sender.after k d within));
       sender = record {
-        spaced = sent_spaced s t.world.moment word;
-        after = All-push (λ (u : Told). IsRaOf name e u → u.world.moment ≤ t.world.moment) h.new t
-            (All-weaker (λ (u : Told). IsRaOf name e u → Reaches s.last u.world.moment) (λ (u : Told). IsRaOf name e u → u.world.moment ≤ t.world.moment)
-            (λ u after ra. let before = is_in_time u after ra in omega arith) h.new h.sender.after)
-            (λ ra. omega arith);
+        spaced = sent_spaced s now word;
+        after = All-push (λ (u : Told). AreReached u (Some now)) h.new t
+            (All-weaker (λ (u : Told). AreReached u s.last) (λ (u : Told). AreReached u (Some now))
+            (λ u reached moment fits ra. let before = was_in_time u reached moment fits ra in omega arith) h.new h.sender.after)
+            (λ moment fits ra. let is = only moment fits ra in omega arith);
       };
     }
 

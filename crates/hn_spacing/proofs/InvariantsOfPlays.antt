@@ -7,8 +7,8 @@ use Rattle.hn_script.specs.declared.line.Line.TheVariants as line
 use Rattle.hn_lab.specs.Sending.{Turns, Solicits, starting, ending, ending_all}
 use Rattle.hn_lab.specs.Stage.{Stage}
 use Rattle.hn_lab.specs.Tells.{TellsLines}
-use Rattle.hn_spacing.proofs.Keeping.{Keeps}
-use Rattle.hn_spacing.proofs.OtherLines.{AreNoRaLines}
+use Rattle.hn_spacing.proofs.KeptByProcesses.{Keeps}
+use Rattle.hn_spacing.proofs.NoRaLines.{AreNoRaLines}
 
 -- It speaks of the senders and the text alone. It is kept where lines come up that are no `ra` lines, by turns and
 -- solicitations, where senders end, and where one begins by a line that may be.

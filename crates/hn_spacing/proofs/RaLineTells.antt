@@ -66,12 +66,12 @@ long_decimal : (n : ℕ) → 10 ^ 64 ≤ n → length (decimal n) ≡ 64
 unfolding digits
 long_decimal n large = long 64 n [] large
 
-pub short_number : (m n : ℕ) → n < 2 ^ 32 → decimal m ≡ decimal n → m ≡ n
+short_number : (m n : ℕ) → n < 2 ^ 64 → decimal m ≡ decimal n → m ≡ n
 short_number m n small same =
     elim (cases_lt m (10 ^ 64)) [
       | inl below ↦ sym (decimal_is_IsNumeral_wide m below).1 ∙ ap (digits_value 10) same ∙ (decimal_is_IsNumeral_wide n (omega arith)).1
       | inr above ↦
-          let short = length-decimal-le 10 n (lit< tt) (omega arith) (omega arith) in
+          let short = length-decimal-le 20 n (lit< tt) (omega arith) small in
           let len : length (decimal m) ≡ length (decimal n) = ap length same in
           let large = long_decimal m above in
           absurd (omega arith)
@@ -84,8 +84,14 @@ parts : (a b c d : List ℕ) → 114 ∷ 97 ∷ 32 ∷ (a ++ 32 ∷ [] ++ b ++ 3
     ≡ 114 ∷ 97 ∷ 32 ∷ (a ++ 32 ∷ (b ++ 32 ∷ (c ++ 32 ∷ (d ++ 10 ∷ []))))
 parts a b c d = simp (append_assoc {A = ℕ}) refl
 
+-- two lines that are one, of an endpoint in range
+pub record SayTheSame (name other : Name) (e f : EpId) (now past : ℕ) : Type 0 where
+  pub texts : name_text other ≡ name_text name
+  pub numbers : f.0 ≡ e.0
+  pub moments : now < 2 ^ 64 → past ≡ now
+
 pub ra_tells : (name other : Name) (e f : EpId) (now past : ℕ) (bytes others : List ℕ) → e.0 < 2 ^ 32
-    → ra_line other f past others ≡ ra_line name e now bytes → (name_text other ≡ name_text name) × (f.0 ≡ e.0)
+    → ra_line other f past others ≡ ra_line name e now bytes → SayTheSame name other e f now past
 ra_tells name other e f now past bytes others small same =
     let first = parts (name_text other) (decimal f.0) (decimal past) (hex_text others) in
     let second = parts (name_text name) (decimal e.0) (decimal now) (hex_text bytes) in
@@ -94,4 +100,9 @@ ra_tells name other e f now past bytes others small same =
     ≡ name_text name ++ 32 ∷ (decimal e.0 ++ 32 ∷ (decimal now ++ 32 ∷ (hex_text bytes ++ 10 ∷ []))) = cc in
     let names = same_split 32 (name_text other) _ (name_text name) _ (name_lacks_space other) (name_lacks_space name) after in
     let numbers = same_split 32 (decimal f.0) _ (decimal e.0) _ (decimal_lacks_space f.0) (decimal_lacks_space e.0) names.1 in
-    (names.0, short_number f.0 e.0 small numbers.0)
+    let moments = same_split 32 (decimal past) _ (decimal now) _ (decimal_lacks_space past) (decimal_lacks_space now) numbers.1 in
+    record {
+      texts = names.0;
+      numbers = short_number f.0 e.0 (omega arith) numbers.0;
+      moments = λ fits. short_number past now fits moments.0;
+    }

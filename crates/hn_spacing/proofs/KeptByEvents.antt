@@ -23,9 +23,9 @@ use Rattle.hn_lab.specs.Sending.{Turns, TickEnds}
 use Rattle.hn_lab.specs.Stage.{Stage}
 use Rattle.hn_lab.specs.Syncing.{Exchanges, SyncEnds}
 use Rattle.hn_lab.specs.Tells.{TellsLines}
-use Rattle.hn_spacing.proofs.Invariants.{IsInvariant}
-use Rattle.hn_spacing.proofs.Keeping.{Keeps, keeps_at, keeps_nothing, keeps_unless, keeps_then, keeps_each, keeps_until}
-use Rattle.hn_spacing.proofs.OtherLines.{AreNoRaLines}
+use Rattle.hn_spacing.proofs.InvariantsOfPlays.{IsInvariant}
+use Rattle.hn_spacing.proofs.KeptByProcesses.{Keeps, keeps_at, keeps_nothing, keeps_unless, keeps_then, keeps_each, keeps_until}
+use Rattle.hn_spacing.proofs.NoRaLines.{AreNoRaLines}
 
 module _ (Holds : Stage → Type 0) (MayBe : Line → Type 0) (invariant : IsInvariant Holds MayBe) where
   -- ---- an event

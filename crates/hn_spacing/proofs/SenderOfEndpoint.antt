@@ -15,7 +15,7 @@ use Rattle.hn_radv.specs.Sender.{PlainSender}
 use Rattle.hn_lab.specs.declared.senders.Sending.{Sending}
 use Rattle.hn_lab.specs.declared.senders.Shape.{Shape}
 use Rattle.hn_lab.specs.Senders.{sender_number, is_sender_of, sends_at, IsSenderAt, without_sender, without_senders, with_sender}
-use Rattle.hn_spacing.proofs.FoundFirst.{find-filter, find-write_failing, find-first, find-write_first, find-placed, find-placed_first}
+use Rattle.hn_spacing.proofs.FirstThatPasses.{find-filter, find-write_failing, find-first, find-write_first, find-placed, find-placed_first}
 
 -- the sender of an endpoint, if it sends
 abbrev pub sender_at : Name → EpId → List Sending → Option PlainSender

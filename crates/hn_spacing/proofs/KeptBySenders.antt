@@ -19,20 +19,27 @@ use Rattle.hn_lab.specs.Sending.{ra_line, IsAsked, IsDue, IsTurn, MayTurn, TurnE
 use Rattle.hn_lab.specs.Stage.{Stage, telling}
 use Rattle.hn_lab.specs.Tells.{TellsLines}
 use Rattle.hn_lab.specs.Told.{Told, told}
-use Rattle.hn_spacing.specs.Spacing.{IsRaOf, IsBeginning}
-use Rattle.hn_spacing.proofs.Keeping.{Keeps, keeps_at, keeps_nothing, keeps_then, keeps_each}
-use Rattle.hn_spacing.proofs.Invariants.{IsInvariant}
-use Rattle.hn_spacing.proofs.OtherLines.{AreOther, others_of_kind}
-use Rattle.hn_spacing.proofs.RaText.{ra_tells}
-use Rattle.hn_spacing.proofs.WhoSends.{sender_at, is_of, is_then, there_sends, set_other, was_this, set_this, StaysOrNot, without_one, without_all, with_other, with_this_one}
+use Rattle.hn_spacing.specs.Spacing.{IsRaOf, BeginsSending}
+use Rattle.hn_spacing.proofs.KeptByProcesses.{Keeps, keeps_at, keeps_nothing, keeps_then, keeps_each}
+use Rattle.hn_spacing.proofs.InvariantsOfPlays.{IsInvariant}
+use Rattle.hn_spacing.proofs.NoRaLines.{AreOther, others_of_kind}
+use Rattle.hn_spacing.proofs.RaLineTells.{ra_tells}
+use Rattle.hn_spacing.proofs.SenderOfEndpoint.{sender_at, is_of, is_then, there_sends, set_other, was_this, set_this, StaysOrNot, without_one, without_all, with_other, with_this_one}
+
+-- a line says of no moment that the endpoint sent then; of no other moment than this one, of those in range
+abbrev pub IsNoRaOf : Name → EpId → Told → Type 0
+IsNoRaOf name e t = (moment : ℕ) → ¬ IsRaOf name e moment t
+
+abbrev pub IsOnlyOf : Name → EpId → ℕ → Told → Type 0
+IsOnlyOf name e now t = (moment : ℕ) → moment < 2 ^ 64 → IsRaOf name e moment t → now ≡ moment
 
 -- A fact of the sender of an endpoint and the text so far is kept: where another line comes up, where it sends no more, where
 -- it is asked to send earlier, where it sends in time, and where it begins, if it may.
 pub record IsKept (name : Name) (e : EpId) (MayBegin : Type 0) (Fact : Option PlainSender → List Told → Type 0) : Type 0 where
-  pub told_other : (s : Option PlainSender) (text : List Told) (t : Told) → ¬ IsRaOf name e t → Fact s text → Fact s (text ++ t ∷ [])
+  pub told_other : (s : Option PlainSender) (text : List Told) (t : Told) → IsNoRaOf name e t → Fact s text → Fact s (text ++ t ∷ [])
   pub ends : (s : Option PlainSender) (text : List Told) → Fact s text → Fact None text
   pub asked : (s : PlainSender) (now word : ℕ) (text : List Told) → Fact (Some s) text → Fact (Some (solicited now word s)) text
-  pub sends : (s : PlainSender) (word : ℕ) (text : List Told) (t : Told) → s.next ≤ t.world.moment → Fact (Some s) text → Fact (Some (sent t.world.moment word s)) (text ++ t ∷ [])
+  pub sends : (s : PlainSender) (now word : ℕ) (text : List Told) (t : Told) → s.next ≤ now → IsOnlyOf name e now t → Fact (Some s) text → Fact (Some (sent now word s)) (text ++ t ∷ [])
   pub begins : MayBegin → (s : Option PlainSender) (now : ℕ) (text : List Told) → Fact s text → Fact (Some (started_sender now)) text
 
 AreOther_front : (name : Name) (e : EpId) (front back : List (List ℕ)) (line : List ℕ) → AreOther name e (front ++ line ∷ back) → AreOther name e (front ++ line ∷ [])
@@ -78,7 +85,7 @@ module _ (name : Name) (e : EpId) (MayBegin : Type 0) (Fact : Option PlainSender
   others s w [] text none h = subst (Fact s) (sym (append-nil text)) h
   others s w (line ∷ lines) text none h =
       let one : Told = record { world = w; line = line } in
-      let more = kept.told_other s text one (λ ra. none.0 w.moment ra.0 ra.1) h in
+      let more = kept.told_other s text one (λ moment ra. none.0 moment ra.0 ra.1) h in
       subst (Fact s) (append_assoc text (one ∷ []) (told w lines)) (others s w lines (text ++ one ∷ []) none.1 more)
 
   keeps_tells : (lines : List (List ℕ)) → AreOther name e lines → KeepsFact (TellsLines lines)
@@ -102,7 +109,7 @@ module _ (name : Name) (e : EpId) (MayBegin : Type 0) (Fact : Option PlainSender
       λ past others same.
           let tells = ra_tells name other e f past now others bytes small same in
           let texts = is_of other f s its in
-          both_ways (sends_at name e s) fails (is_then name e s (texts.0 ∙ tells.0) (texts.1 ∙ tells.1)),
+          both_ways (sends_at name e s) fails (is_then name e s (texts.0 ∙ tells.texts) (texts.1 ∙ tells.numbers)),
       tt,
     )
 
@@ -138,7 +145,8 @@ module _ (name : Name) (e : EpId) (MayBegin : Type 0) (Fact : Option PlainSender
     due_own true place s shape c p b a bytes at here h tells holds =
         let line : Told = record { world = p.world; line = ra_line other f p.world.moment bytes } in
         let in_time = leb-true h.asked.next p.world.moment (sym h.due_is) in
-        let sends = kept.sends h.asked (p.words 0) p.text line in_time (asked_at place s p.world.moment shape h.asked p at here h.is_asked holds) in
+        let only : IsOnlyOf name e p.world.moment line = λ moment fits ra. (ra_tells name other e f moment p.world.moment ra.0 bytes small ra.1).moments fits in
+        let sends = kept.sends h.asked p.world.moment (p.words 0) p.text line in_time only (asked_at place s p.world.moment shape h.asked p at here h.is_asked holds) in
         let there : Holds (telling (line.line ∷ []) (sending_now place s h.asked shape p)) =
         at_sender _ (p.text ++ line ∷ []) _ (set_this name e other f p.senders place s at here (sent p.world.moment (p.words 0) h.asked) (Some shape)) sends in
         subst Holds (sym (tells_one line.line c b a tells)) (subst (λ (x : Stage). Holds (telling (line.line ∷ []) x)) (sym h.after_is) there)
@@ -189,7 +197,7 @@ module _ (name : Name) (e : EpId) (MayBegin : Type 0) (Fact : Option PlainSender
       by_test true = holds
       by_test false = kept.ends (sender_at name e before) text holds
 
-  begin_at : (other : Name) (f : EpId) → (IsBeginning name e (line.Radv other f) → MayBegin) → (p : Stage) → Holds p → Holds (starting other f p)
+  begin_at : (other : Name) (f : EpId) → (BeginsSending name e (line.Radv other f) → MayBegin) → (p : Stage) → Holds p → Holds (starting other f p)
   begin_at other f may p holds =
       let new : Sending = record { name = other; endpoint = f; sender = started_sender p.world.moment; shape = None } in
       elim (cases_Bool (sends_at name e new)) [
@@ -200,7 +208,7 @@ module _ (name : Name) (e : EpId) (MayBegin : Type 0) (Fact : Option PlainSender
         | inr fails ↦ at_sender _ p.text _ (with_other name e new p.senders fails) holds
       ]
 
-  pub invariant : e.0 < 2 ^ 32 → IsInvariant Holds (λ l. IsBeginning name e l → MayBegin)
+  pub invariant : e.0 < 2 ^ 32 → IsInvariant Holds (λ l. BeginsSending name e l → MayBegin)
   invariant small = record {
     stays = stays;
     tells = λ lines others. keeps_tells lines (others_of_kind name e lines others);

@@ -30,10 +30,10 @@ use Rattle.hn_lab.specs.Sending.{Solicits, starting, ending, ending_all}
 use Rattle.hn_lab.specs.Stage.{Stage}
 use Rattle.hn_lab.specs.Tells.{TellsLines, TellsSome, Reports, note_lines}
 use Rattle.hn_lab.specs.UlaReports.{ula_line}
-use Rattle.hn_spacing.proofs.Invariants.{IsInvariant}
-use Rattle.hn_spacing.proofs.Keeping.{Keeps, keeps_at, keeps_nothing, keeps_unless, keeps_then}
-use Rattle.hn_spacing.proofs.KeptEvents.{keeps_noting, keeps_event, keeps_delivery, keeps_flow, keeps_run, keeps_choice, keeps_sync}
-use Rattle.hn_spacing.proofs.OtherLines.{begins_ra, AreNoRaLines, no_ra_map}
+use Rattle.hn_spacing.proofs.InvariantsOfPlays.{IsInvariant}
+use Rattle.hn_spacing.proofs.KeptByProcesses.{Keeps, keeps_at, keeps_nothing, keeps_unless, keeps_then}
+use Rattle.hn_spacing.proofs.KeptByEvents.{keeps_noting, keeps_event, keeps_delivery, keeps_flow, keeps_run, keeps_choice, keeps_sync}
+use Rattle.hn_spacing.proofs.NoRaLines.{begins_ra, AreNoRaLines, no_ra_map}
 
 -- ---- what reports and notes tell are other lines
 

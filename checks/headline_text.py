@@ -12,7 +12,7 @@ class Row(NamedTuple):
 
 IN_WORDS = {
     'hn_audit/specs/Reached.antt': 'AreOnOneLink IsOfOne IsRunning',
-    'hn_audit/specs/Settled.antt': 'AreLinked Holds IsSameEndpoint UseSame',
+    'hn_audit/specs/Settled.antt': 'AreLinked HoldsState IsSameEndpoint UseSame',
     'hn_audit/specs/Sound.antt': 'ElectSame IsHeldOn Uses',
     'hn_base/specs/Prefix.antt': 'IsWithin Overlaps PlainPrefix',
     'hn_hash/specs/Agreement.antt': 'CollidesInPlace',

@@ -11,7 +11,7 @@ use Rattle.hn_world.specs.declared.member.Member.{Member}
 use Rattle.hn_world.specs.declared.parts.Parts.{Parts}
 use Rattle.hn_audit.specs.Reached.{IsReached}
 use Rattle.hn_audit.specs.Settled.{UseSame}
-use Rattle.hn_audit.specs.Sound.{Uses, Link, Joint, IsThere, IsServed, IsWithout, IsHeldOn, IsSound}
+use Rattle.hn_audit.specs.Sound.{Uses, Link, Joint, IsThere, IsServedLink, IsWithout, IsHeldOn, IsSound}
 use Rattle.hn_audit.proofs.BridgeSets.{IsKnown, itself, reach_is}
 
 -- where one router uses what the other uses, it uses each prefix that the other uses
@@ -40,7 +40,7 @@ module _ (w : Parts) (r s : Member) (reach : s.router.reach ≡ r.router.reach)
       let set = h.of_set in
       record { runs = h.runs; on_link = h.on_link; of_set = record { router = set.router; reached = reached_to set.router set.reached; post = set.post; on_link = set.on_link } }
 
-  served_to : (link : Link) (d : PlainPrefix) → IsServed w r link d → IsServed w s link d
+  served_to : (link : Link) (d : PlainPrefix) → IsServedLink w r link d → IsServedLink w s link d
   served_to link d is = record {
     every = λ m e there. is.every m e (there_from link m e there);
     prefix = is.prefix;

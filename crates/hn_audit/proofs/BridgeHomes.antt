@@ -28,7 +28,7 @@ use Rattle.hn_audit.specs.Reached.{IsReached, runs_as}
 use Rattle.hn_audit.specs.Sound as said
 use Rattle.hn_audit.specs.Sound.{Link, Joint, Private, IsPostOn}
 use Rattle.hn_base.proofs.Elements.{in_filter, from_filter, in_filter_map, from_filter_map, found_passes, passing_found, one_of_apart}
-use Rattle.hn_audit.proofs.Lists.{in_flat_map, from_flat_map}
+use Rattle.hn_audit.proofs.ElementsOfLists.{in_flat_map, from_flat_map}
 use Rattle.hn_audit.proofs.BridgeSets.{IsKnown, one_member}
 use Rattle.hn_audit.proofs.BridgeUsed.{is_unwanted}
 

@@ -18,7 +18,7 @@ use Rattle.hn_world.specs.declared.member.Member.{Member}
 use Rattle.hn_world.specs.declared.parts.Parts.{Parts}
 use Rattle.hn_world.specs.Replay.{IsAttachedMember}
 use Rattle.hn_audit.specs.Reached.{IsRunning, IsReached, IsOfOne, runs_as}
-use Rattle.hn_audit.specs.Settled.{IsSettled, Holds}
+use Rattle.hn_audit.specs.Settled.{IsSettled, HoldsState}
 use Rattle.hn_base.proofs.Elements.{in_filter_map, from_filter_map}
 use Rattle.hn_audit.proofs.BridgeLists.{one_passes, two_pass}
 
@@ -87,7 +87,7 @@ module _ (w : Parts) (r : Member) (known : IsKnown w r) where
   other_seen : (s u : Member) → IsReached w r s → IsReached w r u → (u.router.id.0 ≡ s.router.id.0 → ⊥)
       → (n : Entry) × (entry_of s.router u.router.id ≡ Some n) × IsNodeOf n u
   other_seen s u s_in u_in differs =
-      let holds : Holds s.router u.router = known.settled.held s u s_in u_in (λ same. differs (ap (λ (id : NodeId). id.0) (sym same))) in (
+      let holds : HoldsState s.router u.router = known.settled.held s u s_in u_in (λ same. differs (ap (λ (id : NodeId). id.0) (sym same))) in (
         held_entry s.router.moment (record { id = u.router.id; stored = holds.stored }),
         known.entries.held s.router u.router.id holds.stored differs holds.is_held,
         record { id = refl; body = holds.body },

@@ -17,7 +17,7 @@ use Rattle.hn_world.specs.declared.member.Member.{Member}
 use Rattle.hn_world.specs.declared.parts.Parts.{Parts}
 use Rattle.hn_audit.specs.Reached.{IsReached}
 use Rattle.hn_audit.specs.Settled.{AreSame}
-use Rattle.hn_audit.specs.Sound.{Uses, DoesNotWant, SeesNoFree, Link, Joint, Private, IsPostOn, IsThere, IsServed, IsWithout, IsHeldOn}
+use Rattle.hn_audit.specs.Sound.{Uses, DoesNotWant, SeesNoFree, Link, Joint, Private, IsPostOn, IsThere, IsServedLink, IsWithout, IsHeldOn}
 use Rattle.hn_audit.proofs.BridgeSets.{IsKnown, one_member}
 use Rattle.hn_audit.proofs.BridgeUsed.{is_unwanted, to_unwanted, place_of, delegated_at}
 use Rattle.hn_audit.proofs.BridgeHomes.{home_of, set_of, number_of, end_on, length_in, length_is, IsEndOf, same_link, an_end, end_there, of_end, to_has, of_has}
@@ -66,7 +66,7 @@ module _ (w : Parts) (r : Member) (usable : List Delegated) (case : IsCase w r u
   in_home : (link : Link) (s : Member) (e : EpId) → IsThere w r link s e → Contains (home_of w r usable).endpoints (end_on link s e)
   in_home link s e there = end_there w r case.known usable s (end_on link s e) (there_end w r case.known link s e there)
 
-  served : (link : Link) (t : Member) (f : EpId) (d : PlainPrefix) → IsThere w r link t f → home.IsLinkServed (home_of w r usable) (number_of link) d → IsServed w r link d
+  served : (link : Link) (t : Member) (f : EpId) (d : PlainPrefix) → IsThere w r link t f → home.IsLinkServed (home_of w r usable) (number_of link) d → IsServedLink w r link d
   served link t f d here is =
       let by = of_end w r case.known usable is.publisher is.published.has.there in
       let link_is : by.1.link ≡ link =
@@ -137,7 +137,7 @@ module _ (w : Parts) (r : Member) (usable : List Delegated) (case : IsCase w r u
     ];
   }
 
-  pub each_link : (link : Link) (s : Member) (e : EpId) (d : PlainPrefix) → IsThere w r link s e → Uses r.router d → IsServed w r link d ⊎ IsWithout w r link d
+  pub each_link : (link : Link) (s : Member) (e : EpId) (d : PlainPrefix) → IsThere w r link s e → Uses r.router d → IsServedLink w r link d ⊎ IsWithout w r link d
   each_link link s e d there uses =
       elim (is_sound.each_link (end_on link s e) d (in_home link s e there) (in_used d uses)) [
         | inl is ↦ inl (served link s e d there is)

@@ -26,7 +26,7 @@ use Rattle.hn_audit.specs.Quiet.{IsQuiet, IsRouterAtRest}
 use Rattle.hn_audit.specs.Reached.{IsReached}
 use Rattle.hn_audit.specs.Set.{set_of}
 use Rattle.hn_audit.specs.Witness.{AsksFor, Disturbs, IsOfSet, Outlook}
-use Rattle.hn_audit.proofs.Restings.{rests_in_order, wished_there}
+use Rattle.hn_audit.proofs.RestIsOne.{rests_in_order, wished_there}
 use Rattle.hn_audit.proofs.Settling.{each_of_set, set_has}
 
 -- ---- where nothing is found

@@ -21,7 +21,7 @@ use Rattle.hn_rules.specs.Seen.{seen_by}
 use Rattle.hn_audit.specs.Fixed.{IsRunAnew}
 use Rattle.hn_audit.specs.Laws.{AnewHasARun, RestHasARun}
 use Rattle.hn_audit.specs.Quiet.{IsRouterAtRest}
-use Rattle.hn_audit.proofs.Restings.{wished_there, rests_there}
+use Rattle.hn_audit.proofs.RestIsOne.{wished_there, rests_there}
 
 -- the laws of the crates below on which it rests
 pub record FixedLaws : Type 0 where

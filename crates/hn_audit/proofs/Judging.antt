@@ -15,7 +15,7 @@ use Rattle.hn_audit.specs.FirstWitness.{unheld_of, FindsAlike, FindsHeld, FindsI
 use Rattle.hn_audit.specs.FirstWitness.{FindsNear, FindsOfPeers, FindsOnLinks, FindsStranger, FindsUnseen, FindsUntrue}
 use Rattle.hn_audit.specs.Reached.{runs_as, IsOfOne, IsReached}
 use Rattle.hn_audit.specs.Set.{set_of}
-use Rattle.hn_audit.specs.Settled.{Holds, IsSettled, UseSame}
+use Rattle.hn_audit.specs.Settled.{HoldsState, IsSettled, UseSame}
 use Rattle.hn_audit.specs.Witness.{IsOfSet, Refutes}
 use Rattle.hn_audit.proofs.Settling.{each_of_set, each_two, in_set, set_has}
 use Rattle.hn_audit.proofs.Spotting.{linked_are, no_strangers_are, spot_is, spots_of_set}
@@ -26,7 +26,7 @@ pub none_settles : (w : Parts) (r : Member) → IsFirstUnsettled w r None → Is
 none_settles w r (known, ((reach, (hold, same)), (strangers, (sees, tells)))) = record {
   known = known;
   same_reach = (each_of_set w r (λ s. s.router.reach ≡ r.router.reach)).0 reach;
-  held = each_two w r (λ s o. s.router.id ≢ o.router.id → Holds s.router o.router) hold;
+  held = each_two w r (λ s o. s.router.id ≢ o.router.id → HoldsState s.router o.router) hold;
   used = each_two w r (λ s o. UseSame s.router o.router) same;
   no_strangers = no_strangers_are w r strangers;
   linked = linked_are w r sees tells;

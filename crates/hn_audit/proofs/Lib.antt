@@ -1,4 +1,4 @@
-mod Alls
+mod WhatAnyTells
 mod BridgeAlike
 mod BridgeElections
 mod BridgeHomes
@@ -16,11 +16,11 @@ mod Disturbing
 mod FixedPoints
 mod FrontWorlds
 mod Judging
-mod Lists
-mod Onlys
+mod ElementsOfLists
+mod OneWitness
 mod QuietSets
-mod Restings
-mod Sames
+mod RestIsOne
+mod EqualInPlace
 mod Searching
 mod Settling
 mod Spotting

@@ -7,7 +7,7 @@ use Rattle.hn_rules.specs.Router.{IsRouter}
 use Rattle.hn_world.specs.declared.member.Member.{Member}
 use Rattle.hn_world.specs.declared.parts.Parts.{Parts}
 use Rattle.hn_world.specs.Names.{is_named, member_named}
-use Rattle.hn_world.specs.Replay.{IsSound, IsSoundMember}
+use Rattle.hn_world.specs.Replay.{IsSoundWorld, IsSoundMember}
 use Rattle.hn_audit.specs.Fixed.{ChangesNothing, IsFixed, MayChangeNothing, SomeActs}
 use Rattle.hn_audit.specs.Laws.{AnewHasARun, HasRestless, RestKeepsAssignments, RestHasARun, UnchangedIsAtRest, WitnessNamesRestless}
 use Rattle.hn_audit.specs.Quiet.{IsQuiet}
@@ -17,10 +17,10 @@ use Rattle.hn_audit.specs.declared.witness.Unquiet.{Unquiet}
 use Rattle.hn_base.proofs.Elements.{found_passes}
 
 -- a router of a sound world
-pub router_of : (w : Parts) (r s : Member) → IsSound w → IsReached w r s → IsRouter s.router
+pub router_of : (w : Parts) (r s : Member) → IsSoundWorld w → IsReached w r s → IsRouter s.router
 router_of w r s sound reached = (All-contains (IsSoundMember w.moment) w.members s sound reached.runs.there).router
 
-module _ (w : Parts) (r : Member) (sound : IsSound w) (answer : Bool) (quiet : IsTrue answer ↔ IsQuiet w r) where
+module _ (w : Parts) (r : Member) (sound : IsSoundWorld w) (answer : Bool) (quiet : IsTrue answer ↔ IsQuiet w r) where
   pub quiet_changes_nothing : RestKeepsAssignments → IsTrue answer → ChangesNothing w r
   quiet_changes_nothing law is s ran reached run = law s.router ran (router_of w r s sound reached) run (quiet.0 is s reached)
 
@@ -41,7 +41,7 @@ module _ (w : Parts) (r : Member) (sound : IsSound w) (answer : Bool) (quiet : I
 
 -- ---- where it is not quiet
 
-module _ (w : Parts) (r : Member) (sound : IsSound w) where
+module _ (w : Parts) (r : Member) (sound : IsSoundWorld w) where
   -- a router that is not at rest acts
   restless_acts : AnewHasARun → UnchangedIsAtRest → HasRestless w r → SomeActs w r
   restless_acts runs rests (s, reached, restless) =

@@ -13,12 +13,12 @@ use Rattle.hn_world.specs.declared.member.Member.{Member}
 use Rattle.hn_world.specs.declared.parts.Parts.{Parts}
 use Rattle.hn_world.specs.Names.{is_of, link_of}
 use Rattle.hn_audit.specs.First.{IsFirstFound}
-use Rattle.hn_audit.specs.FirstWitness.{FindsNear, FindsOfPeers, FindsStranger, FindsUnseen, IsSeen, IsTrueOf, RunsOutside}
+use Rattle.hn_audit.specs.FirstWitness.{FindsNear, FindsOfPeers, FindsStranger, FindsUnseen, IsSeenPair, IsTrueOf, RunsOutside}
 use Rattle.hn_audit.specs.Reached.{IsRunning, IsReached, IsOnLink, AreOnOneLink}
 use Rattle.hn_audit.specs.Set.{PlainSpot, is_in_set, set_of, spot_at, spots_at, spots_in}
 use Rattle.hn_audit.specs.Settled.{AreLinked, IsSameEndpoint}
 use Rattle.hn_base.proofs.Elements.{given_next, in_filter_map, from_filter_map, passed_next, found_passes}
-use Rattle.hn_audit.proofs.Lists.{in_flat_map, from_flat_map}
+use Rattle.hn_audit.proofs.ElementsOfLists.{in_flat_map, from_flat_map}
 use Rattle.hn_audit.proofs.Settling.{set_has, in_set}
 
 -- ---- lists that grow
@@ -110,9 +110,9 @@ AreLinkedOnLinks w r =
     (s u : Member) (e f : EpId) → IsReached w r s → IsReached w r u → ¬ IsSameEndpoint s.router e u.router f
     → AreLinked s.router e u.router f ↔ AreOnOneLink s e u f
 
-seen_of : (spots : List PlainSpot) → IsFirstFound (λ a. IsFirstFound (FindsUnseen a) spots) spots None → (a b : PlainSpot) → Contains spots a → Contains spots b → IsSeen a b
+seen_of : (spots : List PlainSpot) → IsFirstFound (λ a. IsFirstFound (FindsUnseen a) spots) spots None → (a b : PlainSpot) → Contains spots a → Contains spots b → IsSeenPair a b
 seen_of spots all a b one other =
-    All-contains (IsSeen a) spots b (All-contains (λ (p : PlainSpot). All (IsSeen p) spots) spots a all one) other
+    All-contains (IsSeenPair a) spots b (All-contains (λ (p : PlainSpot). All (IsSeenPair p) spots) spots a all one) other
 
 told_of : (set : List Member) (s u : Member) (peer : PeerLink) → IsFirstFound (FindsOfPeers set) set None → Contains set s → Contains set u → HasPeer s.router.own.body peer → IsTrueOf s peer u
 told_of set s u peer all one other has =

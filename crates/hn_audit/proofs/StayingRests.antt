@@ -40,7 +40,7 @@ use Rattle.hn_rules.specs.Ticks.{IsTick}
 use Rattle.hn_audit.specs.Quiet.{IsRouterAtRest}
 use Rattle.hn_audit.specs.Settled.{AreSame, UseSame}
 use Rattle.hn_audit.proofs.BridgeUsed.{is_unwanted, is_wanted, at_prefix, delegated_at, used_same}
-use Rattle.hn_audit.proofs.Sames.{same_back}
+use Rattle.hn_audit.proofs.EqualInPlace.{same_back}
 
 -- the laws of the crates below on which it rests
 pub record RestLaws : Type 0 where

@@ -20,9 +20,9 @@ use Rattle.hn_world.specs.declared.parts.Parts.{Parts}
 use Rattle.hn_world.specs.Names.{is_of}
 use Rattle.hn_audit.specs.Quiet.{IsQuiet, IsRouterAtRest}
 use Rattle.hn_audit.specs.Reached.{runs_as, IsRunning, IsOfOne, IsReached, IsOnLink}
-use Rattle.hn_audit.specs.Settled.{Holds, UseSame, AreLinked, IsSettled}
+use Rattle.hn_audit.specs.Settled.{HoldsState, UseSame, AreLinked, IsSettled}
 use Rattle.hn_audit.specs.Staying.{IsMemberAt, KeepAssignments}
-use Rattle.hn_audit.proofs.Sames.{same_back, use_same_too}
+use Rattle.hn_audit.proofs.EqualInPlace.{same_back, use_same_too}
 
 -- a router of the world is the same one
 pub record IsKept (m next : Member) : Type 0 where
@@ -112,7 +112,7 @@ module _ (unique : UsableIsUnique) (before after : Parts) (r next : Member) (pla
   -- ---- settled
 
   holds_now : (s s' u u' : Member) → IsStillAs s.router s'.router → IsStillAs u.router u'.router → IsKept u u' → Contains s.router.reach u.router.id
-      → Holds s.router u.router → Holds s'.router u'.router
+      → HoldsState s.router u.router → HoldsState s'.router u'.router
   holds_now s s' u u' s_still u_still u_kept reaches holds = record {
     stored = holds.stored;
     is_held = ap (λ (id : NodeId). held s'.router.table.entries id.0) u_kept.id ∙ s_still.known u.router.id reaches ∙ holds.is_held;

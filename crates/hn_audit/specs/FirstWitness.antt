@@ -26,7 +26,7 @@ use Rattle.hn_audit.specs.declared.witness.Unsettled.TheVariants as cause
 use Rattle.hn_audit.specs.First.{IsFirstFound, OrElse}
 use Rattle.hn_audit.specs.Reached.{runs_as, IsOfOne, IsOnLink, AreOnOneLink}
 use Rattle.hn_audit.specs.Set.{is_in_set, set_of, PlainSpot, spots_in, HasOn}
-use Rattle.hn_audit.specs.Settled.{AreLinked, Holds, IsSameEndpoint, UseSame}
+use Rattle.hn_audit.specs.Settled.{AreLinked, HoldsState, IsSameEndpoint, UseSame}
 use Rattle.hn_audit.specs.Witness.{Outlook}
 
 -- ---- why a router is not settled
@@ -52,10 +52,10 @@ unheld_of s o (Some stored) = cause.OldData s.name o.router.id stored.number o.r
 pub record IsUnheld (s o : Member) (u : Unsettled) : Type 0 where
   pub is : u ≡ unheld_of s o (held s.router.table.entries o.router.id.0)
   pub another : s.router.id ≢ o.router.id
-  pub unheld : ¬ Holds s.router o.router
+  pub unheld : ¬ HoldsState s.router o.router
 
 abbrev pub FindsHeld : Member → Member → Option Unsettled → Type 0
-FindsHeld s o None = s.router.id ≢ o.router.id → Holds s.router o.router
+FindsHeld s o None = s.router.id ≢ o.router.id → HoldsState s.router o.router
 FindsHeld s o (Some u) = IsUnheld s o u
 
 -- s and o use or want other delegated prefixes
@@ -79,20 +79,20 @@ FindsStranger reach spots m None = RunsOutside reach m → IsFirstFound (FindsNe
 FindsStranger reach spots m (Some u) = RunsOutside reach m × IsFirstFound (FindsNear spots m) m.attachments (Some u)
 
 -- attached endpoints are on one link, they are two, and they are not linked
-pub record IsUnseen (a b : PlainSpot) : Type 0 where
+pub record IsUnseenPair (a b : PlainSpot) : Type 0 where
   pub on_one_link : a.link ≡ b.link
   pub apart : ¬ IsSameEndpoint a.member.router a.endpoint b.member.router b.endpoint
   pub unlinked : ¬ AreLinked a.member.router a.endpoint b.member.router b.endpoint
 
 -- attached endpoints on one link, if they are two, are linked
-abbrev pub IsSeen : PlainSpot → PlainSpot → Type 0
-IsSeen a b =
+abbrev pub IsSeenPair : PlainSpot → PlainSpot → Type 0
+IsSeenPair a b =
     a.link ≡ b.link → ¬ IsSameEndpoint a.member.router a.endpoint b.member.router b.endpoint
     → AreLinked a.member.router a.endpoint b.member.router b.endpoint
 
 abbrev pub FindsUnseen : PlainSpot → PlainSpot → Option Unsettled → Type 0
-FindsUnseen a b None = IsSeen a b
-FindsUnseen a b (Some u) = (u ≡ cause.NotLinked a.member.name a.endpoint b.member.name b.endpoint) × IsUnseen a b
+FindsUnseen a b None = IsSeenPair a b
+FindsUnseen a b (Some u) = (u ≡ cause.NotLinked a.member.name a.endpoint b.member.name b.endpoint) × IsUnseenPair a b
 
 -- a peer of s is an endpoint of o, and another than that of s; they are linked, and not on one link
 pub record IsUntrueOf (s : Member) (peer : PeerLink) (o : Member) : Type 0 where

@@ -14,7 +14,7 @@ use Rattle.hn_world.specs.declared.parts.Parts.{Parts}
 use Rattle.hn_audit.specs.Reached.{IsRunning, IsOfOne, IsReached, AreOnOneLink}
 
 -- a router holds of another exactly its sequence number and its node data
-pub record Holds (s u : State) : Type 0 where
+pub record HoldsState (s u : State) : Type 0 where
   pub stored : Stored
   pub is_held : held s.table.entries u.id.0 ≡ Some stored
   pub number : stored.number ≡ u.number
@@ -48,7 +48,7 @@ pub record IsSettled (w : Parts) (r : Member) : Type 0 where
   pub same_reach : (s : Member) → IsReached w r s → s.router.reach ≡ r.router.reach
   -- each of the set holds of each other exactly its sequence number and its node data
   pub held :
-      (s u : Member) → IsReached w r s → IsReached w r u → s.router.id ≢ u.router.id → Holds s.router u.router
+      (s u : Member) → IsReached w r s → IsReached w r u → s.router.id ≢ u.router.id → HoldsState s.router u.router
   -- all of the set use the same delegated prefixes, and want the same of these
   pub used : (s u : Member) → IsReached w r s → IsReached w r u → UseSame s.router u.router
   -- a running router with an endpoint on a link of one of the set is of the set

@@ -70,7 +70,7 @@ pub record HasAssignment (s : State) (e : EpId) (d : PlainPrefix) (c : Assigned)
   pub of_delegated : c.delegated ≡ d
 
 -- each post on the link has an assignment for d, all with one prefix, and exactly one of them is published
-pub record IsServed (w : Parts) (r : Member) (link : Link) (d : PlainPrefix) : Type 0 where
+pub record IsServedLink (w : Parts) (r : Member) (link : Link) (d : PlainPrefix) : Type 0 where
   pub every : (s : Member) (e : EpId) → IsThere w r link s e → (c : Assigned) × HasAssignment s.router e d c
   pub prefix : PlainPrefix
   pub one_prefix :
@@ -112,7 +112,7 @@ pub record IsSound (w : Parts) (r : Member) : Type 0 where
   -- each link of the set is served inside each used delegated prefix, or has no use of it
   pub each_link :
       (link : Link) (s : Member) (e : EpId) (d : PlainPrefix) → IsThere w r link s e → Uses r.router d
-      → IsServed w r link d ⊎ IsWithout w r link d
+      → IsServedLink w r link d ⊎ IsWithout w r link d
   -- prefixes on different links do not overlap
   pub links_apart :
       (link other : Link) (p q : PlainPrefix) → IsHeldOn w r link p → IsHeldOn w r other q → link ≢ other

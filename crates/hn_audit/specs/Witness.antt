@@ -37,7 +37,7 @@ pub record IsOfSet (w : Parts) (r : Member) (name : Name) (s : Member) : Type 0 
 -- ---- why a router is not settled
 
 -- r reaches an identifier that no running router has
-pub record IsUnknown (w : Parts) (r : Member) (id : NodeId) : Type 0 where
+pub record IsUnknownId (w : Parts) (r : Member) (id : NodeId) : Type 0 where
   pub reached : Contains r.router.reach id
   pub nobody : count_by (runs_as id) w.members ≡ 0
 
@@ -118,7 +118,7 @@ pub record AreElsewhere (w : Parts) (r : Member) (router : Name) (e : EpId) (oth
 
 -- what a witness says, by which r is not settled
 abbrev pub Refutes : Parts → Member → Unsettled → Type 0
-Refutes w r (cause.Unknown id) = IsUnknown w r id
+Refutes w r (cause.Unknown id) = IsUnknownId w r id
 Refutes w r (cause.Shared id) = IsShared w r id
 Refutes w r (cause.OtherReach router) = ReachesOthers w r router
 Refutes w r (cause.NotHeld router node) = HoldsNothing w r router node

@@ -8,7 +8,7 @@ ghost use Rattle.hn_store.specs.Nodes.{held};
 ghost use Rattle.hn_audit.specs.First.{IsFirstFound};
 ghost use Rattle.hn_audit.specs.FirstWitness.{unheld_of, FindsReach, FindsHeld, FindsUsed, FindsAlike};
 ghost use Rattle.hn_audit.specs.Set.{AreSameAt, members_of};
-ghost use Rattle.hn_audit.specs.Settled.{AreSame, Holds, UseSame};
+ghost use Rattle.hn_audit.specs.Settled.{AreSame, HoldsState, UseSame};
 
 use crate::witness::Unsettled;
 use hn_base::{NoMemory, NodeId};
@@ -38,7 +38,7 @@ fn first_of_other_reach(set: &[&Member], reach: &[NodeId]) -> Option<Unsettled>
 
 /// Whether a router holds exactly the sequence number and the node data of another one.
 fn holds(s: &Router, u: &Router) -> bool
-    ensures { IsTrue result ↔ Holds s.now u.now }
+    ensures { IsTrue result ↔ HoldsState s.now u.now }
 {
     match s.table().get(u.id()) {
         Some(stored) => stored.number == u.number() && *stored.body.bytes() == *u.body().bytes(),
@@ -48,7 +48,7 @@ fn holds(s: &Router, u: &Router) -> bool
 
 /// Whether a router holds the other one, or both have one identifier.
 fn holds_other(s: &Router, u: &Router) -> bool
-    ensures { IsTrue result ↔ (s.now.id ≢ u.now.id → Holds s.now u.now) }
+    ensures { IsTrue result ↔ (s.now.id ≢ u.now.id → HoldsState s.now u.now) }
 {
     s.id() == u.id() || holds(s, u)
 }

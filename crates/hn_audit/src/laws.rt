@@ -1,7 +1,8 @@
 //! Laws of settled and quiet routers. Each is the contract of a function that does nothing.
 
 ghost use Rattle.hn_world.specs.Leaves.{EqualHashesAgree};
-ghost use Rattle.hn_audit.specs.Laws.{SettledAndQuietIsSound, SetIsSoundAlike, SettledSeeEachOther, AlwaysSettledAreSound, IsOfEachFront, SettledAreSound, RestKeepsAssignments, RestHasARun, UnchangedIsAtRest, AnewHasARun, WitnessRefutesSettled, WitnessRefutesQuiet, WitnessNamesRestless, UnsettledIsOne, UnquietIsOne};
+ghost use Rattle.hn_audit.specs.Laws.{SettledAndQuietIsSound, SetIsSoundAlike, SettledSeeEachOther, AlwaysSettledAreSound, IsOfEachFront, SettledAreSound, RestKeepsAssignments};
+ghost use Rattle.hn_audit.specs.Laws.{RestHasARun, UnchangedIsAtRest, AnewHasARun, WitnessRefutesSettled, WitnessRefutesQuiet, WitnessNamesRestless, UnsettledIsOne, UnquietIsOne};
 ghost use Rattle.hn_audit.specs.Staying.{QuietHomesStay, QuietHomesAlwaysStay};
 
 use hn_assign::{

@@ -3,7 +3,7 @@
 ghost use Rattle.std.specs.Prelude.{◌≡◌, ◌↔◌, ◌++◌, IsTrue, IfOk, OnOk, MatchBool};
 ghost use Rattle.std.specs.Option.{option_map};
 ghost use Rattle.hn_audit.specs.First.{IsFirstFound};
-ghost use Rattle.hn_audit.specs.FirstWitness.{FindsNear, FindsStranger, IsSeen, IsUnseen, FindsUnseen, IsTrueOf, IsUntrueOf, FindsUntrue, FindsOfPeers, FindsOnLinks};
+ghost use Rattle.hn_audit.specs.FirstWitness.{FindsNear, FindsStranger, IsSeenPair, IsUnseenPair, FindsUnseen, IsTrueOf, IsUntrueOf, FindsUntrue, FindsOfPeers, FindsOnLinks};
 ghost use Rattle.hn_audit.specs.Reached.{AreOnOneLink};
 ghost use Rattle.hn_audit.specs.Set.{members_of, plain_spot, plain_spots, spot_at, spots_at, spots_in, HasOn, IsNearLink};
 ghost use Rattle.hn_audit.specs.Settled.{AreLinked, IsSameEndpoint};
@@ -143,7 +143,7 @@ fn is_same(s: &Router, e: EpId, u: &Router, f: EpId) -> bool
 
 /// Whether two attached endpoints are linked, if they are two on one link.
 fn is_seen(a: &Spot<'_>, b: &Spot<'_>) -> bool
-    ensures { MatchBool result (IsSeen (plain_spot a.entry.now) (plain_spot b.entry.now)) (IsUnseen (plain_spot a.entry.now) (plain_spot b.entry.now)) }
+    ensures { MatchBool result (IsSeenPair (plain_spot a.entry.now) (plain_spot b.entry.now)) (IsUnseenPair (plain_spot a.entry.now) (plain_spot b.entry.now)) }
 {
     let (s, u) = (&a.member.router, &b.member.router);
     a.link != b.link

@@ -15,7 +15,7 @@ use Rattle.hn_world.specs.declared.event.WEvent.{WEvent}
 use Rattle.hn_world.specs.declared.event.WEvent.TheVariants as event
 use Rattle.hn_world.specs.declared.member.Member.{Member}
 use Rattle.hn_world.specs.declared.parts.Parts.{Parts}
-use Rattle.hn_world.specs.Leaves.{info_of}
+use Rattle.hn_world.specs.Leaves.{info_of_copy}
 use Rattle.hn_world.specs.Within.{AreWithinLimits}
 use Rattle.hn_world.specs.Refusal.{acting, copy_at, names_nothing, is_stopped, lacks_the_endpoint, lacks_a_copy, lacks_room, is_full_of_mail, first_code, refusal}
 use Rattle.hn_lab.specs.declared.carrying.Carried.{Carried}
@@ -69,13 +69,13 @@ short_copy w copy bytes within told accepted =
     subst (λ (b : List ℕ). length b ≤ 65507) (sym (bytes_of_copy bytes (copy_at w copy) found.0 told found.1)) short
 
 -- what is injected in the place of a copy
-injected_at : (bytes : List ℕ) (k : MailCopy) (info : CopyInfo) (found : Option Member) → Some info ≡ option_map (info_of k) found
+injected_at : (bytes : List ℕ) (k : MailCopy) (info : CopyInfo) (found : Option Member) → Some info ≡ option_map (info_of_copy k) found
     → option_map (λ m. event.Inject m.name k.to.endpoint k.from k.multicast bytes) found ≡ Some (event.Inject info.to info.endpoint info.from info.multicast bytes)
 injected_at bytes k info None told = absurd cc
-injected_at bytes k info (Some m) told = ap (λ (i : CopyInfo). Some (event.Inject i.to i.endpoint i.from i.multicast bytes)) (sym (same_Some info (info_of k m) told))
+injected_at bytes k info (Some m) told = ap (λ (i : CopyInfo). Some (event.Inject i.to i.endpoint i.from i.multicast bytes)) (sym (same_Some info (info_of_copy k m) told))
 
 pub injected_for : (w : Parts) (c : MailCopy) (bytes : List ℕ) (info : CopyInfo) (found : Option MailCopy)
-    → Some info ≡ option_and_then (λ (k : MailCopy). option_map (info_of k) (slice_get w.members k.to.place)) found → found ≡ Some c
+    → Some info ≡ option_and_then (λ (k : MailCopy). option_map (info_of_copy k) (slice_get w.members k.to.place)) found → found ≡ Some c
     → injection_for w c bytes ≡ Some (event.Inject info.to info.endpoint info.from info.multicast bytes)
 injected_for w c bytes info None told is = absurd cc
 injected_for w c bytes info (Some k) told is =
@@ -176,11 +176,11 @@ by_wire copy (Err stop) p a accepted ends = ends
 
 -- the router that a copy goes to
 pub receiver_is : (w : Parts) (found : Option MailCopy) → option_map (λ (i : CopyInfo). i.to)
-    (option_and_then (λ (k : MailCopy). option_map (info_of k) (slice_get w.members k.to.place)) found) ≡ option_map (λ m. m.name)
+    (option_and_then (λ (k : MailCopy). option_map (info_of_copy k) (slice_get w.members k.to.place)) found) ≡ option_map (λ m. m.name)
     (option_and_then (λ (k : MailCopy). slice_get w.members k.to.place) found)
 receiver_is w None = refl
 receiver_is w (Some k) = by_member (slice_get w.members k.to.place)
   where
-    by_member : (o : Option _) → option_map (λ (i : CopyInfo). i.to) (option_map (info_of k) o) ≡ option_map (λ m. m.name) o
+    by_member : (o : Option _) → option_map (λ (i : CopyInfo). i.to) (option_map (info_of_copy k) o) ≡ option_map (λ m. m.name) o
     by_member None = refl
     by_member (Some m) = refl

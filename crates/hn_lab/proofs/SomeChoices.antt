@@ -24,9 +24,9 @@ use Rattle.hn_ula.specs.declared.decision.Ula.TheVariants as ula
 use Rattle.hn_world.specs.Existing.{IsOfBytesAt}
 use Rattle.hn_world.specs.Names.{member_named}
 use Rattle.hn_world.specs.Asked.{unless_running, unless_runs}
-use Rattle.hn_world.specs.Replay.{words_of}
+use Rattle.hn_world.specs.Replay.{words_of_trace}
 use Rattle.hn_world.specs.Routed.{routed}
-use Rattle.hn_world.specs.Step.{FitsAt, IsInRange}
+use Rattle.hn_world.specs.Step.{FitsAt, IsWorldEventInRange}
 use Rattle.hn_world.specs.declared.event.WEvent.{WEvent}
 use Rattle.hn_world.specs.declared.member.Member.{Member}
 use Rattle.hn_world.specs.declared.parts.Parts.{Parts}
@@ -46,7 +46,7 @@ use Rattle.hn_world.specs.Laws.{WorldIsSound}
 -- what an event gives fits, if there is an event
 abbrev pub EventFits : Option WEvent → Type 0
 EventFits None = Unit {0}
-EventFits (Some event) = IsInRange event × FitsAt (routed event) × IsOfBytesAt (routed event)
+EventFits (Some event) = IsWorldEventInRange event × FitsAt (routed event) × IsOfBytesAt (routed event)
 
 pub ends_may_happen : EventLaws → (event : Option WEvent) (p : Stage) → IsFit p → EventFits event → ComesToAnEnd 0 (MayHappen event) p
 ends_may_happen laws None p fit fits = ends_nothing p fit
@@ -135,10 +135,10 @@ module _ (laws : ChoiceLaws) where
     exchanged : (code : Option ℕ) (rest : ℕ → ℕ) (world : Parts) → ExchangeEnds a b code (Some p.words) (Some rest) p.world world → ComesToAnEnd 0 (Exchanges a b) p
     exchanged None rest world ends = λ none.
         let on = goes_on laws.events ends.ts p.world world fit.replayed fit.room ends.begun.goes in
-        let told = (taken (words_of ends.ts) p.words rest ends.drew).1 in
+        let told = (taken (words_of_trace ends.ts) p.words rest ends.drew).1 in
         let after : Stage = record p { world = world; words = rest } in
         let small : (place : ℕ) → rest place < 2 ^ 32 = λ place.
-        subst (λ (f : ℕ → ℕ). f place < 2 ^ 32) (sym told) (fit.words (length (words_of ends.ts) + place))
+        subst (λ (f : ℕ → ℕ). f place < 2 ^ 32) (sym told) (fit.words (length (words_of_trace ends.ts) + place))
         in
         let grew = on.2 in
         none (record { code = None; stage = after }) (

@@ -20,7 +20,7 @@ use Rattle.hn_world.specs.Receivers.{is_away}
 use Rattle.hn_world.specs.Refusal.{refusal}
 use Rattle.hn_world.specs.Replay.{empty_world, Goes, Replays, IsReplayed}
 use Rattle.hn_world.specs.Routed.{routed}
-use Rattle.hn_world.specs.Step.{FitsAt, IsInRange, Step}
+use Rattle.hn_world.specs.Step.{FitsAt, IsWorldEventInRange, Step}
 use Rattle.hn_world.specs.Waiting.{first_waiting}
 use Rattle.hn_lab.specs.declared.carrying.Carried.TheVariants.{Same}
 use Rattle.hn_lab.specs.Carrying.{Carries}
@@ -148,14 +148,14 @@ module _ (laws : EventLaws) where
         fit_after event p o fit h.0,
       ))
 
-  pub ends_event : (event : WEvent) (p : Stage) → IsFit p → IsInRange event → FitsAt (routed event) → IsOfBytesAt (routed event) → EndsNoted 1 (EventNotes event) p
+  pub ends_event : (event : WEvent) (p : Stage) → IsFit p → IsWorldEventInRange event → FitsAt (routed event) → IsOfBytesAt (routed event) → EndsNoted 1 (EventNotes event) p
   ends_event event p fit in_range fits bytes = by_refusal (refusal p.world event) refl
     where
       by_refusal : (r : Option ℕ) → refusal p.world event ≡ r → EndsNoted 1 (EventNotes event) p
       by_refusal (Some code) is = λ none. none (record { notes = []; code = Some code; stage = p }) ((is, refl), tt)
       by_refusal None is = happened event p fit (laws.steps event p.world fit.replayed is in_range fits bytes)
 
-  pub ends_event_whatever : (event : WEvent) (p : Stage) → IsFit p → IsInRange event → FitsAt (routed event) → IsOfBytesAt (routed event) → ComesToAnEnd 1 (EventEnds event) p
+  pub ends_event_whatever : (event : WEvent) (p : Stage) → IsFit p → IsWorldEventInRange event → FitsAt (routed event) → IsOfBytesAt (routed event) → ComesToAnEnd 1 (EventEnds event) p
   ends_event_whatever event p fit in_range fits bytes = ends_whatever 1 (EventNotes event) p (ends_event event p fit in_range fits bytes)
 
   -- ---- a delivery

@@ -14,7 +14,7 @@ ghost use Rattle.hn_lab.specs.Told.{Told};
 ghost use Rattle.hn_lab.specs.UlaReports.{ula_text, ula_line};
 ghost use Rattle.hn_world.specs.Names.{member_named};
 ghost use Rattle.hn_world.specs.Asked.{unless_runs};
-ghost use Rattle.hn_world.specs.Step.{IsInRange};
+ghost use Rattle.hn_world.specs.Step.{IsWorldEventInRange};
 ghost use Rattle.hn_world.specs.declared.member.Member.{Member};
 
 use crate::end::Stop;
@@ -44,7 +44,7 @@ fn running<'a>(world: &'a World, name: &Name) -> Result<&'a Router, Stop>
 /// The event by which a choice of addresses is made true.
 fn chosen_event(name: Name, choice: Choice) -> Option<WEvent>
     ensures event { result ≡ chosen_event name choice }
-    ensures in_range { IfSome result IsInRange }
+    ensures in_range { IfSome result IsWorldEventInRange }
 {
     match choice {
         Choice::Keep => None,
@@ -55,7 +55,7 @@ fn chosen_event(name: Name, choice: Choice) -> Option<WEvent>
 /// The event by which a decision is made true; a prefix is announced for ever.
 fn decided_event(name: Name, decided: &Ula) -> Option<WEvent>
     ensures event { result ≡ decided_event name decided.now }
-    ensures in_range { IfSome result IsInRange }
+    ensures in_range { IfSome result IsWorldEventInRange }
 {
     match decided {
         Ula::Keep => None,
@@ -100,7 +100,7 @@ fn ula_line(alloc: Global, name: &Name, decided: &Ula) -> Result<String, AllocEr
 impl Playing {
     /// An event happens, if there is one. Nothing comes up.
     fn may_happen(&mut self, alloc: Global, event: Option<WEvent>) -> Result<(), Stop>
-        requires { IfSome event IsInRange }
+        requires { IfSome event IsWorldEventInRange }
         ensures ends { (waiting : Option (List Datagram)) (text : List Told) → Ended (MayHappen event) result (stage_of self.old waiting text) (stage_of self.new waiting text) }
         ensures unbroken { result ≢ Err stop.WireFailed }
         ensures base { self.new.base ≡ self.old.base }

@@ -3,7 +3,7 @@
 ghost use Rattle.std.specs.Prelude.{◌≡◌, Err, None, Some, IfOk};
 ghost use Rattle.hn_script.specs.Laws.{IsLimited};
 ghost use Rattle.hn_script.specs.declared.line.Line.{Line};
-ghost use Rattle.hn_world.specs.Step.{IsInRange};
+ghost use Rattle.hn_world.specs.Step.{IsWorldEventInRange};
 ghost use Rattle.hn_lab.specs.Line.{event_of, injection, source_of};
 
 use hn_base::{Addr, Bytes, EpId, Name};
@@ -44,7 +44,7 @@ pub(crate) fn injection(name: Name, endpoint: EpId, how: How, bytes: Bytes) -> W
 /// The event that a line is, if it is one that writes nothing; else the line.
 pub(crate) fn event_of(line: Line) -> Result<WEvent, Line>
     requires limited { IsLimited line }
-    ensures in_range { IfOk result IsInRange }
+    ensures in_range { IfOk result IsWorldEventInRange }
     ensures event { IfOk result (λ event. event_of line ≡ Some event) }
     ensures other { (same : Line) → result ≡ Err same → (same ≡ line) × (event_of line ≡ None) }
 {

@@ -1,6 +1,6 @@
 ghost use Rattle.std.specs.Prelude.{◌≡◌, ◌≢◌, ◌<◌, ◌+◌, List, [], Option, Err, OnOk, length};
 ghost use Rattle.hn_wire.specs.declared.datagram.Datagram.{Datagram};
-ghost use Rattle.hn_world.specs.Step.{IsInRange};
+ghost use Rattle.hn_world.specs.Step.{IsWorldEventInRange};
 ghost use Rattle.hn_audit.specs.Staying.{QuietStays};
 ghost use Rattle.hn_lab.specs.declared.end.Stop.{Stop};
 ghost use Rattle.hn_lab.specs.Delivery.{EventNotes, EventEnds};
@@ -52,7 +52,7 @@ impl Playing {
     ///
     /// It is refused, or memory ended.
     pub(crate) fn noted(&mut self, alloc: Global, event: WEvent) -> Result<Sequence<Note>, Stop>
-        requires { IsInRange event }
+        requires { IsWorldEventInRange event }
         ensures ends { (waiting : Option (List Datagram)) (text : List Told)
             → EndsWith (EventNotes event) (EventEnds event) result (stage_of self.old waiting text) (stage_of self.new waiting text) }
         ensures unbroken { result ≢ Err Stop.WireFailed }
@@ -73,7 +73,7 @@ impl Playing {
     ///
     /// It is refused, or memory ended.
     pub(crate) fn event(&mut self, alloc: Global, event: WEvent) -> Result<(), Stop>
-        requires { IsInRange event }
+        requires { IsWorldEventInRange event }
         ensures ends { (waiting : Option (List Datagram)) (text : List Told)
             → Ended (EventEnds event) result (stage_of self.old waiting text) (stage_of self.new waiting text) }
         ensures unbroken { result ≢ Err Stop.WireFailed }

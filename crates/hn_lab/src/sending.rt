@@ -5,7 +5,7 @@ ghost use Rattle.std.specs.List.{slice_get};
 ghost use Rattle.hn_io.specs.Faults.{IsCaused};
 ghost use Rattle.hn_script.specs.declared.line.Line.TheVariants as line;
 ghost use Rattle.hn_wire.specs.declared.datagram.Datagram.{Datagram};
-ghost use Rattle.hn_world.specs.Step.{IsInRange};
+ghost use Rattle.hn_world.specs.Step.{IsWorldEventInRange};
 ghost use Rattle.hn_world.specs.declared.event.WEvent.TheVariants as an_event;
 ghost use Rattle.hn_lab.specs.declared.end.Stop.{Stop};
 ghost use Rattle.hn_lab.specs.declared.senders.Sending.{Sending};
@@ -162,7 +162,7 @@ impl Playing {
 
     /// An event of a router, after which it sends no more.
     fn silence(&mut self, alloc: Global, event: WEvent, name: Name) -> Result<(), Stop>
-        requires { IsInRange event }
+        requires { IsWorldEventInRange event }
         ensures ends { (waiting : Option (List Datagram)) (text : List Told) → Ended (ThenProcess (EventEnds event) (Sets (ending_all name))) result (stage_of self.old waiting text) (stage_of self.new waiting text) }
         ensures unbroken { result ≢ Err Stop.WireFailed }
         ensures unwritten { result ≢ Err (Stop.Cut IoFault.Failed) }
@@ -180,7 +180,7 @@ impl Playing {
         out: &mut K,
         event: WEvent,
     ) -> Result<(), Stop>
-        requires { IsInRange event }
+        requires { IsWorldEventInRange event }
         ensures ends { (waiting : Option (List Datagram)) (text : List Told) → EndsWriting (ThenProcess (EventEnds event) (Follows event)) result (stage_of self.old waiting text) (stage_of self.new waiting text) (K.held out.old) (K.held out.new) }
         ensures unbroken { result ≢ Err Stop.WireFailed }
         ensures base { self.new.base ≡ self.old.base }

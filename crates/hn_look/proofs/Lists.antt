@@ -12,7 +12,7 @@ use Rattle.std.specs.Fmt.{decimal}
 use Rattle.std.specs.Option.{option_map, option_and_then}
 use Rattle.hn_base.specs.HexText.{hex_text}
 use Rattle.hn_base.specs.declared.name.Name.{Name}
-use Rattle.hn_world.specs.Leaves.{info_of, HasInfo}
+use Rattle.hn_world.specs.Leaves.{info_of_copy, HasInfo}
 use Rattle.hn_world.specs.declared.copies.CopyInfo.{CopyInfo}
 use Rattle.hn_world.specs.declared.member.Member.{Member}
 use Rattle.hn_look.specs.Events.{way_word}
@@ -65,17 +65,17 @@ in_pieces old now a n b from c to d way e hex z is = simp append_assoc is
 abbrev pub name_at : Parts → ℕ → Option Name
 name_at w place = option_map (λ m. m.name) (slice_get w.members place)
 
-receiver_is : (o : Option Member) (c : MailCopy) (info : CopyInfo) → Some info ≡ option_map (info_of c) o → (m : Member) × (o ≡ Some m) × (info ≡ info_of c m)
+receiver_is : (o : Option Member) (c : MailCopy) (info : CopyInfo) → Some info ≡ option_map (info_of_copy c) o → (m : Member) × (o ≡ Some m) × (info ≡ info_of_copy c m)
 receiver_is None c info is = absurd cc
-receiver_is (Some m) c info is = (m, refl, same_Some info (info_of c m) is)
+receiver_is (Some m) c info is = (m, refl, same_Some info (info_of_copy c m) is)
 
 -- it is that line, by what the world says of the copy
 pub copy_told : (w : Parts) (number : ℕ) (c : MailCopy) (info : CopyInfo) (bytes : List ℕ) (name : Option Name) (place f : ℕ) (way old now : List ℕ) → HasInfo w (copy_at w number) (Some info)
     → Some bytes ≡ option_map (λ (m : MailCopy). m.bytes) (copy_at w number) → name ≡ name_at w place → place ≡ sender_place info.from → f ≡ info.endpoint.0 → way ≡ way_word info.multicast
     → now ≡ old ++ line_by number name (sender_endpoint info.from) info.to f way bytes → copy_at w number ≡ Some c → now ≡ old ++ copy_line w number c
 copy_told w number c info bytes name place f way old now has has_bytes name_is place_is f_is way_is told at =
-    let known : Some info ≡ option_map (info_of c) (slice_get w.members
-    c.to.place) = has ∙ ap (λ (o : Option MailCopy). option_and_then (λ (m : MailCopy). option_map (info_of m) (slice_get w.members m.to.place)) o) at in
+    let known : Some info ≡ option_map (info_of_copy c) (slice_get w.members
+    c.to.place) = has ∙ ap (λ (o : Option MailCopy). option_and_then (λ (m : MailCopy). option_map (info_of_copy m) (slice_get w.members m.to.place)) o) at in
     let to = receiver_is (slice_get w.members c.to.place) c info known in
     let same : bytes ≡ c.bytes = same_Some bytes c.bytes (has_bytes ∙ ap (λ (o : Option MailCopy). option_map (λ (m : MailCopy). m.bytes) o) at) in
     let sender : name ≡ name_at w (sender_place info.from) = name_is ∙ ap (name_at w) place_is in
@@ -86,11 +86,11 @@ copy_told w number c info bytes name place f way old now has has_bytes name_is p
     in
     let first : Line info name f way bytes ≡ Line info (name_at w (sender_place info.from)) info.endpoint.0 (way_word info.multicast)
     c.bytes = λ i. Line info (sender i) (f_is i) (way_is i) (same i) in
-    let second : Line info (name_at w (sender_place info.from)) info.endpoint.0 (way_word info.multicast) c.bytes ≡ Line (info_of c to.0) (name_at w (sender_place c.from))
+    let second : Line info (name_at w (sender_place info.from)) info.endpoint.0 (way_word info.multicast) c.bytes ≡ Line (info_of_copy c to.0) (name_at w (sender_place c.from))
     c.to.endpoint.0 (way_word c.multicast) c.bytes =
     ap (λ (x : CopyInfo). Line x (name_at w (sender_place x.from)) x.endpoint.0 (way_word x.multicast) c.bytes) to.2
     in
-    let third : Line (info_of c to.0) (name_at w (sender_place c.from)) c.to.endpoint.0 (way_word c.multicast) c.bytes ≡ copy_line w number c =
+    let third : Line (info_of_copy c to.0) (name_at w (sender_place c.from)) c.to.endpoint.0 (way_word c.multicast) c.bytes ≡ copy_line w number c =
     ap (λ (o : Option Name). codes "  copy " ++ decimal number ++ codes " " ++ endpoint_text (name_at w (sender_place c.from)) (sender_endpoint
     c.from) ++ codes " > " ++ endpoint_text o c.to.endpoint.0
     ++ codes " " ++ way_word c.multicast ++ codes " " ++ hex_text c.bytes ++ 10 ∷ []) receiver

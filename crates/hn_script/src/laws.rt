@@ -1,6 +1,8 @@
 //! Laws: functions without work, whose clauses say what holds of the definitions.
 
-ghost use Rattle.hn_script.specs.Laws.{AtMostOneScript, AtMostOneFault, FaultExcludesScript, LinesAreOfVersion, PrintedIsRead, ScriptIsLimited, ValuesFit, SoakIsAScript, AtMostOneNodeFile, AtMostOneNodeFault, FaultExcludesNodeFile};
+ghost use Rattle.hn_script.specs.Laws.{AtMostOneScript, AtMostOneFault, FaultExcludesScript, LinesAreOfVersion, PrintedIsRead};
+ghost use Rattle.hn_script.specs.Laws.{ScriptIsLimited, ValuesFit, SoakIsAScript, AtMostOneNodeFile, AtMostOneNodeFault};
+ghost use Rattle.hn_script.specs.Laws.{FaultExcludesNodeFile};
 
 use hn_prefix::{read_form_is_of_one, written_form_is_read};
 

@@ -19,14 +19,14 @@ use Rattle.hn_world.specs.declared.event.WEvent.{WEvent}
 use Rattle.hn_world.specs.declared.event.WEvent.TheVariants as event
 use Rattle.hn_world.specs.declared.member.Member.{Member}
 use Rattle.hn_world.specs.declared.parts.Parts.{Parts}
-use Rattle.hn_world.specs.Mail.{address_of}
+use Rattle.hn_world.specs.Mail.{address_of_target}
 use Rattle.hn_world.specs.Names.{is_named, member_named, router_place}
 use Rattle.hn_world.specs.Asked.{code_if, of_router, unless_running}
-use Rattle.hn_world.specs.Replay.{IsReplayed, IsSound, IsSoundMember}
+use Rattle.hn_world.specs.Replay.{IsReplayed, IsSoundWorld, IsSoundMember}
 use Rattle.hn_sync.specs.Exchange.{request, IsQuestion, unless_exchange, unless_joined}
 use Rattle.hn_sync.specs.Joined.{AreLeast, joint_of}
 use Rattle.hn_sync.specs.Laws.{QuestionIsPacked, QuestionIsUnique, AsksOrIsRefused}
-use Rattle.hn_sync.proofs.Joints.{least_from, least_is_one, joint_is}
+use Rattle.hn_sync.proofs.LeastJoint.{least_from, least_is_one, joint_is}
 
 -- ---- its datagram
 
@@ -49,9 +49,9 @@ one_question a b w question other h k =
     let place : h.place ≡ k.place = same_Some h.place k.place (sym h.is_place ∙ k.is_place) in
     let least : AreLeast h.one k.e h.two k.f = subst (λ (m : Member). AreLeast m k.e h.two k.f) (sym one) (subst (λ (m : Member). AreLeast k.one k.e m k.f) (sym two) k.least) in
     let same = least_is_one h.one h.two h.e h.f k.e k.f h.least least in
-    let made : event.Inject a h.e (address_of (record { place = h.place; endpoint = h.f })) false (datagram_of h.two.router.id h.f (request ∷ []))
-    ≡ event.Inject a k.e (address_of (record { place = k.place; endpoint = k.f })) false (datagram_of k.two.router.id k.f (request ∷ []))
-    = λ i. event.Inject a (same.0 i) (address_of (record { place = place i; endpoint = same.1 i })) false (datagram_of (two i).router.id (same.1 i) (request ∷ [])) in
+    let made : event.Inject a h.e (address_of_target (record { place = h.place; endpoint = h.f })) false (datagram_of h.two.router.id h.f (request ∷ []))
+    ≡ event.Inject a k.e (address_of_target (record { place = k.place; endpoint = k.f })) false (datagram_of k.two.router.id k.f (request ∷ []))
+    = λ i. event.Inject a (same.0 i) (address_of_target (record { place = place i; endpoint = same.1 i })) false (datagram_of (two i).router.id (same.1 i) (request ∷ [])) in
     h.gives ∙ made ∙ sym k.gives
 
 -- ---- there is one, or a refusal
@@ -71,7 +71,7 @@ not_refused true false joint h = absurd (cc)
 not_refused false two joint h = absurd (cc)
 
 -- what a router that is found is
-module _ (w : Parts) (sound : IsSound w) where
+module _ (w : Parts) (sound : IsSoundWorld w) where
   pub ports_of : (name : List ℕ) (m : Member) → member_named name w ≡ Some m → ArePorts m.router.ports
   ports_of name m is =
       let there = found_passes (is_named name) w.members m is in
@@ -92,9 +92,9 @@ there_are a b w one two is_one is_two none =
     let so = not_refused one.running two.running (joint_of one two) (sym members ∙ none) in
     (so.0, so.1, so.2, placed (is_named (name_text b)) w.members two is_two)
 
-pub question_is : (a b : Name) (w : Parts) (one two : Member) → IsSound w → member_named (name_text a) w ≡ Some one → member_named (name_text b) w ≡ Some two → unless_exchange a b w ≡ None
+pub question_is : (a b : Name) (w : Parts) (one two : Member) → IsSoundWorld w → member_named (name_text a) w ≡ Some one → member_named (name_text b) w ≡ Some two → unless_exchange a b w ≡ None
     → (e f : EpId) (place : ℕ) → joint_of one two ≡ Some (e, f) → router_place (name_text b) w ≡ Some place
-    → (from : Addr) → from ≡ address_of (record { place = place; endpoint = f }) → (bytes : List ℕ)
+    → (from : Addr) → from ≡ address_of_target (record { place = place; endpoint = f }) → (bytes : List ℕ)
     → bytes ≡ datagram_of two.router.id f (request ∷ []) → IsQuestion a b w (event.Inject a e from false bytes)
 question_is a b w one two sound is_one is_two none e f place joint is_place from is_from bytes are_bytes =
     let so = there_are a b w one two is_one is_two none in
@@ -113,7 +113,7 @@ question_is a b w one two sound is_one is_two none e f place joint is_place from
       gives = λ i. event.Inject a e (is_from i) false (are_bytes i);
     }
 
-pub asked : (a b : Name) (w : Parts) → IsSound w → unless_exchange a b w ≡ None → (question : WEvent) × IsQuestion a b w question
+pub asked : (a b : Name) (w : Parts) → IsSoundWorld w → unless_exchange a b w ≡ None → (question : WEvent) × IsQuestion a b w question
 asked a b w sound none = by_members (member_named (name_text a) w) (member_named (name_text b) w) refl refl none
   where
     by_members : (one two : Option Member) → member_named (name_text a) w ≡ one → member_named (name_text b) w ≡ two → refused_by one two ≡ None → (question : WEvent) × IsQuestion a b w question
@@ -125,17 +125,17 @@ asked a b w sound none = by_members (member_named (name_text a) w) (member_named
         let e = so.2.0.0 in
         let f = so.2.0.1 in
         let least = least_from one two e f (ports_of w sound (name_text a) one is_one) (ports_of w sound (name_text b) two is_two) so.2.1 in (
-          event.Inject a e (address_of (record { place = place.0; endpoint = f })) false (datagram_of two.router.id f (request ∷ [])),
+          event.Inject a e (address_of_target (record { place = place.0; endpoint = f })) false (datagram_of two.router.id f (request ∷ [])),
           record { one = one; two = two; place = place.0; is_one = is_one; is_two = is_two; is_place = place.1; one_runs = so.0; two_runs = so.1; e = e; f = f; least = least; gives = refl },
         )
 
-pub accepted : (a b : Name) (w : Parts) (question : WEvent) → IsSound w → IsQuestion a b w question → unless_exchange a b w ≡ None
+pub accepted : (a b : Name) (w : Parts) (question : WEvent) → IsSoundWorld w → IsQuestion a b w question → unless_exchange a b w ≡ None
 accepted a b w question sound h =
     let joint = joint_is h.one h.two h.e h.f (ports_of w sound (name_text a) h.one h.is_one) (ports_of w sound (name_text b) h.two h.is_two) h.least in
     let members : unless_exchange a b w ≡ refused_by (Some h.one) (Some h.two) = λ i. refused_by (h.is_one i) (h.is_two i) in
     let tests : refused_at h.one.running h.two.running (joint_of h.one h.two) ≡ None = λ i. refused_at (h.one_runs i) (h.two_runs i) (joint i) in
     members ∙ tests
 
-pub asked_or_refused : ((w : Parts) → IsReplayed w → IsSound w) → AsksOrIsRefused
+pub asked_or_refused : ((w : Parts) → IsReplayed w → IsSoundWorld w) → AsksOrIsRefused
 asked_or_refused sound a b w replayed =
     (asked a b w (sound w replayed), λ h. accepted a b w h.0 (sound w replayed) h.1)

@@ -17,11 +17,11 @@ use Rattle.hn_store.specs.Laws.{HeldIsOfAnEntry}
 use Rattle.hn_typed.specs.Item.{PlainItem}
 use Rattle.hn_typed.specs.Item as item
 use Rattle.hn_sync.proofs.Answered.{AnswersAre}
-use Rattle.hn_sync.proofs.Entries.{IsFit, Knows, Says, IsAsked, Asks, can_ask}
-use Rattle.hn_sync.proofs.Quiet.{IsQuiet, quiet_rests}
+use Rattle.hn_sync.proofs.NodeStatesSaid.{IsFit, Knows, Says, IsAsked, Asks, can_ask}
+use Rattle.hn_sync.proofs.NothingToRefresh.{IsQuiet, quiet_rests}
 use Rattle.hn_sync.proofs.Replies.{network_requested}
 use Rattle.hn_sync.proofs.Sayings.{ReadLaws, rule_of, Saying, tlv_said}
-use Rattle.hn_sync.proofs.Stills.{IsStill, still_quiet, Requested, node_requested}
+use Rattle.hn_sync.proofs.AskedStaysStill.{IsStill, still_quiet, Requested, node_requested}
 
 module _ (read : ReadLaws) (sole : IsSole IsRefresh) (of_entry : HeldIsOfAnEntry) (start : State) (fit : IsFit start) (quiet : IsQuiet start) (from : Origin) where
   pub record Replies (asked said : List Saying) (a : Running) : Type 0 where

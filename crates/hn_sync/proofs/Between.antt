@@ -32,7 +32,7 @@ use Rattle.hn_world.specs.declared.event.WEvent.TheVariants as event
 use Rattle.hn_world.specs.declared.member.Member.{Member}
 use Rattle.hn_world.specs.declared.parts.Parts.{Parts}
 use Rattle.hn_world.specs.Laws.{WorldIsSound, WorldHasItsTrace, WorldHasItsVersion}
-use Rattle.hn_world.specs.Mail.{address_of, on_link_at, on_link, gets, copy_for, copies_on, copies_of_send, copies_of}
+use Rattle.hn_world.specs.Mail.{address_of_target, on_link_at, on_link, gets, copy_for, copies_on, copies_of_send, copies_of}
 use Rattle.hn_world.specs.Names.{is_named, is_on, link_of}
 use Rattle.hn_world.specs.Refusal.{so_of, copy_at, acting, names_nothing, is_stopped, lacks_the_endpoint, lacks_a_copy, lacks_room, is_full_of_mail, first_code, refusal}
 use Rattle.hn_world.specs.Replay.{empty_world, Goes, Replays, IsReplayed, IsSoundMember}
@@ -42,14 +42,14 @@ use Rattle.hn_sync.specs.Joined.{HasPeerAt}
 use Rattle.hn_sync.specs.Laws.{StopsForRoomAlone}
 use Rattle.hn_sync.proofs.Answering.{GoesBack, answers_go_back}
 use Rattle.hn_sync.proofs.Delivered.{goes_more, no_delivery, one_delivery}
-use Rattle.hn_sync.proofs.Joints.{port_there}
-use Rattle.hn_sync.proofs.Lists.{set_is, set_other, set_cases, append_cases, flat_there, stands}
-use Rattle.hn_sync.proofs.Pairs.{same_endpoint}
+use Rattle.hn_sync.proofs.LeastJoint.{port_there}
+use Rattle.hn_sync.proofs.ListsFromLists.{set_is, set_other, set_cases, append_cases, flat_there, stands}
+use Rattle.hn_sync.proofs.LeastPair.{same_endpoint}
 
 -- ---- addresses
 
 -- endpoints with one address are one
-pub same_address : (t u : Target) → t.endpoint.0 < 2 ^ 32 → u.endpoint.0 < 2 ^ 32 → (address_of t).ip ≡ (address_of u).ip → t ≡ u
+pub same_address : (t u : Target) → t.endpoint.0 < 2 ^ 32 → u.endpoint.0 < 2 ^ 32 → (address_of_target t).ip ≡ (address_of_target u).ip → t ≡ u
 same_address t u fits too same =
     let place : t.place ≡ u.place = omega (arith, same) in
     let number : t.endpoint.0 ≡ u.endpoint.0 = omega (arith, same) in
@@ -128,13 +128,13 @@ same_both false x = refl
 
 module _ (follow : EndpointsFollow) (t peer : Target) (multicast : Bool) (bytes words : List ℕ) (notes : List Note) (before after : Parts)
     (ports : (m : Member) → Contains before.members m → HasPorts m) (peer_fits : peer.endpoint.0 < 2 ^ 32)
-    (h : ActsAt (λ m. m) t.place (Arrive (record { endpoint = t.endpoint; from = address_of peer; multicast = multicast }) bytes) words notes before after) where
+    (h : ActsAt (λ m. m) t.place (Arrive (record { endpoint = t.endpoint; from = address_of_target peer; multicast = multicast }) bytes) words notes before after) where
   abbrev next_member : Member
   next_member = record h.member { router = h.next }
 
   same_endpoints : endpoints_of h.next.ports ≡ endpoints_of h.member.router.ports
   same_endpoints =
-      let arrives = Arrive (record { endpoint = t.endpoint; from = address_of peer; multicast = multicast }) bytes in
+      let arrives = Arrive (record { endpoint = t.endpoint; from = address_of_target peer; multicast = multicast }) bytes in
       follow before.moment arrives h.member.router h.next h.done h.happened ∙ same_both (is_refused arrives h.member.router) (endpoints_of h.member.router.ports)
 
   up_then : (u : Target) → IsUp before.members u → IsUp (slice_set before.members t.place next_member) u
@@ -153,35 +153,35 @@ module _ (follow : EndpointsFollow) (t peer : Target) (multicast : Bool) (bytes 
           record { m = up.m; is = set_other before.members t.place u.place next_member other.1 ∙ up.is; runs = up.runs; there = up.there }
 
   -- a copy of what it sends goes back
-  copy_goes_back : (send : Outgoing) (c : MailCopy) → GoesBack (record { endpoint = t.endpoint; from = address_of peer; multicast = multicast }) send
-      → Contains (copies_of_send before.members t.place h.member send) c → (c.to ≡ peer) × (c.from ≡ address_of t)
+  copy_goes_back : (send : Outgoing) (c : MailCopy) → GoesBack (record { endpoint = t.endpoint; from = address_of_target peer; multicast = multicast }) send
+      → Contains (copies_of_send before.members t.place h.member send) c → (c.to ≡ peer) × (c.from ≡ address_of_target t)
   copy_goes_back send c back there =
       by_link (link_of send.endpoint h.member) (subst (λ (to : Option Addr). Contains (copies_on before.members sender (record send { to = to }) (link_of send.endpoint h.member)) c) back.1 there)
     where
       sender : Target
       sender = record { place = t.place; endpoint = send.endpoint }
 
-      by_link : (link : Option ℕ) → Contains (copies_on before.members (record { place = t.place; endpoint = send.endpoint }) (record send { to = Some (address_of peer) }) link) c
-          → (c.to ≡ peer) × (c.from ≡ address_of t)
+      by_link : (link : Option ℕ) → Contains (copies_on before.members (record { place = t.place; endpoint = send.endpoint }) (record send { to = Some (address_of_target peer) }) link) c
+          → (c.to ≡ peer) × (c.from ≡ address_of_target t)
       by_link None k = absurd (nothing_in c k)
       by_link (Some link) k =
-          let made = Contains-from_map (copy_for (record { place = t.place; endpoint = send.endpoint }) (Some (address_of peer)) send.bytes)
-          (filter (gets (record { place = t.place; endpoint = send.endpoint }) (Some (address_of peer))) (on_link link 0 before.members)) c k in
-          let got = from_filter (gets (record { place = t.place; endpoint = send.endpoint }) (Some (address_of peer))) (on_link link 0 before.members) made.0 made.1 in
-          let same = has_this ((address_of made.0).port == (address_of peer).port) (address_of made.0).ip (address_of peer).ip got.1 in
+          let made = Contains-from_map (copy_for (record { place = t.place; endpoint = send.endpoint }) (Some (address_of_target peer)) send.bytes)
+          (filter (gets (record { place = t.place; endpoint = send.endpoint }) (Some (address_of_target peer))) (on_link link 0 before.members)) c k in
+          let got = from_filter (gets (record { place = t.place; endpoint = send.endpoint }) (Some (address_of_target peer))) (on_link link 0 before.members) made.0 made.1 in
+          let same = has_this ((address_of_target made.0).port == (address_of_target peer).port) (address_of_target made.0).ip (address_of_target peer).ip got.1 in
           let is_peer = same_address made.0 peer (target_fits link 0 before.members made.0 ports got.0) peer_fits same in (
             sym (ap (λ (x : MailCopy). x.to) made.2) ∙ is_peer,
-            sym (ap (λ (x : MailCopy). x.from) made.2) ∙ ap (λ (e : EpId). address_of (record { place = t.place; endpoint = e })) back.0,
+            sym (ap (λ (x : MailCopy). x.from) made.2) ∙ ap (λ (e : EpId). address_of_target (record { place = t.place; endpoint = e })) back.0,
           )
 
   copies_go_back : (k : ℕ) (c : MailCopy) → slice_get (before.copies ++ copies_of before.members t.place h.member h.done.sends) k ≡ Some c
-      → (slice_get before.copies k ≡ Some c) ⊎ ((c.to ≡ peer) × (c.from ≡ address_of t))
+      → (slice_get before.copies k ≡ Some c) ⊎ ((c.to ≡ peer) × (c.from ≡ address_of_target t))
   copies_go_back k c at = elim (append_cases before.copies (copies_of before.members t.place h.member h.done.sends) k c at) [
     | inl old ↦ inl old
     | inr new ↦
         let sent = flat_there (copies_of_send before.members t.place h.member) h.done.sends c new in
-        let back = All-contains (GoesBack (record { endpoint = t.endpoint; from = address_of peer; multicast = multicast })) h.done.sends sent.0
-        (answers_go_back before.moment (record { endpoint = t.endpoint; from = address_of peer; multicast = multicast }) bytes h.member.router h.next h.done h.happened) sent.1 in
+        let back = All-contains (GoesBack (record { endpoint = t.endpoint; from = address_of_target peer; multicast = multicast })) h.done.sends sent.0
+        (answers_go_back before.moment (record { endpoint = t.endpoint; from = address_of_target peer; multicast = multicast }) bytes h.member.router h.next h.done h.happened) sent.1 in
         inr (copy_goes_back sent.0 c back sent.2)
   ]
 
@@ -210,7 +210,7 @@ module _ (laws : HasLaws) (here there : Target) (count : ℕ) where
   replayed_more t before after h step = replayed_then laws.trace laws.version t before after h step
 
   abbrev IsBetween : MailCopy → Type 0
-  IsBetween c = ((c.to ≡ here) × (c.from ≡ address_of there)) ⊎ ((c.to ≡ there) × (c.from ≡ address_of here))
+  IsBetween c = ((c.to ≡ here) × (c.from ≡ address_of_target there)) ⊎ ((c.to ≡ there) × (c.from ≡ address_of_target here))
 
   -- both endpoints are up, and each copy that was made since goes from one to the other
   record Holds (ms : List Member) (cs : List MailCopy) : Type 0 where
@@ -224,11 +224,12 @@ module _ (laws : HasLaws) (here there : Target) (count : ℕ) where
   -- a delivery keeps that
   module _ (n : ℕ) (before after : Parts) (words : List ℕ) (notes : List Note) (replayed : IsReplayed before) (holds : Holds before.members before.copies)
       (new : count < n) (h : Delivers n words notes before after) where
-    holds_by : (t peer : Target) → IsUp before.members peer → h.mail.to ≡ t → h.mail.from ≡ address_of peer
-        → ((c : MailCopy) → (c.to ≡ peer) × (c.from ≡ address_of t) → IsBetween c) → IsBetween h.mail → Holds after.members after.copies
+    holds_by : (t peer : Target) → IsUp before.members peer → h.mail.to ≡ t → h.mail.from ≡ address_of_target peer
+        → ((c : MailCopy) → (c.to ≡ peer) × (c.from ≡ address_of_target t) → IsBetween c) → IsBetween h.mail → Holds after.members after.copies
     holds_by t peer up to from between mail =
-        let acts : ActsAt (λ m. m) t.place (Arrive (record { endpoint = t.endpoint; from = address_of peer; multicast = h.mail.multicast }) h.mail.bytes) words notes before h.between
-        = subst (λ (x : Target). ActsAt (λ m. m) x.place (Arrive (record { endpoint = x.endpoint; from = address_of peer; multicast = h.mail.multicast }) h.mail.bytes) words notes before h.between) to
+        let acts : ActsAt (λ m. m) t.place (Arrive (record { endpoint = t.endpoint; from = address_of_target peer; multicast = h.mail.multicast }) h.mail.bytes) words notes before h.between
+        = subst (λ (x : Target). ActsAt (λ m. m) x.place
+        (Arrive (record { endpoint = x.endpoint; from = address_of_target peer; multicast = h.mail.multicast }) h.mail.bytes) words notes before h.between) to
         (subst (λ (x : Addr). ActsAt (λ m. m) h.mail.to.place
         (Arrive (record { endpoint = h.mail.to.endpoint; from = x; multicast = h.mail.multicast }) h.mail.bytes) words notes before h.between) from h.acts) in
         let ports = ports_in before replayed in
@@ -309,7 +310,7 @@ module _ (laws : HasLaws) (a b : Name) (code : ℕ) (before : Parts) (replayed :
   asker = record { place = asks.place; endpoint = asks.f }
 
   abbrev asking : WEvent
-  asking = event.Inject a asks.e (address_of asker) false (datagram_of asks.two.router.id asks.f (request ∷ []))
+  asking = event.Inject a asks.e (address_of_target asker) false (datagram_of asks.two.router.id asks.f (request ∷ []))
 
   -- the question is refused for lack of room alone
   question_for_room : refusal before question ≡ Some code → (code ≡ 9) ⊎ (code ≡ 16)
@@ -326,7 +327,7 @@ module _ (laws : HasLaws) (a b : Name) (code : ℕ) (before : Parts) (replayed :
 
   -- after it, the two endpoints are up, and its copies go back
   module _ (t : Traced) (notes : List Note) (then : Parts) (is : t.event ≡ question) (step : Step t notes before then) where
-    does_ask : Acts (λ m. m) a (Arrive (record { endpoint = asks.e; from = address_of asker; multicast = false })
+    does_ask : Acts (λ m. m) a (Arrive (record { endpoint = asks.e; from = address_of_target asker; multicast = false })
         (datagram_of asks.two.router.id asks.f (request ∷ []))) t.words notes before step.between
     does_ask = subst (λ (e : WEvent). Does e t.words notes before step.between) (is ∙ asks.gives) step.does
 

@@ -12,9 +12,9 @@ use Rattle.hn_world.specs.declared.event.WEvent.TheVariants as event
 use Rattle.hn_world.specs.declared.parts.Parts.{Parts}
 use Rattle.hn_world.specs.Laws.{EachEventIsEntered}
 use Rattle.hn_world.specs.Refusal.{refusal}
-use Rattle.hn_world.specs.Replay.{Goes, words_of}
+use Rattle.hn_world.specs.Replay.{Goes, words_of_trace}
 use Rattle.hn_world.specs.Step.{Step, IsStep}
-use Rattle.hn_sync.specs.Exchange.{IsQuestion, AreDeliveries, AreDelivered, delivery, IsBegunExchange, Exchanges, StopsAt, IsCutOff}
+use Rattle.hn_sync.specs.Exchange.{IsQuestion, AreDeliveries, AreDelivered, delivery, IsBegunExchange, ExchangesSoFar, ExchangeStopsAt, IsCutOff}
 use Rattle.hn_sync.specs.Laws.{ExchangeIsEntered}
 
 -- ---- the trace
@@ -41,9 +41,9 @@ deliveries_more copy (u ∷ ts) t are is =
     let at : copy + length (u ∷ ts) ≡ suc copy + length ts = omega arith in
     (are.0, deliveries_more (suc copy) ts t are.1 (is ∙ ap event.Deliver at))
 
-words_more : (ts : List Traced) (t : Traced) → words_of ts ++ t.words ≡ words_of (ts ++ t ∷ [])
+words_more : (ts : List Traced) (t : Traced) → words_of_trace ts ++ t.words ≡ words_of_trace (ts ++ t ∷ [])
 words_more [] t = sym (append-nil t.words)
-words_more (u ∷ ts) t = append_assoc u.words (words_of ts) t.words ∙ ap (λ (ws : List ℕ). u.words ++ ws) (words_more ts t)
+words_more (u ∷ ts) t = append_assoc u.words (words_of_trace ts) t.words ∙ ap (λ (ws : List ℕ). u.words ++ ws) (words_more ts t)
 
 pub took_none : (told : Option (ℕ → ℕ)) → Took told [] told
 took_none told before stream at = subst (IsAt told stream) (sym (append-nil before)) at
@@ -54,7 +54,7 @@ pub record Came (copies delivered : ℕ) (told told_after : Option (ℕ → ℕ)
   pub at : delivered ≡ copies + length ts
   pub goes : Goes before ts after
   pub events : AreDeliveries (copies + 1) ts
-  pub drew : Took told (words_of ts) told_after
+  pub drew : Took told (words_of_trace ts) told_after
 
 pub came_none : (copies : ℕ) (told : Option (ℕ → ℕ)) (w : Parts) → Came copies copies told told w w
 came_none copies told w = record { ts = []; at = omega arith; goes = refl; events = tt; drew = took_none told }
@@ -70,7 +70,7 @@ came_more join copies delivered told between told_after before then after notes 
       at = count_more h.ts t count;
       goes = goes_more before then after h.ts t h.goes (notes, step.step);
       events = deliveries_more (copies + 1) h.ts t h.events (ap event.Deliver at);
-      drew = subst (λ (ws : List ℕ). Took told ws told_after) (words_more h.ts t) (join told between told_after (words_of h.ts) step.words h.drew step.drew);
+      drew = subst (λ (ws : List ℕ). Took told ws told_after) (words_more h.ts t) (join told between told_after (words_of_trace h.ts) step.words h.drew step.drew);
     }
   where
     count_more : (ts : List Traced) (t : Traced) → delivered ≡ copies + length ts → delivered + 1 ≡ copies + length (ts ++ t ∷ [])
@@ -85,7 +85,7 @@ pub one_delivery : (copy : ℕ) (w : Parts) → copy ≤ length w.copies → del
 one_delivery copy w there = ap (λ (b : Bool). cond b (Some (event.Deliver copy)) None) (le-leb copy (length w.copies) there)
 
 module _ (copies delivered : ℕ) (told told_after : Option (ℕ → ℕ)) (before after : Parts) (h : Came copies delivered told told_after before after) where
-  pub came_all : length after.copies ≤ delivered → (ts : List Traced) × AreDelivered (copies + 1) ts None before after × Took told (words_of ts) told_after
+  pub came_all : length after.copies ≤ delivered → (ts : List Traced) × AreDelivered (copies + 1) ts None before after × Took told (words_of_trace ts) told_after
   came_all all =
       let at = h.at in
       (h.ts, record { goes = h.goes; events = h.events; is_next = sym (no_delivery (copies + 1 + length h.ts) after (omega arith)) }, h.drew)
@@ -97,7 +97,7 @@ module _ (copies delivered : ℕ) (told told_after : Option (ℕ → ℕ)) (befo
       record { goes = h.goes; events = h.events; is_next = ap (λ (n : ℕ). Some (event.Deliver n)) copy ∙ sym (one_delivery (copies + 1 + length h.ts) after (omega arith)) }
 
   pub came_refused : (code : ℕ) → delivered < length after.copies → refusal after (event.Deliver (delivered + 1)) ≡ Some code
-      → (ts : List Traced) × (next : WEvent) × AreDelivered (copies + 1) ts (Some next) before after × (refusal after next ≡ Some code) × Took told (words_of ts) told_after
+      → (ts : List Traced) × (next : WEvent) × AreDelivered (copies + 1) ts (Some next) before after × (refusal after next ≡ Some code) × Took told (words_of_trace ts) told_after
   came_refused code more is = (h.ts, event.Deliver (delivered + 1), came_next more, is, h.drew)
 
   pub came_cut : delivered < length after.copies → (ts : List Traced) × (next : WEvent) × AreDelivered (copies + 1) ts (Some next) before after
@@ -107,11 +107,11 @@ module _ (copies delivered : ℕ) (told told_after : Option (ℕ → ℕ)) (befo
 module _ (copies delivered : ℕ) (told told_after : Option (ℕ → ℕ)) (before after end : Parts) (same : end ≡ after)
     (h : Came copies delivered told told_after before after) (more : delivered < length after.copies) where
   pub refused_then : (told_end : Option (ℕ → ℕ)) → told_end ≡ told_after → (code : ℕ) → refusal after (event.Deliver (delivered + 1)) ≡ Some code
-      → (ts : List Traced) × (next : WEvent) × AreDelivered (copies + 1) ts (Some next) before end × (refusal end next ≡ Some code) × Took told (words_of ts) told_end
+      → (ts : List Traced) × (next : WEvent) × AreDelivered (copies + 1) ts (Some next) before end × (refusal end next ≡ Some code) × Took told (words_of_trace ts) told_end
   refused_then told_end undrawn code is =
       let then = came_refused copies delivered told told_after before after h code more is in
-      subst (λ (w : Parts). (ts : List Traced) × (next : WEvent) × AreDelivered (copies + 1) ts (Some next) before w × (refusal w next ≡ Some code) × Took told (words_of ts) told_end) (sym same)
-      (then.0, then.1, then.2, then.3, subst (λ (o : Option (ℕ → ℕ)). Took told (words_of then.0) o) (sym undrawn) then.4)
+      subst (λ (w : Parts). (ts : List Traced) × (next : WEvent) × AreDelivered (copies + 1) ts (Some next) before w × (refusal w next ≡ Some code) × Took told (words_of_trace ts) told_end) (sym same)
+      (then.0, then.1, then.2, then.3, subst (λ (o : Option (ℕ → ℕ)). Took told (words_of_trace then.0) o) (sym undrawn) then.4)
 
   pub cut_then : (ts : List Traced) × (next : WEvent) × AreDelivered (copies + 1) ts (Some next) before end
   cut_then =
@@ -124,7 +124,7 @@ module _ (a b : Name) (before : Parts) (question : WEvent) (asks : IsQuestion a 
   pub begun_none : IsBegunExchange a b [] (Some question) before before
   begun_none = record { question = question; asks = asks; goes = refl; events = tt; is_next = refl }
 
-  pub stops_first : (code : ℕ) (told : Option (ℕ → ℕ)) → refusal before question ≡ Some code → StopsAt a b code told told before before
+  pub stops_first : (code : ℕ) (told : Option (ℕ → ℕ)) → refusal before question ≡ Some code → ExchangeStopsAt a b code told told before before
   stops_first code told is = record { next = question; comes = record { ts = []; begun = begun_none; drew = took_none told }; refused = is }
 
   pub cut_first : IsCutOff a b before before
@@ -148,9 +148,9 @@ module _ (a b : Name) (before : Parts) (question : WEvent) (asks : IsQuestion a 
         }
 
     pub exchanges_more : WordsJoin → (told between told_after : Option (ℕ → ℕ)) (ts : List Traced) (next : Option WEvent) (after : Parts) → Took told words between
-        → AreDelivered (length before.copies + 1) ts next then after → Took between (words_of ts) told_after → Exchanges a b next told told_after before after
+        → AreDelivered (length before.copies + 1) ts next then after → Took between (words_of_trace ts) told_after → ExchangesSoFar a b next told told_after before after
     exchanges_more join told between told_after ts next after first h rest =
-        record { ts = asking ∷ ts; begun = begun_more ts next after h; drew = join told between told_after words (words_of ts) first rest }
+        record { ts = asking ∷ ts; begun = begun_more ts next after h; drew = join told between told_after words (words_of_trace ts) first rest }
 
     pub cut_more : (ts : List Traced) (next : WEvent) (after : Parts) → AreDelivered (length before.copies + 1) ts (Some next) then after → IsCutOff a b before after
     cut_more ts next after h = record { ts = asking ∷ ts; next = next; begun = begun_more ts (Some next) after h }
@@ -159,10 +159,10 @@ module _ (a b : Name) (before : Parts) (question : WEvent) (asks : IsQuestion a 
 
 -- where the question was not accepted, the world is as before it
 module _ (a b : Name) (before end : Parts) (same : end ≡ before) (question : WEvent) (asks : IsQuestion a b before question) where
-  pub stops_before : (code : ℕ) (told told_end : Option (ℕ → ℕ)) → told_end ≡ told → refusal before question ≡ Some code → StopsAt a b code told told_end before end
+  pub stops_before : (code : ℕ) (told told_end : Option (ℕ → ℕ)) → told_end ≡ told → refusal before question ≡ Some code → ExchangeStopsAt a b code told told_end before end
   stops_before code told told_end undrawn is =
-      subst (λ (w : Parts). StopsAt a b code told told_end before w) (sym same)
-      (subst (λ (o : Option (ℕ → ℕ)). StopsAt a b code told o before before) (sym undrawn) (stops_first a b before question asks code told is))
+      subst (λ (w : Parts). ExchangeStopsAt a b code told told_end before w) (sym same)
+      (subst (λ (o : Option (ℕ → ℕ)). ExchangeStopsAt a b code told o before before) (sym undrawn) (stops_first a b before question asks code told is))
 
   pub cut_before : IsCutOff a b before end
   cut_before = subst (λ (w : Parts). IsCutOff a b before w) (sym same) (cut_first a b before question asks)
@@ -173,12 +173,13 @@ module _ (join : WordsJoin) (a b : Name) (copies : ℕ) (told between told_after
   so_many : (ts : List Traced) (next : Option WEvent) → AreDelivered (copies + 1) ts next then after → AreDelivered (length before.copies + 1) ts next then after
   so_many ts next h = subst (λ (n : ℕ). AreDelivered (n + 1) ts next then after) is h
 
-  pub whole_after : (ts : List Traced) × AreDelivered (copies + 1) ts None then after × Took between (words_of ts) told_after → Exchanges a b None told told_after before after
+  pub whole_after : (ts : List Traced) × AreDelivered (copies + 1) ts None then after × Took between (words_of_trace ts) told_after → ExchangesSoFar a b None told told_after before after
   whole_after h =
       exchanges_more a b before question asks step.words notes then step.step join told between told_after h.0 None after step.drew (so_many h.0 None h.1) h.2
 
-  pub stops_after : (code : ℕ) → (ts : List Traced) × (next : WEvent) × AreDelivered (copies + 1) ts (Some next) then after × (refusal after next ≡ Some code) × Took between (words_of ts) told_after
-      → StopsAt a b code told told_after before after
+  pub stops_after : (code : ℕ)
+      → (ts : List Traced) × (next : WEvent) × AreDelivered (copies + 1) ts (Some next) then after × (refusal after next ≡ Some code) × Took between (words_of_trace ts) told_after
+      → ExchangeStopsAt a b code told told_after before after
   stops_after code h = record {
     next = h.1;
     comes = exchanges_more a b before question asks step.words notes then step.step join told between told_after h.0 (Some h.1) after step.drew (so_many h.0 (Some h.1) h.2) h.4;

@@ -21,20 +21,20 @@ use Rattle.hn_world.specs.declared.event.Traced.{Traced}
 use Rattle.hn_world.specs.declared.event.WEvent.{WEvent}
 use Rattle.hn_world.specs.declared.member.Member.{Member}
 use Rattle.hn_world.specs.declared.parts.Parts.{Parts}
-use Rattle.hn_world.specs.Mail.{address_of, copies_of}
+use Rattle.hn_world.specs.Mail.{address_of_target, copies_of}
 use Rattle.hn_world.specs.Names.{is_named, link_of}
 use Rattle.hn_world.specs.Replay.{Goes, IsReplayed}
 use Rattle.hn_world.specs.Step.{ActsAt, Delivers, Does, acted, entered, taken}
 use Rattle.hn_sync.proofs.Between.{replayed_more}
-use Rattle.hn_sync.proofs.Entries.{Says, Asks}
-use Rattle.hn_sync.proofs.Going.{GoingLaws, known_there, IsPair, IsGoing, copies_taken, first_letter, here_then, other_then, ports_of, on_link_of, knows_one, knows_two, learns_here, letters_here}
-use Rattle.hn_sync.proofs.Going.{is_front, asked_then, taught_then}
-use Rattle.hn_sync.proofs.Learning.{InRest, InAsked, own_part, IsGiven, IsOwned}
-use Rattle.hn_sync.proofs.Letters.{Letter, copy_of, IsSent, sent}
-use Rattle.hn_sync.proofs.Queues.{no_answers, place_set, ToAsker, ToAsked, IsLetterBy, AreLetters, PendingIn, WaitingIn, pending_more, waiting_more, waiting_taken, relearn}
+use Rattle.hn_sync.proofs.NodeStatesSaid.{Says, Asks}
+use Rattle.hn_sync.proofs.BeforeEachDelivery.{GoingLaws, known_there, IsPair, IsGoing, copies_taken, first_letter, here_then, other_then, ports_of, on_link_of}
+use Rattle.hn_sync.proofs.BeforeEachDelivery.{knows_one, knows_two, learns_here, letters_here, is_front, asked_then, taught_then}
+use Rattle.hn_sync.proofs.AskerLearns.{InRest, InAsked, own_part, IsGiven, IsOwned}
+use Rattle.hn_sync.proofs.WhatCopiesSay.{Letter, copy_of, IsSent, sent}
+use Rattle.hn_sync.proofs.CopiesToDeliver.{no_answers, place_set, ToAsker, ToAsked, IsLetterBy, AreLetters, PendingIn, WaitingIn, pending_more, waiting_more, waiting_taken, relearn}
 use Rattle.hn_sync.proofs.Sayings.{Saying, in_whole}
-use Rattle.hn_sync.proofs.Signs.{signs}
-use Rattle.hn_sync.proofs.Turns.{IsReplied, IsTaught}
+use Rattle.hn_sync.proofs.PeersSaid.{signs}
+use Rattle.hn_sync.proofs.TurnsOfExchange.{IsReplied, IsTaught}
 use Rattle.hn_sync.specs.Exchange.{AreDeliveries}
 use Rattle.hn_sync.specs.Repairs.{state_of}
 
@@ -61,7 +61,7 @@ module _ (laws : GoingLaws) (here there : Target) (link : ℕ) (start before : S
 
     abbrev Taught : State → Done → Type 0
     Taught next done = IsTaught laws.turns start before before.ports (PendingIn here there start before tail)
-        (WaitingIn here there start before tail) pair.fit pair.table pair.up (record { endpoint = there.endpoint; from = address_of here; multicast = false }) next done
+        (WaitingIn here there start before tail) pair.fit pair.table pair.up (record { endpoint = there.endpoint; from = address_of_target here; multicast = false }) next done
 
     -- what is hoped for after its answers
     taught_hope : (next : State) (done : Done) (taught : Taught next done) (new : List Letter)
@@ -88,7 +88,7 @@ module _ (laws : GoingLaws) (here there : Target) (link : ℕ) (start before : S
     taught_owned next done taught new moment (inr (up, inr waits)) = inr (tt, inr (waiting_more here there start before tail new waits))
 
     abbrev Replied : State → Done → Type 0
-    Replied next done = IsReplied start (record { endpoint = here.endpoint; from = address_of there; multicast = false }) l.group next done
+    Replied next done = IsReplied start (record { endpoint = here.endpoint; from = address_of_target there; multicast = false }) l.group next done
 
     replied_hope : l.to_asker ≡ false → (next : State) (done : Done) (replied : Replied next done) (said : List Saying) → said ≡ []
         → (new : List Letter) → ((s : Saying) → Contains replied.said s → (x : Letter) × Contains new x × Contains x.group s)
@@ -119,13 +119,14 @@ module _ (laws : GoingLaws) (here there : Target) (link : ℕ) (start before : S
     replied_owned goes s new (inr (up, inr waits)) = absurd (let k = waiting_taken here there start before l tail waits in let clash : true ≡ false = sym k.0 ∙ goes in cc)
 
     -- it goes to the router that asks
-    to_asker : l.to_asker ≡ true → (acts : ActsAt (λ m. m) there.place (Arrive (record { endpoint = there.endpoint; from = address_of here; multicast = false }) l.copy.bytes) words notes w between)
+    to_asker : l.to_asker ≡ true
+        → (acts : ActsAt (λ m. m) there.place (Arrive (record { endpoint = there.endpoint; from = address_of_target here; multicast = false }) l.copy.bytes) words notes w between)
         → acts.next.id ≡ before.id → Going (suc n) (taken n l.copy (acted (λ m. m) there.place acts.member acts.next acts.done w))
     to_asker goes acts named =
         let letter : ToAsker here there start before l = subst (λ (b : Bool). IsLetterBy here there start before b l) goes (letters_l l (Contains-head l tail)) in
         let member : acts.member ≡ h.two = same_Some acts.member h.two (sym acts.is_member ∙ h.is_two) in
         let happened = subst (λ (m : Member). Happened w.moment
-        (Arrive (record { endpoint = there.endpoint; from = address_of here; multicast = false }) l.copy.bytes) m.router acts.next acts.done) member acts.happened in
+        (Arrive (record { endpoint = there.endpoint; from = address_of_target here; multicast = false }) l.copy.bytes) m.router acts.next acts.done) member acts.happened in
         let taught = taught_then laws here there link start before pair name other_name n w replayed h l tail queue_is letter goes acts.next acts.done named happened in
         let q_there = on_link_of laws here there link start before pair name other_name w here h.one h.is_one
         (known_there here.endpoint before.id there.endpoint h.one.router.ports (knows_one laws here there link start before pair name other_name n w replayed h l tail queue_is)) h.link_one in
@@ -171,13 +172,14 @@ module _ (laws : GoingLaws) (here there : Target) (link : ℕ) (start before : S
         }
 
     -- it goes to the router that is asked
-    to_asked : l.to_asker ≡ false → (acts : ActsAt (λ m. m) here.place (Arrive (record { endpoint = here.endpoint; from = address_of there; multicast = false }) l.copy.bytes) words notes w between)
+    to_asked : l.to_asker ≡ false
+        → (acts : ActsAt (λ m. m) here.place (Arrive (record { endpoint = here.endpoint; from = address_of_target there; multicast = false }) l.copy.bytes) words notes w between)
         → Going (suc n) (taken n l.copy (acted (λ m. m) here.place acts.member acts.next acts.done w))
     to_asked goes acts =
         let letter : ToAsked here there start before l = subst (λ (b : Bool). IsLetterBy here there start before b l) goes (letters_l l (Contains-head l tail)) in
         let member : acts.member ≡ h.one = same_Some acts.member h.one (sym acts.is_member ∙ h.is_one) in
         let happened = subst (λ (m : Member). Happened w.moment
-        (Arrive (record { endpoint = here.endpoint; from = address_of there; multicast = false }) l.copy.bytes) m.router acts.next acts.done) member acts.happened in
+        (Arrive (record { endpoint = here.endpoint; from = address_of_target there; multicast = false }) l.copy.bytes) m.router acts.next acts.done) member acts.happened in
         let replied = asked_then laws here there link start before pair name other_name n w replayed h l tail queue_is letter acts.next acts.done happened in
         let q_there = on_link_of laws here there link start before pair name other_name w there h.two h.is_two
         (known_there there.endpoint start.id here.endpoint h.two.router.ports (knows_two laws here there link start before pair name other_name n w replayed h l tail queue_is)) h.link_two in
@@ -230,7 +232,7 @@ module _ (laws : GoingLaws) (here there : Target) (link : ℕ) (start before : S
         by_side : (b : Bool) → l.to_asker ≡ b → Going (suc n) after
         by_side true side =
             let letter : ToAsker here there start before l = subst (λ (b : Bool). IsLetterBy here there start before b l) side (letters_l l (Contains-head l tail)) in
-            let acts = acts_there there (address_of here) l.copy d.mail words notes w between is letter.goes letter.comes letter.unicast
+            let acts = acts_there there (address_of_target here) l.copy d.mail words notes w between is letter.goes letter.comes letter.unicast
             (subst (λ (x : Parts). ActsAt (λ m. m) d.mail.to.place
             (Arrive (record { endpoint = d.mail.to.endpoint; from = d.mail.from; multicast = d.mail.multicast }) d.mail.bytes) words notes w x) same_between d.acts) in
             let made : after ≡ taken n l.copy (acted (λ m. m) there.place acts.member acts.next acts.done w) =
@@ -242,7 +244,7 @@ module _ (laws : GoingLaws) (here there : Target) (link : ℕ) (start before : S
             subst (Going (suc n)) (sym made) (to_asker side acts (named (record acts.member { router = acts.next }) place at))
         by_side false side =
             let letter : ToAsked here there start before l = subst (λ (b : Bool). IsLetterBy here there start before b l) side (letters_l l (Contains-head l tail)) in
-            let acts = acts_there here (address_of there) l.copy d.mail words notes w between is letter.goes letter.comes letter.unicast
+            let acts = acts_there here (address_of_target there) l.copy d.mail words notes w between is letter.goes letter.comes letter.unicast
             (subst (λ (x : Parts). ActsAt (λ m. m) d.mail.to.place
             (Arrive (record { endpoint = d.mail.to.endpoint; from = d.mail.from; multicast = d.mail.multicast }) d.mail.bytes) words notes w x) same_between d.acts) in
             let made : after ≡ taken n l.copy (acted (λ m. m) here.place acts.member acts.next acts.done w) =

@@ -27,7 +27,7 @@ use Rattle.hn_rules.specs.NetworkState.{network_state}
 use Rattle.hn_rules.specs.NodeEndpoint.{greeting_port, named, met, node_endpoint}
 use Rattle.hn_rules.specs.Rules.{AtPort, noted, with_port}
 use Rattle.hn_typed.specs.Item.{RequestNetwork}
-use Rattle.hn_sync.proofs.Signs.{sign, signs, Ascend, signs_put, met_signs, hashed_sign, knows_at, endpoints_from_signs, ascend_from_signs}
+use Rattle.hn_sync.proofs.PeersSaid.{sign, signs, Ascend, signs_put, met_signs, hashed_sign, knows_at, endpoints_from_signs, ascend_from_signs}
 
 -- endpoints change, but for what their signs say, the sender is named and notes are taken
 pub record IsHeard (before after : Running) : Type 0 where

@@ -21,7 +21,7 @@ use Rattle.hn_store.specs.declared.state.Took.TheVariants as took
 use Rattle.hn_store.specs.declared.stored.HeldNode.{HeldNode}
 use Rattle.hn_store.specs.declared.stored.Stored.{Stored}
 use Rattle.hn_tlv.specs.Grammar.{HasTlvs}
-use Rattle.hn_sync.proofs.Entries.{IsEntry}
+use Rattle.hn_sync.proofs.NodeStatesSaid.{IsEntry}
 use Rattle.hn_sync.specs.Repairs.{IsRepaired}
 
 -- ---- two texts are one, or not

@@ -22,12 +22,12 @@ use Rattle.hn_store.specs.declared.state.OwnLeaf.{OwnLeaf}
 use Rattle.hn_store.specs.declared.state.Took.{Took}
 use Rattle.hn_store.specs.declared.state.Took.TheVariants as took
 use Rattle.hn_typed.specs.Item.{RequestNode}
-use Rattle.hn_sync.proofs.Entries.{IsEntry}
+use Rattle.hn_sync.proofs.NodeStatesSaid.{IsEntry}
 use Rattle.hn_sync.proofs.Holding.{state_said, said_short, said_right}
-use Rattle.hn_sync.proofs.Quiet.{IsRefreshing, refresh_leaves}
+use Rattle.hn_sync.proofs.NothingToRefresh.{IsRefreshing, refresh_leaves}
 use Rattle.hn_sync.proofs.Replies.{Below, Ascends}
 use Rattle.hn_sync.proofs.Sayings.{Saying}
-use Rattle.hn_sync.proofs.Signs.{Ascend, ascend_from_signs}
+use Rattle.hn_sync.proofs.PeersSaid.{Ascend, ascend_from_signs}
 use Rattle.hn_sync.specs.Repairs.{state_of}
 
 -- ---- what the table answers

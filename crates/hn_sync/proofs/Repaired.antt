@@ -32,22 +32,22 @@ use Rattle.hn_world.specs.declared.event.WEvent.TheVariants as event
 use Rattle.hn_world.specs.declared.member.Member.{Member}
 use Rattle.hn_world.specs.declared.parts.Parts.{Parts}
 use Rattle.hn_world.specs.Laws.{EachEventIsEntered}
-use Rattle.hn_world.specs.Mail.{address_of}
+use Rattle.hn_world.specs.Mail.{address_of_target}
 use Rattle.hn_world.specs.Names.{is_named, member_named, router_place}
 use Rattle.hn_world.specs.Replay.{Goes, Replays, IsReplayed, IsSoundMember}
 use Rattle.hn_world.specs.Step.{Acts, Does, Step, acted, entered}
-use Rattle.hn_sync.proofs.Begun.{IsAsking, questioned, pair_of, begun}
+use Rattle.hn_sync.proofs.AfterTheQuestion.{IsAsking, questioned, pair_of, begun}
 use Rattle.hn_sync.proofs.Between.{endpoint_fits, endpoint_there, replays_step, replayed_more}
 use Rattle.hn_sync.proofs.Delivered.{goes_enters}
 use Rattle.hn_sync.proofs.Deliveries.{along, going_entered}
-use Rattle.hn_sync.proofs.Entries.{Knows, knows_from}
-use Rattle.hn_sync.proofs.Going.{GoingLaws, IsPair, IsGoing}
+use Rattle.hn_sync.proofs.NodeStatesSaid.{Knows, knows_from}
+use Rattle.hn_sync.proofs.BeforeEachDelivery.{GoingLaws, IsPair, IsGoing}
 use Rattle.hn_sync.proofs.Holding.{settled_same}
-use Rattle.hn_sync.proofs.Joints.{peer_to}
-use Rattle.hn_sync.proofs.Learning.{IsGiven}
-use Rattle.hn_sync.proofs.Letters.{Letter, copy_of}
-use Rattle.hn_sync.proofs.Lists.{set_is, position_is, stands}
-use Rattle.hn_sync.proofs.Queues.{no_answers}
+use Rattle.hn_sync.proofs.LeastJoint.{peer_to}
+use Rattle.hn_sync.proofs.AskerLearns.{IsGiven}
+use Rattle.hn_sync.proofs.WhatCopiesSay.{Letter, copy_of}
+use Rattle.hn_sync.proofs.ListsFromLists.{set_is, position_is, stands}
+use Rattle.hn_sync.proofs.CopiesToDeliver.{no_answers}
 use Rattle.hn_sync.proofs.Sayings.{Saying}
 use Rattle.hn_sync.specs.Exchange.{request, IsQuestion, AreDeliveries, IsExchange, delivery}
 use Rattle.hn_sync.specs.Repairs.{HoldsAs, HasRoomFor, IsNamedAlways, IsRepaired, Repairs}
@@ -133,7 +133,7 @@ module _ (laws : RepairLaws) (a b : Name) (before after : Parts) (replayed : IsR
   module _ (t : Traced) (rest : List Traced) (notes : List Note) (then : Parts) (is : t.event ≡ question) (step : Step t notes before then)
       (goes : Goes then rest after) (are : AreDeliveries (suc (length before.copies)) rest)
       (ends : None ≡ delivery (length before.copies + suc (length rest)) after) where
-    does_ask : Acts (λ m. m) a (Arrive (record { endpoint = asks.e; from = address_of (record { place = asks.place; endpoint = asks.f }); multicast = false })
+    does_ask : Acts (λ m. m) a (Arrive (record { endpoint = asks.e; from = address_of_target (record { place = asks.place; endpoint = asks.f }); multicast = false })
         (datagram_of asks.two.router.id asks.f (request ∷ []))) t.words notes before step.between
     does_ask = subst (λ (e : WEvent). Does e t.words notes before step.between) (is ∙ asks.gives) step.does
 
@@ -149,7 +149,7 @@ module _ (laws : RepairLaws) (a b : Name) (before after : Parts) (replayed : IsR
         let acts = does_ask.acts in
         let member : acts.member ≡ asks.one = same_Some acts.member asks.one (sym acts.is_member ∙ h.is_one) in
         let happened = subst (λ (m : Member). Happened before.moment
-        (Arrive (record { endpoint = asks.e; from = address_of there; multicast = false }) (datagram_of asks.two.router.id asks.f (request ∷ []))) m.router acts.next acts.done)
+        (Arrive (record { endpoint = asks.e; from = address_of_target there; multicast = false }) (datagram_of asks.two.router.id asks.f (request ∷ []))) m.router acts.next acts.done)
         member acts.happened in
         let made : then ≡ entered t (acted (λ m. m) does_ask.place acts.member acts.next acts.done before) = step.gives ∙ ap (entered t) acts.gives in
         let at_next : slice_get then.members does_ask.place ≡ Some (record acts.member { router = acts.next })

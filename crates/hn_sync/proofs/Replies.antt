@@ -17,12 +17,11 @@ use Rattle.hn_rules.specs.Answers.{with_answer}
 use Rattle.hn_rules.specs.Nodes.{entry_of}
 use Rattle.hn_rules.specs.Requests.{IsNetworkRequest, with_state}
 use Rattle.hn_store.specs.Laws.{HeldIsOfAnEntry}
-use Rattle.hn_typed.specs.Item.{PlainItem}
 use Rattle.hn_typed.specs.Item as item
 use Rattle.hn_sync.proofs.Answered.{AnswersAre, with_more}
-use Rattle.hn_sync.proofs.Entries.{IsFit, Knows, item_of, Says}
+use Rattle.hn_sync.proofs.NodeStatesSaid.{IsFit, Knows, item_of, Says}
 use Rattle.hn_sync.proofs.Sayings.{Saying, IsPart}
-use Rattle.hn_sync.proofs.Stills.{IsStill, state_said, some_more, some_state}
+use Rattle.hn_sync.proofs.AskedStaysStill.{IsStill, state_said, some_more, some_state}
 
 -- ---- a list of states, in ascending order of the nodes
 

@@ -22,15 +22,15 @@ use Rattle.hn_world.specs.declared.parts.Parts.{Parts}
 use Rattle.hn_world.specs.Existing.{HasAStep, IsOfBytesAt, Outcome, ReplayedStepExists}
 use Rattle.hn_world.specs.Laws.{EachEventIsEntered, WorldHasItsTrace, WorldHasItsVersion}
 use Rattle.hn_world.specs.Refusal.{refusal}
-use Rattle.hn_world.specs.Replay.{IsReplayed, words_of}
+use Rattle.hn_world.specs.Replay.{IsReplayed, words_of_trace}
 use Rattle.hn_world.specs.Routed.{routed}
-use Rattle.hn_world.specs.Step.{FitsAt, IsInRange, IsStep, Step}
+use Rattle.hn_world.specs.Step.{FitsAt, IsWorldEventInRange, IsStep, Step}
 use Rattle.hn_sync.specs.Exchange.{request, AreDelivered, EndOfExchange, ExchangeEnds, HasAnEnd, IsQuestion}
 use Rattle.hn_sync.specs.Laws.{AsksOrIsRefused, ExchangeExists}
 use Rattle.hn_sync.proofs.Between.{replayed_then}
 use Rattle.hn_sync.proofs.Delivered.{Came, came_none, came_more, came_all, came_refused, stops_first, whole_after, stops_after}
 use Rattle.hn_sync.proofs.Sayings.{can_say_request, endpoint_is_tlv}
-use Rattle.hn_sync.proofs.Streams.{took_first}
+use Rattle.hn_sync.proofs.WordsOfStream.{took_first}
 
 -- the laws on which it rests
 pub record EndLaws : Type 0 where
@@ -65,9 +65,9 @@ step_of event f w o h = record { words = o.words; step = h.0; drew = took_first 
 -- they go on until every copy was delivered, or one is refused
 abbrev DeliveriesEnd : ℕ → Option ℕ → Option (ℕ → ℕ) → Option (ℕ → ℕ) → Parts → Parts → Type 0
 DeliveriesEnd copies None told told_after before after =
-    (ts : List Traced) × AreDelivered (copies + 1) ts None before after × Took told (words_of ts) told_after
+    (ts : List Traced) × AreDelivered (copies + 1) ts None before after × Took told (words_of_trace ts) told_after
 DeliveriesEnd copies (Some code) told told_after before after =
-    (ts : List Traced) × (next : WEvent) × AreDelivered (copies + 1) ts (Some next) before after × (refusal after next ≡ Some code) × Took told (words_of ts) told_after
+    (ts : List Traced) × (next : WEvent) × AreDelivered (copies + 1) ts (Some next) before after × (refusal after next ≡ Some code) × Took told (words_of_trace ts) told_after
 
 abbrev TheyEnd : ℕ → (ℕ → ℕ) → Parts → EndOfExchange → Type 0
 TheyEnd copies f before e = DeliveriesEnd copies e.code (Some f) (Some e.rest) before e.world
@@ -133,7 +133,7 @@ module _ (laws : EndLaws) where
     it_ends : (r : Option ℕ) → refusal w question ≡ r → Some! ItEnds
     it_ends (Some code) is = λ none. none (record { code = Some code; rest = f; world = w }) (stops_first a b w question asks code (Some f) is)
     it_ends None is =
-        let in_range = subst IsInRange (sym asks.gives) tt in
+        let in_range = subst IsWorldEventInRange (sym asks.gives) tt in
         let fits = subst (λ (q : WEvent). FitsAt (routed q)) (sym asks.gives) tt in
         let bytes = subst (λ (q : WEvent). IsOfBytesAt (routed q)) (sym asks.gives) (question_of_bytes asks.two.router.id asks.f) in
         some_then (led_to_some question f w (laws.steps question w replayed is in_range fits bytes)) after_question

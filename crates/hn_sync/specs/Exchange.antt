@@ -15,11 +15,11 @@ use Rattle.hn_world.specs.declared.event.WEvent.{WEvent}
 use Rattle.hn_world.specs.declared.event.WEvent.TheVariants as event
 use Rattle.hn_world.specs.declared.member.Member.{Member}
 use Rattle.hn_world.specs.declared.parts.Parts.{Parts}
-use Rattle.hn_world.specs.Mail.{address_of}
+use Rattle.hn_world.specs.Mail.{address_of_target}
 use Rattle.hn_world.specs.Names.{member_named, router_place}
 use Rattle.hn_world.specs.Asked.{code_if, of_router, unless_both_run}
 use Rattle.hn_world.specs.Refusal.{refusal}
-use Rattle.hn_world.specs.Replay.{Goes, words_of}
+use Rattle.hn_world.specs.Replay.{Goes, words_of_trace}
 use Rattle.hn_sync.specs.Joined.{AreLeast, joint_of}
 
 -- ---- the question
@@ -42,7 +42,7 @@ pub record IsQuestion (a b : Name) (w : Parts) (question : WEvent) : Type 0 wher
   pub e : EpId
   pub f : EpId
   pub least : AreLeast one e two f
-  pub gives : question ≡ event.Inject a e (address_of (record { place = place; endpoint = f })) false (datagram_of two.router.id f (request ∷ []))
+  pub gives : question ≡ event.Inject a e (address_of_target (record { place = place; endpoint = f })) false (datagram_of two.router.id f (request ∷ []))
 
 -- ---- the events
 
@@ -87,21 +87,21 @@ IsExchange a b ts before after = IsBegunExchange a b ts None before after
 -- ---- with the words that it takes
 
 -- an exchange has come so far, and took the words of its events, and no others
-pub record Exchanges (a b : Name) (next : Option WEvent) (told told_after : Option (ℕ → ℕ)) (before after : Parts) : Type 0 where
+pub record ExchangesSoFar (a b : Name) (next : Option WEvent) (told told_after : Option (ℕ → ℕ)) (before after : Parts) : Type 0 where
   pub ts : List Traced
   pub begun : IsBegunExchange a b ts next before after
-  pub drew : Took told (words_of ts) told_after
+  pub drew : Took told (words_of_trace ts) told_after
 
 -- it stops at an event that is refused with this code
-pub record StopsAt (a b : Name) (code : ℕ) (told told_after : Option (ℕ → ℕ)) (before after : Parts) : Type 0 where
+pub record ExchangeStopsAt (a b : Name) (code : ℕ) (told told_after : Option (ℕ → ℕ)) (before after : Parts) : Type 0 where
   pub next : WEvent
-  pub comes : Exchanges a b (Some next) told told_after before after
+  pub comes : ExchangesSoFar a b (Some next) told told_after before after
   pub refused : refusal after next ≡ Some code
 
 -- how it ends: it is whole, or it stops at an event that is refused
 abbrev pub ExchangeEnds : Name → Name → Option ℕ → Option (ℕ → ℕ) → Option (ℕ → ℕ) → Parts → Parts → Type 0
-ExchangeEnds a b None told told_after before after = Exchanges a b None told told_after before after
-ExchangeEnds a b (Some code) told told_after before after = StopsAt a b code told told_after before after
+ExchangeEnds a b None told told_after before after = ExchangesSoFar a b None told told_after before after
+ExchangeEnds a b (Some code) told told_after before after = ExchangeStopsAt a b code told told_after before after
 
 -- the code at which it stopped, if it did, what a draw tells then, and the world
 pub record EndOfExchange : Type 0 where

@@ -11,7 +11,7 @@ use Rattle.hn_world.specs.declared.member.Member.{Member}
 use Rattle.hn_world.specs.declared.parts.Parts.{Parts}
 use Rattle.hn_world.specs.Replay.{IsReplayed}
 use Rattle.hn_sync.specs.Joined.{AreJoined, AreLeast, joint_of}
-use Rattle.hn_sync.specs.Exchange.{request, IsQuestion, IsBegunExchange, IsExchange, StopsAt, ExchangeEnds, HasAnEnd, unless_exchange}
+use Rattle.hn_sync.specs.Exchange.{request, IsQuestion, IsBegunExchange, IsExchange, ExchangeStopsAt, ExchangeEnds, HasAnEnd, unless_exchange}
 use Rattle.hn_sync.specs.Repairs.{Repairs}
 
 -- What is computed are the least endpoints by which two routers are joined.
@@ -71,7 +71,7 @@ ExchangeExists = (a b : Name) (w : Parts) → IsReplayed w → unless_exchange a
 abbrev pub StopsForRoomAlone : Type 0
 StopsForRoomAlone =
     (a b : Name) (code : ℕ) (told told_after : Option (ℕ → ℕ)) (before after : Parts)
-    → IsReplayed before → StopsAt a b code told told_after before after → (code ≡ 9) ⊎ (code ≡ 16)
+    → IsReplayed before → ExchangeStopsAt a b code told told_after before after → (code ≡ 9) ⊎ (code ≡ 16)
 
 -- One exchange repairs: in a replayed world, a whole exchange leaves the router that asked with what the other one knows of
 -- each node that it reaches, but for what was not older and for collisions.

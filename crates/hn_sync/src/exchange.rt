@@ -6,8 +6,8 @@ ghost use Rattle.hn_world.specs.declared.event.Traced.{Traced};
 ghost use Rattle.hn_world.specs.declared.event.WEvent.{WEvent};
 ghost use Rattle.hn_world.specs.declared.parts.Parts.{Parts};
 ghost use Rattle.hn_world.specs.Refusal.{refusal};
-ghost use Rattle.hn_world.specs.Replay.{words_of};
-ghost use Rattle.hn_sync.specs.Exchange.{AreDelivered, Exchanges, HasAnEnd, IsCutOff, StopsAt, unless_exchange};
+ghost use Rattle.hn_world.specs.Replay.{words_of_trace};
+ghost use Rattle.hn_sync.specs.Exchange.{AreDelivered, ExchangesSoFar, HasAnEnd, IsCutOff, ExchangeStopsAt, unless_exchange};
 ghost use Rattle.hn_sync.specs.Repairs.{Repairs};
 
 use crate::joint::unless_exchange;
@@ -48,12 +48,12 @@ pub trait Exchange {
         b: &Name,
         draw: &mut D,
     ) -> Result<(), WorldFault>
-        ensures ok { OnOk result (Exchanges a.now b.now None (D.words draw.old) (D.words draw.new) (parts self.old) (parts self.new)) }
+        ensures ok { OnOk result (ExchangesSoFar a.now b.now None (D.words draw.old) (D.words draw.new) (parts self.old) (parts self.new)) }
         ensures repairs { OnOk result (Repairs a.now b.now (parts self.old) (parts self.new)) }
         ensures first { (code : ℕ) → unless_exchange a.now b.now (parts self.old) ≡ Some code
             → (result ≡ Err (WorldFault.Refused code)) × (self.new ≡ self.old) × (draw.new ≡ draw.old) }
         ensures later { (code : ℕ) → unless_exchange a.now b.now (parts self.old) ≡ None → result ≡ Err (WorldFault.Refused code)
-            → StopsAt a.now b.now code (D.words draw.old) (D.words draw.new) (parts self.old) (parts self.new) }
+            → ExchangeStopsAt a.now b.now code (D.words draw.old) (D.words draw.new) (parts self.old) (parts self.new) }
         ensures room { (code : ℕ) → unless_exchange a.now b.now (parts self.old) ≡ None → result ≡ Err (WorldFault.Refused code)
             → (code ≡ 9) ⊎ (code ≡ 16) }
         ensures starved { result ≡ Err WorldFault.NoMemory
@@ -72,10 +72,10 @@ fn deliver_after<D: Draw>(
     copies: u64,
     draw: &mut D,
 ) -> Result<(), WorldFault>
-    ensures ok { OnOk result ((ts : List Traced) × AreDelivered (copies + 1) ts None world.old world.new × Took (D.words draw.old) (words_of ts) (D.words draw.new)) }
+    ensures ok { OnOk result ((ts : List Traced) × AreDelivered (copies + 1) ts None world.old world.new × Took (D.words draw.old) (words_of_trace ts) (D.words draw.new)) }
     ensures refused { (code : ℕ) → result ≡ Err (WorldFault.Refused code)
         → (ts : List Traced) × (next : WEvent) × AreDelivered (copies + 1) ts (Some next) world.old world.new
-        × (refusal world.new next ≡ Some code) × Took (D.words draw.old) (words_of ts) (D.words draw.new) }
+        × (refusal world.new next ≡ Some code) × Took (D.words draw.old) (words_of_trace ts) (D.words draw.new) }
     ensures starved { result ≡ Err WorldFault.NoMemory
         → (ts : List Traced) × (next : WEvent) × AreDelivered (copies + 1) ts (Some next) world.old world.new }
 {

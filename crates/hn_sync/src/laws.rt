@@ -1,6 +1,7 @@
 //! Laws of exchanges. Each is the contract of a function that does nothing.
 
-ghost use Rattle.hn_sync.specs.Laws.{JointIsLeast, NoJointWhereNoneJoined, QuestionIsPacked, AsksOrIsRefused, QuestionIsUnique, ExchangeIsEntered, ExchangeIsUnique, ExchangeExists, StopsForRoomAlone, ExchangeRepairs};
+ghost use Rattle.hn_sync.specs.Laws.{JointIsLeast, NoJointWhereNoneJoined, QuestionIsPacked, AsksOrIsRefused, QuestionIsUnique};
+ghost use Rattle.hn_sync.specs.Laws.{ExchangeIsEntered, ExchangeIsUnique, ExchangeExists, StopsForRoomAlone, ExchangeRepairs};
 
 use hn_dncp::{packing_is_read, packing_is_unique};
 use hn_hash::hash_has_eight_bytes;

@@ -3,7 +3,7 @@
 ghost use Rattle.std.specs.Prelude.{◌≡◌, [], ◌∷◌, None, IfOk};
 ghost use Rattle.hn_base.specs.Name.{name_text};
 ghost use Rattle.hn_dncp.specs.Packing.{datagram_of};
-ghost use Rattle.hn_world.specs.Mail.{address_of};
+ghost use Rattle.hn_world.specs.Mail.{address_of_target};
 ghost use Rattle.hn_world.specs.Names.{router_place};
 ghost use Rattle.hn_sync.specs.Exchange.{request, IsQuestion, unless_exchange};
 
@@ -25,7 +25,7 @@ fn place_of(world: &World, name: &Name) -> Option<usize>
 
 /// The address of an endpoint of the router at a place.
 fn address_of(place: usize, endpoint: EpId) -> Addr
-    ensures { result ≡ address_of (record { place = place; endpoint = endpoint }) }
+    ensures { result ≡ address_of_target (record { place = place; endpoint = endpoint }) }
 {
     let EpId(endpoint) = endpoint;
     Addr {

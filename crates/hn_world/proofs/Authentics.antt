@@ -11,7 +11,7 @@ use Rattle.hn_rules.specs.declared.done.Note.{Note}
 use Rattle.hn_rules.specs.declared.done.Publication.{Publication}
 use Rattle.hn_rules.specs.declared.state.State.{State}
 use Rattle.hn_rules.specs.Genuine.{TextsCollide, IsGenuine, BytesSayPublished}
-use Rattle.hn_world.proofs.Grown.{Includes, includes_front, collide_more, was_more, holds_more, bytes_more}
+use Rattle.hn_world.proofs.MorePublished.{Includes, includes_front, collide_more, was_more, holds_more, bytes_more}
 use Rattle.hn_router.specs.Act.{PlainEvent, Arrive, IsEventInRange}
 use Rattle.hn_router.specs.Laws.{IsTrusted, GenuineStays}
 use Rattle.hn_world.specs.declared.copies.MailCopy.{MailCopy}
@@ -22,12 +22,12 @@ use Rattle.hn_world.specs.declared.member.Member.{Member}
 use Rattle.hn_world.specs.declared.parts.Parts.{Parts}
 use Rattle.hn_world.specs.Authentic.{IsFromWithin, IsAuthentic, AuthenticUnlessInjected}
 use Rattle.hn_world.specs.Mail.{copies_of}
-use Rattle.hn_world.specs.Replay.{Replays, IsSoundMember, IsSound}
+use Rattle.hn_world.specs.Replay.{Replays, IsSoundMember, IsSoundWorld}
 use Rattle.hn_world.specs.Routed.{routed}
 use Rattle.hn_world.specs.Step.{ActsAt, RouterBegins, Delivers, Drops, Stops, DoesAt, DoesElse, FitsAt, acted, beside, stopped, taken}
-use Rattle.hn_world.proofs.Copied.{copied, still_copied}
-use Rattle.hn_world.proofs.Onces.{Any, trace_of_step}
-use Rattle.hn_world.proofs.Sounds.{StayLaws, KeepsRouters, beside_keeps, sound_step, replay_keeps, all_at}
+use Rattle.hn_world.proofs.CopiesAsSent.{copied, still_copied}
+use Rattle.hn_world.proofs.OneStep.{Any, trace_of_step}
+use Rattle.hn_world.proofs.SoundRouters.{StayLaws, KeepsRouters, beside_keeps, sound_step, replay_keeps, all_at}
 
 -- what each event keeps: own and held node data were published, and copies say what was published
 pub record IsGenuineWorld (w : Parts) : Type 0 where
@@ -72,7 +72,7 @@ none_held id stored found = absurd cc
 
 module _ (laws : AuthenticLaws) where
   genuine_at : (change : Member → Member) → KeepsRouters change → (place : ℕ) (event : PlainEvent) (words : List ℕ) (notes : List Note) (before after : Parts)
-      → IsEventInRange event → IsTrusted before.published event → ActsAt change place event words notes before after → IsSound before → IsGenuineOr before → IsGenuineOr after
+      → IsEventInRange event → IsTrusted before.published event → ActsAt change place event words notes before after → IsSoundWorld before → IsGenuineOr before → IsGenuineOr after
   genuine_at change keeps place event words notes before after ranged trusted h sound (inr collide) =
       subst IsGenuineOr (sym h.gives) (inr (collide_more before.published (before.published ++ h.done.published) (includes_front before.published h.done.published) collide))
   genuine_at change keeps place event words notes before after ranged trusted h sound (inl genuine) =
@@ -147,7 +147,7 @@ module _ (laws : AuthenticLaws) where
   genuine_taken copy mail w one (inl genuine) = inl (record { routers = genuine.routers; copies = still_copied (BytesSayPublished w.published) copy mail w one genuine.copies })
   genuine_taken copy mail w one (inr collide) = inr collide
 
-  genuine_delivered : (copy : ℕ) (words : List ℕ) (notes : List Note) (before after : Parts) → Delivers copy words notes before after → IsSound before → IsGenuineOr before → IsGenuineOr after
+  genuine_delivered : (copy : ℕ) (words : List ℕ) (notes : List Note) (before after : Parts) → Delivers copy words notes before after → IsSoundWorld before → IsGenuineOr before → IsGenuineOr after
   genuine_delivered copy words notes before after h sound (inr collide) =
       subst IsGenuineOr (sym h.gives) (inr (collide_at (λ m. m) h.mail.to.place _ words notes before h.between h.acts collide))
   genuine_delivered copy words notes before after h sound (inl genuine) =
@@ -178,7 +178,7 @@ module _ (laws : AuthenticLaws) where
   plainly w links moment trace (inr collide) = inr collide
 
   -- what an event at no router by its name leaves
-  genuine_else : (event : WEvent) (words : List ℕ) (notes : List Note) (before after : Parts) → DoesElse event words notes before after → IsSound before → IsGenuineOr before → IsGenuineOr after
+  genuine_else : (event : WEvent) (words : List ℕ) (notes : List Note) (before after : Parts) → DoesElse event words notes before after → IsSoundWorld before → IsGenuineOr before → IsGenuineOr after
   genuine_else (event.Router name id) words notes before after h sound genuine = genuine_new name id words notes before after h genuine
   genuine_else (event.Link name) words notes before after h sound genuine = subst IsGenuineOr (sym h.gives) (plainly before (before.links ++ name ∷ []) before.moment before.trace genuine)
   genuine_else (event.Stop name) words notes before after h sound genuine = genuine_stopped name words notes before after h genuine
@@ -188,7 +188,7 @@ module _ (laws : AuthenticLaws) where
   genuine_else _ words notes before after h sound genuine = absurd h
 
   genuine_by : (event : WEvent) (own : Option (Name × PlainEvent)) (words : List ℕ) (notes : List Note) (before after : Parts) → IsTrustedAt before.published own → FitsAt own
-      → DoesAt event own words notes before after → IsSound before → IsGenuineOr before → IsGenuineOr after
+      → DoesAt event own words notes before after → IsSoundWorld before → IsGenuineOr before → IsGenuineOr after
   genuine_by event (Some own) words notes before after trusted fits h sound genuine =
       genuine_at (beside event before) (beside_keeps event before) h.place own.1 words notes before after fits trusted h.acts sound genuine
   genuine_by event None words notes before after trusted fits h sound genuine = genuine_else event words notes before after h sound genuine
@@ -196,7 +196,7 @@ module _ (laws : AuthenticLaws) where
   -- ---- a replay
 
   abbrev Kept : Parts → Type 0
-  Kept w = IsSound w × (All (λ t. IsFromWithin t.event) w.trace → IsGenuineOr w)
+  Kept w = IsSoundWorld w × (All (λ t. IsFromWithin t.event) w.trace → IsGenuineOr w)
 
   genuine_step : (t : Traced) (before after : Parts) → Any t before after → Kept before → Kept after
   genuine_step t before after (notes, step) (sound, kept) = (sound_step laws.stay t before after (notes, step) sound, so)

@@ -16,13 +16,13 @@ use Rattle.hn_world.specs.declared.parts.Parts.{Parts}
 use Rattle.hn_world.specs.Existing.{IsMailOfBytes, StepExists, ReplayedStepExists}
 use Rattle.hn_world.specs.Laws.{CopiesAreBytes, WorldIsSound}
 use Rattle.hn_world.specs.Mail.{copies_of}
-use Rattle.hn_world.specs.Replay.{IsReplayed, Replays, IsSoundMember, IsSound}
+use Rattle.hn_world.specs.Replay.{IsReplayed, Replays, IsSoundMember, IsSoundWorld}
 use Rattle.hn_world.specs.Routed.{routed}
 use Rattle.hn_world.specs.Step.{ActsAt, DoesAt, DoesElse, FitsAt, beside}
-use Rattle.hn_world.proofs.Acting.{copy_there}
-use Rattle.hn_world.proofs.Copied.{Copied, copied, still_copied}
-use Rattle.hn_world.proofs.Onces.{Any}
-use Rattle.hn_world.proofs.Sounds.{StayLaws, sound_step, replay_keeps, all_at}
+use Rattle.hn_world.proofs.DoneAsPlanned.{copy_there}
+use Rattle.hn_world.proofs.CopiesAsSent.{Copied, copied, still_copied}
+use Rattle.hn_world.proofs.OneStep.{Any}
+use Rattle.hn_world.proofs.SoundRouters.{StayLaws, sound_step, replay_keeps, all_at}
 
 abbrev AreBytes : List ℕ → Type 0
 AreBytes bytes = All IsByte bytes
@@ -39,14 +39,14 @@ pub record BytesLaws : Type 0 where
 
 module _ (laws : BytesLaws) where
   bytes_at : (change : Member → Member) (place : ℕ) (event : PlainEvent) (words : List ℕ) (notes : List Note) (before after : Parts)
-      → IsEventInRange event → ActsAt change place event words notes before after → IsSound before → HasBytes before → HasBytes after
+      → IsEventInRange event → ActsAt change place event words notes before after → IsSoundWorld before → HasBytes before → HasBytes after
   bytes_at change place event words notes before after ranged h sound all =
       let here : IsSoundMember before.moment h.member = all_at (IsSoundMember before.moment) before.members place h.member h.is_member sound in
       let sends = laws.sends before.moment event h.member.router h.next h.done here.router here.past ranged h.happened in
       subst HasBytes (sym h.gives)
       (All-append (Copied AreBytes) before.copies (copies_of before.members place h.member h.done.sends) all (copied AreBytes before.members place h.member h.done.sends sends))
 
-  bytes_else : (event : WEvent) (words : List ℕ) (notes : List Note) (before after : Parts) → DoesElse event words notes before after → IsSound before → HasBytes before → HasBytes after
+  bytes_else : (event : WEvent) (words : List ℕ) (notes : List Note) (before after : Parts) → DoesElse event words notes before after → IsSoundWorld before → HasBytes before → HasBytes after
   bytes_else (event.Router name id) words notes before after h sound all = subst HasBytes (sym h.quietly.gives) all
   bytes_else (event.Link name) words notes before after h sound all = subst HasBytes (sym h.gives) all
   bytes_else (event.Stop name) words notes before after h sound all = subst HasBytes (sym h.quietly.gives) all
@@ -62,19 +62,19 @@ module _ (laws : BytesLaws) where
   bytes_else _ words notes before after h sound all = absurd h
 
   bytes_by : (event : WEvent) (own : Option (Name × PlainEvent)) (words : List ℕ) (notes : List Note) (before after : Parts) → FitsAt own
-      → DoesAt event own words notes before after → IsSound before → HasBytes before → HasBytes after
+      → DoesAt event own words notes before after → IsSoundWorld before → HasBytes before → HasBytes after
   bytes_by event (Some own) words notes before after fits h sound all = bytes_at (beside event before) h.place own.1 words notes before after fits h.acts sound all
   bytes_by event None words notes before after fits h sound all = bytes_else event words notes before after h sound all
 
-  bytes_step : (t : Traced) (before after : Parts) → Any t before after → IsSound before × HasBytes before → IsSound after × HasBytes after
+  bytes_step : (t : Traced) (before after : Parts) → Any t before after → IsSoundWorld before × HasBytes before → IsSoundWorld after × HasBytes after
   bytes_step t before after (notes, step) (sound, all) = (
     sound_step laws.stay t before after (notes, step) sound,
     subst HasBytes (sym step.gives) (bytes_by t.event (routed t.event) t.words notes before step.between step.fits step.does sound all),
   )
 
-  bytes_replay : (version : Version) (ts : List Traced) (w : Parts) → Replays version ts w → IsSound w × HasBytes w
+  bytes_replay : (version : Version) (ts : List Traced) (w : Parts) → Replays version ts w → IsSoundWorld w × HasBytes w
   bytes_replay version ts w h =
-      replay_keeps (λ (w : Parts). IsSound w × HasBytes w) bytes_step version (All-nil (IsSoundMember 0), All-nil (Copied AreBytes)) ts w h
+      replay_keeps (λ (w : Parts). IsSoundWorld w × HasBytes w) bytes_step version (All-nil (IsSoundMember 0), All-nil (Copied AreBytes)) ts w h
 
   pub all_of_bytes : CopiesAreBytes
   all_of_bytes w h = (bytes_replay w.version w.trace w h).1

@@ -1,23 +1,23 @@
 mod Accepted
-pub mod Acting
-pub mod Agreeing
-pub mod Attached
-pub mod Comparing
-pub mod Going
-pub mod Mails
-pub mod Onces
-pub mod Places
-pub mod Sounds
-pub mod Targets
-mod Refusing
-mod Copied
-mod Limited
+pub mod DoneAsPlanned
+pub mod EqualHashes
+pub mod AttachedEndpoints
+pub mod OneAgreement
+pub mod OneMoreEvent
+pub mod WaitingCopies
+pub mod OneStep
+pub mod ElementAtPlace
+pub mod SoundRouters
+pub mod EndpointsOnLink
+mod RouterOfEvent
+mod CopiesAsSent
+mod WithinLimits
 mod Authentics
-mod Grown
+mod MorePublished
 mod SomeSteps
 mod CopiesOfBytes
-mod Received
-mod Addressed
+mod ReceiversOfCopies
+mod EndpointOfAddress
 mod SameNames
-pub mod Named
+pub mod RouterNames
 mod SomeAgreements

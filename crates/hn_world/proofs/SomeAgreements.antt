@@ -1,25 +1,28 @@
 -- Two lists of leaves agree in some way: it cannot be that they do not.
-use Rattle.std.proofs.Common.{◌≡◌, ◌≢◌, ◌⊎◌, ◌∙◌, ◌<◌, ◌≤◌, ◌++◌, ℕ, zero, suc, List, [], ◌∷◌, Contains, length, length-append, refl, ap, sym, subst, inl, inr, arith}
+use Rattle.std.proofs.Common.{◌≡◌, ◌≢◌, ◌∙◌, ◌<◌, ◌≤◌, ℕ, zero, suc, List, [], ◌∷◌, length, length-append, refl, ap, sym, inl, inr, arith}
 use Rattle.std.specs.Int.{w32, to_be_bytes}
 use Rattle.std.proofs.lemmas.List.Elements.{All-contains}
 use Rattle.hn_base.specs.Exists.{Some! }
+use Rattle.hn_base.specs.Name.{name_text}
+use Rattle.hn_base.specs.declared.name.Name.{Name}
 use Rattle.hn_base.proofs.DecidingTests.{texts_cases}
+use Rattle.hn_base.proofs.Elements.{found_passes}
 use Rattle.hn_base.proofs.FrontOfList.{same_parts}
 use Rattle.hn_base.proofs.SomeExists.{some_by, some_least, some_then}
-use Rattle.hn_hash.specs.Agreement.{body_at, CollidesInPlace, EqualHashesAgreeOrCollide, IsFirstDifference, IsExhibited}
+use Rattle.hn_hash.specs.Agreement.{body_at, CollidesInPlace, EqualHashesAgreeOrCollide}
 use Rattle.hn_hash.specs.Hash.{hash_of}
 use Rattle.hn_hash.specs.Laws.{HashHasEightBytes}
-use Rattle.hn_hash.specs.Network.{leaf_entry, leaf_text, network_hash, AreNumbered}
-use Rattle.hn_hash.specs.declared.agreement.Agreement.{Agreement}
+use Rattle.hn_hash.specs.Network.{leaf_entry, leaf_text, network_hash}
 use Rattle.hn_hash.specs.declared.agreement.Agreement.TheVariants.{Differ, Same, Collide}
 use Rattle.hn_hash.specs.declared.leaf.Leaf.{Leaf}
 use Rattle.hn_rules.specs.Laws.{HashIsOfLeaves}
 use Rattle.hn_rules.specs.Nodes.{leaves_of}
-use Rattle.hn_world.specs.Existing.{AgreementExists, RoutersAgreeSomehow}
+use Rattle.hn_world.specs.Existing.{AgreementExists, RoutersAgreeSomehow, AgreeSomehow}
 use Rattle.hn_world.specs.Leaves.{Agrees}
 use Rattle.hn_world.specs.Laws.{WorldIsSound}
-use Rattle.hn_world.specs.Replay.{IsSoundMember}
-use Rattle.hn_world.specs.declared.member.Member.{Member}
+use Rattle.hn_world.specs.Names.{is_named}
+use Rattle.hn_world.specs.Replay.{IsReplayed, IsSoundMember}
+use Rattle.hn_world.specs.declared.parts.Parts.{Parts}
 
 -- ---- leaves of one text
 
@@ -94,3 +97,10 @@ module _ (eight : HashHasEightBytes) where
       let left = of_leaves a.router (All-contains (IsSoundMember w.moment) w.members a is in_a).router in
       let right = of_leaves b.router (All-contains (IsSoundMember w.moment) w.members b is in_b).router in
       some_agreement agree_or_collide (leaves_of a.router) (leaves_of b.router) left.1 right.1
+
+-- ---- the routers of two names
+
+pub named_agree : RoutersAgreeSomehow → (w : Parts) → IsReplayed w → (a b : Name) → AgreeSomehow a b w
+unfolding AgreeSomehow
+named_agree agree w replayed a b m n is_m is_n =
+    agree w m n replayed (found_passes (is_named (name_text a)) w.members m is_m).0 (found_passes (is_named (name_text b)) w.members n is_n).0

@@ -1,37 +1,32 @@
 -- An event that a world accepts has a result: it cannot be that there is none.
 use Rattle.std.proofs.Common.{◌≡◌, ◌∙◌, ℕ, Bool, List, [], ◌∷◌, ◌++◌, Option, Some, None, true, cond, find, length, nat_lt, position, slice_get, refl, sym, ap, subst, arith}
-use Rattle.std.specs.Prelude.{All}
 use Rattle.std.specs.List.{position_or_len}
 use Rattle.std.proofs.lemmas.Bool.{lt-ltb}
 use Rattle.std.proofs.lemmas.List.Folds.{find_at}
-use Rattle.hn_base.specs.Byte.{IsByte}
-use Rattle.hn_base.specs.Exists.{Some! }
 use Rattle.hn_base.specs.Name.{name_text}
-use Rattle.hn_base.specs.Words.{Begins}
 use Rattle.hn_base.specs.declared.ids.NodeId.{NodeId}
 use Rattle.hn_base.specs.declared.name.Name.{Name}
-use Rattle.hn_base.proofs.Elements.{found_passes}
 use Rattle.hn_base.proofs.SomeExists.{some_then}
 use Rattle.hn_rules.specs.declared.done.Done.{Done}
 use Rattle.hn_rules.specs.declared.done.Note.{Note}
 use Rattle.hn_rules.specs.declared.state.State.{State}
-use Rattle.hn_router.specs.Act.{PlainEvent, Arrive, IsEventInRange, IsOfBytes, Happened, HasResults}
+use Rattle.hn_router.specs.Act.{PlainEvent, Arrive, IsEventInRange, IsOfBytes, HasResults}
 use Rattle.hn_router.specs.Laws.{EventHasAResult, NewExists}
 use Rattle.hn_world.specs.declared.event.WEvent.{WEvent}
 use Rattle.hn_world.specs.declared.event.WEvent.TheVariants as event
 use Rattle.hn_world.specs.declared.event.Traced.{Traced}
 use Rattle.hn_world.specs.declared.member.Member.{Member}
 use Rattle.hn_world.specs.declared.parts.Parts.{Parts}
-use Rattle.hn_world.specs.Existing.{HasAStep, IsGiven, IsOfBytesAt, Outcome, StepExists}
+use Rattle.hn_world.specs.Existing.{HasAStep, IsGiven, IsOfBytesAt, StepExists}
 use Rattle.hn_world.specs.Limits.{table_limit}
 use Rattle.hn_world.specs.Names.{is_named, router_place}
 use Rattle.hn_world.specs.Refusal.{copy_at, refusal}
-use Rattle.hn_world.specs.Replay.{IsSound, IsSoundMember}
+use Rattle.hn_world.specs.Replay.{IsSoundWorld, IsSoundMember}
 use Rattle.hn_world.specs.Routed.{named_by, routed}
 use Rattle.hn_world.specs.Step.{ActsAt, DoesAt, FitsAt, Step, acted, beside, entered, stopped, taken, with_member}
 use Rattle.hn_world.proofs.Accepted.{accepts, is_there, receiver_found, router_found}
-use Rattle.hn_world.proofs.Acting.{copy_there, named_routed}
-use Rattle.hn_world.proofs.Sounds.{all_at}
+use Rattle.hn_world.proofs.DoneAsPlanned.{copy_there, named_routed}
+use Rattle.hn_world.proofs.SoundRouters.{all_at}
 use Rattle.std.proofs.lemmas.Option.{slice_get_within}
 
 -- the laws of routers on which it rests
@@ -79,7 +74,7 @@ module _ (event : WEvent) (w : Parts) (accepted : refusal w event ≡ None) (giv
 
   -- ---- at a router
 
-  module _ (laws : ExistenceLaws) (sound : IsSound w) where
+  module _ (laws : ExistenceLaws) (sound : IsSoundWorld w) where
     -- what an event does at the router of a place, as the world's event wants it
     at_place : (change : Member → Member) (place : ℕ) (m : Member) (own : PlainEvent) → slice_get w.members place ≡ Some m → IsEventInRange own → IsOfBytes own
         → ((words : List ℕ) (notes : List Note) (between : Parts) → ActsAt change place own words notes w between → (after : Parts) × Step (traced words) notes w after)
@@ -122,7 +117,7 @@ module _ (event : WEvent) (w : Parts) (accepted : refusal w event ≡ None) (giv
 
 -- ---- each event
 
-module _ (laws : ExistenceLaws) (w : Parts) (sound : IsSound w) where
+module _ (laws : ExistenceLaws) (w : Parts) (sound : IsSoundWorld w) where
   some_new : (name : Name) (id : NodeId) → refusal w (event.Router name id) ≡ None → IsGiven (event.Router name id) w → HasAStep (event.Router name id) w
   some_new name id accepted given =
       let (router, is_new) = laws.new id (table_limit w.version) w.moment in

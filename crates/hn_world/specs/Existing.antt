@@ -2,6 +2,7 @@
 use Rattle.std.specs.Prelude.{◌≡◌, ℕ, List, All, Contains, Option, None, Some}
 use Rattle.hn_base.specs.Byte.{IsByte}
 use Rattle.hn_base.specs.Exists.{Some! }
+use Rattle.hn_base.specs.Name.{name_text}
 use Rattle.hn_base.specs.Words.{Begins}
 use Rattle.hn_base.specs.declared.name.Name.{Name}
 use Rattle.hn_hash.specs.declared.leaf.Leaf.{Leaf}
@@ -15,10 +16,11 @@ use Rattle.hn_world.specs.declared.event.WEvent.TheVariants as event
 use Rattle.hn_world.specs.declared.member.Member.{Member}
 use Rattle.hn_world.specs.declared.parts.Parts.{Parts}
 use Rattle.hn_world.specs.Leaves.{Agrees}
+use Rattle.hn_world.specs.Names.{member_named}
 use Rattle.hn_world.specs.Refusal.{copy_at, refusal}
-use Rattle.hn_world.specs.Replay.{IsReplayed, IsSound}
+use Rattle.hn_world.specs.Replay.{IsReplayed, IsSoundWorld}
 use Rattle.hn_world.specs.Routed.{routed}
-use Rattle.hn_world.specs.Step.{FitsAt, IsInRange, Step}
+use Rattle.hn_world.specs.Step.{FitsAt, IsWorldEventInRange, Step}
 
 -- what arrives at its router, if it happens at one by its name, is of bytes
 abbrev pub IsOfBytesAt : Option (Name × PlainEvent) → Type 0
@@ -36,7 +38,7 @@ IsMailOfBytes _ w = Unit {0}
 
 -- The numbers of an event fit, and what arrives by it is of bytes. By its type each event of the code is so.
 pub record IsGiven (event : WEvent) (w : Parts) : Type 0 where
-  pub in_range : IsInRange event
+  pub in_range : IsWorldEventInRange event
   pub fits : FitsAt (routed event)
   pub injected : IsOfBytesAt (routed event)
   pub mail : IsMailOfBytes event w
@@ -54,13 +56,13 @@ HasAStep event w =
 
 -- An event that a world accepts has a result.
 abbrev pub StepExists : Type 0
-StepExists = (event : WEvent) (w : Parts) → IsSound w → refusal w event ≡ None → IsGiven event w → HasAStep event w
+StepExists = (event : WEvent) (w : Parts) → IsSoundWorld w → refusal w event ≡ None → IsGiven event w → HasAStep event w
 
 -- In a replayed world each copy is of bytes, so that nothing is asked of the one that is delivered.
 abbrev pub ReplayedStepExists : Type 0
 ReplayedStepExists =
     (event : WEvent) (w : Parts) → IsReplayed w → refusal w event ≡ None
-    → IsInRange event → FitsAt (routed event) → IsOfBytesAt (routed event) → HasAStep event w
+    → IsWorldEventInRange event → FitsAt (routed event) → IsOfBytesAt (routed event) → HasAStep event w
 
 -- Two lists of leaves whose sequence numbers have 32 bits agree in some way.
 abbrev pub AgreementExists : Type 0
@@ -71,3 +73,9 @@ abbrev pub RoutersAgreeSomehow : Type 0
 RoutersAgreeSomehow =
     (w : Parts) (a b : Member) → IsReplayed w → Contains w.members a → Contains w.members b
     → Some! (Agrees (leaves_of a.router) (leaves_of b.router))
+
+-- the routers of two names agree in some way: it cannot be that they do not
+unfoldable pub AgreeSomehow : Name → Name → Parts → Type 0
+AgreeSomehow a b w =
+    (m n : Member) → member_named (name_text a) w ≡ Some m → member_named (name_text b) w ≡ Some n
+    → Some! (Agrees (leaves_of m.router) (leaves_of n.router))

@@ -9,7 +9,7 @@ use Rattle.hn_world.specs.declared.event.WEvent.{WEvent}
 use Rattle.hn_world.specs.declared.event.Traced.{Traced}
 use Rattle.hn_world.specs.declared.parts.Parts.{Parts}
 use Rattle.hn_world.specs.Leaves.{Agrees}
-use Rattle.hn_world.specs.Replay.{Replays, IsReplayed, IsSound, AreAttached, Always, Throughout, Stepped}
+use Rattle.hn_world.specs.Replay.{Replays, IsReplayed, IsSoundWorld, AreAttached, Always, Throughout, Stepped}
 use Rattle.hn_world.specs.Step.{Step, IsStep}
 
 -- From one world, with one event and one stream of words that a draw tells, there is at most one result.
@@ -49,7 +49,7 @@ WorldHasItsVersion = (version : Version) (ts : List Traced) (w : Parts) → Repl
 
 -- Each router of a replayed world is one, and no later than the world.
 abbrev pub WorldIsSound : Type 0
-WorldIsSound = (w : Parts) → IsReplayed w → IsSound w
+WorldIsSound = (w : Parts) → IsReplayed w → IsSoundWorld w
 
 -- At each moment of a replayed world's past, each router has the endpoints that are attached, and no two of them on one link.
 abbrev pub AlwaysAttached : Type 0

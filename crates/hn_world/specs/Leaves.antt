@@ -27,8 +27,8 @@ Agrees a b Same = a ≡ b
 Agrees a b (Collide left right) = IsExhibited a b left right
 
 -- where a copy goes, from where, and whether it waits
-abbrev pub info_of : MailCopy → Member → CopyInfo
-info_of c m = record { to = m.name; endpoint = c.to.endpoint; from = c.from; multicast = c.multicast; waiting = c.waiting }
+abbrev pub info_of_copy : MailCopy → Member → CopyInfo
+info_of_copy c m = record { to = m.name; endpoint = c.to.endpoint; from = c.from; multicast = c.multicast; waiting = c.waiting }
 
 abbrev pub HasInfo : Parts → Option MailCopy → Option CopyInfo → Type 0
-HasInfo w copy info = info ≡ option_and_then (λ c. option_map (info_of c) (slice_get w.members c.to.place)) copy
+HasInfo w copy info = info ≡ option_and_then (λ c. option_map (info_of_copy c) (slice_get w.members c.to.place)) copy

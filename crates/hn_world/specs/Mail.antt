@@ -11,8 +11,8 @@ use Rattle.hn_world.specs.Names.{link_of, is_on}
 
 -- The address of a router's endpoint: fe80::, then 32 bits of the router's ordinal, counted from 1 in order of
 -- definition, and 32 bits of the endpoint; the port is that of HNCP.
-abbrev pub address_of : Target → Addr
-address_of at = record { ip = 0xfe80 * 2 ^ 112 + (at.place + 1) * 2 ^ 32 + at.endpoint.0; port = 8231 }
+abbrev pub address_of_target : Target → Addr
+address_of_target at = record { ip = 0xfe80 * 2 ^ 112 + (at.place + 1) * 2 ^ 32 + at.endpoint.0; port = 8231 }
 
 -- the endpoints of a router that are attached to a link, in ascending order
 abbrev pub on_link_at : ℕ → ℕ → Member → List Target
@@ -29,7 +29,7 @@ is_same a b = a.place == b.place && a.endpoint.0 == b.endpoint.0
 
 -- whether it is the endpoint with that address
 abbrev pub has_address : Addr → Target → Bool
-has_address to at = (address_of at).ip == to.ip && (address_of at).port == to.port
+has_address to at = (address_of_target at).ip == to.ip && (address_of_target at).port == to.port
 
 -- whether an endpoint on the link of a sender gets what it sent: each other one by multicast, the one with the address
 -- by unicast
@@ -40,7 +40,7 @@ gets sender (Some to) at = has_address to at
 -- the copy for one of them
 abbrev pub copy_for : Target → Option Addr → List ℕ → Target → MailCopy
 copy_for sender to bytes at =
-    record { to = at; from = address_of sender; multicast = is_none to; bytes = bytes; waiting = true }
+    record { to = at; from = address_of_target sender; multicast = is_none to; bytes = bytes; waiting = true }
 
 -- the copies of a datagram that a router sends; there is none where its endpoint is attached to no link
 abbrev pub copies_on : List Member → Target → Outgoing → Option ℕ → List MailCopy

@@ -34,8 +34,8 @@ abbrev pub NamesDiffer : List Member → Type 0
 NamesDiffer members = AllPairs (λ a b. name_text a.name ≢ name_text b.name) members
 
 -- whether a name is taken, by a router or a link
-abbrev pub is_taken : List ℕ → Parts → Bool
-is_taken name w = is_some (router_place name w) || is_some (link_place name w)
+abbrev pub is_taken_name : List ℕ → Parts → Bool
+is_taken_name name w = is_some (router_place name w) || is_some (link_place name w)
 
 -- whether an attachment is of that endpoint
 abbrev pub is_of : EpId → Attachment → Bool

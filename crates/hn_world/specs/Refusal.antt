@@ -1,5 +1,5 @@
 -- Which events a world refuses, with which code.
-use Rattle.std.specs.Prelude.{ℕ, ◌+◌, ◌-◌, ◌^◌, Bool, true, false, ◌||◌, ◌&&◌, ◌==◌, not, nat_lt, nat_le, if◌then◌else◌, List, [], ◌∷◌, length, find, Option, None, Some, is_some, is_none}
+use Rattle.std.specs.Prelude.{ℕ, ◌+◌, ◌-◌, ◌^◌, Bool, true, false, ◌||◌, ◌&&◌, ◌==◌, not, nat_lt, nat_le, if◌then◌else◌, List, [], ◌∷◌, length, find, Option, None, is_some, is_none}
 use Rattle.std.specs.List.{list_any, slice_get}
 use Rattle.std.specs.Option.{option_and_then, option_map, option_map_or}
 use Rattle.hn_base.specs.Name.{name_text}
@@ -14,9 +14,9 @@ use Rattle.hn_world.specs.declared.member.Member.{Member}
 use Rattle.hn_world.specs.declared.parts.Parts.{Parts}
 use Rattle.hn_world.specs.Injected.{injected_of}
 use Rattle.hn_world.specs.Limits.{most_routers}
-use Rattle.hn_world.specs.Names.{is_taken, member_named, link_place}
+use Rattle.hn_world.specs.Names.{is_taken_name, member_named, link_place}
 use Rattle.hn_world.specs.Routed.{named_by}
-use Rattle.hn_world.specs.Waiting.{bytes_of}
+use Rattle.hn_world.specs.Waiting.{bytes_of_copies}
 
 -- whether it is so of what is there
 abbrev pub so_of : {A : Type 0} → (A → Bool) → Option A → Bool
@@ -43,8 +43,8 @@ names_nothing event w router = is_some (named_by event) && is_none router
 
 -- 8: the name of a new router or link is taken
 abbrev pub takes_a_name : WEvent → Parts → Bool
-takes_a_name (event.Router name id) w = is_taken (name_text name) w
-takes_a_name (event.Link name) w = is_taken (name_text name) w
+takes_a_name (event.Router name id) w = is_taken_name (name_text name) w
+takes_a_name (event.Link name) w = is_taken_name (name_text name) w
 takes_a_name _ w = false
 
 -- 12: the router is stopped
@@ -94,7 +94,7 @@ lacks_room _ w router = false
 
 -- 16: 1,000,000 copies or more were made, or the copies and the injected datagrams together have 2^28 bytes or more
 abbrev pub is_full_of_mail : Parts → Bool
-is_full_of_mail w = nat_le 1000000 (length w.copies) || nat_le (2 ^ 28) (bytes_of w.copies + injected_of w.trace)
+is_full_of_mail w = nat_le 1000000 (length w.copies) || nat_le (2 ^ 28) (bytes_of_copies w.copies + injected_of w.trace)
 
 -- and the router may answer
 abbrev pub may_answer : WEvent → Bool

@@ -30,8 +30,8 @@ abbrev pub IsReplayed : Parts → Type 0
 IsReplayed w = Replays w.version w.trace w
 
 -- the words that a trace took
-abbrev pub words_of : List Traced → List ℕ
-words_of ts = flat_map (λ t. t.words) ts
+abbrev pub words_of_trace : List Traced → List ℕ
+words_of_trace ts = flat_map (λ t. t.words) ts
 
 -- each front of the trace leads to a world, and this held there
 abbrev pub Always : (Parts → Type 0) → Parts → Type 0
@@ -54,8 +54,8 @@ pub record IsSoundMember (moment : ℕ) (m : Member) : Type 0 where
   pub router : IsRouter m.router
   pub past : m.router.moment ≤ moment
 
-abbrev pub IsSound : Parts → Type 0
-IsSound w = All (IsSoundMember w.moment) w.members
+abbrev pub IsSoundWorld : Parts → Type 0
+IsSoundWorld w = All (IsSoundMember w.moment) w.members
 
 -- A router of a world has the endpoints of its attachments, and no two of its attachments are to one link. Endpoints are
 -- numbered from 1.

@@ -140,11 +140,11 @@ entered t w = record w { trace = w.trace ++ t ∷ [] }
 
 -- the numbers of an event are in range: identifiers and endpoints have 32 bits, no endpoint has number 0, and a moment is
 -- at most 2^48
-abbrev pub IsInRange : WEvent → Type 0
-IsInRange (event.Router name id) = id.0 < 2 ^ 32
-IsInRange (event.Attach name endpoint link) = (0 < endpoint.0) × (endpoint.0 < 2 ^ 32)
-IsInRange (event.Time moment) = moment ≤ 2 ^ 48
-IsInRange _ = Unit {0}
+abbrev pub IsWorldEventInRange : WEvent → Type 0
+IsWorldEventInRange (event.Router name id) = id.0 < 2 ^ 32
+IsWorldEventInRange (event.Attach name endpoint link) = (0 < endpoint.0) × (endpoint.0 < 2 ^ 32)
+IsWorldEventInRange (event.Time moment) = moment ≤ 2 ^ 48
+IsWorldEventInRange _ = Unit {0}
 
 -- what an event gives its router, if it happens at one by its name, fits
 abbrev pub FitsAt : Option (Name × PlainEvent) → Type 0
@@ -154,7 +154,7 @@ FitsAt (Some own) = IsEventInRange own.1
 -- a world accepts an event, which takes these words
 pub record Step (t : Traced) (notes : List Note) (before after : Parts) : Type 0 where
   pub accepted : refusal before t.event ≡ None
-  pub in_range : IsInRange t.event
+  pub in_range : IsWorldEventInRange t.event
   pub fits : FitsAt (routed t.event)
   pub between : Parts
   pub does : Does t.event t.words notes before between

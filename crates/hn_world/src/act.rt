@@ -7,9 +7,9 @@ ghost use Rattle.hn_world.specs.declared.event.WEvent.TheVariants as event;
 ghost use Rattle.hn_world.specs.declared.member.Member.{Member};
 ghost use Rattle.hn_world.specs.Names.{router_place};
 ghost use Rattle.hn_world.specs.Refusal.{refusal};
-ghost use Rattle.hn_world.specs.Replay.{IsSound};
+ghost use Rattle.hn_world.specs.Replay.{IsSoundWorld};
 ghost use Rattle.hn_world.specs.Routed.{routed, named_by, place_by};
-ghost use Rattle.hn_world.specs.Step.{IsStep, IsInRange};
+ghost use Rattle.hn_world.specs.Step.{IsStep, IsWorldEventInRange};
 
 use crate::event::WEvent;
 use crate::parts::Parts;
@@ -42,7 +42,7 @@ impl Parts {
         requires placed { router_place (name_text name) self.old ≡ Some place }
         requires undue { (m : Member) → slice_get self.old.members place ≡ Some m → self.old.moment < m.router.due }
         requires accepted { refusal self.old (event.Tick name) ≡ None }
-        requires sound { IsSound self.old }
+        requires sound { IsSoundWorld self.old }
         ensures ok { IfOk result (λ notes. IsStep (event.Tick name) notes (D.words draw.old) (D.words draw.new) self.old self.new) }
         ensures err { OnErr result (self.new ≡ self.old) }
     {
@@ -62,8 +62,8 @@ impl Parts {
         requires routed { IsSome (routed event) }
         requires placed { place_by (named_by event) self.old ≡ Some place }
         requires accepted { refusal self.old event ≡ None }
-        requires in_range { IsInRange event }
-        requires sound { IsSound self.old }
+        requires in_range { IsWorldEventInRange event }
+        requires sound { IsSoundWorld self.old }
         ensures ok { IfOk result (λ notes. IsStep event notes (D.words draw.old) (D.words draw.new) self.old self.new) }
         ensures err { OnErr result (self.new ≡ self.old) }
     {
@@ -84,7 +84,7 @@ impl Parts {
         draw: &mut D,
     ) -> Result<Sequence<Note>, NoMemory>
         requires accepted { refusal self.old (event.Deliver copy) ≡ None }
-        requires sound { IsSound self.old }
+        requires sound { IsSoundWorld self.old }
         ensures ok { IfOk result (λ notes. IsStep (event.Deliver copy) notes (D.words draw.old) (D.words draw.new) self.old self.new) }
         ensures err { OnErr result (self.new ≡ self.old) }
     {

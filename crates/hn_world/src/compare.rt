@@ -3,21 +3,31 @@ ghost use Rattle.std.specs.Option.{option_map};
 ghost use Rattle.hn_base.specs.Name.{name_text};
 ghost use Rattle.hn_rules.specs.Nodes.{leaves_of};
 ghost use Rattle.hn_world.specs.declared.member.Member.{Member};
+ghost use Rattle.hn_world.specs.Existing.{AgreeSomehow};
 ghost use Rattle.hn_world.specs.Names.{member_named};
 ghost use Rattle.hn_world.specs.Waiting.{first_waiting};
 ghost use Rattle.hn_world.specs.Refusal.{copy_at};
 ghost use Rattle.hn_world.specs.Leaves.{Agrees, HasInfo};
 
 use crate::copies::CopyInfo;
-use crate::law::copies_have_receivers;
+use crate::law::{agreement_exists, copies_have_receivers};
 use crate::world::World;
 use hn_base::{Name, NoMemory};
 use hn_hash::{Agreement, agree};
 use std::alloc::Global;
 
 impl World {
+    /// It cannot be that the routers of two names agree in no way. Changes nothing: call it to know its law.
+    fn agree_somehow(&self, a: &Name, b: &Name)
+        ensures { AgreeSomehow a.now b.now self.now }
+    {
+        agreement_exists();
+        self.is_replayed();
+    }
+
     /// How two routers of the world agree: whether their network state hashes differ, their lists of leaves are the
-    /// same, or two inputs collide.
+    /// same, or two inputs collide. Whether there is memory or not, it cannot be that they agree in no way; with
+    /// `agreement_is_unique` there is exactly one.
     ///
     /// # Errors
     ///
@@ -25,11 +35,13 @@ impl World {
     pub fn compare(&self, alloc: Global, a: &Name, b: &Name) -> Result<Agreement, NoMemory>
         requires left { IsSome (member_named (name_text a.now) self.now) }
         requires right { IsSome (member_named (name_text b.now) self.now) }
-        ensures { IfOk result (λ agreement. (m n : Member)
+        ensures compared { IfOk result (λ agreement. (m n : Member)
             → member_named (name_text a.now) self.now ≡ Some m
             → member_named (name_text b.now) self.now ≡ Some n
             → Agrees (leaves_of m.router) (leaves_of n.router) agreement) }
+        ensures exists { AgreeSomehow a.now b.now self.now }
     {
+        self.agree_somehow(a, b);
         let (Some(left), Some(right)) = (self.router(a), self.router(b)) else {
             unreachable!()
         };

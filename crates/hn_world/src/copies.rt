@@ -2,7 +2,7 @@ ghost use Rattle.std.specs.Prelude.{◌≡◌, ◌<◌, ◌≤◌, ◌^◌, ◌+
 ghost use Rattle.std.specs.Option.{option_map};
 ghost use Rattle.std.specs.List.{slice_get, slice_set};
 ghost use Rattle.hn_world.specs.declared.copies.MailCopy.{MailCopy};
-ghost use Rattle.hn_world.specs.Waiting.{first_waiting, bytes_of};
+ghost use Rattle.hn_world.specs.Waiting.{first_waiting, bytes_of_copies};
 
 use hn_base::{Addr, Bytes, EpId, Name, NoMemory, Shared};
 use std::alloc::Global;
@@ -68,7 +68,7 @@ impl Model for Copies {
 
 /// How many bytes copies have together, up to 2^28.
 fn bytes_of(copies: &[MailCopy]) -> u64
-    ensures { result ≡ min (bytes_of copies.now) (2 ^ 28) }
+    ensures { result ≡ min (bytes_of_copies copies.now) (2 ^ 28) }
 {
     let mut bytes: u64 = 0;
     for copy in copies {
@@ -119,7 +119,7 @@ impl Copies {
 
     /// How many bytes they have together, up to 2^28. Never allocates.
     pub(crate) fn bytes(&self) -> u64
-        ensures { result ≡ min (bytes_of self.now) (2 ^ 28) }
+        ensures { result ≡ min (bytes_of_copies self.now) (2 ^ 28) }
     {
         self.bytes
     }

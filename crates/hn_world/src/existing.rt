@@ -4,9 +4,9 @@ ghost use Rattle.std.specs.Prelude.{◌≡◌, None, All};
 ghost use Rattle.hn_base.specs.Byte.{IsByte};
 ghost use Rattle.hn_world.specs.Existing.{IsOfBytesAt, IsCopyOfBytes, IsMailOfBytes, HasAStep};
 ghost use Rattle.hn_world.specs.Refusal.{refusal};
-ghost use Rattle.hn_world.specs.Replay.{IsSound};
+ghost use Rattle.hn_world.specs.Replay.{IsSoundWorld};
 ghost use Rattle.hn_world.specs.Routed.{routed};
-ghost use Rattle.hn_world.specs.Step.{FitsAt, IsInRange};
+ghost use Rattle.hn_world.specs.Step.{FitsAt, IsWorldEventInRange};
 
 use crate::event::WEvent;
 use crate::law::step_exists;
@@ -68,8 +68,8 @@ impl Parts {
     /// It cannot be that an accepted event has no result. Changes nothing: call it to know its law.
     pub(crate) fn has_a_step(&self, event: &WEvent)
         requires accepted { refusal self.now event.now ≡ None }
-        requires in_range { IsInRange event.now }
-        requires sound { IsSound self.now }
+        requires in_range { IsWorldEventInRange event.now }
+        requires sound { IsSoundWorld self.now }
         ensures { HasAStep event.now self.now }
     {
         step_exists();

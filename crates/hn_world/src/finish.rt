@@ -8,7 +8,7 @@ ghost use Rattle.hn_world.specs.declared.member.Member.{Member};
 ghost use Rattle.hn_world.specs.Beside.{with_beside};
 ghost use Rattle.hn_world.specs.Mail.{copies_of};
 ghost use Rattle.hn_world.specs.Planned.{IsPlanned};
-ghost use Rattle.hn_world.specs.Replay.{IsSound};
+ghost use Rattle.hn_world.specs.Replay.{IsSoundWorld};
 ghost use Rattle.hn_world.specs.Step.{acted, entered};
 
 use crate::copies::Copies;
@@ -122,7 +122,7 @@ impl Parts {
         draw: &mut D,
     ) -> Result<Plan, NoMemory>
         requires there { place < length self.now.members }
-        requires sound { IsSound self.now }
+        requires sound { IsSoundWorld self.now }
         ensures { IfOk result (IsPlanned place (plain_event event.now) (D.words draw.old) (D.words draw.new) self.now) }
     {
         let member = self.members.at(place);
@@ -139,7 +139,7 @@ impl Parts {
         plan: Plan,
     ) -> Result<Sequence<Note>, NoMemory>
         requires there { place < length self.old.members }
-        requires sound { IsSound self.old }
+        requires sound { IsSoundWorld self.old }
         ensures world { OnOk result ((m : Member) → slice_get self.old.members place ≡ Some m
             → self.new ≡ entered (record { event = event; words = plan.done.words }) (acted (with_beside beside) place m plan.state plan.done self.old)) }
         ensures notes { IfOk result (λ notes. notes ≡ plan.done.notes) }

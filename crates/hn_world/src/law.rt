@@ -5,13 +5,14 @@ ghost use Rattle.hn_rules.specs.declared.done.Note.{Note};
 ghost use Rattle.hn_world.specs.declared.event.Traced.{Traced};
 ghost use Rattle.hn_world.specs.declared.parts.Parts.{Parts};
 ghost use Rattle.hn_world.specs.Names.{NamesDiffer};
-ghost use Rattle.hn_world.specs.Replay.{IsReplayed, IsSound, Always};
+ghost use Rattle.hn_world.specs.Replay.{IsReplayed, IsSoundWorld, Always};
 ghost use Rattle.hn_world.specs.Step.{Step};
 ghost use Rattle.hn_world.specs.Within.{AreWithinLimits, RouterIsWithinLimits};
 ghost use Rattle.hn_world.specs.Authentic.{AuthenticUnlessInjected};
 ghost use Rattle.hn_world.specs.Existing.{StepExists, ReplayedStepExists, AgreementExists, RoutersAgreeSomehow};
 ghost use Rattle.hn_world.specs.Leaves.{EqualHashesAgree};
-ghost use Rattle.hn_world.specs.Laws.{StepIsUnique, EachEventIsEntered, EachEventIsAStep, AgreementIsUnique, AtMostOneWorld, WorldHasItsTrace, WorldHasItsVersion, WorldIsSound, AlwaysAttached, CopiesHaveReceivers, CopiesAreBytes};
+ghost use Rattle.hn_world.specs.Laws.{StepIsUnique, EachEventIsEntered, EachEventIsAStep, AgreementIsUnique};
+ghost use Rattle.hn_world.specs.Laws.{AtMostOneWorld, WorldHasItsTrace, WorldHasItsVersion, WorldIsSound, AlwaysAttached, CopiesHaveReceivers, CopiesAreBytes};
 
 use hn_hash::{equal_hashes_agree_or_collide, hash_has_eight_bytes};
 use hn_router::{
@@ -81,7 +82,7 @@ pub fn at_most_one_world()
 /// Each router of a world is one, and no later than the world, at each moment of the world's past.
 pub fn always_sound()
     ensures sound { WorldIsSound }
-    ensures always { (w : Parts) → IsReplayed w → Always IsSound w }
+    ensures always { (w : Parts) → IsReplayed w → Always IsSoundWorld w }
 {
     new_is_router();
     router_stays();

@@ -2,7 +2,7 @@
 
 ghost use Rattle.std.specs.Prelude.{◌≡◌, ◌++◌, ◌∷◌, [], ◌<◌, ◌+◌, ◌≤◌, ◌^◌, true, All, length, Option, None, Some, IfOk, IfSome, IsTrue, OnOk, filter, map};
 ghost use Rattle.hn_own.specs.Ports.{ArePorts};
-ghost use Rattle.hn_world.specs.Mail.{address_of, on_link_at, on_link, is_same, has_address, gets, copy_for, copies_on, copies_of_send, copies_of};
+ghost use Rattle.hn_world.specs.Mail.{address_of_target, on_link_at, on_link, is_same, has_address, gets, copy_for, copies_on, copies_of_send, copies_of};
 
 use crate::copies::{MailCopy, Target};
 use crate::member::Member;
@@ -16,7 +16,7 @@ pub const HNCP_PORT: u16 = 8231;
 impl Target {
     /// The address of the endpoint.
     pub(crate) fn address(&self) -> Addr
-        ensures { result ≡ address_of self.now }
+        ensures { result ≡ address_of_target self.now }
     {
         let Target {
             place,

@@ -1,10 +1,13 @@
 //! Which events a world refuses, with which code. Nothing here allocates.
 
-ghost use Rattle.std.specs.Prelude.{◌≡◌, ◌||◌, ◌&&◌, ◌==◌, nat_le, length, option_copied};
+ghost use Rattle.std.specs.Prelude.{◌≡◌, ◌||◌, ◌&&◌, ◌==◌, nat_le, [], ◌∷◌, length, option_copied};
 ghost use Rattle.hn_base.specs.Name.{name_text};
+ghost use Rattle.hn_base.specs.declared.name.Name.{Name};
 ghost use Rattle.std.specs.List.{list_any};
-ghost use Rattle.hn_world.specs.Names.{is_taken, link_place};
-ghost use Rattle.hn_world.specs.Refusal.{so_of, copy_at, named_member, acting, names_nothing, takes_a_name, is_stopped, is_detached, lacks_the_endpoint, may_not_address, joins_twice, lacks_a_copy, goes_back, lacks_room, is_full_of_mail, may_answer, first_code, refusal};
+ghost use Rattle.hn_world.specs.declared.event.WEvent.TheVariants as event;
+ghost use Rattle.hn_world.specs.Names.{is_taken_name, link_place};
+ghost use Rattle.hn_world.specs.Refusal.{so_of, copy_at, named_member, acting, names_nothing, takes_a_name, is_stopped, is_detached, lacks_the_endpoint, may_not_address};
+ghost use Rattle.hn_world.specs.Refusal.{joins_twice, lacks_a_copy, goes_back, lacks_room, is_full_of_mail, may_answer, first_code, refusal, refusal_at};
 ghost use Rattle.hn_world.specs.Routed.{named_by, place_by};
 
 use crate::copies::{MOST_BYTES, MailCopy};
@@ -160,7 +163,7 @@ impl Parts {
 
     /// Whether a name is taken, by a router or a link.
     fn is_taken(&self, name: &Name) -> bool
-        ensures { result ≡ is_taken (name_text name.now) self.now }
+        ensures { result ≡ is_taken_name (name_text name.now) self.now }
     {
         self.members.place_of(name).is_some() || self.links.place_of(name).is_some()
     }
@@ -263,34 +266,70 @@ impl Parts {
         self.lacks_room(event, router) || self.trace.as_slice().len() >= MOST_EVENTS
     }
 
-    /// Whether the router may answer, and there are as many copies or bytes of mail as there may be before that.
+    /// Whether there are as many copies or bytes of mail as there may be before a router answers.
+    fn has_much_mail(&self) -> bool
+        ensures { result ≡ is_full_of_mail self.now }
+    {
+        self.copies.len() >= MOST_COPIES
+            || self.copies.bytes() + self.trace.injected() >= MOST_BYTES
+    }
+
+    /// Whether the router may answer, and there is so much mail.
     fn is_full_of_mail(&self, event: &WEvent) -> bool
         ensures { result ≡ (may_answer event.now && is_full_of_mail self.now) }
     {
-        let many = self.copies.len() >= MOST_COPIES;
-        may_answer(event) && (many || self.copies.bytes() + self.trace.injected() >= MOST_BYTES)
+        may_answer(event) && self.has_much_mail()
     }
 
-    /// The code with which an event is refused, whose router is at this place; `None` if and only if it is accepted.
-    /// Never allocates.
-    pub(crate) fn refusal(&self, event: &WEvent, place: Option<usize>) -> Option<u8>
-        requires { place ≡ place_by (named_by event.now) self.now }
-        ensures { result ≡ refusal self.now event.now }
+    /// The code where the trace, or the mail, has no room for what a router may answer.
+    fn refusal_of_answer(&self) -> Option<u8>
+        ensures { result ≡ first_code ((9, nat_le 1000000 (length self.now.trace)) ∷ (16, is_full_of_mail self.now) ∷ []) }
     {
-        // Most events are deliveries. Where the kind is known, so are most conditions.
-        if matches!(event, WEvent::Deliver { .. }) {
-            return self.first_refusal(event, place);
+        if self.trace.as_slice().len() >= MOST_EVENTS {
+            return Some(FULL);
         }
-        self.first_refusal(event, place)
+        if self.has_much_mail() {
+            return Some(FULL_OF_MAIL);
+        }
+        None
     }
 
-    /// The code of the first condition that holds.
-    #[inline(always)]
-    fn first_refusal(&self, event: &WEvent, place: Option<usize>) -> Option<u8>
-        requires { place ≡ place_by (named_by event.now) self.now }
-        ensures { result ≡ refusal self.now event.now }
+    /// The code with which a tick of a router is refused.
+    fn refusal_of_tick(&self, router: Option<&Member>) -> Option<u8>
+        ensures { (name : Name) → result ≡ refusal_at (event.Tick name) self.now (option_copied router.entry) }
     {
-        let router = self.acting(event, place);
+        let Some(member) = router else {
+            return Some(UNKNOWN);
+        };
+        if !member.running {
+            return Some(STOPPED);
+        }
+        self.refusal_of_answer()
+    }
+
+    /// The code with which the delivery of a copy is refused.
+    fn refusal_of_delivery(&self, copy: u64) -> Option<u8>
+        ensures { result ≡ refusal self.now (event.Deliver copy) }
+    {
+        let Some(copy) = self.copy_at(copy) else {
+            return Some(NO_COPY);
+        };
+        let Some(member) = self.members.get(copy.to.place) else {
+            return Some(UNKNOWN);
+        };
+        if !member.running {
+            return Some(STOPPED);
+        }
+        if !member.router.attached(copy.to.endpoint) {
+            return Some(NOT_ATTACHED);
+        }
+        self.refusal_of_answer()
+    }
+
+    /// The code of the first condition that refuses an event, which happens at this router.
+    fn refusal_at(&self, event: &WEvent, router: Option<&Member>) -> Option<u8>
+        ensures { result ≡ refusal_at event.now self.now (option_copied router.entry) }
+    {
         first_code(&[
             (UNKNOWN, self.names_nothing(event, router)),
             (TAKEN, self.takes_a_name(event)),
@@ -303,5 +342,18 @@ impl Parts {
             (FULL, self.is_full(event, router)),
             (FULL_OF_MAIL, self.is_full_of_mail(event)),
         ])
+    }
+
+    /// The code with which an event is refused, whose router is at this place; `None` if and only if it is accepted.
+    /// Ticks and deliveries, the most frequent, are asked only what can refuse them. Never allocates.
+    pub(crate) fn refusal(&self, event: &WEvent, place: Option<usize>) -> Option<u8>
+        requires { place ≡ place_by (named_by event.now) self.now }
+        ensures { result ≡ refusal self.now event.now }
+    {
+        match event {
+            WEvent::Tick { .. } => self.refusal_of_tick(self.named_member(event, place)),
+            WEvent::Deliver { copy } => self.refusal_of_delivery(*copy),
+            _ => self.refusal_at(event, self.acting(event, place)),
+        }
     }
 }

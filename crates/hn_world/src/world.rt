@@ -8,8 +8,8 @@ ghost use Rattle.hn_world.specs.Existing.{HasAStep};
 ghost use Rattle.hn_world.specs.Names.{member_named};
 ghost use Rattle.hn_world.specs.Refusal.{refusal};
 ghost use Rattle.hn_world.specs.Routed.{named_by, place_by};
-ghost use Rattle.hn_world.specs.Step.{IsStep, IsInRange};
-ghost use Rattle.hn_world.specs.Replay.{empty_world, IsReplayed, IsSound};
+ghost use Rattle.hn_world.specs.Step.{IsStep, IsWorldEventInRange};
+ghost use Rattle.hn_world.specs.Replay.{empty_world, IsReplayed, IsSoundWorld};
 
 use crate::copies::Copies;
 use crate::event::{Traced, WEvent, WorldFault};
@@ -63,8 +63,8 @@ impl Parts {
     ) -> Result<Sequence<Note>, NoMemory>
         requires nameless { named_by event ≡ None }
         requires accepted { refusal self.old event ≡ None }
-        requires in_range { IsInRange event }
-        requires sound { IsSound self.old }
+        requires in_range { IsWorldEventInRange event }
+        requires sound { IsSoundWorld self.old }
         ensures ok { IfOk result (λ notes. IsStep event notes (D.words draw.old) (D.words draw.new) self.old self.new) }
         ensures err { OnErr result (self.new ≡ self.old) }
     {
@@ -89,8 +89,8 @@ impl Parts {
     ) -> Result<Sequence<Note>, NoMemory>
         requires placed { place ≡ place_by (named_by event) self.old }
         requires accepted { refusal self.old event ≡ None }
-        requires in_range { IsInRange event }
-        requires sound { IsSound self.old }
+        requires in_range { IsWorldEventInRange event }
+        requires sound { IsSoundWorld self.old }
         ensures ok { IfOk result (λ notes. IsStep event notes (D.words draw.old) (D.words draw.new) self.old self.new) }
         ensures err { OnErr result (self.new ≡ self.old) }
     {
@@ -157,7 +157,7 @@ impl World {
         event: WEvent,
         draw: &mut D,
     ) -> Result<Sequence<Note>, WorldFault>
-        requires { IsInRange event }
+        requires { IsWorldEventInRange event }
         ensures ok { IfOk result (λ notes. IsStep event notes (D.words draw.old) (D.words draw.new) self.old self.new) }
         ensures refused { (code : ℕ) → (result ≡ Err (WorldFault.Refused code)) ↔ (refusal self.old event ≡ Some code) }
         ensures err { OnErr result (self.new ≡ self.old) }

@@ -1,6 +1,6 @@
 use Rattle.std.proofs.Common.{rules, ◌≡◌, ◌≤◌, length, refl, arith}
 use borrow.Author.Tests.{tests}
-use Rattle.hn_audit.proofs.Sames.{same_when}
+use Rattle.hn_audit.proofs.EqualInPlace.{same_when}
 use Rattle.hn_audit.proofs.knowing.are_same.Goals as goal
 
 pub returns : goal.returns

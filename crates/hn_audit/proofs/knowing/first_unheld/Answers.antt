@@ -3,7 +3,7 @@ use Rattle.std.specs.Borrow.{Bor}
 use Rattle.std.proofs.lemmas.Bool.{false≢true}
 use Rattle.hn_world.specs.declared.member.Member.{Member}
 use Rattle.hn_audit.specs.FirstWitness.{FindsHeld}
-use Rattle.hn_audit.specs.Settled.{Holds}
+use Rattle.hn_audit.specs.Settled.{HoldsState}
 use Rattle.hn_audit.proofs.Searching.{member_found, no_member_found, none_more}
 use Rattle.hn_audit.proofs.knowing.first_unheld.Goals as goal
 
@@ -12,7 +12,7 @@ returns-then-not-holds_other c =
     let s = c.args.s.now in
     let o = c.u-item.result.now in
     let no : c.holds_other.result ≡ false = search rules in
-    let not : ¬ (s.router.id ≢ o.router.id → Holds s.router o.router) = λ holds. false≢true (sym no ∙ c.holds_other.ensures.1 holds) in
+    let not : ¬ (s.router.id ≢ o.router.id → HoldsState s.router o.router) = λ holds. false≢true (sym no ∙ c.holds_other.ensures.1 holds) in
     member_found (FindsHeld s) c.args.set.now c.loop-u.u-index c.loop-u.invariant c.u-item.result _ c.loop-u-test.true c.u-item.is
     (record { is = c.unheld.ensures; another = λ same. not (λ other. absurd (other same)); unheld = λ holds. not (λ other. holds) })
 

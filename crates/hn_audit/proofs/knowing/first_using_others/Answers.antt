@@ -10,7 +10,7 @@ use Rattle.hn_audit.specs.First.{IsFirstFound}
 use Rattle.hn_audit.specs.FirstWitness.{FindsUsed}
 use Rattle.hn_audit.specs.Set.{members_of}
 use Rattle.hn_audit.specs.Settled.{UseSame}
-use Rattle.hn_audit.proofs.Sames.{use_same_too}
+use Rattle.hn_audit.proofs.EqualInPlace.{use_same_too}
 use Rattle.hn_audit.proofs.Searching.{member_found}
 use Rattle.hn_audit.proofs.knowing.first_using_others.Goals as goal
 

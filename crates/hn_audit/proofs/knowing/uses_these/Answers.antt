@@ -1,7 +1,7 @@
 use Rattle.std.proofs.Common.{subst, sym}
 use Rattle.hn_deleg.specs.Used.{AreUsable}
 use Rattle.hn_rules.specs.Seen.{seen_by}
-use Rattle.hn_audit.proofs.Sames.{use_these}
+use Rattle.hn_audit.proofs.EqualInPlace.{use_these}
 use Rattle.hn_audit.proofs.knowing.uses_these.Goals as goal
 
 pub returns : goal.returns

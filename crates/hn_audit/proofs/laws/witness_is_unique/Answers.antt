@@ -1,4 +1,4 @@
-use Rattle.hn_audit.proofs.Onlys.{unsettled_is_one, unquiet_is_one}
+use Rattle.hn_audit.proofs.OneWitness.{unsettled_is_one, unquiet_is_one}
 use Rattle.hn_audit.proofs.laws.witness_is_unique.Goals as goal
 
 pub returns-clause-settled : goal.returns-clause-settled

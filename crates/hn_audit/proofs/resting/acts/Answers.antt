@@ -5,7 +5,7 @@ use Rattle.hn_assign.specs.declared.assigned.Wish.{Wish}
 use Rattle.hn_deleg.specs.Used.{AreUsable}
 use Rattle.hn_rules.specs.Seen.{seen_by}
 use Rattle.hn_audit.specs.FirstWitness.{FindsAct}
-use Rattle.hn_audit.proofs.Restings.{advertised_same}
+use Rattle.hn_audit.proofs.RestIsOne.{advertised_same}
 use Rattle.hn_audit.proofs.resting.acts.Goals as goal
 
 pub returns : goal.returns

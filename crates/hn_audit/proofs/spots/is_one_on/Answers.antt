@@ -4,7 +4,7 @@ use Rattle.std.proofs.lemmas.Iterator.{cases_from_any, YieldsList-from_slice}
 use Rattle.hn_base.proofs.AscendingLists.{Contains-map, Contains-from_map}
 use Rattle.hn_audit.specs.declared.spots.Spot.{Spot}
 use Rattle.hn_audit.specs.Set.{PlainSpot, plain_spot}
-use Rattle.hn_audit.proofs.Alls.{any_decides}
+use Rattle.hn_audit.proofs.WhatAnyTells.{any_decides}
 use Rattle.hn_audit.proofs.spots.is_one_on.Goals as goal
 
 pub returns : goal.returns

@@ -57,7 +57,9 @@ loop-place-preserved c =
     let counted = c.loop-place.invariant.counted in
     let many = m.as_many in
     record {
-      underway = visit c.args.own.0 nodes x place c.next_places.new.places.items c.loop-place.found.items c.pop.new.self.items c.mark-in-Some-pop.new.found.items c.mark-in-Some-pop.new.visits.items u at next m;
+      underway =
+          visit c.args.own.0 nodes x place c.next_places.new.places.items c.loop-place.found.items c.pop.new.self.items
+          c.mark-in-Some-pop.new.found.items c.mark-in-Some-pop.new.visits.items u at next m;
       counted = omega (arith, longer, counted, many);
     }
 

@@ -1,4 +1,4 @@
-use Rattle.hn_sync.proofs.Uniques.{one_end}
+use Rattle.hn_sync.proofs.OneEnd.{one_end}
 use Rattle.hn_sync.proofs.laws.exchange_is_unique.Goals as goal
 
 pub returns : goal.returns

@@ -1,4 +1,4 @@
-use Rattle.hn_sync.proofs.Joints.{is_least, is_none}
+use Rattle.hn_sync.proofs.LeastJoint.{is_least, is_none}
 use Rattle.hn_sync.proofs.laws.joint_is_least.Goals as goal
 
 pub returns : goal.returns

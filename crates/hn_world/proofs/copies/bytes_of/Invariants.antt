@@ -1,6 +1,6 @@
 use Rattle.std.proofs.Common.{◌≡◌, ◌^◌, min, take}
-use Rattle.hn_world.specs.Waiting.{bytes_of}
+use Rattle.hn_world.specs.Waiting.{bytes_of_copies}
 use Rattle.hn_world.proofs.copies.bytes_of.Given as goal
 
 abbrev pub invariant-loop-copy : goal.invariant-loop-copy
-invariant-loop-copy l = l.bytes ≡ min (bytes_of (take l.copy-index l.copies)) (2 ^ 28)
+invariant-loop-copy l = l.bytes ≡ min (bytes_of_copies (take l.copy-index l.copies)) (2 ^ 28)

@@ -1,4 +1,4 @@
-use Rattle.hn_world.proofs.Mails.{before_first, at_first}
+use Rattle.hn_world.proofs.WaitingCopies.{before_first, at_first}
 use Rattle.hn_world.proofs.copies.next_waiting.Goals as goal
 
 pub loop-first-preserved : goal.loop-first-preserved

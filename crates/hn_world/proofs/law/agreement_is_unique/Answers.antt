@@ -1,4 +1,4 @@
-use Rattle.hn_world.proofs.Comparing.{one_agreement}
+use Rattle.hn_world.proofs.OneAgreement.{one_agreement}
 use Rattle.hn_world.proofs.law.agreement_is_unique.Goals as goal
 
 pub returns : goal.returns

@@ -1,6 +1,6 @@
 use Rattle.hn_world.specs.Replay.{AreAttached}
-use Rattle.hn_world.proofs.Sounds.{always}
-use Rattle.hn_world.proofs.Attached.{attached_replay}
+use Rattle.hn_world.proofs.SoundRouters.{always}
+use Rattle.hn_world.proofs.AttachedEndpoints.{attached_replay}
 use Rattle.hn_world.proofs.law.always_attached.Goals as goal
 
 pub returns : goal.returns

@@ -1,5 +1,5 @@
 use Rattle.hn_world.specs.Authentic.{AuthenticUnlessInjected}
-use Rattle.hn_world.proofs.Sounds.{StayLaws, always}
+use Rattle.hn_world.proofs.SoundRouters.{StayLaws, always}
 use Rattle.hn_world.proofs.Authentics.{AuthenticLaws, authentic_replay}
 use Rattle.hn_world.proofs.law.always_authentic.Goals as goal
 

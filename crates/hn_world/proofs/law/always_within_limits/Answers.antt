@@ -1,6 +1,6 @@
 use Rattle.hn_world.specs.Within.{AreWithinLimits}
-use Rattle.hn_world.proofs.Sounds.{StayLaws, always}
-use Rattle.hn_world.proofs.Limited.{LimitLaws, within_replay}
+use Rattle.hn_world.proofs.SoundRouters.{StayLaws, always}
+use Rattle.hn_world.proofs.WithinLimits.{LimitLaws, within_replay}
 use Rattle.hn_world.proofs.law.always_within_limits.Goals as goal
 
 pub returns : goal.returns

@@ -1,4 +1,4 @@
-use Rattle.hn_world.proofs.Onces.{HasLaws, one_world, trace_of_replay, version_of_replay}
+use Rattle.hn_world.proofs.OneStep.{HasLaws, one_world, trace_of_replay, version_of_replay}
 use Rattle.hn_world.proofs.law.at_most_one_world.Goals as goal
 
 pub returns : goal.returns

@@ -1,5 +1,5 @@
 use Rattle.hn_world.proofs.CopiesOfBytes.{all_of_bytes}
-use Rattle.hn_world.proofs.Sounds.{StayLaws}
+use Rattle.hn_world.proofs.SoundRouters.{StayLaws}
 use Rattle.hn_world.proofs.law.copies_are_bytes.Goals as goal
 
 pub returns : goal.returns

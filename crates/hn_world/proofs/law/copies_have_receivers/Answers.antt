@@ -1,4 +1,4 @@
-use Rattle.hn_world.proofs.Received.{received}
+use Rattle.hn_world.proofs.ReceiversOfCopies.{received}
 use Rattle.hn_world.proofs.law.copies_have_receivers.Goals as goal
 
 pub returns : goal.returns

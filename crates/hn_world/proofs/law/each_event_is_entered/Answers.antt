@@ -1,5 +1,5 @@
 use Rattle.hn_world.proofs.Accepted.{fewer_events}
-use Rattle.hn_world.proofs.Onces.{trace_of_step}
+use Rattle.hn_world.proofs.OneStep.{trace_of_step}
 use Rattle.hn_world.proofs.law.each_event_is_entered.Goals as goal
 
 pub returns : goal.returns

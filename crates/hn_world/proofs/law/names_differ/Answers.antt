@@ -1,5 +1,5 @@
-use Rattle.hn_world.proofs.Named.{AreNamed, named_replay}
-use Rattle.hn_world.proofs.Sounds.{always}
+use Rattle.hn_world.proofs.RouterNames.{AreNamed, named_replay}
+use Rattle.hn_world.proofs.SoundRouters.{always}
 use Rattle.hn_world.proofs.law.names_differ.Goals as goal
 
 pub returns : goal.returns

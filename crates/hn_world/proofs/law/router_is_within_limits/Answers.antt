@@ -1,4 +1,4 @@
-use Rattle.hn_world.proofs.Limited.{router_within}
+use Rattle.hn_world.proofs.WithinLimits.{router_within}
 use Rattle.hn_world.proofs.law.router_is_within_limits.Goals as goal
 
 pub returns : goal.returns

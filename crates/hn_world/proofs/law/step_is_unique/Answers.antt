@@ -1,4 +1,4 @@
-use Rattle.hn_world.proofs.Onces.{one_told}
+use Rattle.hn_world.proofs.OneStep.{one_told}
 use Rattle.hn_world.proofs.law.step_is_unique.Goals as goal
 
 pub returns : goal.returns

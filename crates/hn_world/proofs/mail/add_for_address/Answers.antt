@@ -4,7 +4,7 @@ use Rattle.std.proofs.lemmas.List.{append-nil}
 use Rattle.hn_world.specs.declared.copies.Target.{Target}
 use Rattle.hn_world.specs.declared.member.Member.{Member}
 use Rattle.hn_world.specs.Mail.{copy_for, gets, on_link_at}
-use Rattle.hn_world.proofs.Addressed.{has_none, has_one}
+use Rattle.hn_world.proofs.EndpointOfAddress.{has_none, has_one}
 use Rattle.hn_world.proofs.mail.add_for_address.Goals as goal
 
 pub returns-in_default-clause-copies : goal.returns-in_default-clause-copies

@@ -4,7 +4,7 @@ use Rattle.hn_world.specs.declared.copies.MailCopy.{MailCopy}
 use Rattle.hn_world.specs.declared.copies.Target.{Target}
 use Rattle.hn_world.specs.declared.member.Member.{Member}
 use Rattle.hn_world.specs.Mail.{copy_for, gets, on_link, on_link_at}
-use Rattle.hn_world.proofs.Targets.{getting-more}
+use Rattle.hn_world.proofs.EndpointsOnLink.{getting-more}
 use Rattle.hn_world.proofs.mail.add_for_others.Goals as goal
 
 pub loop-place-preserved : goal.loop-place-preserved

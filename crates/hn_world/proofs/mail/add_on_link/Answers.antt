@@ -6,7 +6,7 @@ use Rattle.hn_world.specs.declared.copies.MailCopy.{MailCopy}
 use Rattle.hn_world.specs.declared.copies.Target.{Target}
 use Rattle.hn_world.specs.Mail.{copy_for, gets}
 use Rattle.hn_world.specs.Names.{is_on}
-use Rattle.hn_world.proofs.Targets.{with_port, without_port, none_on_link}
+use Rattle.hn_world.proofs.EndpointsOnLink.{with_port, without_port, none_on_link}
 use Rattle.hn_world.proofs.mail.add_on_link.Goals.{then-is_on+in_ok-add_copy, else-is_on}
 use Rattle.hn_world.proofs.mail.add_on_link.Goals as goal
 

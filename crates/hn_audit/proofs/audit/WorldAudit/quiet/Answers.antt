@@ -1,5 +1,5 @@
 use Rattle.hn_base.specs.Name.{name_text}
-use Rattle.hn_world.specs.Replay.{IsSound}
+use Rattle.hn_world.specs.Replay.{IsSoundWorld}
 use Rattle.hn_audit.specs.Quiet.{IsQuiet}
 use Rattle.hn_audit.proofs.QuietSets.{quiet_is_fixed, quiet_or_acts, unchanged_is_quiet, named_runs}
 use Rattle.hn_audit.proofs.Searching.{told_none}
@@ -12,7 +12,7 @@ returns-clause-quiet c m named =
 pub returns-clause-unchanged : goal.returns-clause-unchanged
 returns-clause-unchanged c m named =
     let w = c.args.self.now in
-    let sound : IsSound w = c.always_sound.ensures.sound w c.is_replayed.ensures in
+    let sound : IsSoundWorld w = c.always_sound.ensures.sound w c.is_replayed.ensures in
     let law = c.rest_is_the_fixed_point.ensures in
     (quiet_or_acts w m sound law.runs law.unchanged law.rests c.witness_refutes.ensures.restless c.in_ok-unquiet.field-0 c.is_none.result c.is_none.ensures
     (c.in_ok-unquiet.ensures.some m named) (returns-clause-quiet c m named)).0
@@ -20,7 +20,7 @@ returns-clause-unchanged c m named =
 pub returns-clause-acts : goal.returns-clause-acts
 returns-clause-acts c m named =
     let w = c.args.self.now in
-    let sound : IsSound w = c.always_sound.ensures.sound w c.is_replayed.ensures in
+    let sound : IsSoundWorld w = c.always_sound.ensures.sound w c.is_replayed.ensures in
     let law = c.rest_is_the_fixed_point.ensures in
     (quiet_or_acts w m sound law.runs law.unchanged law.rests c.witness_refutes.ensures.restless c.in_ok-unquiet.field-0 c.is_none.result c.is_none.ensures
     (c.in_ok-unquiet.ensures.some m named) (returns-clause-quiet c m named)).1
@@ -28,14 +28,14 @@ returns-clause-acts c m named =
 pub returns-clause-fixed : goal.returns-clause-fixed
 returns-clause-fixed c m named =
     let w = c.args.self.now in
-    let sound : IsSound w = c.always_sound.ensures.sound w c.is_replayed.ensures in
+    let sound : IsSoundWorld w = c.always_sound.ensures.sound w c.is_replayed.ensures in
     let law = c.rest_is_the_fixed_point.ensures in
     quiet_is_fixed w m sound c.is_none.result (returns-clause-quiet c m named) law.comes law.rests
 
 pub returns-clause-any_words : goal.returns-clause-any_words
 returns-clause-any_words c m named =
     let w = c.args.self.now in
-    let sound : IsSound w = c.always_sound.ensures.sound w c.is_replayed.ensures in
+    let sound : IsSoundWorld w = c.always_sound.ensures.sound w c.is_replayed.ensures in
     unchanged_is_quiet w m sound c.is_none.result (returns-clause-quiet c m named) c.rest_is_the_fixed_point.ensures.rests
 
 pub returns-clause-sound : goal.returns-clause-sound

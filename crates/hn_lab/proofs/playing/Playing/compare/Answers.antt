@@ -53,5 +53,7 @@ returns-clause-ends c waiting text =
     let p = stage_of c.args.self.now waiting text in
     let line = string_bytes c.in_ok-line.line in
     let none = sym c.unless_both_run.ensures ∙ c.in_default.is in
-    let told = compares left right w c.in_ok-agreement.agreement c.reach_the_same-same_ids.result line (sym none) c.in_ok-agreement.ensures c.reach_the_same-same_ids.ensures c.in_ok-line.ensures in
+    let told =
+    compares left right w c.in_ok-agreement.agreement c.reach_the_same-same_ids.result line (sym none)
+    c.in_ok-agreement.ensures.compared c.reach_the_same-same_ids.ensures c.in_ok-line.ensures in
     line_reported (unless_both_run left right w) (Compares left right w) line c.in_ok-of.field-0 p none told c.in_ok-of.ensures

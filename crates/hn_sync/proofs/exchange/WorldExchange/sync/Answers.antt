@@ -2,7 +2,7 @@ use Rattle.std.proofs.Common.{◌≡◌, ◌∙◌, Err, None, ap, sym}
 use Rattle.std.proofs.lemmas.Result.{err_from_is_err_and, on_ok_weaker}
 use Rattle.hn_base.proofs.Results.{same_error}
 use Rattle.hn_world.specs.declared.event.WorldFault.TheVariants as fault
-use Rattle.hn_sync.specs.Exchange.{Exchanges, unless_exchange}
+use Rattle.hn_sync.specs.Exchange.{ExchangesSoFar, unless_exchange}
 use Rattle.hn_sync.proofs.Delivered.{cut_first, stops_before, cut_before, whole_after, stops_after, cut_after}
 use Rattle.hn_sync.proofs.exchange.WorldExchange.sync.Goals as goal
 
@@ -45,7 +45,7 @@ pub returns-clause-repairs : goal.returns-clause-repairs
 returns-clause-repairs g c =
     let told = g.D.Draw.words in
     on_ok_weaker c.deliver_after.result
-    (λ (h : Exchanges c.args.a.now c.args.b.now None (told c.args.draw.now) (told c.deliver_after.new.draw) c.args.self.now c.deliver_after.new.world).
+    (λ (h : ExchangesSoFar c.args.a.now c.args.b.now None (told c.args.draw.now) (told c.deliver_after.new.draw) c.args.self.now c.deliver_after.new.world).
     c.exchange_repairs.ensures c.args.a.now c.args.b.now h.ts c.args.self.now c.deliver_after.new.world c.is_replayed.ensures h.begun) (returns-clause-ok g c)
 
 pub returns-clause-later : goal.returns-clause-later

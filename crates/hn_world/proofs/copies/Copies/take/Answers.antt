@@ -3,7 +3,7 @@ use Rattle.std.specs.Prelude.{unwrap_or}
 use Rattle.std.proofs.lemmas.Option.{slice_get_read}
 use Rattle.hn_world.specs.declared.copies.MailCopy.{MailCopy}
 use Rattle.hn_world.specs.Waiting.{first_waiting}
-use Rattle.hn_world.proofs.Mails.{first_later, stands, waits_not, taken}
+use Rattle.hn_world.proofs.WaitingCopies.{first_later, stands, waits_not, taken}
 use Rattle.hn_world.proofs.copies.Copies.take.Goals as goal
 
 pub returns-then-not-index : goal.returns-then-not-index

@@ -4,7 +4,7 @@ use Rattle.hn_world.specs.declared.routed.Beside.{Beside}
 use Rattle.hn_world.specs.declared.routed.Beside.TheVariants.{Nothing, Attachments, Runs}
 use Rattle.hn_world.specs.declared.member.Member.{Member}
 use Rattle.hn_world.specs.Beside.{with_beside}
-use Rattle.hn_world.proofs.Places.{read_at, one_there}
+use Rattle.hn_world.proofs.ElementAtPlace.{read_at, one_there}
 use Rattle.hn_world.proofs.member.Members.commit.Goals.{in-Nothing, in-Attachments, in-Runs}
 use Rattle.hn_world.proofs.member.Members.commit.Goals as goal
 

@@ -4,7 +4,7 @@ use Rattle.hn_rules.specs.Done.{nothing}
 use Rattle.hn_rules.specs.Still.{at_moment}
 use Rattle.hn_rules.specs.declared.state.State.{State}
 use Rattle.hn_world.specs.declared.member.Member.{Member}
-use Rattle.hn_world.proofs.Places.{read_at, one_there}
+use Rattle.hn_world.proofs.ElementAtPlace.{read_at, one_there}
 use Rattle.hn_world.proofs.member.Members.pass.Goals as goal
 
 pub pass-requires-clause-past : goal.pass-requires-clause-past

@@ -1,6 +1,6 @@
 use Rattle.std.proofs.Common.{◌∙◌, sym}
 use Rattle.hn_base.specs.Name.{name_text}
-use Rattle.hn_world.proofs.Named.{place_is_first}
+use Rattle.hn_world.proofs.RouterNames.{place_is_first}
 use Rattle.hn_world.proofs.member.Members.place_near.Goals as goal
 
 pub returns-in-Some : goal.returns-in-Some

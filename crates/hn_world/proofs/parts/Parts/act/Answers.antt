@@ -3,7 +3,7 @@ use Rattle.std.specs.Option.{option_map}
 use Rattle.hn_router.specs.Act.{plain_event}
 use Rattle.hn_world.specs.Beside.{with_beside}
 use Rattle.hn_world.specs.Routed.{routed, named_by}
-use Rattle.hn_world.proofs.Acting.{named_within, acted_step}
+use Rattle.hn_world.proofs.DoneAsPlanned.{named_within, acted_step}
 use Rattle.hn_base.proofs.Results.{ok_both}
 use Rattle.hn_world.proofs.parts.Parts.act.Goals as goal
 

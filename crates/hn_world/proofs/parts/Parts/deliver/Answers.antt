@@ -4,7 +4,7 @@ use Rattle.hn_router.specs.Act.{Arrive}
 use Rattle.hn_rules.specs.declared.running.Origin.{Origin}
 use Rattle.hn_world.specs.Planned.{IsPlanned}
 use Rattle.hn_world.specs.Refusal.{copy_at}
-use Rattle.hn_world.proofs.Acting.{receiver_within, stays_within, delivered_step}
+use Rattle.hn_world.proofs.DoneAsPlanned.{receiver_within, stays_within, delivered_step}
 use Rattle.hn_world.proofs.parts.Parts.deliver.Goals as goal
 
 pub plan-requires-clause-there : goal.plan-requires-clause-there

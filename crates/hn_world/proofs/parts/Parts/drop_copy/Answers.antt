@@ -1,4 +1,4 @@
-use Rattle.hn_world.proofs.Acting.{dropped_step}
+use Rattle.hn_world.proofs.DoneAsPlanned.{dropped_step}
 use Rattle.hn_world.proofs.parts.Parts.drop_copy.Goals as goal
 
 pub returns-clause-ok : goal.returns-clause-ok

@@ -1,5 +1,5 @@
 use Rattle.std.proofs.Common.{◌∙◌, sym}
-use Rattle.hn_world.proofs.Refusing.{nowhere_is_nameless}
+use Rattle.hn_world.proofs.RouterOfEvent.{nowhere_is_nameless}
 use Rattle.hn_world.proofs.parts.Parts.happen.Goals as goal
 
 pub happen_else-requires-clause-nameless : goal.happen_else-requires-clause-nameless

@@ -1,5 +1,5 @@
 use Rattle.std.proofs.Common.{◌∙◌, Some, None, sym}
-use Rattle.hn_world.proofs.Refusing.{named_member_is}
+use Rattle.hn_world.proofs.RouterOfEvent.{named_member_is}
 use Rattle.hn_world.proofs.parts.Parts.named_member.Goals as goal
 
 pub returns-in-Some : goal.returns-in-Some

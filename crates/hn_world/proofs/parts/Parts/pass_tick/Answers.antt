@@ -7,7 +7,7 @@ use Rattle.hn_world.specs.declared.event.WEvent.TheVariants as event
 use Rattle.hn_world.specs.declared.member.Member.{Member}
 use Rattle.hn_world.specs.declared.parts.Parts.{Parts}
 use Rattle.hn_world.specs.Step.{IsStep}
-use Rattle.hn_world.proofs.Acting.{there, router_within, router_past, passed_step}
+use Rattle.hn_world.proofs.DoneAsPlanned.{there, router_within, router_past, passed_step}
 use Rattle.hn_world.proofs.parts.Parts.pass_tick.Goals as goal
 
 pub pass-requires-clause-there : goal.pass-requires-clause-there

@@ -1,7 +1,7 @@
 use Rattle.std.proofs.Common.{◌≤◌, ℕ, sym, subst}
 use Rattle.hn_base.proofs.Results.{ok_both}
 use Rattle.hn_router.specs.Act.{plain_event, Happened}
-use Rattle.hn_world.proofs.Acting.{router_past}
+use Rattle.hn_world.proofs.DoneAsPlanned.{router_past}
 use Rattle.hn_world.proofs.parts.Parts.plan.Goals as goal
 
 pub plan-requires-clause-not_before : goal.plan-requires-clause-not_before

@@ -1,4 +1,4 @@
-use Rattle.hn_world.proofs.Acting.{stopped_step}
+use Rattle.hn_world.proofs.DoneAsPlanned.{stopped_step}
 use Rattle.hn_world.proofs.parts.Parts.stop.Goals as goal
 
 pub returns-clause-ok : goal.returns-clause-ok

@@ -1,4 +1,4 @@
-use Rattle.hn_world.proofs.Going.{replays_more}
+use Rattle.hn_world.proofs.OneMoreEvent.{replays_more}
 use Rattle.hn_world.proofs.world.World.apply.Goals as goal
 
 pub invariant_of-self-2 : goal.invariant_of-self-2

@@ -1,7 +1,7 @@
 use Rattle.std.proofs.Common.{◌≡◌, sym, subst}
 use Rattle.hn_world.specs.declared.parts.Parts.{Parts}
 use Rattle.hn_world.specs.Replay.{empty_world, IsReplayed}
-use Rattle.hn_world.proofs.Going.{replays_none}
+use Rattle.hn_world.proofs.OneMoreEvent.{replays_none}
 use Rattle.hn_world.proofs.world.World.of.Goals as goal
 
 pub invariant_of-result : goal.invariant_of-result

@@ -13,7 +13,7 @@ use Rattle.hn_world.specs.Names.{is_named, member_named}
 use Rattle.hn_world.specs.Refusal.{named_member, refusal}
 use Rattle.hn_world.specs.Routed.{named_by, place_by}
 use Rattle.hn_world.proofs.Accepted.{router_found}
-use Rattle.hn_world.proofs.Acting.{named_nowhere}
+use Rattle.hn_world.proofs.DoneAsPlanned.{named_nowhere}
 
 -- an accepted event whose router is nowhere names none
 pub nowhere_is_nameless : (w : Parts) (event : WEvent) → place_by (named_by event) w ≡ None → refusal w event ≡ None → named_by event ≡ None

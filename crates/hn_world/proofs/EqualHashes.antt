@@ -8,10 +8,10 @@ use Rattle.hn_world.specs.declared.event.Traced.{Traced}
 use Rattle.hn_base.specs.declared.version.Version.{Version}
 use Rattle.hn_world.specs.declared.parts.Parts.{Parts}
 use Rattle.hn_world.specs.Leaves.{EqualHashesAgree}
-use Rattle.hn_world.specs.Replay.{Replays, IsSoundMember, IsSound}
-use Rattle.hn_world.proofs.Sounds.{StayLaws, sound_replay}
+use Rattle.hn_world.specs.Replay.{Replays, IsSoundMember, IsSoundWorld}
+use Rattle.hn_world.proofs.SoundRouters.{StayLaws, sound_replay}
 
-agree : HashIsOfLeaves → EqualHashesAgreeOrCollide → (w : Parts) → IsSound w → EqualHashesAgree w
+agree : HashIsOfLeaves → EqualHashesAgreeOrCollide → (w : Parts) → IsSoundWorld w → EqualHashesAgree w
 agree of_leaves agree_or_collide w sound a b in_a in_b same =
     let left = of_leaves a.router (All-contains (IsSoundMember w.moment) w.members a sound in_a).router in
     let right = of_leaves b.router (All-contains (IsSoundMember w.moment) w.members b sound in_b).router in

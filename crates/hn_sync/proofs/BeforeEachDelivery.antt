@@ -25,22 +25,22 @@ use Rattle.hn_world.specs.declared.copies.MailCopy.{MailCopy}
 use Rattle.hn_world.specs.declared.copies.Target.{Target}
 use Rattle.hn_world.specs.declared.member.Member.{Member}
 use Rattle.hn_world.specs.declared.parts.Parts.{Parts}
-use Rattle.hn_world.specs.Mail.{address_of, on_link}
+use Rattle.hn_world.specs.Mail.{address_of_target, on_link}
 use Rattle.hn_world.specs.Names.{is_named, is_on, link_of}
 use Rattle.hn_world.specs.Replay.{IsReplayed, IsSoundMember}
 use Rattle.hn_sync.proofs.Arrivals.{has_arrived}
 use Rattle.hn_sync.proofs.Between.{HasLaws, HasPorts}
-use Rattle.hn_sync.proofs.Entries.{IsFit}
-use Rattle.hn_sync.proofs.Joints.{port_there}
-use Rattle.hn_sync.proofs.Letters.{Letter, copy_of, map_letters, on_link_there}
-use Rattle.hn_sync.proofs.Lists.{set_is, set_other}
-use Rattle.hn_sync.proofs.Places.{few_routers, near}
-use Rattle.hn_sync.proofs.Queues.{get_after, set_after, ToAsker, ToAsked, AreLetters, PendingIn, WaitingIn, LearnsBy, opened}
-use Rattle.hn_sync.proofs.Quiet.{IsQuiet}
+use Rattle.hn_sync.proofs.NodeStatesSaid.{IsFit}
+use Rattle.hn_sync.proofs.LeastJoint.{port_there}
+use Rattle.hn_sync.proofs.WhatCopiesSay.{Letter, copy_of, map_letters, on_link_there}
+use Rattle.hn_sync.proofs.ListsFromLists.{set_is, set_other}
+use Rattle.hn_sync.proofs.FewRouters.{few_routers, near}
+use Rattle.hn_sync.proofs.CopiesToDeliver.{get_after, set_after, ToAsker, ToAsked, AreLetters, PendingIn, WaitingIn, LearnsBy, opened}
+use Rattle.hn_sync.proofs.NothingToRefresh.{IsQuiet}
 use Rattle.hn_sync.proofs.Sayings.{Saying}
-use Rattle.hn_sync.proofs.Signs.{Ascend, knows_at, knows_from_signs}
-use Rattle.hn_sync.proofs.Stills.{IsStill}
-use Rattle.hn_sync.proofs.Turns.{TurnLaws, IsReplied, requests_arrive, IsTaught, states_arrive}
+use Rattle.hn_sync.proofs.PeersSaid.{Ascend, knows_at, knows_from_signs}
+use Rattle.hn_sync.proofs.AskedStaysStill.{IsStill}
+use Rattle.hn_sync.proofs.TurnsOfExchange.{TurnLaws, IsReplied, requests_arrive, IsTaught, states_arrive}
 
 pub record GoingLaws : Type 0 where
   pub turns : TurnLaws
@@ -135,7 +135,7 @@ module _ (laws : GoingLaws) (here there : Target) (link : ℕ) (start before : S
     other_then k x apart is = set_other w.members place k (record m { router = s }) apart ∙ is
 
   -- an address of a router of the world is link-local
-  pub near_at : (w : Parts) → IsReplayed w → (t : Target) (m : Member) → slice_get w.members t.place ≡ Some m → t.endpoint.0 < 2 ^ 32 → IsLinkLocal (address_of t).ip
+  pub near_at : (w : Parts) → IsReplayed w → (t : Target) (m : Member) → slice_get w.members t.place ≡ Some m → t.endpoint.0 < 2 ^ 32 → IsLinkLocal (address_of_target t).ip
   near_at w replayed t m at fits =
       let within = slice_get_within w.members t.place m at in
       let few = few_routers w replayed in
@@ -170,23 +170,23 @@ module _ (laws : GoingLaws) (here there : Target) (link : ℕ) (start before : S
     is_front = let size = h.size in let more = length-append h.front ((record l.copy { waiting = false }) ∷ []) in omega (arith, size, more)
 
     pub asked_then : ToAsked here there start before l → (next : State) (done : Done)
-        → Happened w.moment (Arrive (record { endpoint = here.endpoint; from = address_of there; multicast = false }) l.copy.bytes) h.one.router next done
-        → IsReplied start (record { endpoint = here.endpoint; from = address_of there; multicast = false }) l.group next done
+        → Happened w.moment (Arrive (record { endpoint = here.endpoint; from = address_of_target there; multicast = false }) l.copy.bytes) h.one.router next done
+        → IsReplied start (record { endpoint = here.endpoint; from = address_of_target there; multicast = false }) l.group next done
     asked_then letter next done happened =
         requests_arrive laws.turns start pair.fit pair.quiet w.moment
-        (record { endpoint = here.endpoint; from = address_of there; multicast = false }) before.id there.endpoint l.group h.one.router next done h.moment
+        (record { endpoint = here.endpoint; from = address_of_target there; multicast = false }) before.id there.endpoint l.group h.one.router next done h.moment
         pair.id_fits pair.there_fits refl (ports_of w replayed h.one (contains_at w.members here.place h.one h.is_one)).ascending knows_one letter.all h.still
-        (has_arrived laws.one_list laws.no_fault w.moment (record { endpoint = here.endpoint; from = address_of there; multicast = false }) l.copy.bytes _ h.one.router next done
+        (has_arrived laws.one_list laws.no_fault w.moment (record { endpoint = here.endpoint; from = address_of_target there; multicast = false }) l.copy.bytes _ h.one.router next done
         (near_at w replayed there h.two h.is_two pair.there_fits) (known_attached here.endpoint before.id there.endpoint h.one.router.ports knows_one) letter.says happened)
 
     pub taught_then : ToAsker here there start before l → l.to_asker ≡ true → (next : State) (done : Done) → next.id ≡ before.id
-        → Happened w.moment (Arrive (record { endpoint = there.endpoint; from = address_of here; multicast = false }) l.copy.bytes) h.two.router next done
+        → Happened w.moment (Arrive (record { endpoint = there.endpoint; from = address_of_target here; multicast = false }) l.copy.bytes) h.two.router next done
         → IsTaught laws.turns start before before.ports (PendingIn here there start before tail)
-        (WaitingIn here there start before tail) pair.fit pair.table pair.up (record { endpoint = there.endpoint; from = address_of here; multicast = false }) next done
+        (WaitingIn here there start before tail) pair.fit pair.table pair.up (record { endpoint = there.endpoint; from = address_of_target here; multicast = false }) next done
     taught_then letter goes next done named happened =
         states_arrive laws.turns start before before.ports (PendingIn here there start before tail) (WaitingIn here there start before tail) pair.fit pair.table pair.up w.moment
-        (record { endpoint = there.endpoint; from = address_of here; multicast = false }) start.id here.endpoint l.group h.two.router next done
+        (record { endpoint = there.endpoint; from = address_of_target here; multicast = false }) start.id here.endpoint l.group h.two.router next done
         pair.fit.numbered.own_id pair.here_fits refl pair.knows_other letter.all
         (opened here there start before laws.turns.tables.of_entry laws.turns.tables.marks l tail (begun_at w.moment h.two.router) goes refl learns_here) named
-        (has_arrived laws.one_list laws.no_fault w.moment (record { endpoint = there.endpoint; from = address_of here; multicast = false }) l.copy.bytes _ h.two.router next done
+        (has_arrived laws.one_list laws.no_fault w.moment (record { endpoint = there.endpoint; from = address_of_target here; multicast = false }) l.copy.bytes _ h.two.router next done
         (near_at w replayed here h.one h.is_one pair.here_fits) (known_attached there.endpoint start.id here.endpoint h.two.router.ports knows_two) letter.says happened)

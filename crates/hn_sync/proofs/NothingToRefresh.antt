@@ -17,7 +17,7 @@ use Rattle.hn_rules.specs.Nodes.{IsReach}
 use Rattle.hn_rules.specs.Refresh.{own_items, IsPublished, IsPublishing, IsReaching, network_state_hash, IsPortReset, IsHashing, IsRefresh}
 use Rattle.hn_rules.specs.Rules.{AtPort, IsSole}
 use Rattle.hn_store.specs.Loss.{loss_marked}
-use Rattle.hn_sync.proofs.Signs.{signs, Ascend, signs_put, ascend_from_signs, links_from_signs}
+use Rattle.hn_sync.proofs.PeersSaid.{signs, Ascend, signs_put, ascend_from_signs, links_from_signs}
 
 -- ---- the network state hash is made anew
 

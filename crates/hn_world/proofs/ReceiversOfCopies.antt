@@ -21,9 +21,9 @@ use Rattle.hn_world.specs.Refusal.{copy_at}
 use Rattle.hn_world.specs.Replay.{IsReplayed}
 use Rattle.hn_world.specs.Routed.{routed}
 use Rattle.hn_world.specs.Step.{ActsAt, DoesElse, DoesAt, beside, stopped, taken}
-use Rattle.hn_world.proofs.Acting.{copy_there}
-use Rattle.hn_world.proofs.Onces.{Any}
-use Rattle.hn_world.proofs.Sounds.{all_at, replay_keeps}
+use Rattle.hn_world.proofs.DoneAsPlanned.{copy_there}
+use Rattle.hn_world.proofs.OneStep.{Any}
+use Rattle.hn_world.proofs.SoundRouters.{all_at, replay_keeps}
 
 -- ---- what is sent
 

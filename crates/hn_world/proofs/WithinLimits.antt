@@ -20,13 +20,13 @@ use Rattle.hn_world.specs.declared.member.Member.{Member}
 use Rattle.hn_world.specs.declared.parts.Parts.{Parts}
 use Rattle.hn_world.specs.Limits.{table_limit}
 use Rattle.hn_world.specs.Mail.{copies_of}
-use Rattle.hn_world.specs.Replay.{Replays, IsSoundMember, IsSound}
+use Rattle.hn_world.specs.Replay.{Replays, IsSoundMember, IsSoundWorld}
 use Rattle.hn_world.specs.Routed.{routed}
 use Rattle.hn_world.specs.Step.{ActsAt, DoesAt, DoesElse, FitsAt, beside, stopped}
 use Rattle.hn_world.specs.Within.{AreWithinLimits, RouterIsWithinLimits}
-use Rattle.hn_world.proofs.Copied.{copied, still_copied}
-use Rattle.hn_world.proofs.Onces.{Any}
-use Rattle.hn_world.proofs.Sounds.{StayLaws, KeepsRouters, beside_keeps, sound_step, replay_keeps, all_at}
+use Rattle.hn_world.proofs.CopiesAsSent.{copied, still_copied}
+use Rattle.hn_world.proofs.OneStep.{Any}
+use Rattle.hn_world.proofs.SoundRouters.{StayLaws, KeepsRouters, beside_keeps, sound_step, replay_keeps, all_at}
 
 -- what each event keeps: tables have the limit of the version, and copies are short
 pub record IsLimited (w : Parts) : Type 0 where
@@ -44,7 +44,7 @@ IsShort bytes = length bytes ≤ most_datagram
 
 module _ (laws : LimitLaws) where
   limited_at : (change : Member → Member) → KeepsRouters change → (place : ℕ) (event : PlainEvent) (words : List ℕ) (notes : List Note) (before after : Parts)
-      → IsEventInRange event → ActsAt change place event words notes before after → IsSound before → IsLimited before → IsLimited after
+      → IsEventInRange event → ActsAt change place event words notes before after → IsSoundWorld before → IsLimited before → IsLimited after
   limited_at change keeps place event words notes before after ranged h sound limited =
       let here : IsSoundMember before.moment h.member = all_at (IsSoundMember before.moment) before.members place h.member h.is_member sound in
       let next : Member = record h.member { router = h.next } in
@@ -60,7 +60,7 @@ module _ (laws : LimitLaws) where
       })
 
   -- what an event at no router by its name leaves
-  limited_else : (event : WEvent) (words : List ℕ) (notes : List Note) (before after : Parts) → DoesElse event words notes before after → IsSound before → IsLimited before → IsLimited after
+  limited_else : (event : WEvent) (words : List ℕ) (notes : List Note) (before after : Parts) → DoesElse event words notes before after → IsSoundWorld before → IsLimited before → IsLimited after
   limited_else (event.Router name id) words notes before after h sound limited =
       let limit : h.router.table.limit ≡ table_limit before.version = ap (λ (nodes : Nodes). nodes.limit) h.is_new.table_is in
       subst IsLimited (sym h.quietly.gives) (record {
@@ -88,19 +88,19 @@ module _ (laws : LimitLaws) where
   limited_else _ words notes before after h sound limited = absurd h
 
   limited_by : (event : WEvent) (own : Option (Name × PlainEvent)) (words : List ℕ) (notes : List Note) (before after : Parts) → FitsAt own
-      → DoesAt event own words notes before after → IsSound before → IsLimited before → IsLimited after
+      → DoesAt event own words notes before after → IsSoundWorld before → IsLimited before → IsLimited after
   limited_by event (Some own) words notes before after fits h sound limited =
       limited_at (beside event before) (beside_keeps event before) h.place own.1 words notes before after fits h.acts sound limited
   limited_by event None words notes before after fits h sound limited = limited_else event words notes before after h sound limited
 
-  limited_step : (t : Traced) (before after : Parts) → Any t before after → IsSound before × IsLimited before → IsSound after × IsLimited after
+  limited_step : (t : Traced) (before after : Parts) → Any t before after → IsSoundWorld before × IsLimited before → IsSoundWorld after × IsLimited after
   limited_step t before after (notes, step) (sound, limited) =
       let between = limited_by t.event (routed t.event) t.words notes before step.between step.fits step.does sound limited in
       (sound_step laws.stay t before after (notes, step) sound, subst IsLimited (sym step.gives) (record { tables = between.tables; datagrams = between.datagrams }))
 
-  limited_replay : (version : Version) (ts : List Traced) (w : Parts) → Replays version ts w → IsSound w × IsLimited w
+  limited_replay : (version : Version) (ts : List Traced) (w : Parts) → Replays version ts w → IsSoundWorld w × IsLimited w
   limited_replay version ts w h =
-      replay_keeps (λ (w : Parts). IsSound w × IsLimited w) limited_step version
+      replay_keeps (λ (w : Parts). IsSoundWorld w × IsLimited w) limited_step version
       (All-nil (IsSoundMember 0), record { tables = All-nil (λ (m : Member). m.router.table.limit ≡ table_limit version); datagrams = All-nil (λ (c : MailCopy). IsShort c.bytes) }) ts w h
 
 -- ---- all limits

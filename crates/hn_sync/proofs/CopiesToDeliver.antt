@@ -12,16 +12,16 @@ use Rattle.hn_store.specs.Laws.{HeldIsOfAnEntry, MarksKeepTable}
 use Rattle.hn_store.specs.Nodes.{Nodes, held, IsTable}
 use Rattle.hn_world.specs.declared.copies.Target.{Target}
 use Rattle.hn_world.specs.declared.member.Member.{Member}
-use Rattle.hn_world.specs.Mail.{address_of}
+use Rattle.hn_world.specs.Mail.{address_of_target}
 use Rattle.hn_world.specs.Names.{is_named}
 use Rattle.hn_sync.proofs.Answered.{AnswersAre}
-use Rattle.hn_sync.proofs.Entries.{Says, Asks}
+use Rattle.hn_sync.proofs.NodeStatesSaid.{Says, Asks}
 use Rattle.hn_sync.proofs.Holding.{before_same, settled_same}
-use Rattle.hn_sync.proofs.Learning.{InRest, InAsked, IsGiven, OwnInRest, IsOwned, Learns}
-use Rattle.hn_sync.proofs.Letters.{Letter}
+use Rattle.hn_sync.proofs.AskerLearns.{InRest, InAsked, IsGiven, OwnInRest, IsOwned, Learns}
+use Rattle.hn_sync.proofs.WhatCopiesSay.{Letter}
 use Rattle.hn_sync.proofs.Replies.{Ascends}
 use Rattle.hn_sync.proofs.Sayings.{Saying, SaysIn, answer_of}
-use Rattle.hn_sync.proofs.Signs.{signs}
+use Rattle.hn_sync.proofs.PeersSaid.{signs}
 
 -- ---- places of lists in two parts
 
@@ -59,14 +59,14 @@ place_set text ms i m s at = λ k. cond (nat_lt (first ms i at k) (size ms i k))
 module _ (here there : Target) (start before : State) where
   pub record ToAsker (l : Letter) : Type 0 where
     pub goes : l.copy.to ≡ there
-    pub comes : l.copy.from ≡ address_of here
+    pub comes : l.copy.from ≡ address_of_target here
     pub unicast : l.copy.multicast ≡ false
     pub says : SaysIn start.id here.endpoint l.group l.copy.bytes
     pub all : All (Says start) l.group
 
   pub record ToAsked (l : Letter) : Type 0 where
     pub goes : l.copy.to ≡ here
-    pub comes : l.copy.from ≡ address_of there
+    pub comes : l.copy.from ≡ address_of_target there
     pub unicast : l.copy.multicast ≡ false
     pub says : SaysIn before.id there.endpoint l.group l.copy.bytes
     pub all : All Asks l.group

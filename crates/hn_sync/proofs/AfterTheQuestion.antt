@@ -24,23 +24,23 @@ use Rattle.hn_world.specs.declared.copies.MailCopy.{MailCopy}
 use Rattle.hn_world.specs.declared.copies.Target.{Target}
 use Rattle.hn_world.specs.declared.member.Member.{Member}
 use Rattle.hn_world.specs.declared.parts.Parts.{Parts}
-use Rattle.hn_world.specs.Mail.{address_of, on_link, copies_of}
+use Rattle.hn_world.specs.Mail.{address_of_target, on_link, copies_of}
 use Rattle.hn_world.specs.Names.{is_named, link_of}
 use Rattle.hn_world.specs.Replay.{IsReplayed, IsSoundMember}
 use Rattle.hn_world.specs.Step.{ActsAt, acted}
 use Rattle.hn_sync.proofs.Arrivals.{has_arrived}
-use Rattle.hn_sync.proofs.Entries.{IsFit, Knows, knows_or_not, Says}
-use Rattle.hn_sync.proofs.Going.{GoingLaws, known_attached, known_there, on_from_link, IsPair, IsGoing}
+use Rattle.hn_sync.proofs.NodeStatesSaid.{IsFit, Knows, knows_or_not, Says}
+use Rattle.hn_sync.proofs.BeforeEachDelivery.{GoingLaws, known_attached, known_there, on_from_link, IsPair, IsGoing}
 use Rattle.hn_sync.proofs.Holding.{before_self, before_same}
-use Rattle.hn_sync.proofs.Learning.{IsGiven}
-use Rattle.hn_sync.proofs.Letters.{copy_of, on_link_there, IsSent, sent}
-use Rattle.hn_sync.proofs.Lists.{set_is, set_other}
-use Rattle.hn_sync.proofs.Places.{few_routers, near}
-use Rattle.hn_sync.proofs.Queues.{place_set, IsLetterBy}
+use Rattle.hn_sync.proofs.AskerLearns.{IsGiven}
+use Rattle.hn_sync.proofs.WhatCopiesSay.{copy_of, on_link_there, IsSent, sent}
+use Rattle.hn_sync.proofs.ListsFromLists.{set_is, set_other}
+use Rattle.hn_sync.proofs.FewRouters.{few_routers, near}
+use Rattle.hn_sync.proofs.CopiesToDeliver.{place_set, IsLetterBy}
 use Rattle.hn_sync.proofs.Replies.{ascends_part}
 use Rattle.hn_sync.proofs.Sayings.{tlv_said, can_say_endpoint, can_say_request, in_whole}
-use Rattle.hn_sync.proofs.Signs.{knows_at, knows_from_signs}
-use Rattle.hn_sync.proofs.Turns.{question, IsQuestioned, question_arrives}
+use Rattle.hn_sync.proofs.PeersSaid.{knows_at, knows_from_signs}
+use Rattle.hn_sync.proofs.TurnsOfExchange.{question, IsQuestioned, question_arrives}
 use Rattle.hn_sync.specs.Exchange.{request}
 
 -- the datagram of a question is read
@@ -65,7 +65,7 @@ pub record IsAsking (here there : Target) (link : ℕ) (one two : Member) (w : P
 
 module _ (laws : GoingLaws) (here there : Target) (link : ℕ) (one two : Member) (name other_name : List ℕ) (w : Parts) (h : IsAsking here there link one two w) where
   abbrev origin : Origin
-  origin = record { endpoint = here.endpoint; from = address_of there; multicast = false }
+  origin = record { endpoint = here.endpoint; from = address_of_target there; multicast = false }
 
   pub questioned : (next : State) (done : Done) → IsRouter next
       → Happened w.moment (Arrive origin (datagram_of two.router.id there.endpoint (request ∷ []))) one.router next done → IsQuestioned w.moment origin one.router next done

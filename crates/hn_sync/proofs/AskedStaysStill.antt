@@ -15,10 +15,10 @@ use Rattle.hn_rules.specs.Requests.{is_reached, request_node, state_item, with_s
 use Rattle.hn_store.specs.Laws.{HeldIsOfAnEntry}
 use Rattle.hn_typed.specs.Item.{PlainItem}
 use Rattle.hn_sync.proofs.Answered.{AnswersAre, More, with_more}
-use Rattle.hn_sync.proofs.Entries.{IsFit, Knows, KnowsNot, knows_or_not, knows_one, item_of, IsSaidOf, Says}
-use Rattle.hn_sync.proofs.Quiet.{IsQuiet}
+use Rattle.hn_sync.proofs.NodeStatesSaid.{IsFit, Knows, KnowsNot, knows_or_not, knows_one, item_of, IsSaidOf, Says}
+use Rattle.hn_sync.proofs.NothingToRefresh.{IsQuiet}
 use Rattle.hn_sync.proofs.Sayings.{Saying}
-use Rattle.hn_sync.proofs.Signs.{signs, links_from_signs}
+use Rattle.hn_sync.proofs.PeersSaid.{signs, links_from_signs}
 
 -- endpoints changed since, but for what their signs say, and nothing else
 pub record IsStill (start s : State) : Type 0 where

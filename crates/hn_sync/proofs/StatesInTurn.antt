@@ -32,15 +32,15 @@ use Rattle.hn_store.specs.declared.stored.HeldNode.{HeldNode}
 use Rattle.hn_store.specs.declared.stored.Stored.{Stored}
 use Rattle.hn_typed.specs.Item.{PlainItem, RequestNode}
 use Rattle.hn_sync.proofs.Answered.{with_more}
-use Rattle.hn_sync.proofs.Entries.{IsFit, Knows, knows_one, IsSaidOf, Says, Asks, EntryLaws, can_say}
+use Rattle.hn_sync.proofs.NodeStatesSaid.{IsFit, Knows, knows_one, IsSaidOf, Says, Asks, EntryLaws, can_say}
 use Rattle.hn_sync.proofs.Greetings.{network_heard}
 use Rattle.hn_sync.proofs.Holding.{state_said, AsBefore, before_same, settled_same, settles, stays_settled}
-use Rattle.hn_sync.proofs.Learning.{InRest, InAsked, own_part, IsGiven, IsOwned, Learns, learns_refreshed, learns_network, in_rest, owned_rest}
+use Rattle.hn_sync.proofs.AskerLearns.{InRest, InAsked, own_part, IsGiven, IsOwned, Learns, learns_refreshed, learns_network, in_rest, owned_rest}
 use Rattle.hn_sync.proofs.Naming.{own_is, own_answer, not_claimed, claimed_stale, below_kind, IsRenamed, drawn_other, renamed_refreshed, renamed_state}
 use Rattle.hn_sync.proofs.Replies.{Ascends}
-use Rattle.hn_sync.proofs.Rooms.{both_true, AreOfBoth, room_here}
+use Rattle.hn_sync.proofs.RoomForNodes.{both_true, AreOfBoth, room_here}
 use Rattle.hn_sync.proofs.Sayings.{ReadLaws, rule_of, Saying, tlv_said}
-use Rattle.hn_sync.proofs.Signs.{signs, Ascend, ascend_from_signs}
+use Rattle.hn_sync.proofs.PeersSaid.{signs, Ascend, ascend_from_signs}
 use Rattle.hn_sync.specs.Repairs.{state_of, HasRoomFor, IsRepaired, is_news}
 use Rattle.hn_typed.specs.Fields.{IsHash}
 

@@ -6,7 +6,7 @@ use Rattle.hn_base.specs.declared.version.Version.{Version}
 use Rattle.hn_world.specs.declared.parts.Parts.{Parts}
 use Rattle.hn_world.specs.Step.{Step}
 use Rattle.hn_world.specs.Replay.{empty_world, Goes, Replays, IsReplayed, Throughout, Stepped}
-use Rattle.hn_world.proofs.Onces.{Any, past_of_step}
+use Rattle.hn_world.proofs.OneStep.{Any, past_of_step}
 
 goes_more : (before between after : Parts) (ts : List Traced) (t : Traced) → Goes before ts between → Any t between after → Goes before (ts ++ t ∷ []) after
 goes_more before between after [] t is step = (after, subst (λ (w : Parts). Any t w after) is step, refl)

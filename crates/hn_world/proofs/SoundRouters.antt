@@ -22,10 +22,10 @@ use Rattle.hn_world.specs.Limits.{table_limit}
 use Rattle.hn_world.specs.Refusal.{refusal}
 use Rattle.hn_world.specs.Names.{link_place}
 use Rattle.hn_world.specs.Routed.{routed}
-use Rattle.hn_world.specs.Step.{ActsAt, DoesElse, DoesAt, FitsAt, IsInRange, attached_to, beside, stopped}
-use Rattle.hn_world.specs.Replay.{empty_world, Goes, Replays, IsReplayed, IsSoundMember, IsSound, Always}
+use Rattle.hn_world.specs.Step.{ActsAt, DoesElse, DoesAt, FitsAt, IsWorldEventInRange, attached_to, beside, stopped}
+use Rattle.hn_world.specs.Replay.{empty_world, Goes, Replays, IsReplayed, IsSoundMember, IsSoundWorld, Always}
 use Rattle.hn_world.proofs.Accepted.{accepts}
-use Rattle.hn_world.proofs.Onces.{Any}
+use Rattle.hn_world.proofs.OneStep.{Any}
 
 -- ---- events one after another
 
@@ -79,13 +79,13 @@ sound_changed moment change keeps m is = record {
 }
 
 sound_acts_at : StayLaws → (change : Member → Member) → KeepsRouters change → (place : ℕ) (event : PlainEvent) (words : List ℕ) (notes : List Note) (before after : Parts)
-    → IsEventInRange event → ActsAt change place event words notes before after → IsSound before → IsSound after
+    → IsEventInRange event → ActsAt change place event words notes before after → IsSoundWorld before → IsSoundWorld after
 sound_acts_at laws change keeps place event words notes before after ranged h all =
     let here : IsSoundMember before.moment h.member = all_at (IsSoundMember before.moment) before.members place h.member h.is_member all in
     let router : IsRouter h.next = laws.stays before.moment event h.member.router h.next h.done here.router here.past ranged h.happened in
     let moment : h.next.moment ≡ before.moment = laws.moment before.moment event h.member.router h.next h.done h.happened in
     let next : Member = record h.member { router = h.next } in
-    subst IsSound (sym h.gives) (All-set (IsSoundMember before.moment) before.members place (change next)
+    subst IsSoundWorld (sym h.gives) (All-set (IsSoundMember before.moment) before.members place (change next)
     (sound_changed before.moment change keeps next (record { router = router; past = omega arith })) all)
 
 -- what an event changes beside a router leaves the router
@@ -99,39 +99,39 @@ beside_keeps _ w m = refl
 
 -- ---- an event
 
-sound_later : (before : Parts) (moment : ℕ) → before.moment ≤ moment → IsSound before → All (IsSoundMember moment) before.members
+sound_later : (before : Parts) (moment : ℕ) → before.moment ≤ moment → IsSoundWorld before → All (IsSoundMember moment) before.members
 sound_later before moment rises all = All-weaker (IsSoundMember before.moment) (IsSoundMember moment) (λ m is. record { router = is.router; past = omega (arith, is.past) }) before.members all
 
 limit_is_size : (version : Version) → (table_limit version ≡ 256) ⊎ (table_limit version ≡ 1024)
 limit_is_size One = inl refl
 limit_is_size Two = inr refl
 
-sound_else : StayLaws → (event : WEvent) (words : List ℕ) (notes : List Note) (before after : Parts) → refusal before event ≡ None → IsInRange event
-    → DoesElse event words notes before after → IsSound before → IsSound after
+sound_else : StayLaws → (event : WEvent) (words : List ℕ) (notes : List Note) (before after : Parts) → refusal before event ≡ None → IsWorldEventInRange event
+    → DoesElse event words notes before after → IsSoundWorld before → IsSoundWorld after
 sound_else laws (event.Router name id) words notes before after accepted fits h all =
     let moment : h.router.moment ≡ before.moment = h.is_new.moment_is in
-    subst IsSound (sym h.quietly.gives) (All-push (IsSoundMember before.moment) before.members (record { name = name; running = true; router = h.router; attachments = [] }) all
+    subst IsSoundWorld (sym h.quietly.gives) (All-push (IsSoundMember before.moment) before.members (record { name = name; running = true; router = h.router; attachments = [] }) all
     (record { router = laws.new id (table_limit before.version) before.moment h.router fits (limit_is_size before.version) h.is_new; past = omega arith }))
-sound_else laws (event.Link name) words notes before after accepted fits h all = subst IsSound (sym h.gives) all
+sound_else laws (event.Link name) words notes before after accepted fits h all = subst IsSoundWorld (sym h.gives) all
 sound_else laws (event.Stop name) words notes before after accepted fits h all =
     let here = all_at (IsSoundMember before.moment) before.members h.place h.member h.is_member all in
-    subst IsSound (sym h.quietly.gives) (All-set (IsSoundMember before.moment) before.members h.place (stopped h.member) (sound_changed before.moment stopped (λ m. refl) h.member here) all)
+    subst IsSoundWorld (sym h.quietly.gives) (All-set (IsSoundMember before.moment) before.members h.place (stopped h.member) (sound_changed before.moment stopped (λ m. refl) h.member here) all)
 sound_else laws (event.Time moment) words notes before after accepted fits h all =
-    subst IsSound (sym h.gives) (sound_later before moment (ltb-false moment before.moment (accepts before (event.Time moment) accepted).forward) all)
+    subst IsSoundWorld (sym h.gives) (sound_later before moment (ltb-false moment before.moment (accepts before (event.Time moment) accepted).forward) all)
 sound_else laws (event.Deliver copy) words notes before after accepted fits h all =
     let arrival : PlainEvent = Arrive (record { endpoint = h.mail.to.endpoint; from = h.mail.from; multicast = h.mail.multicast }) h.mail.bytes in
-    subst IsSound (sym h.gives) (sound_acts_at laws (λ m. m) (λ m. refl) h.mail.to.place arrival words notes before h.between tt h.acts all)
-sound_else laws (event.Drop copy) words notes before after accepted fits h all = subst IsSound (sym h.quietly.gives) all
+    subst IsSoundWorld (sym h.gives) (sound_acts_at laws (λ m. m) (λ m. refl) h.mail.to.place arrival words notes before h.between tt h.acts all)
+sound_else laws (event.Drop copy) words notes before after accepted fits h all = subst IsSoundWorld (sym h.quietly.gives) all
 sound_else laws _ words notes before after accepted fits h all = absurd h
 
-sound_at : StayLaws → (event : WEvent) (own : Option (Name × PlainEvent)) (words : List ℕ) (notes : List Note) (before after : Parts) → refusal before event ≡ None → IsInRange event → FitsAt own
-    → DoesAt event own words notes before after → IsSound before → IsSound after
+sound_at : StayLaws → (event : WEvent) (own : Option (Name × PlainEvent)) (words : List ℕ) (notes : List Note) (before after : Parts)
+    → refusal before event ≡ None → IsWorldEventInRange event → FitsAt own → DoesAt event own words notes before after → IsSoundWorld before → IsSoundWorld after
 sound_at laws event (Some own) words notes before after accepted fits ranged h all =
     sound_acts_at laws (beside event before) (beside_keeps event before) h.place own.1 words notes before after ranged h.acts all
 sound_at laws event None words notes before after accepted fits ranged h all = sound_else laws event words notes before after accepted fits h all
 
-pub sound_step : StayLaws → (t : Traced) (before after : Parts) → Any t before after → IsSound before → IsSound after
-sound_step laws t before after h all = subst IsSound (sym h.1.gives) (sound_at laws t.event (routed t.event) t.words h.0 before h.1.between h.1.accepted h.1.in_range h.1.fits h.1.does all)
+pub sound_step : StayLaws → (t : Traced) (before after : Parts) → Any t before after → IsSoundWorld before → IsSoundWorld after
+sound_step laws t before after h all = subst IsSoundWorld (sym h.1.gives) (sound_at laws t.event (routed t.event) t.words h.0 before h.1.between h.1.accepted h.1.in_range h.1.fits h.1.does all)
 
-pub sound_replay : StayLaws → (version : Version) (ts : List Traced) (w : Parts) → Replays version ts w → IsSound w
-sound_replay laws version ts w h = replay_keeps IsSound (sound_step laws) version (All-nil (IsSoundMember 0)) ts w h
+pub sound_replay : StayLaws → (version : Version) (ts : List Traced) (w : Parts) → Replays version ts w → IsSoundWorld w
+sound_replay laws version ts w h = replay_keeps IsSoundWorld (sound_step laws) version (All-nil (IsSoundMember 0)) ts w h

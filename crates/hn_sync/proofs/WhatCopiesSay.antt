@@ -13,7 +13,7 @@ use Rattle.hn_rules.specs.declared.done.Outgoing.{Outgoing}
 use Rattle.hn_world.specs.declared.copies.MailCopy.{MailCopy}
 use Rattle.hn_world.specs.declared.copies.Target.{Target}
 use Rattle.hn_world.specs.declared.member.Member.{Member}
-use Rattle.hn_world.specs.Mail.{address_of, on_link_at, on_link, gets, copy_for, copies_on, copies_of_send, copies_of}
+use Rattle.hn_world.specs.Mail.{address_of_target, on_link_at, on_link, gets, copy_for, copies_on, copies_of_send, copies_of}
 use Rattle.hn_world.specs.Names.{is_on, link_of}
 use Rattle.hn_sync.proofs.Between.{HasPorts, same_address, has_this, target_fits}
 use Rattle.hn_sync.proofs.Sayings.{Saying, SaysIn, IsPart, AreSaid}
@@ -55,35 +55,35 @@ map_letters (x ∷ xs) ys = ap (λ rest. x.copy ∷ rest) (map_letters xs ys)
 module _ (members : List Member) (p q : Target) (m : Member) (link : ℕ) (to_asker : Bool) (is_link : link_of p.endpoint m ≡ Some link) (q_there : Contains (on_link link 0 members) q)
     (ports : (x : Member) → Contains members x → HasPorts x) (q_fits : q.endpoint.0 < 2 ^ 32) where
   targets : List Target
-  targets = filter (gets p (Some (address_of q))) (on_link link 0 members)
+  targets = filter (gets p (Some (address_of_target q))) (on_link link 0 members)
 
   target_is : (t : Target) → Contains targets t → t ≡ q
   unfolding targets
   target_is t there =
-      let got = from_filter (gets p (Some (address_of q))) (on_link link 0 members) t there in
-      let same = has_this ((address_of t).port == (address_of q).port) (address_of t).ip (address_of q).ip got.1 in
+      let got = from_filter (gets p (Some (address_of_target q))) (on_link link 0 members) t there in
+      let same = has_this ((address_of_target t).port == (address_of_target q).port) (address_of_target t).ip (address_of_target q).ip got.1 in
       same_address t q (target_fits link 0 members t ports got.0) q_fits same
 
   is_target : Contains targets q
   unfolding targets
   is_target =
-      let ip = eq-eqb (address_of q).ip (address_of q).ip refl in
-      let passes : ((address_of q).ip == (address_of q).ip && (address_of q).port == (address_of q).port) ≡ true = ap (λ (b : Bool). b && true) ip in
-      in_filter (gets p (Some (address_of q))) (on_link link 0 members) q q_there passes
+      let ip = eq-eqb (address_of_target q).ip (address_of_target q).ip refl in
+      let passes : ((address_of_target q).ip == (address_of_target q).ip && (address_of_target q).port == (address_of_target q).port) ≡ true = ap (λ (b : Bool). b && true) ip in
+      in_filter (gets p (Some (address_of_target q))) (on_link link 0 members) q q_there passes
 
   letter_of : List Saying → List ℕ → Target → Letter
-  letter_of group bytes t = record { copy = copy_for p (Some (address_of q)) bytes t; group = group; to_asker = to_asker }
+  letter_of group bytes t = record { copy = copy_for p (Some (address_of_target q)) bytes t; group = group; to_asker = to_asker }
 
   letters_at : List Saying → List ℕ → List Letter
   letters_at group bytes = map (letter_of group bytes) targets
 
-  copies_at : (group : List Saying) (bytes : List ℕ) (ts : List Target) → map (copy_for p (Some (address_of q)) bytes) ts ≡ map copy_of (map (letter_of group bytes) ts)
+  copies_at : (group : List Saying) (bytes : List ℕ) (ts : List Target) → map (copy_for p (Some (address_of_target q)) bytes) ts ≡ map copy_of (map (letter_of group bytes) ts)
   unfolding letter_of
   copies_at group bytes [] = refl
-  copies_at group bytes (t ∷ ts) = ap (λ rest. copy_for p (Some (address_of q)) bytes t ∷ rest) (copies_at group bytes ts)
+  copies_at group bytes (t ∷ ts) = ap (λ rest. copy_for p (Some (address_of_target q)) bytes t ∷ rest) (copies_at group bytes ts)
 
   abbrev out : List ℕ → Outgoing
-  out bytes = record { endpoint = p.endpoint; to = Some (address_of q); bytes = bytes }
+  out bytes = record { endpoint = p.endpoint; to = Some (address_of_target q); bytes = bytes }
 
   send_copies : (group : List Saying) (bytes : List ℕ) → copies_of_send members p.place m (out bytes) ≡ map copy_of (letters_at group bytes)
   unfolding targets letters_at
@@ -91,7 +91,7 @@ module _ (members : List Member) (p q : Target) (m : Member) (link : ℕ) (to_as
 
   pub record IsGood (own : NodeId) (said : List Saying) (l : Letter) : Type 0 where
     pub goes : l.copy.to ≡ q
-    pub comes : l.copy.from ≡ address_of p
+    pub comes : l.copy.from ≡ address_of_target p
     pub unicast : l.copy.multicast ≡ false
     pub says : SaysIn own p.endpoint l.group l.copy.bytes
     pub part : IsPart l.group said
@@ -99,7 +99,7 @@ module _ (members : List Member) (p q : Target) (m : Member) (link : ℕ) (to_as
 
   pub record IsSent (own : NodeId) (said : List Saying) (datagrams : List (List ℕ)) : Type 0 where
     pub letters : List Letter
-    pub copies : copies_of members p.place m (map (λ bytes. record { endpoint = p.endpoint; to = Some (address_of q); bytes = bytes }) datagrams) ≡ map copy_of letters
+    pub copies : copies_of members p.place m (map (λ bytes. record { endpoint = p.endpoint; to = Some (address_of_target q); bytes = bytes }) datagrams) ≡ map copy_of letters
     pub good : (l : Letter) → Contains letters l → IsGood own said l
     pub each : (s : Saying) → Contains said s → (l : Letter) × Contains letters l × Contains l.group s
 

@@ -30,10 +30,10 @@ use Rattle.hn_world.specs.Replay.{Replays}
 use Rattle.hn_world.specs.Routed.{routed}
 use Rattle.hn_world.specs.Step.{ActsAt, DoesElse, DoesAt, attached_to, beside, stopped}
 use Rattle.hn_world.proofs.Accepted.{accepts}
-use Rattle.hn_world.proofs.Acting.{arrival_of}
-use Rattle.hn_world.proofs.Onces.{Any}
+use Rattle.hn_world.proofs.DoneAsPlanned.{arrival_of}
+use Rattle.hn_world.proofs.OneStep.{Any}
 use Rattle.hn_world.proofs.SameNames.{not_same}
-use Rattle.hn_world.proofs.Sounds.{replay_keeps}
+use Rattle.hn_world.proofs.SoundRouters.{replay_keeps}
 
 -- ---- the place of a router, by its name
 

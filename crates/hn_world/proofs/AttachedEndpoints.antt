@@ -33,10 +33,10 @@ use Rattle.hn_world.specs.Routed.{routed}
 use Rattle.hn_world.specs.Step.{ActsAt, DoesElse, DoesAt, attached_to, beside, detached_from, stopped}
 use Rattle.hn_world.specs.Replay.{Replays, IsAttachedMember, AreAttached}
 use Rattle.hn_world.proofs.Accepted.{Accepts, accepts_at, is_there}
-use Rattle.hn_world.proofs.Acting.{arrival_of}
-use Rattle.hn_world.proofs.Onces.{Any}
-use Rattle.hn_world.proofs.Places.{found_at}
-use Rattle.hn_world.proofs.Sounds.{all_at, replay_keeps}
+use Rattle.hn_world.proofs.DoneAsPlanned.{arrival_of}
+use Rattle.hn_world.proofs.OneStep.{Any}
+use Rattle.hn_world.proofs.ElementAtPlace.{found_at}
+use Rattle.hn_world.proofs.SoundRouters.{all_at, replay_keeps}
 use Rattle.hn_base.proofs.PassingElements.{each_fails}
 
 -- ---- what an accepted event says

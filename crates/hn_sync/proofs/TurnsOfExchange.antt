@@ -25,20 +25,19 @@ use Rattle.hn_rules.specs.Router.{IsRouter}
 use Rattle.hn_rules.specs.Rules.{IsSole, begun_at}
 use Rattle.hn_store.specs.Nodes.{IsTable}
 use Rattle.hn_typed.specs.Fields.{IsHash}
-use Rattle.hn_typed.specs.Item.{PlainItem}
 use Rattle.hn_typed.specs.Item as item
 use Rattle.hn_sync.proofs.Answered.{AnswersAre}
 use Rattle.hn_sync.proofs.Arrivals.{sends_of, HasArrived}
 use Rattle.hn_sync.proofs.Asking.{replies}
-use Rattle.hn_sync.proofs.Entries.{IsFit, Knows, Says, Asks, EntryLaws, can_say, can_ask}
+use Rattle.hn_sync.proofs.NodeStatesSaid.{IsFit, Knows, Says, Asks, EntryLaws, can_say, can_ask}
 use Rattle.hn_sync.proofs.Greetings.{IsHeard, endpoint_heard, ports_from_signs}
-use Rattle.hn_sync.proofs.Learning.{Learns, learns_heard, learns_refreshed}
-use Rattle.hn_sync.proofs.Quiet.{IsQuiet, quiet_after, quiet_rests, IsRefreshing, refresh_leaves}
+use Rattle.hn_sync.proofs.AskerLearns.{Learns, learns_heard, learns_refreshed}
+use Rattle.hn_sync.proofs.NothingToRefresh.{IsQuiet, quiet_after, quiet_rests, IsRefreshing, refresh_leaves}
 use Rattle.hn_sync.proofs.Replies.{Below, Ascends, network_requested}
 use Rattle.hn_sync.proofs.Sayings.{ReadLaws, rule_of, can_say_endpoint, can_say_request, Saying, tlv_said, CanAllBeSaid, AreSaid, packed_said}
-use Rattle.hn_sync.proofs.Signs.{signs, Ascend, ascend_from_signs, knows_at, knows_from_signs}
-use Rattle.hn_sync.proofs.Stills.{IsStill, still_self, still_quiet, some_state}
-use Rattle.hn_sync.proofs.Walking.{TableLaws, walk}
+use Rattle.hn_sync.proofs.PeersSaid.{signs, Ascend, ascend_from_signs, knows_at, knows_from_signs}
+use Rattle.hn_sync.proofs.AskedStaysStill.{IsStill, still_self, still_quiet, some_state}
+use Rattle.hn_sync.proofs.StatesInTurn.{TableLaws, walk}
 
 pub record TurnLaws : Type 0 where
   pub read : ReadLaws

@@ -15,12 +15,12 @@ use Rattle.hn_world.specs.declared.event.WEvent.TheVariants as event
 use Rattle.hn_world.specs.declared.parts.Parts.{Parts}
 use Rattle.hn_world.specs.Laws.{StepIsUnique, EachEventIsEntered}
 use Rattle.hn_world.specs.Refusal.{acting, names_nothing, is_stopped, lacks_the_endpoint, lacks_a_copy, lacks_room, is_full_of_mail, first_code, refusal}
-use Rattle.hn_world.specs.Replay.{Goes, words_of}
+use Rattle.hn_world.specs.Replay.{Goes, words_of_trace}
 use Rattle.hn_world.specs.Step.{Step, IsStep}
 use Rattle.hn_sync.specs.Exchange.{IsQuestion, AreDeliveries, AreOfExchange, delivery, next_event, ExchangeEnds}
 use Rattle.hn_sync.specs.Laws.{QuestionIsUnique, ExchangeIsUnique}
 use Rattle.hn_sync.proofs.Delivered.{one_delivery}
-use Rattle.hn_sync.proofs.Streams.{took_first, first_told}
+use Rattle.hn_sync.proofs.WordsOfStream.{took_first, first_told}
 
 -- ---- how a list of events stops
 
@@ -93,7 +93,7 @@ module _ (unique : StepIsUnique) (enters : EachEventIsEntered) where
 
   -- two lists of deliveries from one number on, which stop, are one
   one_list : (copy : ℕ) (f : ℕ → ℕ) (code other : Option ℕ) (before a b : Parts) (ts us : List Traced) → Goes before ts a → Goes before us b
-      → AreDeliveries copy ts → AreDeliveries copy us → Begins (words_of ts) f → Begins (words_of us) f
+      → AreDeliveries copy ts → AreDeliveries copy us → Begins (words_of_trace ts) f → Begins (words_of_trace us) f
       → Stops code (delivery (copy + length ts) a) a → Stops other (delivery (copy + length us) b) b → (ts ≡ us) × (a ≡ b) × (code ≡ other)
   one_list copy f code other before a b [] [] h k are be first second stops halts =
       let same : b ≡ a = k ∙ sym h in
@@ -107,17 +107,17 @@ module _ (unique : StepIsUnique) (enters : EachEventIsEntered) where
       absurd (not_delivered other copy before (subst (λ (w : Parts). Stops other (delivery copy w) w) k (subst (λ (n : ℕ). Stops other (delivery n b) b) at halts))
       (subst (λ (e : WEvent). refusal before e ≡ None) are.0 h.1.1.accepted))
   one_list copy f code other before a b (t ∷ ts) (u ∷ us) h k are be first second stops halts =
-      let entry = one_entry f t u h.1.0 k.1.0 before h.0 k.0 (are.0 ∙ sym be.0) (begins_front t.words (words_of ts) f first) (begins_front u.words (words_of us) f second) h.1.1 k.1.1 in
+      let entry = one_entry f t u h.1.0 k.1.0 before h.0 k.0 (are.0 ∙ sym be.0) (begins_front t.words (words_of_trace ts) f first) (begins_front u.words (words_of_trace us) f second) h.1.1 k.1.1 in
       let at : copy + suc (length ts) ≡ suc copy + length ts = omega arith in
       let too : copy + suc (length us) ≡ suc copy + length us = omega arith in
-      let later = subst (λ (x : Traced). Begins (words_of us) (λ i. f (length x.words + i))) (sym entry.0) (begins_back u.words (words_of us) f second) in
+      let later = subst (λ (x : Traced). Begins (words_of_trace us) (λ i. f (length x.words + i))) (sym entry.0) (begins_back u.words (words_of_trace us) f second) in
       let rest = one_list (suc copy) (λ i. f (length t.words + i)) code other h.0 a b ts us h.2 (subst (λ (w : Parts). Goes w us b) (sym entry.1) k.2) are.1 be.1
-      (begins_back t.words (words_of ts) f first) later (subst (λ (n : ℕ). Stops code (delivery n a) a) at stops) (subst (λ (n : ℕ). Stops other (delivery n b) b) too halts) in
+      (begins_back t.words (words_of_trace ts) f first) later (subst (λ (n : ℕ). Stops code (delivery n a) a) at stops) (subst (λ (n : ℕ). Stops other (delivery n b) b) too halts) in
       (λ i. entry.0 i ∷ rest.0 i, rest.1, rest.2)
 
   -- and so are two lists of a question and deliveries
   one_run : (question : WEvent) (copies : ℕ) (f : ℕ → ℕ) (code other : Option ℕ) (before a b : Parts) (ts us : List Traced) → Goes before ts a → Goes before us b
-      → AreOfExchange question copies ts → AreOfExchange question copies us → Begins (words_of ts) f → Begins (words_of us) f
+      → AreOfExchange question copies ts → AreOfExchange question copies us → Begins (words_of_trace ts) f → Begins (words_of_trace us) f
       → Stops code (next_event question copies (length ts) a) a → Stops other (next_event question copies (length us) b) b → (ts ≡ us) × (a ≡ b) × (code ≡ other)
   one_run question copies f code other before a b [] [] h k are be first second stops halts =
       let same : b ≡ a = k ∙ sym h in
@@ -127,12 +127,12 @@ module _ (unique : StepIsUnique) (enters : EachEventIsEntered) where
   one_run question copies f code other before a b (t ∷ ts) [] h k are be first second stops halts =
       absurd (stopped other (Some question) before question (subst (λ (w : Parts). Stops other (Some question) w) k halts) refl (subst (λ (e : WEvent). refusal before e ≡ None) are.0 h.1.1.accepted))
   one_run question copies f code other before a b (t ∷ ts) (u ∷ us) h k are be first second stops halts =
-      let entry = one_entry f t u h.1.0 k.1.0 before h.0 k.0 (are.0 ∙ sym be.0) (begins_front t.words (words_of ts) f first) (begins_front u.words (words_of us) f second) h.1.1 k.1.1 in
+      let entry = one_entry f t u h.1.0 k.1.0 before h.0 k.0 (are.0 ∙ sym be.0) (begins_front t.words (words_of_trace ts) f first) (begins_front u.words (words_of_trace us) f second) h.1.1 k.1.1 in
       let at : copies + suc (length ts) ≡ suc copies + length ts = omega arith in
       let too : copies + suc (length us) ≡ suc copies + length us = omega arith in
-      let later = subst (λ (x : Traced). Begins (words_of us) (λ i. f (length x.words + i))) (sym entry.0) (begins_back u.words (words_of us) f second) in
+      let later = subst (λ (x : Traced). Begins (words_of_trace us) (λ i. f (length x.words + i))) (sym entry.0) (begins_back u.words (words_of_trace us) f second) in
       let rest = one_list (suc copies) (λ i. f (length t.words + i)) code other h.0 a b ts us h.2 (subst (λ (w : Parts). Goes w us b) (sym entry.1) k.2) are.1 be.1
-      (begins_back t.words (words_of ts) f first) later (subst (λ (n : ℕ). Stops code (delivery n a) a) at stops) (subst (λ (n : ℕ). Stops other (delivery n b) b) too halts) in
+      (begins_back t.words (words_of_trace ts) f first) later (subst (λ (n : ℕ). Stops code (delivery n a) a) at stops) (subst (λ (n : ℕ). Stops other (delivery n b) b) too halts) in
       (λ i. entry.0 i ∷ rest.0 i, rest.1, rest.2)
 
   -- ---- an exchange
@@ -144,7 +144,7 @@ module _ (unique : StepIsUnique) (enters : EachEventIsEntered) where
     goes : Goes before ts after
     events : AreOfExchange question (length before.copies) ts
     stops : Stops code (next_event question (length before.copies) (length ts) after) after
-    words : IsAt (Some rest) told (words_of ts)
+    words : IsAt (Some rest) told (words_of_trace ts)
 
   ending : (a b : Name) (code : Option ℕ) (told rest : ℕ → ℕ) (before after : Parts) → ExchangeEnds a b code (Some told) (Some rest) before after → Ending a b code told rest before after
   ending a b None told rest before after h =
@@ -155,7 +155,7 @@ module _ (unique : StepIsUnique) (enters : EachEventIsEntered) where
         goes = h.begun.goes;
         events = h.begun.events;
         stops = sym h.begun.is_next;
-        words = first_told told rest (words_of h.ts) h.drew;
+        words = first_told told rest (words_of_trace h.ts) h.drew;
       }
   ending a b (Some code) told rest before after h =
       let far = h.comes in
@@ -166,7 +166,7 @@ module _ (unique : StepIsUnique) (enters : EachEventIsEntered) where
         goes = far.begun.goes;
         events = far.begun.events;
         stops = (h.next, sym far.begun.is_next, h.refused);
-        words = first_told told rest (words_of far.ts) far.drew;
+        words = first_told told rest (words_of_trace far.ts) far.drew;
       }
 
   pub one_end : QuestionIsUnique → ExchangeIsUnique
@@ -178,6 +178,6 @@ module _ (unique : StepIsUnique) (enters : EachEventIsEntered) where
       let one = one_run h.question copies told code other_code before after other h.ts k.ts h.goes k.goes h.events
       (subst (λ (q : WEvent). AreOfExchange q copies k.ts) (sym same) k.events) h.words.begins k.words.begins h.stops
       (subst (λ (q : WEvent). Stops other_code (next_event q copies (length k.ts) other) other) (sym same) k.stops) in
-      let left : rest ≡ (λ place. told (length (words_of h.ts) + place)) = same_Some rest (λ place. told (length (words_of h.ts) + place)) h.words.rest in
-      let right : other_rest ≡ (λ place. told (length (words_of k.ts) + place)) = same_Some other_rest (λ place. told (length (words_of k.ts) + place)) k.words.rest in
-      record { code_is = one.2; rest_is = left ∙ ap (λ (ts : List Traced). λ (place : ℕ). told (length (words_of ts) + place)) one.0 ∙ sym right; world_is = one.1 }
+      let left : rest ≡ (λ place. told (length (words_of_trace h.ts) + place)) = same_Some rest (λ place. told (length (words_of_trace h.ts) + place)) h.words.rest in
+      let right : other_rest ≡ (λ place. told (length (words_of_trace k.ts) + place)) = same_Some other_rest (λ place. told (length (words_of_trace k.ts) + place)) k.words.rest in
+      record { code_is = one.2; rest_is = left ∙ ap (λ (ts : List Traced). λ (place : ℕ). told (length (words_of_trace ts) + place)) one.0 ∙ sym right; world_is = one.1 }

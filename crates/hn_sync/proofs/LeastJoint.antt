@@ -13,7 +13,7 @@ use Rattle.hn_world.specs.declared.member.Member.{Member}
 use Rattle.hn_world.specs.Names.{link_of}
 use Rattle.hn_sync.specs.Joined.{HasPeerAt, AreJoined, AreLeast, has_peer_at, are_joined, joint_of}
 use Rattle.hn_sync.specs.Laws.{JointIsLeast, NoJointWhereNoneJoined}
-use Rattle.hn_sync.proofs.Pairs.{Passes, same_endpoint, no_joint, joint_passes, joint_is_first}
+use Rattle.hn_sync.proofs.LeastPair.{Passes, same_endpoint, no_joint, joint_passes, joint_is_first}
 
 -- ---- what the tests say
 

@@ -25,7 +25,7 @@ use Rattle.hn_store.specs.Nodes.{held}
 use Rattle.hn_world.specs.declared.member.Attachment.{Attachment}
 use Rattle.hn_world.specs.declared.member.Member.{Member}
 use Rattle.hn_world.specs.declared.parts.Parts.{Parts}
-use Rattle.hn_world.specs.Replay.{IsSound}
+use Rattle.hn_world.specs.Replay.{IsSoundWorld}
 use Rattle.hn_audit.specs.declared.witness.Unquiet.{Unquiet}
 use Rattle.hn_audit.specs.declared.witness.Unquiet.TheVariants as act
 use Rattle.hn_audit.specs.declared.witness.Unsettled.{Unsettled}
@@ -36,7 +36,7 @@ use Rattle.hn_audit.specs.FirstWitness.{FindsNear, FindsOfPeers, FindsOnLinks, F
 use Rattle.hn_audit.specs.FirstWitness.{act_of, FindsAct, FindsOfRouter, FindsRestless, FindsUnasked, IsFirstUnquiet}
 use Rattle.hn_audit.specs.Set.{PlainSpot, set_of}
 use Rattle.hn_audit.proofs.QuietSets.{router_of}
-use Rattle.hn_audit.proofs.Restings.{one_wishes}
+use Rattle.hn_audit.proofs.RestIsOne.{one_wishes}
 use Rattle.hn_audit.proofs.Searching.{Agree, first_agrees, leaf_is_one, or_else_agrees}
 use Rattle.hn_audit.proofs.Settling.{set_has}
 use Rattle.hn_audit.proofs.Spotting.{spots_of_set}
@@ -183,7 +183,7 @@ router_is_one best order unique total s up x y one other =
     acts_agree best order total s.name s.router.id.0 s.router.held.assigned up p.advertised q.advertised same p.wishes x y one.found
     (subst (λ (ws : List Wish). FindsAct s.name q.advertised s.router.id.0 s.router.held.assigned ws y) (sym wishes) other.found)
 
-pub unquiet_is_one : SameHaveOneBest → RestKnowsNoOrder → UsableIsUnique → IsTotalOrder pair_cmp → (w : Parts) (r : Member) → IsSound w → FindsOne (IsFirstUnquiet w r)
+pub unquiet_is_one : SameHaveOneBest → RestKnowsNoOrder → UsableIsUnique → IsTotalOrder pair_cmp → (w : Parts) (r : Member) → IsSoundWorld w → FindsOne (IsFirstUnquiet w r)
 unquiet_is_one best order unique total w r sound =
     first_agrees FindsOfRouter FindsOfRouter (set_of w r)
     (λ s there. let router = router_of w r s sound ((set_has w r s).0 there) in router_is_one best order unique total s router.well.pairs.assigned)

@@ -9,7 +9,7 @@ use Rattle.std.proofs.lemmas.List.Folds.{prefix_len-append}
 use Rattle.std.proofs.lemmas.List.Sums.{prefix_len-le-length, position_or_len_is, fails_before_first, passes_at_first, sum-map, sum_by-append, sum_by-cons, sum_by-set}
 use Rattle.std.proofs.lemmas.Option.{get_or_from_slice_get, slice_get_within}
 use Rattle.hn_world.specs.declared.copies.MailCopy.{MailCopy}
-use Rattle.hn_world.specs.Waiting.{first_waiting, bytes_of, IsMail}
+use Rattle.hn_world.specs.Waiting.{first_waiting, bytes_of_copies, IsMail}
 
 -- ---- the first element that passes
 
@@ -82,7 +82,7 @@ module _ {A : Type 0} (p : A → Bool) where
 
 -- ---- copies that wait, one that waits no longer, and further ones
 
-bytes_are : (xs : List MailCopy) → bytes_of xs ≡ sum_by (λ (c : MailCopy). length c.bytes) xs
+bytes_are : (xs : List MailCopy) → bytes_of_copies xs ≡ sum_by (λ (c : MailCopy). length c.bytes) xs
 bytes_are xs = sum-map (λ (c : MailCopy). length c.bytes) xs
 
 -- what was read at a place stands there
@@ -103,7 +103,7 @@ fewer_wait xs i c at is =
     let one : ◌≡◌ {A = ℕ} (cond (get_or xs i c).waiting 1 0) 1 = ap (λ (x : MailCopy). cond {A = ℕ} x.waiting 1 0) (get_or_from_slice_get xs i c c at) ∙ ap (λ (b : Bool). cond {A = ℕ} b 1 0) is in
     omega arith
 
-same_bytes : (xs : List MailCopy) (i : ℕ) (c : MailCopy) → slice_get xs i ≡ Some c → bytes_of (slice_set xs i (record c { waiting = false })) ≡ bytes_of xs
+same_bytes : (xs : List MailCopy) (i : ℕ) (c : MailCopy) → slice_get xs i ≡ Some c → bytes_of_copies (slice_set xs i (record c { waiting = false })) ≡ bytes_of_copies xs
 same_bytes xs i c at =
     let next : MailCopy = record c { waiting = false } in
     let lt = slice_get_within xs i c at in
@@ -128,7 +128,7 @@ capped m a b = omega arith
 
 -- with further copies, all of which wait
 pub added : (xs more after : List MailCopy) (first waiting bytes count more_bytes next : ℕ) → All (λ (c : MailCopy). c.waiting ≡ true) more → IsMail xs first waiting bytes
-    → after ≡ xs ++ more → count ≡ length more → more_bytes ≡ min (bytes_of more) (2 ^ 28) → next ≡ min (bytes + more_bytes) (2 ^ 28) → IsMail after first (waiting + count) next
+    → after ≡ xs ++ more → count ≡ length more → more_bytes ≡ min (bytes_of_copies more) (2 ^ 28) → next ≡ min (bytes + more_bytes) (2 ^ 28) → IsMail after first (waiting + count) next
 added xs more after first waiting bytes count more_bytes next all mail after_is count_is more_is next_is = record {
   first_is = mail.first_is ∙ sym (first_of_both (λ (c : MailCopy). c.waiting) xs more all) ∙ sym (ap (λ (ys : List MailCopy). unwrap_or (first_waiting ys) (length ys)) after_is);
   waiting_is =
@@ -142,8 +142,8 @@ added xs more after first waiting bytes count more_bytes next all mail after_is 
       let a = bytes_are xs in
       let b = bytes_are more in
       let c = bytes_are (xs ++ more) in
-      let now = ap bytes_of after_is in
+      let now = ap bytes_of_copies after_is in
       let was = mail.bytes_are in
-      let parts = capped (2 ^ 28) (bytes_of xs) (bytes_of more) in
+      let parts = capped (2 ^ 28) (bytes_of_copies xs) (bytes_of_copies more) in
       omega arith;
 }

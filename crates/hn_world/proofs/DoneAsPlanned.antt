@@ -29,12 +29,12 @@ use Rattle.hn_world.specs.Limits.{table_limit}
 use Rattle.hn_world.specs.Names.{is_named, router_place, member_named}
 use Rattle.hn_world.specs.Planned.{IsPlanned}
 use Rattle.hn_world.specs.Refusal.{refusal, copy_at}
-use Rattle.hn_world.specs.Replay.{IsSound, IsSoundMember}
+use Rattle.hn_world.specs.Replay.{IsSoundWorld, IsSoundMember}
 use Rattle.hn_world.proofs.Accepted.{accepts, is_there, receiver_found}
-use Rattle.hn_world.proofs.Places.{got_front, within, found_at}
-use Rattle.hn_world.proofs.Sounds.{all_at}
+use Rattle.hn_world.proofs.ElementAtPlace.{got_front, within, found_at}
+use Rattle.hn_world.proofs.SoundRouters.{all_at}
 use Rattle.hn_world.specs.Routed.{routed, named_by, place_by}
-use Rattle.hn_world.specs.Step.{ActsAt, Acts, DoesAt, Step, IsStep, IsInRange, FitsAt, acted, beside, entered, with_member, stopped, taken}
+use Rattle.hn_world.specs.Step.{ActsAt, Acts, DoesAt, Step, IsStep, IsWorldEventInRange, FitsAt, acted, beside, entered, with_member, stopped, taken}
 
 -- the name in a route
 abbrev name_in : Option (Name × PlainEvent) → Option Name
@@ -62,7 +62,7 @@ named_within None w place found = absurd cc
 named_within (Some name) w place found = router_within (name_text name) w place found
 
 -- and it is no later than the world
-pub router_past : (w : Parts) (place : ℕ) → IsSound w → (m : Member) → slice_get w.members place ≡ Some m → m.router.moment ≤ w.moment
+pub router_past : (w : Parts) (place : ℕ) → IsSoundWorld w → (m : Member) → slice_get w.members place ≡ Some m → m.router.moment ≤ w.moment
 router_past w place sound m at = (all_at (IsSoundMember w.moment) w.members place m at sound).past
 
 -- ---- an event at a router
@@ -99,7 +99,7 @@ module _ (change : Member → Member) (place : ℕ) (event : PlainEvent) (told t
     gives = ap (λ (m : Member). record did { members = slice_set before.members place m }) same;
   }
 
-  pub acted_step : (t : WEvent) (name : Name) (after : Parts) (notes : List Note) → refusal before t ≡ None → IsInRange t → IsEventInRange event
+  pub acted_step : (t : WEvent) (name : Name) (after : Parts) (notes : List Note) → refusal before t ≡ None → IsWorldEventInRange t → IsEventInRange event
       → routed t ≡ Some (name, event) → place_by (named_by t) before ≡ Some place
       → change next_member ≡ beside t before next_member → IsFinished t change place before plan after → notes ≡ plan.done.notes → IsStep t notes told told_after before after
   acted_step t name after notes accepted in_range fits is found same gives noted =

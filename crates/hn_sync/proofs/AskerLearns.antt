@@ -20,14 +20,14 @@ use Rattle.hn_store.specs.declared.stored.Stored.{Stored}
 use Rattle.hn_typed.specs.Item.{PlainItem}
 use Rattle.hn_typed.specs.Item as item
 use Rattle.hn_sync.proofs.Answered.{AnswersAre, with_more}
-use Rattle.hn_sync.proofs.Entries.{Knows, IsAsked, Asks}
+use Rattle.hn_sync.proofs.NodeStatesSaid.{Knows, IsAsked, Asks}
 use Rattle.hn_sync.proofs.Greetings.{IsHeard, IsCompared}
 use Rattle.hn_sync.proofs.Holding.{held_after, held_marked, AsBefore, before_same, settled_same, before_marked, settled_marked}
-use Rattle.hn_sync.proofs.Quiet.{IsRefreshing, refresh_leaves}
+use Rattle.hn_sync.proofs.NothingToRefresh.{IsRefreshing, refresh_leaves}
 use Rattle.hn_sync.proofs.Replies.{Ascends}
-use Rattle.hn_sync.proofs.Rooms.{AreOfBoth}
+use Rattle.hn_sync.proofs.RoomForNodes.{AreOfBoth}
 use Rattle.hn_sync.proofs.Sayings.{Saying}
-use Rattle.hn_sync.proofs.Signs.{signs, Ascend, ascend_from_signs, links_from_signs}
+use Rattle.hn_sync.proofs.PeersSaid.{signs, Ascend, ascend_from_signs, links_from_signs}
 use Rattle.hn_sync.specs.Repairs.{state_of, HasRoomFor, IsRepaired, is_news}
 
 -- what is said of a node is in the list

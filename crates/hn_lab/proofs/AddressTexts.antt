@@ -1,17 +1,11 @@
 -- The text of the reports on addresses.
-use Rattle.std.proofs.Common.{◌≡◌, ◌∙◌, ℕ, List, [], ◌∷◌, ◌++◌, None, Some, ap, length}
+use Rattle.std.proofs.Common.{◌≡◌, ◌∙◌, ℕ, List, [], ◌∷◌, ◌++◌, ap, length}
 use Rattle.std.specs.Prelude.{map, codes}
 use Rattle.std.specs.Fmt.{decimal}
 use Rattle.hn_base.specs.Name.{name_text}
 use Rattle.hn_base.specs.declared.name.Name.{Name}
 use Rattle.hn_own.specs.Addresses.{OwnAddress}
-use Rattle.hn_world.specs.Names.{member_named}
-use Rattle.hn_world.specs.Asked.{unless_running, unless_runs}
-use Rattle.hn_world.specs.declared.member.Member.{Member}
-use Rattle.hn_world.specs.declared.parts.Parts.{Parts}
-use Rattle.hn_lab.specs.AddressReports.{address_line, IsAddressed, IsAddressedLine}
-use Rattle.hn_lab.specs.Line.{Tells}
-use Rattle.hn_base.proofs.DecidingTests.{some_there}
+use Rattle.hn_lab.specs.AddressReports.{address_line}
 
 -- the lines on these addresses, of which the first says how many they are
 abbrev pub addresses_head : Name → List OwnAddress → List ℕ
@@ -26,13 +20,3 @@ all_lines name addresses head none one all none_is one_is all_is head_is =
     all_is
     ∙ ap (λ (lines : List (List ℕ)). lines ++ map (address_line name) addresses) (one_is ∙ ap (λ (lines : List (List ℕ)). lines ++ head ∷ []) none_is)
     ∙ ap (λ (h : List ℕ). h ∷ map (address_line name) addresses) head_is
-
--- the text of a line on a router and its set
-abbrev pub addressed_line : Name → List ℕ → List ℕ
-addressed_line name told = codes "addressed " ++ name_text name ++ codes " " ++ told ++ 10 ∷ []
-
-pub tells_addressed : (name : Name) (w : Parts) (told line : List ℕ) → unless_runs name w ≡ None
-    → ((m : Member) → member_named (name_text name) w ≡ Some m → IsAddressed w m told) → line ≡ addressed_line name told → Tells name w (IsAddressedLine name w) line
-tells_addressed name w told line runs addressed line_is =
-    let m = some_there 7 unless_running (member_named (name_text name) w) runs in
-    (m.0, m.1, record { told = told; is_addressed = addressed m.0 m.1; line_is = line_is })

@@ -48,7 +48,7 @@ one_carried bytes (Some g) Lost y h k = absurd h
 -- ---- over a wire that tells what waits
 
 -- one that tells before tells after
-tells_sent : (d : Datagram) (ds : List Datagram) (after : Option (List Datagram)) → Sends d (Some ds) after → after ≡ Some (ds ++ d ∷ [])
+pub tells_sent : (d : Datagram) (ds : List Datagram) (after : Option (List Datagram)) → Sends d (Some ds) after → after ≡ Some (ds ++ d ∷ [])
 tells_sent d ds None h = absurd h
 tells_sent d ds (Some after) h = ap Some h
 

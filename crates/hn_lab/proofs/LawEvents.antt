@@ -128,7 +128,7 @@ module _ (steps : StepIsUnique) where
   sole_treatment false copy = sole_notes (DeliveryEnds copy) (noting_delivery copy)
 
   -- a word is drawn: the route and the text stay
-  drawn_stays : (p : Stage) (c : MailCopy) → ((drawn p c).route ≡ p.route) × ((drawn p c).text ≡ p.text)
+  pub drawn_stays : (p : Stage) (c : MailCopy) → ((drawn p c).route ≡ p.route) × ((drawn p c).text ≡ p.text)
   drawn_stays p c = by_test (is_away p.world c || p.loss == 0)
     where
       by_test : (b : Bool) → ((if b then p else record p { words = λ place. p.words (suc place) }).route ≡ p.route)
@@ -136,7 +136,7 @@ module _ (steps : StepIsUnique) where
       by_test true = (refl, refl)
       by_test false = (refl, refl)
 
-  sole_copy : IsSole CopyEnds
+  pub sole_copy : IsSole CopyEnds
   sole_copy = record { one = one; keeps = keeps; grows = grows }
     where
       keeps : (p a : Stage) → IsTold p.route → CopyEnds None p a → IsTold a.route
@@ -164,13 +164,13 @@ module _ (steps : StepIsUnique) (adverts : RouterHasOneAdvert) (readings : Adver
   sole_tick : (name : Name) → IsSole (TickEnds name)
   sole_tick name = sole_then (EventEnds (event.Tick name)) (Turns name) (sole_event steps (event.Tick name)) (sole_turns adverts readings name)
 
-  sole_ticks : IsSole Ticks
+  pub sole_ticks : IsSole Ticks
   sole_ticks = sole_at (λ p. EachProcess TickEnds (running_names p.world)) (λ p. sole_each TickEnds sole_tick (running_names p.world))
 
-  sole_passes : (end step : ℕ) → IsSole (Passes end step)
+  pub sole_passes : (end step : ℕ) → IsSole (Passes end step)
   sole_passes end step = sole_at (λ p. EventEnds (event.Time (min (p.world.moment + step) end))) (λ p. sole_event steps (event.Time (min (p.world.moment + step) end)))
 
-  sole_round : (end step : ℕ) → IsSole (Round end step)
+  pub sole_round : (end step : ℕ) → IsSole (Round end step)
   sole_round end step = sole_then (Passes end step) (ThenProcess Ticks Flow) (sole_passes end step) (sole_then Ticks Flow sole_ticks (sole_flow steps))
 
   sole_rounds : (end step : ℕ) → IsSole (Until (λ p. p.world.moment < end) (Round end step))

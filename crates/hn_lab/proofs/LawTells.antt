@@ -7,7 +7,7 @@ use Rattle.hn_lab.specs.declared.end.Stop.TheVariants.{Refused, WireFailed, Cut}
 use Rattle.hn_lab.specs.Laws.{IsTold}
 use Rattle.hn_lab.specs.Process.{Unless}
 use Rattle.hn_lab.specs.Stage.{Stage, telling}
-use Rattle.hn_lab.specs.Tells.{TellsLines, TellsSome, IsOneLine, ReportsLines}
+use Rattle.hn_lab.specs.Tells.{TellsLines, TellsSome, IsOneLine, Reports}
 use Rattle.hn_lab.specs.Told.{Told, told}
 use Rattle.hn_lab.proofs.LawAlike.{Grows, Agree, AreOne, FirstIsShort, SecondIsShort, IsSole, sole_unless, sole_then}
 
@@ -95,8 +95,8 @@ sole_some AreReport report = record {
   grows = λ c p a h. (sole_tells h.0).grows c p a h.2;
 }
 
-pub sole_report : (unless : Option ℕ) (AreReport : List (List ℕ) → Type 0) → IsOneReport AreReport → IsSole (ReportsLines unless AreReport)
-sole_report unless AreReport report = sole_then (Unless unless) (TellsSome AreReport) (sole_unless unless) (sole_some AreReport report)
+pub sole_reports : (unless : Option ℕ) (AreReport : List (List ℕ) → Type 0) → IsOneReport AreReport → IsSole (Reports unless AreReport)
+sole_reports unless AreReport report = sole_then (Unless unless) (TellsSome AreReport) (sole_unless unless) (sole_some AreReport report)
 
 -- of one line
 pub one_line : (IsReport : List ℕ → Type 0) → IsOneReport IsReport → IsOneReport (IsOneLine IsReport)

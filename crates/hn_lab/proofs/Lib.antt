@@ -1,4 +1,5 @@
 mod RunStops
+mod RunAnswers
 mod RunEvents
 mod RunCopies
 mod RunTimes
@@ -10,18 +11,20 @@ mod Choosings
 mod RunSyncs
 mod TextLines
 mod TextReports
+mod LineEnds
 mod TextStreams
 mod Sendings
 mod PlayLines
 mod PlayScripts
 mod PrefixTexts
-mod AuditTexts
 mod LawAlike
+mod LawBreaks
 mod LawCarry
 mod LawChoosings
 mod LawEvents
 mod LawLines
 mod LawPlays
+mod LawReports
 mod LawSendings
 mod LawSyncs
 mod LawTells
@@ -31,7 +34,6 @@ mod AddressSets
 mod AddressTexts
 mod UlaCounts
 mod UlaSets
-mod UlaTexts
 mod SomeEnds
 mod SomeEvents
 mod SomeTurns

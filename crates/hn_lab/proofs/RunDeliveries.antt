@@ -1,6 +1,6 @@
 -- Deliveries: by mail, and over a wire.
 use Rattle.std.proofs.Common.{◌≡◌, ◌∙◌, ◌≤◌, ◌-◌, ◌==◌, Bool, true, false, cond, ℕ, List, [], ◌∷◌, length, Option, None, Some, Result, Ok, Err, inl, inr, refl, sym, ap, subst}
-use Rattle.std.specs.Prelude.{◌||◌, is_none, nat_le}
+use Rattle.std.specs.Prelude.{◌||◌, is_none, nat_le, IsErrAnd}
 use Rattle.std.specs.Option.{option_map, option_and_then}
 use Rattle.std.specs.List.{slice_get}
 use Rattle.std.proofs.lemmas.Option.{same_Some}
@@ -8,26 +8,25 @@ use Rattle.std.proofs.lemmas.List.Elements.{All-contains}
 use Rattle.hn_base.proofs.PartsAtPlaces.{contains_at}
 use Rattle.hn_io.specs.declared.fault.IoFault.TheVariants.{NoMemory}
 use Rattle.hn_rules.specs.declared.done.Note.{Note}
-use Rattle.hn_wire.specs.declared.datagram.Datagram.{Datagram}
 use Rattle.hn_world.specs.declared.copies.CopyInfo.{CopyInfo}
 use Rattle.hn_world.specs.declared.copies.MailCopy.{MailCopy}
 use Rattle.hn_world.specs.declared.event.WEvent.{WEvent}
 use Rattle.hn_world.specs.declared.event.WEvent.TheVariants as event
+use Rattle.hn_world.specs.declared.event.WorldFault.{WorldFault}
 use Rattle.hn_world.specs.declared.member.Member.{Member}
 use Rattle.hn_world.specs.declared.parts.Parts.{Parts}
 use Rattle.hn_world.specs.Leaves.{info_of_copy}
 use Rattle.hn_world.specs.Within.{AreWithinLimits}
 use Rattle.hn_world.specs.Refusal.{acting, copy_at, names_nothing, is_stopped, lacks_the_endpoint, lacks_a_copy, lacks_room, is_full_of_mail, first_code, refusal}
 use Rattle.hn_lab.specs.declared.carrying.Carried.{Carried}
-use Rattle.hn_lab.specs.declared.carrying.Carried.TheVariants.{Same}
 use Rattle.hn_lab.specs.declared.end.Stop.{Stop}
 use Rattle.hn_lab.specs.declared.end.Stop.TheVariants.{Refused, WireFailed, Cut}
-use Rattle.hn_lab.specs.Carrying.{CarriesOver, Carries, FailsCarrying, Breaks}
-use Rattle.hn_lab.specs.Delivery.{EventNotes, EventEnds, injection_for, Replaces, IsReplaced, ComesTo, IsBroken, Conveys, DeliveryEnds, Delivers}
-use Rattle.hn_lab.specs.Ended.{IsStopped, EndsWith}
-use Rattle.hn_lab.specs.Process.{Process}
-use Rattle.hn_lab.specs.Stage.{Stage, Route, Mail, route_of}
-use Rattle.hn_lab.proofs.RunStops.{stopped_within, stopped_last, starved}
+use Rattle.hn_lab.specs.Carrying.{Carries, Breaks}
+use Rattle.hn_lab.specs.Delivery.{EventNotes, EventEnds, injection_for, Replaces, IsReplaced, ComesTo, ComesToSome, IsBroken, Conveys, DeliveryEnds, Delivers}
+use Rattle.hn_lab.specs.Ended.{IsStopped, EndsWith, IsAnswered, IsAnsweredWith, stopping}
+use Rattle.hn_lab.specs.Stage.{Stage, Route}
+use Rattle.hn_lab.proofs.RunAnswers.{answered_as, answer_on, ends_so}
+use Rattle.hn_lab.proofs.RunStops.{stopped_last, starved}
 
 -- a delivery that is not refused is one of a copy
 has_copy : (unknown stopped lacks no_copy full full_of_mail : Bool)
@@ -84,64 +83,53 @@ injected_for w c bytes info (Some k) told is =
 
 -- ---- other bytes in the place of a copy
 
-module _ (copy : ℕ) (inject : WEvent) (p b a : Stage) (dropped : EventEnds (event.Drop copy) None p b) (told : b.text ≡ p.text) where
-  put_in_place : (r : Result (List Note) Stop) → EndsWith (EventNotes inject) (EventEnds inject) r b a → EndsWith (Replaces copy (Some inject)) (IsReplaced copy (Some inject)) r p a
-  put_in_place (Ok notes) ends = (b, dropped, ends)
-  put_in_place (Err stop) ends = stopped_within (EventEnds inject) (IsReplaced copy (Some inject)) stop p b a (λ at h. (h.0, inr (b, dropped, h.1))) told ends
+module _ (copy : ℕ) (inject : WEvent) (other : Option WEvent) (is : other ≡ Some inject) (p b a : Stage) where
+  -- the drop is refused, or the event after it
+  undropped : (code : ℕ) → EventEnds (event.Drop copy) (Some (Refused code)) p a → IsReplaced copy other (Some (Refused code)) p a
+  undropped code refused = subst (λ (o : Option WEvent). IsReplaced copy o (Some (Refused code)) p a) (sym is) ([], inl refused)
 
-  pub replaced : (other : Option WEvent) (r : Result (List Note) Stop) → other ≡ Some inject → EndsWith (EventNotes inject) (EventEnds inject) r b a
-      → EndsWith (Replaces copy other) (IsReplaced copy other) r p a
-  replaced other r is ends = subst (λ (o : Option WEvent). EndsWith (Replaces copy o) (IsReplaced copy o) r p a) (sym is) (put_in_place r ends)
+  pub not_dropped : (A : Type 0) (why : WorldFault) (r : Result (List Note) WorldFault) → IsErrAnd r (λ e. e ≡ why)
+      → IsAnswered {A = A} (EventEnds (event.Drop copy)) (Err why) p a → IsAnsweredWith (λ notes. Replaces copy other notes None) (IsReplaced copy other) r p a
+  not_dropped A why r handed =
+      answer_on (EventEnds (event.Drop copy)) (IsReplaced copy other) p p a undropped (λ (_ : A). EventEnds (event.Drop copy) None) (λ notes. Replaces copy other notes None) why r handed
 
--- the drop is stopped
-pub undropped : (copy : ℕ) (inject : WEvent) (other : Option WEvent) (stop : Stop) (p a : Stage) → other ≡ Some inject
-    → IsStopped (EventEnds (event.Drop copy)) stop p a → IsStopped (IsReplaced copy other) stop p a
-undropped copy inject other stop p a is stopped =
-    subst (λ (o : Option WEvent). IsStopped (IsReplaced copy o) stop p a) (sym is)
-    (stopped_within (EventEnds (event.Drop copy)) (IsReplaced copy (Some inject)) stop p p a (λ at h. ([], inl h)) refl stopped)
+  pub replaced : (dropped : EventEnds (event.Drop copy) None p b) (r : Result (List Note) WorldFault)
+      → IsAnsweredWith (λ notes. EventNotes inject notes None) (EventEnds inject) r b a → IsAnsweredWith (λ notes. Replaces copy other notes None) (IsReplaced copy other) r p a
+  replaced dropped r =
+      answered_as (EventEnds inject) (IsReplaced copy other) p b a
+      (λ code h. subst (λ (o : Option WEvent). IsReplaced copy o (Some (Refused code)) p a) (sym is) (h.0, inr (b, dropped, h.1)))
+      (λ notes. EventNotes inject notes None) (λ notes. Replaces copy other notes None) r
+      (λ notes h. subst (λ (o : Option WEvent). Replaces copy o notes None p a) (sym is) (b, dropped, h))
 
 -- ---- a copy is conveyed
 
-pub carries_over : (o : Option ℕ) (base : ℕ) (sent bytes : List ℕ) (came carried : Carried) (w v : Option (List Datagram)) → o ≡ Some base
-    → sent ≡ bytes → came ≡ carried → CarriesOver base sent came w v
-    → Carries bytes carried (route_of o w) (route_of o v)
-carries_over o base sent bytes came carried w v is bytes_are is_carried over =
-    let so : CarriesOver base bytes carried w v = subst (λ (k : Carried). CarriesOver base bytes k w v) is_carried (subst (λ (b : List ℕ). CarriesOver base b came w v) bytes_are over) in
-    subst (λ (x : Option ℕ). Carries bytes carried (route_of x w) (route_of x v)) (sym is) (v, so, refl)
-
-pub conveyed : (copy : ℕ) (c : MailCopy) (carried : Carried) (route : Route) (p : Stage) → copy_at p.world copy ≡ Some c → Carries c.bytes carried p.route route
+conveyed : (copy : ℕ) (c : MailCopy) (carried : Carried) (route : Route) (p : Stage) → copy_at p.world copy ≡ Some c → Carries c.bytes carried p.route route
     → (notes : List Note) (stop : Option Stop) (at : Stage) → ComesTo copy c carried notes stop (record p { route = route }) at → Conveys copy notes stop p at
 conveyed copy c carried route p is carries notes stop at comes = inr (record { mail = c; is_copy = is; carried = carried; route = route; carries = carries; comes = comes })
 
+-- what a copy comes to, as a world answers it
+abbrev pub IsComing : ℕ → MailCopy → Carried → Result (List Note) WorldFault → Stage → Stage → Type 0
+IsComing copy c carried answer p a = IsAnsweredWith (λ notes. ComesTo copy c carried notes None) (ComesToSome copy c carried) answer p a
+
 -- what the conveying of a copy comes to: by notes, or by why it is stopped
-pub conveyed_ends : (copy : ℕ) (c : MailCopy) (carried : Carried) (done : List Note → Process) (process : Process) (r : Result (List Note) Stop) (p q a : Stage)
-    → refusal p.world (event.Deliver copy) ≡ None → copy_at p.world copy ≡ Some c
-    → Carries c.bytes carried p.route q.route → q ≡ record p { route = q.route }
-    → ((notes : List Note) (at : Stage) → done notes None q at → ComesTo copy c carried notes None q at)
-    → ((stop : Stop) (at : Stage) → process (Some stop) q at → (notes : List Note) × ComesTo copy c carried notes (Some stop) q at)
-    → EndsWith done process r q a → EndsWith (Conveys copy) (Delivers copy) r p a
-conveyed_ends copy c carried done process (Ok notes) p q a accepted is carries beside comes stops ends =
-    conveyed copy c carried q.route p is carries notes None a (subst (λ (s : Stage). ComesTo copy c carried notes None s a) beside (comes notes a ends))
-conveyed_ends copy c carried done process (Err stop) p q a accepted is carries beside comes stops ends =
-    stopped_within process (Delivers copy) stop p q a
-    (λ at h. let comes_to = stops stop at h in (
-      comes_to.0,
-      inr (p, (accepted, refl), conveyed copy c carried q.route p is carries comes_to.0 (Some stop) at (subst (λ (s : Stage). ComesTo copy c carried comes_to.0 (Some stop) s at) beside comes_to.1)),
-    ))
-    (ap (λ (s : Stage). s.text) beside) ends
+pub conveyed_ends : (copy : ℕ) (c : MailCopy) (carried : Carried) (answer : Result (List Note) WorldFault) (r : Result (List Note) Stop) (p q a : Stage)
+    → refusal p.world (event.Deliver copy) ≡ None → copy_at p.world copy ≡ Some c → Carries c.bytes carried p.route q.route → q ≡ record p { route = q.route }
+    → r ≡ stopping answer → a.text ≡ p.text → IsComing copy c carried answer q a
+    → EndsWith (Conveys copy) (Delivers copy) r p a
+conveyed_ends copy c carried answer r p q a accepted is carries beside same told =
+    let so : (notes : List Note) (stop : Option Stop) → ComesTo copy c carried notes stop q a → Conveys copy notes stop p a = λ notes stop comes.
+    conveyed copy c carried q.route p is carries notes stop a (subst (λ (s : Stage). ComesTo copy c carried notes stop s a) beside comes)
+    in
+    ends_so (ComesToSome copy c carried) (Delivers copy) p q a (λ code h. (h.0, inr (p, (accepted, refl), so h.0 (Some (Refused code)) h.1)))
+    (λ notes. ComesTo copy c carried notes None) (Conveys copy) answer r same told ([], inl refl) (λ notes h. so notes None h)
 
 -- the wire fails
-breaks_over : (o : Option ℕ) (base : ℕ) (bytes : List ℕ) (w v : Option (List Datagram)) → o ≡ Some base → FailsCarrying base bytes w v → Breaks bytes (route_of o w) (route_of o v)
-breaks_over o base bytes w v is fails = subst (λ (x : Option ℕ). Breaks bytes (route_of x w) (route_of x v)) (sym is) (v, fails, refl)
-
-pub broken : (copy : ℕ) (c : MailCopy) (o : Option ℕ) (base : ℕ) (sent : List ℕ) (w v : Option (List Datagram)) (p a : Stage) → o ≡ Some base → p.route ≡ route_of o w
-    → a ≡ record p { route = route_of o v } → refusal p.world (event.Deliver copy) ≡ None → copy_at p.world copy ≡ Some c → sent ≡ c.bytes
-    → FailsCarrying base sent w v → IsStopped (Delivers copy) WireFailed p a
-broken copy c o base sent w v p a is from stays accepted found bytes_are fails =
-    let so : FailsCarrying base c.bytes w v = subst (λ (b : List ℕ). FailsCarrying base b w v) bytes_are fails in
-    let breaks : Breaks c.bytes p.route (route_of o v) = subst (λ (r : Route). Breaks c.bytes r (route_of o v)) (sym from) (breaks_over o base c.bytes w v is so) in
-    let is_broken : IsBroken copy (Some WireFailed) p a = record { stop_is = refl; mail = c; is_copy = found; route = route_of o v; breaks = breaks; stays = stays } in
-    stopped_last (Delivers copy) WireFailed p a ([], inr (p, (accepted, refl), inl is_broken)) (ap (λ (s : Stage). s.text) stays) (λ e. absurd cc)
+pub broken : (copy : ℕ) (c : MailCopy) (route : Route) (p : Stage) → refusal p.world (event.Deliver copy) ≡ None → copy_at p.world copy ≡ Some c → Breaks c.bytes p.route route
+    → IsStopped (Delivers copy) WireFailed p (record p { route = route })
+broken copy c route p accepted found breaks =
+    let is_broken : IsBroken copy (Some WireFailed) p (record p { route = route }) =
+    record { stop_is = refl; mail = c; is_copy = found; route = route; breaks = breaks; stays = refl } in
+    stopped_last (Delivers copy) WireFailed p (record p { route = route }) ([], inr (p, (accepted, refl), inl is_broken)) refl (λ e. absurd cc)
 
 -- memory ends before a delivery
 pub delivery_starved : (copy : ℕ) (p a : Stage) → IsStopped (Delivers copy) (Cut NoMemory) p a
@@ -149,30 +137,15 @@ delivery_starved copy p a = starved (Delivers copy) p a ([], inl refl)
 
 -- ---- a delivery
 
--- by mail it is the event
-mail_stops : (copy : ℕ) (stop : Stop) (p at : Stage) → EventEnds (event.Deliver copy) (Some stop) p at → Delivers copy (Some stop) p at
-mail_stops copy (Refused code) p at ends = (ends.0, inl ends.1)
-mail_stops copy WireFailed p at ends = absurd ends.1
-mail_stops copy (Cut fault) p at ends = (ends.0, inl ends.1)
-
-pub by_mail : (copy : ℕ) (r : Result (List Note) Stop) (p a : Stage) → p.route ≡ Mail
-    → EndsWith (EventNotes (event.Deliver copy)) (EventEnds (event.Deliver copy)) r p a → EndsWith (DeliveryEnds copy) (Delivers copy) r p a
-by_mail copy (Ok notes) p a mail ends =
-    let accepted = ends.step.step.accepted in
-    let c = delivered_copy p.world copy accepted in
-    let carries : Carries c.0.bytes Same p.route p.route = subst (λ (route : Route). Carries c.0.bytes Same route route) (sym mail) (refl, refl) in
-    (p, (accepted, refl), conveyed copy c.0 Same p.route p c.1 carries notes None a ends)
-by_mail copy (Err stop) p a mail ends = stopped_within (EventEnds (event.Deliver copy)) (Delivers copy) stop p p a (mail_stops copy stop p) refl ends
-
--- it is refused before a wire is used
+-- it is refused before anything is carried
 pub undelivered : (copy code : ℕ) (p : Stage) → refusal p.world (event.Deliver copy) ≡ Some code → IsStopped (Delivers copy) (Refused code) p p
 undelivered copy code p is = stopped_last (Delivers copy) (Refused code) p p ([], inl (is, refl)) refl (λ e. absurd cc)
 
 -- or the copy is conveyed
-pub by_wire : (copy : ℕ) (r : Result (List Note) Stop) (p a : Stage) → refusal p.world (event.Deliver copy) ≡ None
+pub not_refused : (copy : ℕ) (r : Result (List Note) Stop) (p a : Stage) → refusal p.world (event.Deliver copy) ≡ None
     → EndsWith (Conveys copy) (Delivers copy) r p a → EndsWith (DeliveryEnds copy) (Delivers copy) r p a
-by_wire copy (Ok notes) p a accepted ends = (p, (accepted, refl), ends)
-by_wire copy (Err stop) p a accepted ends = ends
+not_refused copy (Ok notes) p a accepted ends = (p, (accepted, refl), ends)
+not_refused copy (Err stop) p a accepted ends = ends
 
 -- the router that a copy goes to
 pub receiver_is : (w : Parts) (found : Option MailCopy) → option_map (λ (i : CopyInfo). i.to)

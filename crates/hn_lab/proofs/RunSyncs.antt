@@ -5,10 +5,9 @@ use Rattle.hn_sync.specs.Exchange.{unless_exchange}
 use Rattle.hn_world.specs.declared.event.WorldFault.{WorldFault}
 use Rattle.hn_world.specs.declared.event.WorldFault.TheVariants as fault
 use Rattle.hn_lab.specs.declared.end.Stop.TheVariants.{Refused}
-use Rattle.hn_lab.specs.Ended.{IsStopped, stop_of}
+use Rattle.hn_lab.specs.Ended.{IsAnsweredLeaving}
 use Rattle.hn_lab.specs.Stage.{Stage}
 use Rattle.hn_lab.specs.Syncing.{Syncs, SyncEnds}
-use Rattle.hn_lab.proofs.RunStops.{starved, stopped_last}
 
 -- what is not refused first, if a refusal is an error
 pub not_first : {A : Type 0} (unless : Option ℕ) (answer : A) → ((code : ℕ) → unless ≡ Some code → Ok answer ≡ Err (fault.Refused code)) → unless ≡ None
@@ -19,15 +18,13 @@ not_first (Some code) answer refused = let same = refused code refl in absurd cc
 pub not_synced : (a b : Name) (why : WorldFault) (before after : Stage)
     → ((code : ℕ) → unless_exchange a b before.world ≡ Some code → (why ≡ fault.Refused code) × (after ≡ before))
     → ((code : ℕ) → unless_exchange a b before.world ≡ None → why ≡ fault.Refused code → Syncs a b (Some code) before after)
-    → IsStopped (SyncEnds a b) (stop_of why) before after
-not_synced a b fault.NoMemory before after first later = starved (SyncEnds a b) before after (inl refl)
+    → IsAnsweredLeaving (SyncEnds a b) (Err why) before after
+not_synced a b fault.NoMemory before after first later = tt
 not_synced a b (fault.Refused code) before after first later = by_first (unless_exchange a b before.world) refl
   where
-    by_first : (unless : Option ℕ) → unless_exchange a b before.world ≡ unless → IsStopped (SyncEnds a b) (Refused code) before after
-    by_first None is =
-        let syncs = later code is refl in
-        stopped_last (SyncEnds a b) (Refused code) before after (inr (before, (is, refl), syncs)) syncs.text (λ e. absurd cc)
+    by_first : (unless : Option ℕ) → unless_exchange a b before.world ≡ unless → SyncEnds a b (Some (Refused code)) before after
+    by_first None is = inr (before, (is, refl), later code is refl)
     by_first (Some other) is =
         let refused = first other is in
         let same : other ≡ code = cc in
-        stopped_last (SyncEnds a b) (Refused code) before after (inl (is ∙ ap Some same, refused.1)) (ap (λ (p : Stage). p.text) refused.1) (λ e. absurd cc)
+        inl (is ∙ ap Some same, refused.1)

@@ -19,20 +19,20 @@ use Rattle.hn_world.specs.declared.event.WEvent.{WEvent}
 use Rattle.hn_world.specs.declared.event.WEvent.TheVariants as event
 use Rattle.hn_world.specs.declared.member.Member.{Member}
 use Rattle.hn_world.specs.Names.{member_named}
-use Rattle.hn_lab.specs.declared.end.Stop.{Stop}
-use Rattle.hn_lab.specs.declared.end.Stop.TheVariants.{Refused, Cut}
+use Rattle.hn_lab.specs.declared.end.Stop.TheVariants.{Cut}
 use Rattle.hn_lab.specs.declared.senders.Sending.{Sending}
 use Rattle.hn_lab.specs.declared.senders.Shape.{Shape}
-use Rattle.hn_lab.specs.Ended.{IsStopped, Leaves}
-use Rattle.hn_lab.specs.Line.{OtherEnds, Follows, unless_elects}
+use Rattle.hn_lab.specs.Ended.{Leaves}
+use Rattle.hn_lab.specs.Line.{OtherEnds, Follows}
 use Rattle.hn_lab.specs.Process.{Nothing}
+use Rattle.hn_lab.specs.Report.{unless_elects}
 use Rattle.hn_lab.specs.Senders.{shape_of, sends_at, IsSenderAt, with_sender}
 use Rattle.hn_lab.specs.Sending.{ra_line, IsAsked, IsDue, line_if, with_this, HasNoTurn, MayTurn, TurnEnds, starting, IsSolicited, Solicits}
 use Rattle.hn_lab.specs.Stage.{Stage}
 use Rattle.hn_lab.specs.Writing.{EndsAt}
 use Rattle.hn_lab.proofs.Choosings.{taken}
-use Rattle.hn_lab.proofs.RunStops.{then_on, nothing_left, stopped_last}
-use Rattle.hn_lab.proofs.RunWrites.{starves, still_done}
+use Rattle.hn_lab.proofs.RunStops.{then_on, nothing_left}
+use Rattle.hn_lab.proofs.RunWrites.{starves}
 
 -- ---- whether an advertisement is due
 
@@ -97,14 +97,13 @@ pub place_within : (name : Name) (e : EpId) (senders : List Sending) (place : �
 place_within name e [] place is = absurd cc
 place_within name e (s ∷ senders) place is = (position-Some (sends_at name e) (s ∷ senders) place s is).0
 
-module _ (name : Name) (e : EpId) (p : Stage) (h : Option (List ℕ)) where
-  -- there is none
-  pub no_turn : HasNoTurn name e p → EndsAt (TurnEnds name e) None p p h h
-  no_turn none = still_done (TurnEnds name e) p p h refl (p, refl, inl (none, refl, refl))
+-- there is none
+pub no_turn : (name : Name) (e : EpId) (p : Stage) (lines : List (List ℕ)) → HasNoTurn name e p → lines ≡ [] → Leaves (TurnEnds name e) lines p p
+no_turn name e p lines none empty = nothing_left (TurnEnds name e) lines p p empty (p, refl, inl (none, refl, refl))
 
-  -- memory ended in it
-  pub turn_starves : (a : Stage) → EndsAt (TurnEnds name e) (Some (Cut NoMemory)) p a h h
-  turn_starves a = starves (TurnEnds name e) p a h (inl refl)
+-- memory ended in it
+pub turn_starves : (name : Name) (e : EpId) (p a : Stage) (h : Option (List ℕ)) → EndsAt (TurnEnds name e) (Some (Cut NoMemory)) p a h h
+turn_starves name e p a h = starves (TurnEnds name e) p a h (inl refl)
 
 module _ (name : Name) (e : EpId) (router : State) (place : ℕ) (advert : Advert) (p : Stage)
     (found : (m : Member) × (member_named (name_text name) p.world ≡ Some m) × (router ≡ m.router)) (is_place : position (sends_at name e) p.senders ≡ Some place)
@@ -160,18 +159,6 @@ is_solicited name e place s now word sender next p a is_at now_is word_is sender
       let sender' = sender_is ∙ (λ i. solicited (now_is i) (word_is i) s.sender) in
       after_is ∙ (λ i. record (with_this place (record s { sender = sender' i }) p) { words = words i });
 }
-
--- each is refused alike
-pub radv_refused : (name : Name) (e : EpId) (why : Stop) (p : Stage) → (code : ℕ) × (why ≡ Refused code) × (unless_elects name e p.world ≡ Some code) → IsStopped (OtherEnds (line.Radv name e)) why p p
-radv_refused name e why p (code, why_is, is) =
-    subst (λ (w : Stop). IsStopped (OtherEnds (line.Radv name e)) w p p) (sym why_is)
-    (stopped_last (OtherEnds (line.Radv name e)) (Refused code) p p (inl (is, refl)) refl (λ same. absurd cc))
-
-pub solicit_refused : (name : Name) (e : EpId) (why : Stop) (p : Stage) → (code : ℕ) × (why ≡ Refused code)
-    × (unless_elects name e p.world ≡ Some code) → IsStopped (OtherEnds (line.Solicit name e)) why p p
-solicit_refused name e why p (code, why_is, is) =
-    subst (λ (w : Stop). IsStopped (OtherEnds (line.Solicit name e)) w p p) (sym why_is)
-    (stopped_last (OtherEnds (line.Solicit name e)) (Refused code) p p (inl (is, refl)) refl (λ same. absurd cc))
 
 -- nothing follows an event that is none of these four
 pub none_follows : (ev : WEvent) → ((name : Name) → ev ≡ event.Tick name → ⊥) → ((name : Name) (e : EpId) → ev ≡ event.Detach name e → ⊥) → ((name : Name) → ev ≡ event.Stop name → ⊥)

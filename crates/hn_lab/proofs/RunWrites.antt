@@ -12,7 +12,7 @@ use Rattle.hn_world.specs.declared.parts.Parts.{Parts}
 use Rattle.hn_lab.specs.declared.end.Stop.{Stop}
 use Rattle.hn_lab.specs.declared.end.Stop.TheVariants.{Refused, WireFailed, Cut}
 use Rattle.hn_lab.specs.Ended.{IsStopped, Ended, Leaves}
-use Rattle.hn_lab.specs.Output.{IsPart, AppendsPart, AreCut, joined}
+use Rattle.hn_lab.specs.Output.{IsPart, AreCut, joined}
 use Rattle.hn_lab.specs.Process.{Process, ThenProcess}
 use Rattle.hn_lab.specs.Stage.{Stage, telling}
 use Rattle.hn_lab.specs.Told.{Told, told, bytes_of}
@@ -198,13 +198,3 @@ module _ (process : Process) (lines : List (List ℕ)) (p a : Stage) (h k : Opti
     is_last = λ other. refl;
     gets = cut_gets fault before cut part are.in_part written;
   }
-
--- one line
-module _ (process : Process) (line piece : List ℕ) (p a : Stage) (h k : Option (List ℕ)) (same : a.text ≡ p.text) (leaves : Leaves process (line ∷ []) p a) (is : piece ≡ line) where
-  pub line_written : Appends h k piece → EndsAt process None p a h k
-  line_written written = lines_written process (line ∷ []) p a h k same leaves (subst (Appends h k) (is ∙ sym (append-nil line)) written)
-
-  pub line_cut : (fault : IoFault) → AppendsPart h k piece → EndsAt process (Some (Cut fault)) p a h k
-  line_cut fault (part, in_part, written) =
-      lines_cut process (line ∷ []) p a h k same leaves fault
-      ([], line, part, record { rest = []; lines_are = refl; in_part = subst (IsPart part) is in_part }, written)

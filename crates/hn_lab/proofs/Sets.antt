@@ -1,10 +1,11 @@
 -- The set of a router in a world: who is in it.
-use Rattle.std.proofs.Common.{◌≡◌, ◌==◌, ◌&&◌, ℕ, true, false, Bool, IsTrue, All, Contains, List, Option, Some, refl, subst, sym, ap, ◌∙◌}
+use Rattle.std.proofs.Common.{◌≡◌, ◌==◌, ◌&&◌, ◌≤◌, ◌<◌, ◌+◌, ℕ, true, false, Bool, IsTrue, All, Contains, List, length, take, get_or, Option, Some, refl, subst, sym, ◌∙◌}
 use Rattle.std.specs.Prelude.{◌↔◌}
 use Rattle.std.specs.List.{filter, list_any}
 use Rattle.std.specs.Option.{option_map_or}
 use Rattle.std.proofs.lemmas.Bool.{and_parts, eqb-true, eq-eqb}
-use Rattle.std.proofs.lemmas.List.Elements.{All-contains}
+use Rattle.std.proofs.lemmas.List.{take_all}
+use Rattle.std.proofs.lemmas.List.Elements.{All-contains, All-more, Contains-get_or}
 use Rattle.hn_base.proofs.AscendingLists.{Contains-from_map}
 use Rattle.hn_base.proofs.Elements.{all_of, any_from, any_of, found_passes, from_filter_map}
 use Rattle.hn_base.proofs.Keys.{same_node}
@@ -78,24 +79,41 @@ of_each_reached P w r = (
   λ each. all_of (λ m. IsTrue (is_in_set r.router.reach m) → P m) w.members (λ m there h. each m (reached_of w r m there h)),
 )
 
--- the answer to that question, asked of the router of a name
-pub answers_of : (P : Member → Type 0) (w : Parts) (r m : Member) (answer : Bool) (reach : List NodeId) (members : List Member) → reach ≡ r.router.reach → members ≡ w.members → r ≡ m
-    → IsTrue answer ↔ All (λ s. IsTrue (is_in_set reach s) → P s) members → IsTrue answer ↔ ((s : Member) → IsReached w m s → P s)
-answers_of P w r m answer reach members reach_is members_are same is =
-    let by_reach = subst (λ (ids : List NodeId). IsTrue answer ↔ All (λ s. IsTrue (is_in_set ids s) → P s) members) (reach_is ∙ ap (λ (n : Member). n.router.reach) same) is in
-    let by_members = subst (λ (ms : List Member). IsTrue answer ↔ All (λ s. IsTrue (is_in_set m.router.reach s) → P s) ms) members_are by_reach in
-    let law = of_each_reached P w m in
+-- the answer to that question
+pub answers_of : (P : Member → Type 0) (w : Parts) (r : Member) (answer : Bool) (reach : List NodeId) (members : List Member) → reach ≡ r.router.reach → members ≡ w.members
+    → IsTrue answer ↔ All (λ s. IsTrue (is_in_set reach s) → P s) members → IsTrue answer ↔ ((s : Member) → IsReached w r s → P s)
+answers_of P w r answer reach members reach_is members_are is =
+    let by_reach = subst (λ (ids : List NodeId). IsTrue answer ↔ All (λ s. IsTrue (is_in_set ids s) → P s) members) reach_is is in
+    let by_members = subst (λ (ms : List Member). IsTrue answer ↔ All (λ s. IsTrue (is_in_set r.router.reach s) → P s) ms) members_are by_reach in
+    let law = of_each_reached P w r in
     (λ yes. law.0 (by_members.0 yes), λ each. by_members.1 (law.1 each))
 
 -- the list of its set
-pub list_of : (P : List Member → Type 0) (w : Parts) (r m : Member) (reach : List NodeId) (members : List Member) → reach ≡ r.router.reach → members ≡ w.members → r ≡ m
-    → P (filter (is_in_set reach) members) → P (filter (is_in_set m.router.reach) w.members)
-list_of P w r m reach members reach_is members_are same h =
-    subst (λ (ms : List Member). P (filter (is_in_set m.router.reach) ms)) members_are
-    (subst (λ (ids : List NodeId). P (filter (is_in_set ids) members)) (reach_is ∙ ap (λ (n : Member). n.router.reach) same) h)
+pub list_of : (P : List Member → Type 0) (w : Parts) (r : Member) (reach : List NodeId) (members : List Member) → reach ≡ r.router.reach → members ≡ w.members
+    → P (filter (is_in_set reach) members) → P (filter (is_in_set r.router.reach) w.members)
+list_of P w r reach members reach_is members_are h =
+    subst (λ (ms : List Member). P (filter (is_in_set r.router.reach) ms)) members_are (subst (λ (ids : List NodeId). P (filter (is_in_set ids) members)) reach_is h)
 
 pub named_runs : (name : List ℕ) (w : Parts) (m : Member) → IsTrue (runs name w) → member_named name w ≡ Some m → IsRunning w m
 named_runs name w m is at = record {
   there = (found_passes (is_named name) w.members m at).0;
   running = subst (λ (o : Option Member). IsTrue (option_map_or (λ n. n.running) o false)) at is;
 }
+
+-- ---- members that are asked one after another
+
+module _ (P : Member → Type 0) (members : List Member) (index : ℕ) where
+  -- not all are so where one is not
+  pub one_is_not : (m : Member) (answer : Bool) → m ≡ get_or members index m → index < length members → answer ≡ false → IsTrue answer ↔ P m → IsTrue false ↔ All P members
+  one_is_not m answer at within no is =
+      let there = subst (Contains members) (sym at) (Contains-get_or members index m within) in
+      (λ yes. absurd cc, λ all. sym no ∙ is.1 (All-contains P members m all there))
+
+  -- so far all are, and the next one is
+  pub one_more : (m : Member) (answer : Bool) → m ≡ get_or members index m → index < length members → IsTrue answer → IsTrue answer ↔ P m
+      → All P (take index members) → All P (take (index + 1) members)
+  one_more m answer at within yes is so_far = All-more P members index m within so_far (subst P at (is.0 yes))
+
+  -- all are
+  pub all_are : All P (take index members) → length members ≤ index → IsTrue true ↔ All P members
+  all_are so_far end = (λ yes. subst (All P) (take_all index members end) so_far, λ all. refl)

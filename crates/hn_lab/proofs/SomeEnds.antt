@@ -6,7 +6,7 @@ use Rattle.hn_base.proofs.SomeExists.{some_by, some_then}
 use Rattle.hn_lab.specs.Existing.{IsFit, IsOn, GoesOn, ComesToAnEnd, stop_by}
 use Rattle.hn_lab.specs.Process.{Process, Nothing, Unless, ThenProcess, EachProcess, Times, Until}
 use Rattle.hn_lab.specs.Stage.{Stage}
-use Rattle.hn_lab.specs.Tells.{TellsLines, TellsSome, ReportsLines}
+use Rattle.hn_lab.specs.Tells.{TellsLines, TellsSome, Reports}
 
 -- the same stage, or one with this world, is no further
 pub on_same : (p q : Stage) → IsFit q → q.world ≡ p.world → IsOn 0 p q
@@ -63,7 +63,7 @@ pub ends_tells : (lines : List (List ℕ)) (p : Stage) → IsFit p → ComesToAn
 ends_tells lines p fit = λ none. none (record { code = None; stage = _ }) (refl, fit_told lines p fit _ refl)
 
 -- a report, where there is one
-pub ends_report : (unless : Option ℕ) (AreReport : List (List ℕ) → Type 0) (p : Stage) → IsFit p → (unless ≡ None → Some! AreReport) → ComesToAnEnd 0 (ReportsLines unless AreReport) p
+pub ends_report : (unless : Option ℕ) (AreReport : List (List ℕ) → Type 0) (p : Stage) → IsFit p → (unless ≡ None → Some! AreReport) → ComesToAnEnd 0 (Reports unless AreReport) p
 ends_report unless AreReport p fit some = ends_after unless (TellsSome AreReport) p fit (λ accepted.
     some_then (some accepted) (λ lines are none. none (record { code = None; stage = _ }) ((lines, are, refl), fit_told lines p fit _ refl)))
 

@@ -1,16 +1,13 @@
 -- By mail each line ends, and lines have a play: it cannot be that they have none.
 use Rattle.std.proofs.Common.{◌≡◌, ◌-◌, ◌*◌, ◌/◌, ◌%◌, ◌<◌, ◌^◌, ℕ, List, [], ◌∷◌, Option, None, Some, refl, ap, inl, arith}
 use Rattle.std.specs.Prelude.{All, bit_or, bit_xor}
-use Rattle.std.specs.Option.{option_or}
 use Rattle.std.proofs.lemmas.Nat.{div_below, or_of_32, pow_pos}
-use Rattle.hn_audit.specs.Reached.{IsRunning}
 use Rattle.hn_base.specs.Byte.{IsByte}
 use Rattle.hn_base.specs.Exists.{Some! }
-use Rattle.hn_base.specs.Name.{name_text}
 use Rattle.hn_base.specs.declared.ids.EpId.{EpId}
 use Rattle.hn_base.specs.declared.name.Name.{Name}
 use Rattle.hn_base.specs.declared.version.Version.{Version}
-use Rattle.hn_base.proofs.SomeExists.{some_is, some_then}
+use Rattle.hn_base.proofs.SomeExists.{some_then}
 use Rattle.rand_pcg.specs.Lcg.{Lcg, state_after}
 use Rattle.rand_pcg.specs.Pcg.{multiplier_64}
 use Rattle.hn_io.specs.Pcg.{pcg_word}
@@ -21,34 +18,29 @@ use Rattle.hn_script.specs.declared.line.How.{How}
 use Rattle.hn_script.specs.declared.line.How.TheVariants.{Uni, Multi, Far}
 use Rattle.hn_script.specs.declared.line.Line.{Line}
 use Rattle.hn_script.specs.declared.line.Line.TheVariants as line
-use Rattle.hn_world.specs.Names.{member_named}
 use Rattle.hn_world.specs.Replay.{Replays}
-use Rattle.hn_world.specs.Asked.{unless_attached, unless_both_run, unless_known, unless_running, unless_runs}
 use Rattle.hn_world.specs.declared.event.WEvent.{WEvent}
 use Rattle.hn_world.specs.declared.event.WEvent.TheVariants as event
-use Rattle.hn_world.specs.declared.member.Member.{Member}
 use Rattle.hn_lab.specs.declared.end.End.{End}
 use Rattle.hn_lab.specs.declared.end.End.TheVariants as end
 use Rattle.hn_lab.specs.declared.senders.Sending.{Sending}
-use Rattle.hn_lab.specs.AddressReports.{addresses_lines, IsAddressedLine}
-use Rattle.hn_lab.specs.AdvertReports.{IsAdvertLine}
-use Rattle.hn_lab.specs.AuditReports.{IsAuditLine}
 use Rattle.hn_lab.specs.Delivery.{DeliveryEnds, EventEnds, EventNotes}
 use Rattle.hn_lab.specs.Existing.{ComesToAnEnd, GoesOn, HasAPlay, IsFit, IsOn, PlayExists, ScriptHasAPlay, stop_by}
 use Rattle.hn_lab.specs.Laws.{IsUnbroken}
-use Rattle.hn_lab.specs.Line.{Compares, EndsBy, Follows, IsOf, LineEnds, Noted, OtherEnds, Sets, Tells, event_of, injection, mail_report, receiver, seeded, unless_elects}
+use Rattle.hn_lab.specs.Line.{EndsAs, EndsBy, Follows, LineEnds, Noted, OtherEnds, Sets, event_of, injection, receiver, report_of, seeded}
 use Rattle.hn_lab.specs.Play.{begun, IsPlay}
-use Rattle.hn_lab.specs.PrefixReports.{AreUsedLines, prefixes_lines, IsElectLine}
 use Rattle.hn_lab.specs.Process.{Process, ThenProcess}
-use Rattle.hn_lab.specs.Reports.{hash_line, refused_line, show_line}
+use Rattle.hn_lab.specs.Report.{IsReport, unless_elects, unless_report}
+use Rattle.hn_lab.specs.Reports.{refused_line}
+use Rattle.hn_lab.specs.declared.report.Report.{Report}
 use Rattle.hn_lab.specs.Sending.{Solicits, ending, ending_all, starting}
 use Rattle.hn_lab.specs.Stage.{Stage, Mail, telling}
-use Rattle.hn_lab.specs.Tells.{IsOneLine, Reports, TellsLines, note_lines}
-use Rattle.hn_lab.specs.UlaReports.{IsUlasLine, ula_line}
+use Rattle.hn_lab.specs.Tells.{TellsLines, note_lines}
+use Rattle.hn_lab.specs.UlaReports.{ula_line}
 use Rattle.hn_lab.proofs.SomeChoices.{ChoiceLaws, EventFits, ends_address, ends_sync, ends_ula}
 use Rattle.hn_lab.proofs.SomeEnds.{ends_after, ends_nothing, ends_report, ends_then, fit_told}
 use Rattle.hn_lab.proofs.SomeEvents.{EndsNoted, ends_delivery, ends_event, ends_event_whatever, ends_flow, weaker}
-use Rattle.hn_lab.proofs.SomeReports.{ReportLaws, runs_there, some_addressed_line, some_advert_line, some_audit_line, some_compared, some_elect, some_line, some_told, some_ulas_line, some_used}
+use Rattle.hn_lab.proofs.SomeReports.{ReportLaws, some_report}
 use Rattle.hn_lab.proofs.SomeTurns.{TurnLaws, ends_runs, ends_solicits, ends_turns}
 
 -- the laws on which it rests
@@ -130,20 +122,6 @@ module _ (laws : PlayLaws) where
   -- ---- the other lines
 
   module _ (p : Stage) (fit : IsFit p) where
-    -- a line of a report
-    ends_one : (unless : Option ℕ) (IsReport : List ℕ → Type 0) → (unless ≡ None → Some! IsReport) → ComesToAnEnd 0 (Reports unless IsReport) p
-    ends_one unless IsReport some = ends_report unless (IsOneLine IsReport) p fit (λ accepted. some_line IsReport (some accepted))
-
-    -- a report on a running router, and one on an endpoint of it
-    of_running : {A : Type 0} (name : Name) (report : Member → A → Type 0) → ((m : Member) → member_named (name_text name) p.world ≡ Some m → IsRunning p.world m → Some! (report m))
-        → unless_runs name p.world ≡ None → Some! (Tells name p.world report)
-    of_running name report some accepted = some_told name p.world report unless_running accepted (λ m named runs. some m named (runs_there name p.world m named runs))
-
-    of_endpoint : {A : Type 0} (name : Name) (e : EpId) (report : Member → A → Type 0) → ((m : Member) → member_named (name_text name) p.world ≡ Some m → Some! (report m))
-        → unless_elects name e p.world ≡ None → Some! (Tells name p.world report)
-    of_endpoint name e report some accepted =
-        some_told name p.world report (λ m. option_or (unless_running m) (unless_attached e m)) accepted (λ m named able. some m named)
-
     injection_fits : (name : Name) (e : EpId) (how : How) (bytes : List ℕ) → All IsByte bytes → EventFits (Some (injection name e how bytes))
     injection_fits name e Uni bytes are = (tt, tt, are)
     injection_fits name e Multi bytes are = (tt, tt, are)
@@ -154,57 +132,38 @@ module _ (laws : PlayLaws) where
         let fits = injection_fits name e how bytes are in
         ends_with_notes (EventNotes (injection name e how bytes)) (Some name) p (ends_event laws.turns.events (injection name e how bytes) p fit fits.0 fits.1 fits.2)
 
-    ends_other : (l : Line) → event_of l ≡ None → IsLimited l → HasFittingValues l → ComesToAnEnd 0 (OtherEnds l) p
-    ends_other (line.Seed seed) none limited fits = ends_sets (seeded seed) p (record {
+    ends_other : (l : Line) → event_of l ≡ None → report_of l ≡ None → IsLimited l → HasFittingValues l → ComesToAnEnd 0 (OtherEnds l) p
+    ends_other (line.Seed seed) none unreported limited fits = ends_sets (seeded seed) p (record {
       fit = record { mail = fit.mail; replayed = fit.replayed; room = fit.room; words = λ place. word_small _ place };
       grows = omega arith;
     })
-    ends_other (line.Loss percent) none limited fits = ends_sets (λ q. record q { loss = percent }) p (record {
+    ends_other (line.Loss percent) none unreported limited fits = ends_sets (λ q. record q { loss = percent }) p (record {
       fit = record { mail = fit.mail; replayed = fit.replayed; room = fit.room; words = fit.words };
       grows = omega arith;
     })
-    ends_other (line.Run end step) none limited fits = ends_runs laws.turns end step limited.0 p fit
-    ends_other (line.Deliver copy) none limited fits = ends_with_notes (DeliveryEnds copy) (receiver p.world copy) p (ends_delivery laws.turns.events copy p fit)
-    ends_other line.Flow none limited fits = ends_flow laws.turns.events p fit
-    ends_other (line.Inject name e how bytes) none limited fits = ends_inject name e how bytes fits
-    ends_other (line.Show name) none limited fits = ends_one (unless_known name p.world) (IsOf name p.world (show_line name))
-        (λ accepted. some_told name p.world (λ m told. told ≡ show_line name m) (λ _. None) accepted (λ m named able. some_is (λ told. told ≡ show_line name m) (show_line name m) refl))
-    ends_other (line.Hash name) none limited fits = ends_one (unless_runs name p.world) (IsOf name p.world (hash_line name))
-        (of_running name (λ m told. told ≡ hash_line name m) (λ m named runs. some_is (λ told. told ≡ hash_line name m) (hash_line name m) refl))
-    ends_other (line.Used name) none limited fits = ends_report (unless_runs name p.world) (Tells name p.world (AreUsedLines name)) p fit
-        (of_running name (AreUsedLines name) (λ m named runs. some_used laws.reports p.world fit.replayed name m named))
-    ends_other (line.Prefixes name) none limited fits = ends_report (unless_runs name p.world) (Tells name p.world (λ m lines. lines ≡ prefixes_lines name m)) p fit
-        (of_running name (λ m lines. lines ≡ prefixes_lines name m) (λ m named runs. some_is (λ lines. lines ≡ prefixes_lines name m) (prefixes_lines name m) refl))
-    ends_other (line.Elect name e letter) none limited fits = ends_one (unless_elects name e p.world) (Tells name p.world (IsElectLine name e letter))
-        (of_endpoint name e (IsElectLine name e letter) (λ m named. some_elect laws.reports p.world fit.replayed name m named e letter))
-    ends_other (line.Advert name e) none limited fits = ends_one (unless_elects name e p.world) (Tells name p.world (IsAdvertLine name e))
-        (of_endpoint name e (IsAdvertLine name e) (λ m named. some_advert_line laws.reports p.world fit.replayed name m named e))
-    ends_other (line.Audit name) none limited fits = ends_one (unless_runs name p.world) (Tells name p.world (IsAuditLine name p.world))
-        (of_running name (IsAuditLine name p.world) (λ m named runs. some_audit_line laws.reports p.world fit.replayed name m named runs))
-    ends_other (line.Compare left right) none limited fits = ends_one (unless_both_run left right p.world) (Compares left right p.world)
-        (λ accepted. some_compared laws.reports left right p.world fit.replayed accepted)
-    ends_other line.Mail none limited fits = ends_one None (λ told. told ≡ mail_report p.world) (λ _. some_is (λ told. told ≡ mail_report p.world) (mail_report p.world) refl)
-    ends_other (line.Address name) none limited fits = ends_address laws.choices name (λ made. []) p fit
-    ends_other (line.Addresses name) none limited fits = ends_report (unless_runs name p.world) (Tells name p.world (λ m lines. lines ≡ addresses_lines name m)) p fit
-        (of_running name (λ m lines. lines ≡ addresses_lines name m) (λ m named runs. some_is (λ lines. lines ≡ addresses_lines name m) (addresses_lines name m) refl))
-    ends_other (line.Addressed name) none limited fits = ends_one (unless_runs name p.world) (Tells name p.world (IsAddressedLine name p.world))
-        (of_running name (IsAddressedLine name p.world) (λ m named runs. some_addressed_line laws.reports p.world fit.replayed name m named runs))
-    ends_other (line.Ula name) none limited fits = ends_ula laws.choices name (λ made. ula_line name made ∷ []) p fit
-    ends_other (line.Ulas name) none limited fits = ends_one (unless_runs name p.world) (Tells name p.world (IsUlasLine name p.world))
-        (of_running name (IsUlasLine name p.world) (λ m named runs. some_ulas_line laws.reports p.world fit.replayed name m named runs))
-    ends_other (line.Sync left right) none limited fits = ends_sync laws.choices left right p fit
-    ends_other (line.Radv name e) none limited fits =
+    ends_other (line.Run end step) none unreported limited fits = ends_runs laws.turns end step limited.0 p fit
+    ends_other (line.Deliver copy) none unreported limited fits = ends_with_notes (DeliveryEnds copy) (receiver p.world copy) p (ends_delivery laws.turns.events copy p fit)
+    ends_other line.Flow none unreported limited fits = ends_flow laws.turns.events p fit
+    ends_other (line.Inject name e how bytes) none unreported limited fits = ends_inject name e how bytes fits
+    ends_other (line.Address name) none unreported limited fits = ends_address laws.choices name (λ made. []) p fit
+    ends_other (line.Ula name) none unreported limited fits = ends_ula laws.choices name (λ made. ula_line name made ∷ []) p fit
+    ends_other (line.Sync left right) none unreported limited fits = ends_sync laws.choices left right p fit
+    ends_other (line.Radv name e) none unreported limited fits =
         ends_after (unless_elects name e p.world) (Sets (starting name e)) p fit (λ accepted. ends_sets (starting name e) p (beside_on p _ fit))
-    ends_other (line.Solicit name e) none limited fits = ends_after (unless_elects name e p.world) (Solicits name e) p fit (λ accepted. ends_solicits laws.turns name e p fit)
-    ends_other _ none limited fits = absurd cc
+    ends_other (line.Solicit name e) none unreported limited fits = ends_after (unless_elects name e p.world) (Solicits name e) p fit (λ accepted. ends_solicits laws.turns name e p fit)
+    ends_other _ none unreported limited fits = absurd cc
 
   -- ---- a line, and lines
 
   ends_line : (l : Line) (p : Stage) → IsFit p → IsLimited l → HasFittingValues l → ComesToAnEnd 0 (LineEnds l) p
   ends_line l p fit limited fits = by_event (event_of l) refl (line_event_fits l limited fits)
     where
+      by_report : event_of l ≡ None → (o : Option Report) → report_of l ≡ o → ComesToAnEnd 0 (EndsAs l o) p
+      by_report none None is = ends_other p fit l none is limited fits
+      by_report none (Some of) is = ends_report (unless_report of p.world) (IsReport of p.world) p fit (some_report laws.reports p.world fit.replayed of)
+
       by_event : (o : Option WEvent) → event_of l ≡ o → EventFits o → ComesToAnEnd 0 (EndsBy l o) p
-      by_event None is _ = ends_other p fit l is limited fits
+      by_event None is _ = by_report is (report_of l) refl
       by_event (Some happens) is event_fits =
           ends_then 0 (EventEnds happens) (Follows happens) p
           (weaker p (EventEnds happens) (ends_event_whatever laws.turns.events happens p fit event_fits.0 event_fits.1 event_fits.2)) (λ m done on. ends_follows happens m on.fit)

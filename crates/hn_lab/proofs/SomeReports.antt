@@ -29,14 +29,18 @@ use Rattle.hn_world.specs.Asked.{code_if, of_router, unless_both_run, unless_kno
 use Rattle.hn_world.specs.Replay.{IsReplayed}
 use Rattle.hn_world.specs.declared.member.Member.{Member}
 use Rattle.hn_world.specs.declared.parts.Parts.{Parts}
-use Rattle.hn_lab.specs.AddressReports.{AreAddressesStill, IsAddressed, IsAddressedLine}
+use Rattle.hn_lab.specs.AddressReports.{addresses_lines, AreAddressesStill, IsAddressed, IsAddressedLine}
 use Rattle.hn_lab.specs.AdvertReports.{IsAdvertLine, advert_line}
 use Rattle.hn_lab.specs.AuditReports.{IsAudited, IsAuditLine, audit_line}
-use Rattle.hn_lab.specs.Line.{Compares, Tells}
-use Rattle.hn_lab.specs.PrefixReports.{AreUsedLines, IsElectLine, elect_line, used_lines}
-use Rattle.hn_lab.specs.Reports.{compare_line}
+use Rattle.hn_lab.specs.PrefixReports.{AreUsedLines, IsElectLine, elect_line, prefixes_lines, used_lines}
+use Rattle.hn_lab.specs.Report.{Compares, IsAbout, IsReport, Tells, mail_report, unless_about, unless_report}
+use Rattle.hn_lab.specs.Reports.{compare_line, hash_line, show_line}
 use Rattle.hn_lab.specs.Tells.{IsOneLine}
 use Rattle.hn_lab.specs.UlaReports.{ArePrefixesStill, HasGenerated, HaveGenerated, IsUlasLine, IsUlasTold}
+use Rattle.hn_lab.specs.declared.report.About.{About}
+use Rattle.hn_lab.specs.declared.report.About.TheVariants as about
+use Rattle.hn_lab.specs.declared.report.Report.{Report}
+use Rattle.hn_lab.specs.declared.report.Report.TheVariants as report
 use Rattle.hn_lab.proofs.AddressSets.{are_alone}
 use Rattle.hn_lab.proofs.Sets.{IsKnown}
 use Rattle.hn_lab.proofs.SomeTurns.{router_named}
@@ -59,10 +63,10 @@ pub record ReportLaws : Type 0 where
 
 -- ---- of the router of a name
 
-pub some_line : (IsReport : List ℕ → Type 0) → Some! IsReport → Some! (IsOneLine IsReport)
+some_line : (IsReport : List ℕ → Type 0) → Some! IsReport → Some! (IsOneLine IsReport)
 some_line IsReport some = some_then some (λ line is none. none (line ∷ []) (line, is, refl))
 
-pub some_told : {A : Type 0} (name : Name) (w : Parts) (report : Member → A → Type 0) (asked : Member → Option ℕ) → of_router asked (member_named (name_text name) w) ≡ None
+some_told : {A : Type 0} (name : Name) (w : Parts) (report : Member → A → Type 0) (asked : Member → Option ℕ) → of_router asked (member_named (name_text name) w) ≡ None
     → ((m : Member) → member_named (name_text name) w ≡ Some m → asked m ≡ None → Some! (report m)) → Some! (Tells name w report)
 some_told name w report asked accepted some =
     let m = some_there 7 asked (member_named (name_text name) w) accepted in
@@ -72,7 +76,7 @@ running_of : (b : Bool) → code_if 12 (not b) ≡ None → IsTrue b
 running_of true h = refl
 running_of false h = absurd cc
 
-pub runs_there : (name : Name) (w : Parts) (m : Member) → member_named (name_text name) w ≡ Some m → unless_running m ≡ None → IsRunning w m
+runs_there : (name : Name) (w : Parts) (m : Member) → member_named (name_text name) w ≡ Some m → unless_running m ≡ None → IsRunning w m
 runs_there name w m named accepted = record { there = (found_passes (is_named (name_text name)) w.members m named).0; running = running_of m.running accepted }
 
 -- ---- how many of a list have a generated prefix
@@ -88,13 +92,13 @@ module _ (laws : ReportLaws) (w : Parts) (replayed : IsReplayed w) (name : Name)
   router : IsRouter m.router
   router = router_named laws.sound name w m replayed named
 
-  pub some_used : Some! (AreUsedLines name m)
+  some_used : Some! (AreUsedLines name m)
   some_used = let (used, are) = laws.usable (seen_by m.router) in some_is (AreUsedLines name m) (used_lines name used) (record { used = used; are_usable = are; lines_are = refl })
 
-  pub some_elect : (e : EpId) (letter : Letter) → Some! (IsElectLine name e letter m)
+  some_elect : (e : EpId) (letter : Letter) → Some! (IsElectLine name e letter m)
   some_elect e letter = some_then (laws.elected m.router e letter router) (λ who is none. none (elect_line name e letter who) (record { who = who; is_elected = is; line_is = refl }))
 
-  pub some_advert_line : (e : EpId) → Some! (IsAdvertLine name e m)
+  some_advert_line : (e : EpId) → Some! (IsAdvertLine name e m)
   some_advert_line e = some_then (laws.adverts m.router e router) (λ advert is none.
       none (advert_line name e (advert_bytes advert)) (record { bytes = advert_bytes advert; are_bytes = (advert, is.0, refl); line_is = refl }))
 
@@ -107,7 +111,7 @@ module _ (laws : ReportLaws) (w : Parts) (replayed : IsReplayed w) (name : Name)
         (λ not none. none (codes "settled=yes quiet=no") (inr (inl (settled, not, refl)))))
         (λ not none. none (codes "settled=no") (inl (not, refl)))
 
-    pub some_audit_line : Some! (IsAuditLine name w m)
+    some_audit_line : Some! (IsAuditLine name w m)
     some_audit_line = some_then some_audited (λ told is none. none (audit_line name told) (record { told = told; is_audited = is; line_is = refl }))
 
     known : IsSettled w m → IsKnown w m
@@ -121,7 +125,7 @@ module _ (laws : ReportLaws) (w : Parts) (replayed : IsReplayed w) (name : Name)
         (λ not none. none (codes "settled=yes still=no") (inr (inl (settled, not, refl)))))
         (λ not none. none (codes "settled=no") (inl (not, refl)))
 
-    pub some_addressed_line : Some! (IsAddressedLine name w m)
+    some_addressed_line : Some! (IsAddressedLine name w m)
     some_addressed_line = some_then some_addressed (λ told is none. none _ (record { told = told; is_addressed = is; line_is = refl }))
 
     -- and by delegated prefixes
@@ -133,7 +137,7 @@ module _ (laws : ReportLaws) (w : Parts) (replayed : IsReplayed w) (name : Name)
         (λ not none. none (codes "settled=yes still=no") (inr (inl (settled, not, refl)))))
         (λ not none. none (codes "settled=no") (inl (not, refl)))
 
-    pub some_ulas_line : Some! (IsUlasLine name w m)
+    some_ulas_line : Some! (IsUlasLine name w m)
     some_ulas_line = some_then some_ulas (λ told is none. none _ (record { told = told; is_told = is; line_is = refl }))
 
 -- ---- of two routers
@@ -142,7 +146,7 @@ module _ (laws : ReportLaws) (w : Parts) (replayed : IsReplayed w) (name : Name)
 some_same : (a b : Member) → Some! (λ (same : Bool). IsTrue same ↔ (a.router.reach ≡ b.router.reach))
 some_same a b = some_by (a.router.reach ≡ b.router.reach) (λ same none. none true (λ _. same, λ _. refl)) (λ other none. none false (λ is. absurd cc, λ is. absurd (other is)))
 
-pub some_compared : ReportLaws → (left right : Name) (w : Parts) → IsReplayed w → unless_both_run left right w ≡ None → Some! (Compares left right w)
+some_compared : ReportLaws → (left right : Name) (w : Parts) → IsReplayed w → unless_both_run left right w ≡ None → Some! (Compares left right w)
 some_compared laws left right w replayed accepted =
     let first = neither_given (unless_known left w) (option_or (unless_known right w) (option_or (unless_runs left w) (unless_runs right w))) accepted in
     let second = neither_given (unless_known right w) (option_or (unless_runs left w) (unless_runs right w)) first.1 in
@@ -159,3 +163,27 @@ some_compared laws left right w replayed accepted =
       is_right = b.1;
       is_line = record { agreement = agreement; same_ids = same; agrees = agrees; ids = ids; line_is = refl };
     })))
+
+-- ---- all reports
+
+-- one line that is known
+some_this : (told : List ℕ) → Some! (IsOneLine (λ line. line ≡ told))
+some_this told = some_line (λ line. line ≡ told) (some_is (λ line. line ≡ told) told refl)
+
+module _ (laws : ReportLaws) (w : Parts) (replayed : IsReplayed w) where
+  some_about : (what : About) (name : Name) (m : Member) → member_named (name_text name) w ≡ Some m → unless_about what m ≡ None → Some! (IsAbout what name w m)
+  some_about about.Show name m named able = some_this (show_line name m)
+  some_about about.Hash name m named able = some_this (hash_line name m)
+  some_about about.Used name m named able = some_used laws w replayed name m named
+  some_about about.Prefixes name m named able = some_is (λ lines. lines ≡ prefixes_lines name m) (prefixes_lines name m) refl
+  some_about (about.Elect e letter) name m named able = some_line (IsElectLine name e letter m) (some_elect laws w replayed name m named e letter)
+  some_about (about.Advert e) name m named able = some_line (IsAdvertLine name e m) (some_advert_line laws w replayed name m named e)
+  some_about about.Audit name m named able = some_line (IsAuditLine name w m) (some_audit_line laws w replayed name m named (runs_there name w m named able))
+  some_about about.Addresses name m named able = some_is (λ lines. lines ≡ addresses_lines name m) (addresses_lines name m) refl
+  some_about about.Addressed name m named able = some_line (IsAddressedLine name w m) (some_addressed_line laws w replayed name m named (runs_there name w m named able))
+  some_about about.Ulas name m named able = some_line (IsUlasLine name w m) (some_ulas_line laws w replayed name m named (runs_there name w m named able))
+
+  pub some_report : (of : Report) → unless_report of w ≡ None → Some! (IsReport of w)
+  some_report (report.Router name what) accepted = some_told name w (IsAbout what name w) (unless_about what) accepted (λ m named able. some_about what name m named able)
+  some_report (report.Compare left right) accepted = some_line (Compares left right w) (some_compared laws left right w replayed accepted)
+  some_report report.Mail accepted = some_this (mail_report w)

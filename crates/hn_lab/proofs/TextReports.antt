@@ -1,9 +1,9 @@
 -- What a report says of the routers of its names.
-use Rattle.std.proofs.Common.{◌≡◌, ◌∙◌, ℕ, Bool, List, [], ◌∷◌, ◌++◌, Option, None, Some, inl, refl, ap, sym, subst, length}
-use Rattle.std.specs.Prelude.{◌↔◌, IsTrue, Decides, codes}
+use Rattle.std.proofs.Common.{◌≡◌, ◌∙◌, ℕ, Bool, List, [], ◌∷◌, ◌++◌, Option, None, Some, Result, refl, ap, sym, subst, length}
+use Rattle.std.specs.Prelude.{◌↔◌, IfOk, IsTrue, Decides, codes}
 use Rattle.std.specs.Option.{option_map, option_or}
 use Rattle.std.specs.Fmt.{decimal}
-use Rattle.hn_base.specs.HexText.{id_text, hex_text}
+use Rattle.hn_base.specs.HexText.{id_text}
 use Rattle.hn_base.specs.Name.{name_text}
 use Rattle.hn_base.specs.declared.name.Name.{Name}
 use Rattle.hn_base.specs.declared.ids.NodeId.{NodeId}
@@ -16,35 +16,12 @@ use Rattle.hn_world.specs.Names.{member_named}
 use Rattle.hn_world.specs.declared.member.Member.{Member}
 use Rattle.hn_world.specs.declared.parts.Parts.{Parts}
 use Rattle.hn_world.specs.Asked.{unless_known, unless_runs, unless_both_run}
-use Rattle.hn_io.specs.declared.fault.IoFault.TheVariants.{NoMemory}
-use Rattle.hn_lab.specs.declared.end.Stop.{Stop}
-use Rattle.hn_lab.specs.declared.end.Stop.TheVariants.{Refused, Cut}
-use Rattle.hn_lab.specs.Ended.{IsStopped, Leaves}
-use Rattle.hn_lab.specs.Line.{Compares}
-use Rattle.hn_lab.specs.Process.{Unless}
-use Rattle.hn_lab.specs.Tells.{ReportsLines, Reports, IsOneLine, TellsSome}
+use Rattle.hn_lab.specs.declared.report.About.{About}
+use Rattle.hn_lab.specs.Report.{Compares, IsAbout}
+use Rattle.hn_lab.specs.Tells.{IsOneLine}
 use Rattle.hn_lab.specs.Reports.{yes_no, show_line, compare_line}
-use Rattle.hn_lab.specs.Stage.{Stage}
+use Rattle.std.proofs.lemmas.Result.{IfOk-weaker}
 use Rattle.hn_base.proofs.DecidingTests.{neither_given, some_there}
-use Rattle.hn_lab.proofs.RunStops.{then_on, starved, stopped_last}
-
--- a report, with its lines
-pub reported : (unless : Option ℕ) (AreReport : List (List ℕ) → Type 0) (lines : List (List ℕ)) (p : Stage) → unless ≡ None → AreReport lines → Leaves (ReportsLines unless AreReport) lines p p
-reported unless AreReport lines p none are stop end tells = then_on (Unless unless) (TellsSome AreReport) stop p p end (none, refl) (lines, are, tells)
-
-pub line_reported : (unless : Option ℕ) (IsReport : List ℕ → Type 0) (line : List ℕ) (lines : List (List ℕ)) (p : Stage) → unless ≡ None
-    → IsReport line → lines ≡ line ∷ [] → Leaves (Reports unless IsReport) lines p p
-line_reported unless IsReport line lines p none is are = reported unless (IsOneLine IsReport) lines p none (line, is, are)
-
--- one that is refused, and one for which memory ended
-pub report_refused : (unless : Option ℕ) (AreReport : List (List ℕ) → Type 0) (why : Stop) (p : Stage) → (code : ℕ) × (why ≡ Refused code)
-    × (unless ≡ Some code) → IsStopped (ReportsLines unless AreReport) why p p
-report_refused unless AreReport why p (code, why_is, is) =
-    subst (λ (w : Stop). IsStopped (ReportsLines unless AreReport) w p p) (sym why_is)
-    (stopped_last (ReportsLines unless AreReport) (Refused code) p p (inl (is, refl)) refl (λ e. absurd cc))
-
-pub report_starved : (unless : Option ℕ) (AreReport : List (List ℕ) → Type 0) (p : Stage) → IsStopped (ReportsLines unless AreReport) (Cut NoMemory) p p
-report_starved unless AreReport p = starved (ReportsLines unless AreReport) p p (inl refl)
 
 -- the router of a name
 pub member_of : (found : Option Member) (router : Router) → Some router ≡ option_map (λ m. m.router) found → (m : Member) × (found ≡ Some m) × (router ≡ m.router)
@@ -69,16 +46,13 @@ shows name m id number reach table held running line id_is number_is reach_is ta
     ∙ ap (λ x. shown name m.router.id m.router.number (length m.router.reach) x running) (held_is ∙ ap (λ (t : Table). length t.entries) table_is)
     ∙ ap (λ x. shown name m.router.id m.router.number (length m.router.reach) (length m.router.table.entries) x) running_is
 
--- the text of a report on a network state hash
-abbrev pub hashed : Name → List ℕ → List ℕ
-hashed name net = codes "hash " ++ name_text name ++ codes " " ++ hex_text net ++ 10 ∷ []
-
-pub compares : (left right : Name) (w : Parts) (agreement : Agreement) (same_ids : Bool) (line : List ℕ) → None ≡ unless_both_run left right w
+-- the line on two routers
+pub compares : (left right : Name) (w : Parts) (agreement : Agreement) (same_ids : Bool) (line : List ℕ) → unless_both_run left right w ≡ None
     → ((a b : Member) → member_named (name_text left) w ≡ Some a → member_named (name_text right) w ≡ Some b → Agrees (leaves_of a.router) (leaves_of b.router) agreement)
     → ((a b : Member) → member_named (name_text left) w ≡ Some a → member_named (name_text right) w ≡ Some b → IsTrue same_ids ↔ (a.router.reach ≡ b.router.reach))
     → line ≡ compare_line left right agreement same_ids → Compares left right w line
 compares left right w agreement same_ids line none agrees ids line_is =
-    let first = neither_given (unless_known left w) (option_or (unless_known right w) (option_or (unless_runs left w) (unless_runs right w))) (sym none) in
+    let first = neither_given (unless_known left w) (option_or (unless_known right w) (option_or (unless_runs left w) (unless_runs right w))) none in
     let second = neither_given (unless_known right w) (option_or (unless_runs left w) (unless_runs right w)) first.1 in
     let a = some_there 7 (λ (_ : Member). None) (member_named (name_text left) w) first.0 in
     let b = some_there 7 (λ (_ : Member). None) (member_named (name_text right) w) second.0 in
@@ -102,3 +76,14 @@ reach_same r left right a b xs ys found found' xs_is ys_is same m n is is' =
     let mine : xs ≡ m.router.reach = xs_is ∙ ap (λ (x : Router). x.reach) (first.2 ∙ ap (λ (x : Member). x.router) m_is) in
     let its : ys ≡ n.router.reach = ys_is ∙ ap (λ (x : Router). x.reach) (second.2 ∙ ap (λ (x : Member). x.router) n_is) in
     (λ true_is. sym mine ∙ same.0 true_is ∙ its, λ reach_is. same.1 (mine ∙ reach_is ∙ sym its))
+
+-- a report on a router of one line
+pub told_line : {E : Type 0} (what same : About) (name : Name) (w : Parts) (m : Member) (P : List ℕ → Type 0) (line : List ℕ) (r : Result (List (List ℕ)) E) → what ≡ same
+    → ((lines : List (List ℕ)) → IsOneLine P lines → IsAbout same name w m lines) → P line → IfOk r (λ lines. lines ≡ line ∷ []) → IfOk r (IsAbout what name w m)
+told_line what same name w m P line r is so told one =
+    subst (λ (a : About). IfOk r (IsAbout a name w m)) (sym is) (IfOk-weaker r (λ lines. lines ≡ line ∷ []) (IsAbout same name w m) (λ lines are. so lines (line, told, are)) one)
+
+-- and one of several
+pub told_lines : {E : Type 0} (what same : About) (name : Name) (w : Parts) (m : Member) (r : Result (List (List ℕ)) E) → what ≡ same
+    → IfOk r (IsAbout same name w m) → IfOk r (IsAbout what name w m)
+told_lines what same name w m r is told = subst (λ (a : About). IfOk r (IsAbout a name w m)) (sym is) told

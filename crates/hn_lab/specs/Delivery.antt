@@ -55,6 +55,9 @@ ComesTo copy c Same notes stop before after = EventNotes (event.Deliver copy) no
 ComesTo copy c Lost notes stop before after = EventNotes (event.Drop copy) notes stop before after
 ComesTo copy c (Other bytes) notes stop before after = Replaces copy (injection_for before.world c bytes) notes stop before after
 
+abbrev pub ComesToSome : ℕ → MailCopy → Carried → Process
+ComesToSome copy c carried stop before after = (notes : List Note) × ComesTo copy c carried notes stop before after
+
 -- the wire fails while a copy is carried: nothing happens
 pub record IsBroken (copy : ℕ) (stop : Option Stop) (before after : Stage) : Type 0 where
   pub stop_is : stop ≡ Some WireFailed

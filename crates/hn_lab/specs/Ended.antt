@@ -1,5 +1,5 @@
 -- How a call of a play ended.
-use Rattle.std.specs.Prelude.{◌≡◌, ◌≢◌, ℕ, List, Option, None, Some, Result, Ok, Err}
+use Rattle.std.specs.Prelude.{◌≡◌, ◌≢◌, ⊤, ℕ, List, Option, None, Some, Result, Ok, Err}
 use Rattle.hn_io.specs.declared.fault.IoFault.TheVariants.{Failed, NoMemory}
 use Rattle.hn_world.specs.declared.event.WorldFault.{WorldFault}
 use Rattle.hn_world.specs.declared.event.WorldFault.TheVariants as fault
@@ -38,3 +38,21 @@ EndsLeaving process (Err stop) before after = IsStopped process stop before afte
 abbrev pub stop_of : WorldFault → Stop
 stop_of (fault.Refused code) = Refused code
 stop_of fault.NoMemory = Cut NoMemory
+
+abbrev pub stopping : {A : Type 0} → Result A WorldFault → Result A Stop
+stopping (Ok answer) = Ok answer
+stopping (Err why) = Err (stop_of why)
+
+-- A process that uses neither a wire nor a sink is answered: it is done, or refused, and no line came up. Where memory ended
+-- nothing is said of it: each such process may be cut where it begins.
+abbrev pub IsAnsweredWith : {A : Type 0} → (A → Stage → Stage → Type 0) → Process → Result A WorldFault → Stage → Stage → Type 0
+IsAnsweredWith done process (Ok answer) before after = done answer before after
+IsAnsweredWith done process (Err (fault.Refused code)) before after = process (Some (Refused code)) before after
+IsAnsweredWith done process (Err fault.NoMemory) before after = ⊤
+
+abbrev pub IsAnswered : {A : Type 0} → Process → Result A WorldFault → Stage → Stage → Type 0
+IsAnswered process result before after = IsAnsweredWith (λ _. process None) process result before after
+
+-- lines are left to tell
+abbrev pub IsAnsweredLeaving : Process → Result (List (List ℕ)) WorldFault → Stage → Stage → Type 0
+IsAnsweredLeaving process result before after = IsAnsweredWith (Leaves process) process result before after

@@ -17,10 +17,12 @@ pub mod Choosing
 pub mod AddressReports
 pub mod UlaReports
 pub mod Syncing
+pub mod Report
 pub mod Line
 pub mod Play
 pub mod Output
 pub mod Laws
+pub mod Breaking
 pub mod Lab
 pub mod Existing
 pub mod Transcripts

@@ -38,13 +38,13 @@ abbrev pub route_of : Option ℕ → Option (List Datagram) → Route
 route_of None waiting = Mail
 route_of (Some base) waiting = Ports base waiting
 
--- a play over such a wire, with this text so far
-abbrev pub stage_of : Playing → Option (List Datagram) → List Told → Stage
-stage_of p waiting text = record {
+-- a play over such a route, with this text so far
+abbrev pub stage_of : Playing → Route → List Told → Stage
+stage_of p route text = record {
   world = p.world;
   loss = p.loss;
   words = words_of p.words;
-  route = route_of p.base waiting;
+  route = route;
   senders = p.senders;
   text = text;
 }

@@ -21,15 +21,13 @@ TellsLines lines (Some (Cut fault)) before after =
 abbrev pub TellsSome : (List (List ℕ) → Type 0) → Process
 TellsSome AreReport stop before after = (lines : List (List ℕ)) × AreReport lines × TellsLines lines stop before after
 
--- the lines of a report, unless it is refused; one line
-abbrev pub ReportsLines : Option ℕ → (List (List ℕ) → Type 0) → Process
-ReportsLines unless AreReport stop before after = ThenProcess (Unless unless) (TellsSome AreReport) stop before after
+-- the lines of a report, unless it is refused
+abbrev pub Reports : Option ℕ → (List (List ℕ) → Type 0) → Process
+Reports unless AreReport stop before after = ThenProcess (Unless unless) (TellsSome AreReport) stop before after
 
+-- one line
 abbrev pub IsOneLine : (List ℕ → Type 0) → List (List ℕ) → Type 0
 IsOneLine IsReport lines = (line : List ℕ) × IsReport line × (lines ≡ line ∷ [])
-
-abbrev pub Reports : Option ℕ → (List ℕ → Type 0) → Process
-Reports unless IsReport stop before after = ReportsLines unless (IsOneLine IsReport) stop before after
 
 -- a line for each note of the router of a name, if there is one
 abbrev pub note_lines : Option Name → List Note → List (List ℕ)

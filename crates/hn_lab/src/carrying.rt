@@ -1,9 +1,9 @@
-//! A copy is carried: by mail, or over a wire.
+//! How copies are carried: by mail, or over a wire.
 
-ghost use Rattle.std.specs.Prelude.{◌≡◌, ◌≤◌, None, Err, length, IfOk};
+ghost use Rattle.std.specs.Prelude.{◌≡◌, ◌≤◌, Err, length, IfOk};
 ghost use Rattle.hn_io.specs.Faults.{IsCaused};
 ghost use Rattle.hn_io.specs.declared.fault.IoFault.{IoFault};
-ghost use Rattle.hn_lab.specs.Carrying.{CarriesOver, FailsCarrying};
+ghost use Rattle.hn_lab.specs.Carrying.{Carries, Breaks};
 
 use hn_base::Bytes;
 use hn_io::IoFault;
@@ -11,43 +11,7 @@ use hn_wire::Wire;
 use std::alloc::Global;
 use std::marker::Model;
 
-/// The port that copies are sent from, at most 65,534; each is taken at the port after it. Contracts see the number.
-#[derive(Clone, Copy)]
-pub struct Base {
-    port: u16,
-}
-
-impl Model for Base {
-    ghost use Rattle.std.specs.Prelude.{ℕ, ◌≤◌};
-
-    ghost Value = { ℕ };
-
-    ghost view = { λ b. b.port };
-
-    ghost invariant = { λ b. b.port ≤ 65534 };
-
-    ghost inverse = { λ port. record { port = port } };
-}
-
-impl Base {
-    /// This port. Never allocates.
-    pub(crate) fn new(port: u16) -> Base
-        requires { port ≤ 65534 }
-        ensures { result ≡ port }
-    {
-        Base { port }
-    }
-
-    /// The port. Never allocates.
-    fn get(&self) -> u16
-        ensures port { result ≡ self.now }
-        ensures in_range { result ≤ 65534 }
-    {
-        self.port
-    }
-}
-
-/// What came of a copy that was handed to the wire.
+/// What came of a copy that was carried.
 #[derive(Drop)]
 pub enum Carried {
     /// Its bytes came back.
@@ -58,35 +22,114 @@ pub enum Carried {
     Other(Bytes),
 }
 
-/// Sends bytes from the base to the port after it, and takes one datagram there.
-///
-/// # Errors
-///
-/// The wire failed, or memory ended.
-pub(crate) fn carry<W: Wire>(
-    alloc: Global,
-    wire: &mut W,
-    base: Base,
-    bytes: &[u8],
-) -> Result<Carried, IoFault>
-    requires { length bytes.now ≤ 65507 }
-    ensures carries { IfOk result (λ carried. CarriesOver base bytes.now carried (W.waiting wire.old) (W.waiting wire.new)) }
-    ensures broken { result ≡ Err IoFault.Failed → FailsCarrying base bytes.now (W.waiting wire.old) (W.waiting wire.new) }
-    ensures caused { IsCaused (result ≡ Err IoFault.Failed) (W.faults wire.old) (W.faults wire.new)
-        (W.never_fails wire.old) (W.never_fails wire.new) }
-{
-    let base = base.get();
-    wire.send(base, base + 1, bytes)?;
-    let mut buf = [0; 65_536];
-    let Some((count, _from)) = wire.take(base + 1, &mut buf)? else {
-        return Ok(Carried::Lost);
-    };
-    let got = &buf[..count];
-    if got == bytes {
-        return Ok(Carried::Same);
+/// What carries copies. Outside of the play it has no more than a `W`.
+pub trait Carrier<W> {
+    ghost use Rattle.std.specs.Prelude.{ℕ};
+    ghost use Rattle.hn_lab.specs.Stage.{Route};
+
+    /// How copies go, with what waits outside.
+    ghost route: { Self → W → Route };
+
+    /// How many calls have failed so far.
+    ghost faults: { W → ℕ };
+
+    /// Holds of an outside whose calls never fail, now and later.
+    ghost never_fails: { W → Type 0 };
+
+    /// Carries the bytes of a copy.
+    ///
+    /// # Errors
+    ///
+    /// The wire failed, or memory ended.
+    fn carry(&self, alloc: Global, outside: &mut W, bytes: &[u8]) -> Result<Carried, IoFault>
+        requires { length bytes.now ≤ 65507 }
+        ensures carries { IfOk result (λ carried. Carries bytes.now carried (route self.now outside.old)
+            (route self.now outside.new)) }
+        ensures broken { result ≡ Err IoFault.Failed → Breaks bytes.now (route self.now outside.old)
+            (route self.now outside.new) }
+        ensures caused { IsCaused (result ≡ Err IoFault.Failed) (faults outside.old) (faults outside.new)
+            (never_fails outside.old) (never_fails outside.new) };
+}
+
+/// Copies go by mail: nothing outside of the play is used, and nothing fails.
+#[derive(Clone, Copy)]
+pub struct Mail;
+
+impl Carrier<()> for Mail {
+    ghost use Rattle.std.specs.Prelude.{⊤};
+    ghost use Rattle.hn_lab.specs.Stage.{Mail as ByMail};
+
+    ghost route = { λ _ _. ByMail };
+
+    ghost faults = { λ _. 0 };
+
+    ghost never_fails = { λ _. ⊤ };
+
+    fn carry(&self, _alloc: Global, _outside: &mut (), _bytes: &[u8]) -> Result<Carried, IoFault> {
+        Ok(Carried::Same)
     }
-    match Bytes::copy_of(alloc, got) {
-        Ok(others) => Ok(Carried::Other(others)),
-        Err(_) => Err(IoFault::NoMemory),
+}
+
+/// Copies go over a wire, from a base, which is a port of at most 65,534, to the port after it. Contracts see the base.
+#[derive(Clone, Copy)]
+pub struct Ports {
+    base: u16,
+}
+
+impl Model for Ports {
+    ghost use Rattle.std.specs.Prelude.{ℕ, ◌≤◌};
+
+    ghost Value = { ℕ };
+
+    ghost view = { λ p. p.base };
+
+    ghost invariant = { λ p. p.base ≤ 65534 };
+
+    ghost inverse = { λ base. record { base = base } };
+}
+
+impl Ports {
+    /// From this base. Never allocates.
+    pub(crate) fn new(base: u16) -> Ports
+        requires { base ≤ 65534 }
+        ensures { result ≡ base }
+    {
+        Ports { base }
+    }
+
+    /// The base. Never allocates.
+    fn base(&self) -> u16
+        ensures base { result ≡ self.now }
+        ensures in_range { result ≤ 65534 }
+    {
+        self.base
+    }
+}
+
+impl<W: Wire> Carrier<W> for Ports {
+    ghost use Rattle.hn_lab.specs.Stage.{Ports as FromBase};
+
+    ghost route = { λ base wire. FromBase base (W.waiting wire) };
+
+    ghost faults = { W.faults };
+
+    ghost never_fails = { W.never_fails };
+
+    /// Sends the bytes from the base to the port after it, and takes one datagram there.
+    fn carry(&self, alloc: Global, outside: &mut W, bytes: &[u8]) -> Result<Carried, IoFault> {
+        let base = self.base();
+        outside.send(base, base + 1, bytes)?;
+        let mut buf = [0; 65_536];
+        let Some((count, _from)) = outside.take(base + 1, &mut buf)? else {
+            return Ok(Carried::Lost);
+        };
+        let got = &buf[..count];
+        if got == bytes {
+            return Ok(Carried::Same);
+        }
+        match Bytes::copy_of(alloc, got) {
+            Ok(others) => Ok(Carried::Other(others)),
+            Err(_) => Err(IoFault::NoMemory),
+        }
     }
 }

@@ -1,3 +1,6 @@
+ghost use Rattle.std.specs.Prelude.{◌≡◌, ◌≢◌, Err};
+ghost use Rattle.hn_lab.specs.Ended.{stopping};
+
 use hn_base::NoMemory;
 use hn_io::IoFault;
 use hn_world::WorldFault;
@@ -71,5 +74,18 @@ impl From<WorldFault> for Stop {
             WorldFault::Refused(code) => Stop::Refused(code),
             WorldFault::NoMemory => Stop::Cut(IoFault::NoMemory),
         }
+    }
+}
+
+/// The answer of a world, as that of a play: neither a wire nor a sink failed. Never allocates.
+pub(crate) fn stopping<T>(answer: Result<T, WorldFault>) -> Result<T, Stop>
+    ensures same { result ≡ stopping answer }
+    ensures unbroken { result ≢ Err Stop.WireFailed }
+    ensures unwritten { result ≢ Err (Stop.Cut IoFault.Failed) }
+{
+    match answer {
+        Ok(done) => Ok(done),
+        Err(WorldFault::Refused(code)) => Err(Stop::Refused(code)),
+        Err(WorldFault::NoMemory) => Err(Stop::Cut(IoFault::NoMemory)),
     }
 }

@@ -1,5 +1,6 @@
 //! Laws of plays. Each is the contract of a function that does nothing.
 
+ghost use Rattle.hn_lab.specs.Breaking.{WireFailsAtACopy};
 ghost use Rattle.hn_lab.specs.Laws.{AtMostOnePlay, AtMostOneCutPlay, CutTextsAreFronts, BrokenTextsAreFronts, MailDelivers, PiecesAppend, ResultsAreUnique};
 
 use hn_addr::choice_is_unique;
@@ -53,6 +54,14 @@ pub fn cut_text_is_a_front()
 /// The text of a play that the wire ended is a front of the text of the whole play.
 pub fn broken_text_is_a_front()
     ensures { BrokenTextsAreFronts }
+{
+    results_are_unique();
+}
+
+/// Where a wire that tells what waits ends a play, the play could as well have been cut right before a copy, and that
+/// copy failed: what waited then is left, or that with the copy behind it.
+pub fn wire_fails_at_a_copy()
+    ensures { WireFailsAtACopy }
 {
     results_are_unique();
 }

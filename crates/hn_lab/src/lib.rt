@@ -18,7 +18,9 @@ mod notes;
 mod of_line;
 mod output;
 mod playing;
+mod plays;
 mod prefix_reports;
+mod report;
 mod reports;
 mod rounds;
 mod scripts;
@@ -27,7 +29,6 @@ mod sending;
 mod set;
 mod stream;
 mod syncing;
-mod text;
 mod ula_report;
 
 pub use end::End;
@@ -38,7 +39,7 @@ pub use existing::{
 pub use input::read_all;
 pub use law::{
     at_most_one_cut_play, at_most_one_play, broken_text_is_a_front, cut_text_is_a_front,
-    mail_delivers, pieces_append,
+    mail_delivers, pieces_append, wire_fails_at_a_copy,
 };
 pub use notes::note_line;
 pub use output::{write_piece, write_refusal};

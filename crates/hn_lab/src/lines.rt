@@ -1,65 +1,54 @@
-ghost use Rattle.std.specs.Prelude.{◌≡◌, ◌≢◌, ℕ, List, [], IfOk, None, Ok, Err};
-ghost use Rattle.std.specs.Io.KnownBytes.{Appends};
-ghost use Rattle.std.specs.List.{AllByRecursion};
-ghost use Rattle.hn_io.specs.Faults.{IsCaused};
-ghost use Rattle.hn_base.specs.declared.version.Version.{Version};
-ghost use Rattle.hn_script.specs.Laws.{IsLimited};
-ghost use Rattle.hn_script.specs.Line.{IsOfVersion};
-ghost use Rattle.hn_lab.specs.Output.{AppendsFront, IsCutText};
-ghost use Rattle.hn_lab.specs.Play.{IsPlay, IsCut, IsCutPlay};
-ghost use Rattle.hn_lab.specs.Stage.{Stage, stage_of};
-ghost use Rattle.hn_lab.specs.Told.{bytes_of};
-ghost use Rattle.hn_lab.specs.declared.end.End.TheVariants as end;
+ghost use Rattle.std.specs.Prelude.{◌≡◌, [], ◌∷◌, ◌++◌, IfOk, OnOk, map, string_bytes};
 
-use crate::end::{End, Stop};
-use crate::output::write_refusal;
-use crate::playing::Playing;
-use hn_io::{IoFault, Sink};
-use hn_script::Line;
-use hn_wire::Wire;
+use hn_base::NoMemory;
 use std::alloc::Global;
+use std::marker::Model;
 
-impl Playing {
-    /// Plays lines one after another, each with its number, and writes each line of text right when it comes up. The
-    /// first line that is refused ends the play with its text, and so does the wire where it fails. The first call on the sink
-    /// that fails ends it without.
-    pub(crate) fn play<K: Sink, W: Wire>(
-        &mut self,
-        alloc: Global,
-        lines: Vec<(u32, Line)>,
-        out: &mut K,
-        wire: &mut W,
-    ) -> Result<End, IoFault>
-        requires limited { AllByRecursion (λ line. IsLimited line.1) lines.items }
-        requires of_version { (version : Version) × AllByRecursion (λ line. IsOfVersion version line.1) lines.items }
-        ensures whole { IfOk result (λ end. (after : Stage) × IsPlay lines.items end (stage_of self.old (W.waiting wire.old) []) after
-            × (after ≡ stage_of self.new (W.waiting wire.new) after.text) × Appends (K.held out.old) (K.held out.new) (bytes_of after.text)) }
-        ensures cut { result ≡ Err IoFault.Failed → (after : Stage) × (written : List ℕ)
-            × IsCutPlay lines.items (stage_of self.old (W.waiting wire.old) []) after
-            × (after ≡ stage_of self.new (W.waiting wire.new) after.text)
-            × IsCutText after.text written × Appends (K.held out.old) (K.held out.new) written }
-        ensures starved { result ≡ Err IoFault.NoMemory → (after : Stage)
-            × IsCut IoFault.NoMemory lines.items (stage_of self.old (W.waiting wire.old) []) after
-            × AppendsFront (K.held out.old) (K.held out.new) (bytes_of after.text) }
-        ensures base { self.new.base ≡ self.old.base }
-        ensures unwired { self.old.base ≡ None → (wire.new ≡ wire.old) × (result ≢ Ok end.WireFailed) }
-        ensures caused { IsCaused (result ≡ Err IoFault.Failed) (K.faults out.old) (K.faults out.new)
-            (K.never_fails out.old) (K.never_fails out.new) }
-        ensures wire_caused { IsCaused (result ≡ Ok end.WireFailed) (W.faults wire.old) (W.faults wire.new)
-            (W.never_fails wire.old) (W.never_fails wire.new) }
+/// Lines of text, each with its LF.
+#[derive(Drop)]
+pub struct Lines {
+    items: Vec<String>,
+}
+
+impl Model for Lines {
+    ghost use Rattle.std.specs.Prelude.{ℕ, List, map, string_bytes};
+
+    ghost Value = { List (List ℕ) };
+
+    ghost view = { λ l. map string_bytes l.items.items };
+}
+
+impl Lines {
+    /// No lines. Never allocates.
+    pub(crate) fn new(alloc: Global) -> Lines
+        ensures { result ≡ [] }
     {
-        let _total = lines.len();
-        for (number, line) in lines {
-            match self.line(alloc, out, wire, line) {
-                Ok(()) => {}
-                Err(Stop::Refused(code)) => {
-                    write_refusal(alloc, out, number, code)?;
-                    return Ok(End::Refused { line: number, code });
-                }
-                Err(Stop::WireFailed) => return Ok(End::WireFailed),
-                Err(Stop::Cut(fault)) => return Err(fault),
-            }
+        Lines {
+            items: Vec::new(alloc),
         }
-        Ok(End::Done)
+    }
+
+    /// One line.
+    pub(crate) fn of(alloc: Global, line: String) -> Result<Lines, NoMemory>
+        ensures { IfOk result (λ lines. lines ≡ string_bytes line ∷ []) }
+    {
+        let mut lines = Lines::new(alloc);
+        lines.push(line)?;
+        Ok(lines)
+    }
+
+    /// The lines. Never allocates.
+    pub(crate) fn as_slice(&self) -> &[String]
+        ensures { map string_bytes result.now ≡ self.now }
+    {
+        self.items.as_slice()
+    }
+
+    /// Adds a line.
+    pub(crate) fn push(&mut self, line: String) -> Result<(), NoMemory>
+        ensures { OnOk result (self.new ≡ self.old ++ string_bytes line ∷ []) }
+    {
+        self.items.push(line)?;
+        Ok(())
     }
 }

@@ -1,9 +1,11 @@
 //! The lines on what routers noted.
 
-ghost use Rattle.std.specs.Prelude.{◌≡◌, IfOk, string_bytes};
+ghost use Rattle.std.specs.Prelude.{◌≡◌, ◌++◌, IfOk, OnOk, map, string_bytes};
 ghost use Rattle.hn_lab.specs.Reports.{took_text, note_text, note_line};
+ghost use Rattle.hn_lab.specs.Tells.{note_lines};
 
-use hn_base::Name;
+use crate::lines::Lines;
+use hn_base::{Name, NoMemory};
 use hn_rules::Note;
 use hn_store::Took;
 use std::alloc::{AllocError, Global};
@@ -53,4 +55,29 @@ pub fn note_line(alloc: Global, name: &Name, note: &Note) -> Result<String, Allo
 {
     let text = note_text(alloc, note)?;
     format!(in alloc; "note {name} {text}\n")
+}
+
+/// A line of text for each note of the router of a name, if there is one.
+pub(crate) fn note_lines(
+    alloc: Global,
+    name: Option<Name>,
+    notes: &[Note],
+) -> Result<Lines, NoMemory>
+    ensures { IfOk result (λ lines. lines ≡ note_lines name notes.now) }
+{
+    let mut lines = Lines::new(alloc);
+    if let Some(name) = name {
+        add_notes(alloc, &mut lines, &name, notes)?;
+    }
+    Ok(lines)
+}
+
+/// Adds a line for each note.
+fn add_notes(alloc: Global, lines: &mut Lines, name: &Name, notes: &[Note]) -> Result<(), NoMemory>
+    ensures { OnOk result (lines.new ≡ lines.old ++ map (note_line name.now) notes.now) }
+{
+    for note in notes {
+        lines.push(note_line(alloc, name, note)?)?;
+    }
+    Ok(())
 }

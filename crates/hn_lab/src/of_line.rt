@@ -1,11 +1,12 @@
-//! The events that lines are.
+//! The events and the reports that lines are.
 
 ghost use Rattle.std.specs.Prelude.{◌≡◌, Err, None, Some, IfOk};
 ghost use Rattle.hn_script.specs.Laws.{IsLimited};
 ghost use Rattle.hn_script.specs.declared.line.Line.{Line};
 ghost use Rattle.hn_world.specs.Step.{IsWorldEventInRange};
-ghost use Rattle.hn_lab.specs.Line.{event_of, injection, source_of};
+ghost use Rattle.hn_lab.specs.Line.{event_of, report_of, injection, source_of};
 
+use crate::report::{About, Report};
 use hn_base::{Addr, Bytes, EpId, Name};
 use hn_script::{How, Line};
 use hn_world::{HNCP_PORT, WEvent};
@@ -72,5 +73,26 @@ pub(crate) fn event_of(line: Line) -> Result<WEvent, Line>
         Line::Tick(name) => WEvent::Tick { name },
         Line::Drop(copy) => WEvent::Drop { copy },
         other => return Err(other),
+    })
+}
+
+/// The report that a line is, if it is one.
+pub(crate) fn report_of(line: &Line) -> Option<Report>
+    ensures { result ≡ report_of line.now }
+{
+    Some(match line {
+        Line::Show(name) => Report::Router(*name, About::Show),
+        Line::Hash(name) => Report::Router(*name, About::Hash),
+        Line::Used(name) => Report::Router(*name, About::Used),
+        Line::Prefixes(name) => Report::Router(*name, About::Prefixes),
+        Line::Elect(name, e, letter) => Report::Router(*name, About::Elect(*e, *letter)),
+        Line::Advert(name, e) => Report::Router(*name, About::Advert(*e)),
+        Line::Audit(name) => Report::Router(*name, About::Audit),
+        Line::Addresses(name) => Report::Router(*name, About::Addresses),
+        Line::Addressed(name) => Report::Router(*name, About::Addressed),
+        Line::Ulas(name) => Report::Router(*name, About::Ulas),
+        Line::Compare(left, right) => Report::Compare(*left, *right),
+        Line::Mail => Report::Mail,
+        _ => return None,
     })
 }

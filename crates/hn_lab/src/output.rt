@@ -4,8 +4,8 @@ ghost use Rattle.hn_io.specs.Faults.{IsCaused};
 ghost use Rattle.hn_lab.specs.Output.{AppendsPart, AreCut, joined};
 ghost use Rattle.hn_lab.specs.Reports.{refused_line};
 
+use crate::lines::Lines;
 use crate::reports::refused_line;
-use crate::text::Lines;
 use hn_io::{IoFault, Sink};
 use std::alloc::Global;
 

@@ -1,47 +1,39 @@
-ghost use Rattle.std.specs.Prelude.{◌≡◌, ◌≢◌, ◌<◌, ◌+◌, List, [], Option, Err, OnOk, length};
-ghost use Rattle.hn_wire.specs.declared.datagram.Datagram.{Datagram};
+ghost use Rattle.std.specs.Prelude.{◌≡◌, ◌<◌, ◌+◌, List, [], None, OnOk, length};
 ghost use Rattle.hn_world.specs.Step.{IsWorldEventInRange};
 ghost use Rattle.hn_audit.specs.Staying.{QuietStays};
-ghost use Rattle.hn_lab.specs.declared.end.Stop.{Stop};
 ghost use Rattle.hn_lab.specs.Delivery.{EventNotes, EventEnds};
-ghost use Rattle.hn_lab.specs.Ended.{EndsWith, Ended};
+ghost use Rattle.hn_lab.specs.Ended.{IsAnsweredWith, IsAnswered};
 ghost use Rattle.hn_lab.specs.Play.{begun};
-ghost use Rattle.hn_lab.specs.Stage.{route_of, stage_of};
+ghost use Rattle.hn_lab.specs.Stage.{Route, stage_of};
 ghost use Rattle.hn_lab.specs.Told.{Told};
 
-use crate::carrying::Base;
-use crate::end::Stop;
 use crate::senders::Senders;
 use crate::stream::Stream;
 use hn_audit::quiet_homes_stay;
 use hn_base::{Sequence, Version};
-use hn_io::IoFault;
 use hn_rules::Note;
-use hn_world::{WEvent, World, each_event_is_entered};
+use hn_world::{WEvent, World, WorldFault, each_event_is_entered};
 use std::alloc::Global;
 
-/// A play so far: its world, of a hundred copies how many `flow` loses, the random words that are to come, the port that
-/// copies are sent from, if they go over a wire, and those that send Router Advertisements.
+/// A play so far: its world, of a hundred copies how many `flow` loses, the random words that are to come, and those that
+/// send Router Advertisements.
 #[derive(Drop)]
 pub struct Playing {
     pub world: World,
     pub loss: u8,
     pub words: Stream,
-    pub base: Option<Base>,
     pub senders: Senders,
 }
 
 impl Playing {
     /// The play of a script of a version, as it begins. Never allocates.
-    pub(crate) fn new(alloc: Global, version: Version, base: Option<Base>) -> Playing
-        ensures begins { (waiting : Option (List Datagram)) → stage_of result waiting [] ≡ begun (route_of base waiting) version }
-        ensures base { result.base ≡ base }
+    pub(crate) fn new(alloc: Global, version: Version) -> Playing
+        ensures { (route : Route) → stage_of result route [] ≡ begun route version }
     {
         Playing {
             world: World::of(alloc, version),
             loss: 0,
             words: Stream::zeros(),
-            base,
             senders: Senders::new(alloc),
         }
     }
@@ -51,14 +43,17 @@ impl Playing {
     /// # Errors
     ///
     /// It is refused, or memory ended.
-    pub(crate) fn noted(&mut self, alloc: Global, event: WEvent) -> Result<Sequence<Note>, Stop>
+    pub(crate) fn noted(
+        &mut self,
+        alloc: Global,
+        event: WEvent,
+    ) -> Result<Sequence<Note>, WorldFault>
         requires { IsWorldEventInRange event }
-        ensures ends { (waiting : Option (List Datagram)) (text : List Told)
-            → EndsWith (EventNotes event) (EventEnds event) result (stage_of self.old waiting text) (stage_of self.new waiting text) }
-        ensures unbroken { result ≢ Err Stop.WireFailed }
-        ensures unwritten { result ≢ Err (Stop.Cut IoFault.Failed) }
-        ensures base { self.new.base ≡ self.old.base }
-        ensures entered { OnOk result ((length self.old.world.trace < 1000000) × (length self.new.world.trace ≡ length self.old.world.trace + 1)) }
+        ensures ends { (route : Route) (text : List Told) → IsAnsweredWith (λ notes. EventNotes event notes None)
+            (EventEnds event)
+            result (stage_of self.old route text) (stage_of self.new route text) }
+        ensures entered { OnOk result ((length self.old.world.trace < 1000000)
+            × (length self.new.world.trace ≡ length self.old.world.trace + 1)) }
         ensures stays { OnOk result (QuietStays event self.old.world self.new.world) }
     {
         each_event_is_entered();
@@ -72,14 +67,12 @@ impl Playing {
     /// # Errors
     ///
     /// It is refused, or memory ended.
-    pub(crate) fn event(&mut self, alloc: Global, event: WEvent) -> Result<(), Stop>
+    pub(crate) fn event(&mut self, alloc: Global, event: WEvent) -> Result<(), WorldFault>
         requires { IsWorldEventInRange event }
-        ensures ends { (waiting : Option (List Datagram)) (text : List Told)
-            → Ended (EventEnds event) result (stage_of self.old waiting text) (stage_of self.new waiting text) }
-        ensures unbroken { result ≢ Err Stop.WireFailed }
-        ensures unwritten { result ≢ Err (Stop.Cut IoFault.Failed) }
-        ensures base { self.new.base ≡ self.old.base }
-        ensures entered { OnOk result ((length self.old.world.trace < 1000000) × (length self.new.world.trace ≡ length self.old.world.trace + 1)) }
+        ensures ends { (route : Route) (text : List Told)
+            → IsAnswered (EventEnds event) result (stage_of self.old route text) (stage_of self.new route text) }
+        ensures entered { OnOk result ((length self.old.world.trace < 1000000)
+            × (length self.new.world.trace ≡ length self.old.world.trace + 1)) }
     {
         let _notes = self.noted(alloc, event)?;
         Ok(())

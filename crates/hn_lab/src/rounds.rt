@@ -1,122 +1,128 @@
 //! `run`: time passes, routers tick, and the mail flows.
 
-ghost use Rattle.std.specs.Prelude.{◌≡◌, ◌≢◌, ◌≤◌, ◌<◌, ◌^◌, ◌+◌, List, Option, Err, OnOk, None, length};
+ghost use Rattle.std.specs.Prelude.{◌≡◌, ◌≢◌, ◌≤◌, ◌<◌, ◌^◌, ◌+◌, List, Err, OnOk, length};
 ghost use Rattle.hn_io.specs.Faults.{IsCaused};
-ghost use Rattle.hn_wire.specs.declared.datagram.Datagram.{Datagram};
 ghost use Rattle.hn_lab.specs.declared.end.Stop.{Stop};
-ghost use Rattle.hn_lab.specs.Ended.{Ended};
+ghost use Rattle.hn_lab.specs.Ended.{IsAnswered};
 ghost use Rattle.hn_lab.specs.Writing.{EndsWriting};
 ghost use Rattle.hn_lab.specs.Process.{EachProcess};
 ghost use Rattle.hn_lab.specs.Sending.{TickEnds};
 ghost use Rattle.hn_lab.specs.Events.{Ticks, Passes, Round, Runs};
-ghost use Rattle.hn_lab.specs.Stage.{stage_of};
+ghost use Rattle.hn_lab.specs.Stage.{Route, stage_of};
 ghost use Rattle.hn_lab.specs.Told.{Told};
 
-use crate::end::Stop;
+use crate::carrying::Carrier;
+use crate::end::{Stop, stopping};
+use crate::flow::flow;
 use crate::playing::Playing;
+use crate::sending::tick;
 use hn_base::{Moment, Name};
 use hn_io::{IoFault, Sink};
-use hn_wire::Wire;
-use hn_world::{PAST, WEvent};
+use hn_world::{PAST, WEvent, WorldFault};
 use std::alloc::Global;
 
-impl Playing {
-    /// Routers tick, one after another.
-    fn ticks_of<K: Sink>(&mut self, alloc: Global, out: &mut K, names: &[Name]) -> Result<(), Stop>
-        ensures ends { (waiting : Option (List Datagram)) (text : List Told) → EndsWriting (EachProcess TickEnds names.now) result (stage_of self.old waiting text) (stage_of self.new waiting text) (K.held out.old) (K.held out.new) }
-        ensures unbroken { result ≢ Err Stop.WireFailed }
-        ensures base { self.new.base ≡ self.old.base }
-        ensures entered { OnOk result (length self.old.world.trace ≤ length self.new.world.trace) }
-        ensures sink_caused { IsCaused (result ≡ Err (Stop.Cut IoFault.Failed)) (K.faults out.old) (K.faults out.new)
-            (K.never_fails out.old) (K.never_fails out.new) }
-    {
-        for name in names {
-            self.tick(alloc, out, *name)?;
-        }
-        Ok(())
+/// Routers tick, one after another.
+fn ticks_of<K: Sink>(
+    playing: &mut Playing,
+    alloc: Global,
+    out: &mut K,
+    names: &[Name],
+) -> Result<(), Stop>
+    ensures ends { (route : Route) (text : List Told) → EndsWriting (EachProcess TickEnds names.now) result
+        (stage_of playing.old route text) (stage_of playing.new route text) (K.held out.old) (K.held out.new) }
+    ensures unbroken { result ≢ Err Stop.WireFailed }
+    ensures entered { OnOk result (length playing.old.world.trace ≤ length playing.new.world.trace) }
+    ensures sink_caused { IsCaused (result ≡ Err (Stop.Cut IoFault.Failed)) (K.faults out.old) (K.faults out.new)
+        (K.never_fails out.old) (K.never_fails out.new) }
+{
+    for name in names {
+        tick(playing, alloc, out, *name)?;
     }
+    Ok(())
+}
 
-    /// The routers that run tick.
-    fn ticks<K: Sink>(&mut self, alloc: Global, out: &mut K) -> Result<(), Stop>
-        ensures ends { (waiting : Option (List Datagram)) (text : List Told) → EndsWriting Ticks result (stage_of self.old waiting text) (stage_of self.new waiting text) (K.held out.old) (K.held out.new) }
-        ensures unbroken { result ≢ Err Stop.WireFailed }
-        ensures base { self.new.base ≡ self.old.base }
-        ensures entered { OnOk result (length self.old.world.trace ≤ length self.new.world.trace) }
-        ensures sink_caused { IsCaused (result ≡ Err (Stop.Cut IoFault.Failed)) (K.faults out.old) (K.faults out.new)
-            (K.never_fails out.old) (K.never_fails out.new) }
-    {
-        let names = self.world.running_names(alloc)?;
-        self.ticks_of(alloc, out, names.as_slice())
-    }
+/// The routers that run tick.
+fn ticks<K: Sink>(playing: &mut Playing, alloc: Global, out: &mut K) -> Result<(), Stop>
+    ensures ends { (route : Route) (text : List Told) → EndsWriting Ticks result (stage_of playing.old route text)
+        (stage_of playing.new route text) (K.held out.old) (K.held out.new) }
+    ensures unbroken { result ≢ Err Stop.WireFailed }
+    ensures entered { OnOk result (length playing.old.world.trace ≤ length playing.new.world.trace) }
+    ensures sink_caused { IsCaused (result ≡ Err (Stop.Cut IoFault.Failed)) (K.faults out.old) (K.faults out.new)
+        (K.never_fails out.old) (K.never_fails out.new) }
+{
+    let names = playing.world.running_names(alloc)?;
+    ticks_of(playing, alloc, out, names.as_slice())
+}
 
-    /// Time passes by a step, but not past the end.
-    fn pass(&mut self, alloc: Global, end: Moment, step: u64) -> Result<(), Stop>
-        requires end { end ≤ 2 ^ 48 }
-        requires step { step ≤ 2 ^ 48 }
-        ensures ends { (waiting : Option (List Datagram)) (text : List Told) → Ended (Passes end step) result (stage_of self.old waiting text) (stage_of self.new waiting text) }
-        ensures unbroken { result ≢ Err Stop.WireFailed }
-        ensures unwritten { result ≢ Err (Stop.Cut IoFault.Failed) }
-        ensures base { self.new.base ≡ self.old.base }
-        ensures entered { OnOk result ((length self.old.world.trace < 1000000) × (length self.new.world.trace ≡ length self.old.world.trace + 1)) }
-    {
-        let moment = self.world.moment().saturating_add(step).min(end);
-        self.event(alloc, WEvent::Time { moment })
-    }
+/// Time passes by a step, but not past the end.
+fn pass(playing: &mut Playing, alloc: Global, end: Moment, step: u64) -> Result<(), WorldFault>
+    requires end { end ≤ 2 ^ 48 }
+    requires step { step ≤ 2 ^ 48 }
+    ensures ends { (route : Route) (text : List Told) → IsAnswered (Passes end step) result (stage_of playing.old route text)
+        (stage_of playing.new route text) }
+    ensures entered { OnOk result ((length playing.old.world.trace < 1000000)
+        × (length playing.new.world.trace ≡ length playing.old.world.trace + 1)) }
+{
+    let moment = playing.world.moment().saturating_add(step).min(end);
+    playing.event(alloc, WEvent::Time { moment })
+}
 
-    /// A round.
-    fn round<K: Sink, W: Wire>(
-        &mut self,
-        alloc: Global,
-        out: &mut K,
-        wire: &mut W,
-        end: Moment,
-        step: u64,
-    ) -> Result<(), Stop>
-        requires end { end ≤ 2 ^ 48 }
-        requires step { step ≤ 2 ^ 48 }
-        ensures ends { (text : List Told) → EndsWriting (Round end step) result (stage_of self.old (W.waiting wire.old) text) (stage_of self.new (W.waiting wire.new) text) (K.held out.old) (K.held out.new) }
-        ensures base { self.new.base ≡ self.old.base }
-        ensures entered { OnOk result ((length self.old.world.trace < 1000000) × (length self.old.world.trace < length self.new.world.trace)) }
-        ensures unwired { self.old.base ≡ None → (wire.new ≡ wire.old) × (result ≢ Err Stop.WireFailed) }
-        ensures caused { IsCaused (result ≡ Err Stop.WireFailed) (W.faults wire.old) (W.faults wire.new)
-            (W.never_fails wire.old) (W.never_fails wire.new) }
-        ensures sink_caused { IsCaused (result ≡ Err (Stop.Cut IoFault.Failed)) (K.faults out.old) (K.faults out.new)
-            (K.never_fails out.old) (K.never_fails out.new) }
-    {
-        self.pass(alloc, end, step)?;
-        self.ticks(alloc, out)?;
-        self.flow(alloc, wire)
-    }
+/// A round.
+fn round<K: Sink, W, C: Carrier<W>>(
+    playing: &mut Playing,
+    alloc: Global,
+    out: &mut K,
+    carrier: &C,
+    outside: &mut W,
+    end: Moment,
+    step: u64,
+) -> Result<(), Stop>
+    requires end { end ≤ 2 ^ 48 }
+    requires step { step ≤ 2 ^ 48 }
+    ensures ends { (text : List Told) → EndsWriting (Round end step) result
+        (stage_of playing.old (C.route carrier.now outside.old) text)
+        (stage_of playing.new (C.route carrier.now outside.new) text) (K.held out.old) (K.held out.new) }
+    ensures entered { OnOk result ((length playing.old.world.trace < 1000000)
+        × (length playing.old.world.trace < length playing.new.world.trace)) }
+    ensures caused { IsCaused (result ≡ Err Stop.WireFailed) (C.faults outside.old) (C.faults outside.new)
+        (C.never_fails outside.old) (C.never_fails outside.new) }
+    ensures sink_caused { IsCaused (result ≡ Err (Stop.Cut IoFault.Failed)) (K.faults out.old) (K.faults out.new)
+        (K.never_fails out.old) (K.never_fails out.new) }
+{
+    stopping(pass(playing, alloc, end, step))?;
+    ticks(playing, alloc, out)?;
+    flow(playing, alloc, carrier, outside)
+}
 
-    /// Rounds until a moment.
-    ///
-    /// # Errors
-    ///
-    /// The moment has passed, an event is refused, the wire failed, or memory ended.
-    pub(crate) fn run<K: Sink, W: Wire>(
-        &mut self,
-        alloc: Global,
-        out: &mut K,
-        wire: &mut W,
-        end: Moment,
-        step: u64,
-    ) -> Result<(), Stop>
-        requires end { end ≤ 2 ^ 48 }
-        requires step { step ≤ 2 ^ 48 }
-        ensures ends { (text : List Told) → EndsWriting (Runs end step) result (stage_of self.old (W.waiting wire.old) text) (stage_of self.new (W.waiting wire.new) text) (K.held out.old) (K.held out.new) }
-        ensures base { self.new.base ≡ self.old.base }
-        ensures unwired { self.old.base ≡ None → (wire.new ≡ wire.old) × (result ≢ Err Stop.WireFailed) }
-        ensures caused { IsCaused (result ≡ Err Stop.WireFailed) (W.faults wire.old) (W.faults wire.new)
-            (W.never_fails wire.old) (W.never_fails wire.new) }
-        ensures sink_caused { IsCaused (result ≡ Err (Stop.Cut IoFault.Failed)) (K.faults out.old) (K.faults out.new)
-            (K.never_fails out.old) (K.never_fails out.new) }
-    {
-        if end < self.world.moment() {
-            return Err(Stop::Refused(PAST));
-        }
-        while self.world.moment() < end {
-            self.round(alloc, out, wire, end, step)?;
-        }
-        Ok(())
+/// Rounds until a moment.
+///
+/// # Errors
+///
+/// The moment has passed, an event is refused, the wire failed, or memory ended.
+pub(crate) fn run<K: Sink, W, C: Carrier<W>>(
+    playing: &mut Playing,
+    alloc: Global,
+    out: &mut K,
+    carrier: &C,
+    outside: &mut W,
+    end: Moment,
+    step: u64,
+) -> Result<(), Stop>
+    requires end { end ≤ 2 ^ 48 }
+    requires step { step ≤ 2 ^ 48 }
+    ensures ends { (text : List Told) → EndsWriting (Runs end step) result
+        (stage_of playing.old (C.route carrier.now outside.old) text)
+        (stage_of playing.new (C.route carrier.now outside.new) text) (K.held out.old) (K.held out.new) }
+    ensures caused { IsCaused (result ≡ Err Stop.WireFailed) (C.faults outside.old) (C.faults outside.new)
+        (C.never_fails outside.old) (C.never_fails outside.new) }
+    ensures sink_caused { IsCaused (result ≡ Err (Stop.Cut IoFault.Failed)) (K.faults out.old) (K.faults out.new)
+        (K.never_fails out.old) (K.never_fails out.new) }
+{
+    if end < playing.world.moment() {
+        return Err(Stop::Refused(PAST));
     }
+    while playing.world.moment() < end {
+        round(playing, alloc, out, carrier, outside, end, step)?;
+    }
+    Ok(())
 }

@@ -4,33 +4,28 @@ ghost use Rattle.std.specs.List.{AllByRecursion};
 ghost use Rattle.hn_io.specs.Faults.{IsCaused};
 ghost use Rattle.hn_script.specs.Laws.{IsLimited};
 ghost use Rattle.hn_script.specs.Line.{IsOfVersion};
-ghost use Rattle.hn_world.specs.Replay.{IsReplayed, Always, Throughout};
-ghost use Rattle.hn_world.specs.Authentic.{AuthenticUnlessInjected};
-ghost use Rattle.hn_world.specs.Leaves.{EqualHashesAgree};
-ghost use Rattle.hn_world.specs.Within.{AreWithinLimits};
-ghost use Rattle.hn_audit.specs.Laws.{SettledAreSound};
-ghost use Rattle.hn_audit.specs.Staying.{QuietStays};
+ghost use Rattle.hn_world.specs.Replay.{IsReplayed};
 ghost use Rattle.hn_lab.specs.declared.end.End.TheVariants as ends;
 ghost use Rattle.hn_lab.specs.Lab.{play_status, Plays, IsLineWritten, IsLabOf, IsLabRun, StatusOfScript, HasDonePlay, HasRefusal};
 ghost use Rattle.hn_lab.specs.Reports.{refused_line};
 ghost use Rattle.hn_lab.specs.Stage.{route_of};
 ghost use Rattle.hn_lab.specs.Transcripts.{IsLabTranscript};
 
-use crate::carrying::Base;
+use crate::carrying::{Carrier, Mail, Ports};
 use crate::end::End;
 use crate::existing::lab_is_of_transcript;
 use crate::input::read_all;
 use crate::law::at_most_one_play;
 use crate::output::write_refusal;
 use crate::playing::Playing;
-use hn_audit::{quiet_homes_always_stay, settled_are_always_sound};
+use crate::plays::play_lines;
 use hn_io::{IoFault, Sink, Source};
 use hn_script::{
     ParseFault, Script, ScriptFault, fault_excludes_script, lines_are_of_version, parse,
     script_is_limited, script_is_unique,
 };
 use hn_wire::Wire;
-use hn_world::{World, always_authentic, always_within_limits, equal_hashes_always_agree};
+use hn_world::World;
 use std::alloc::Global;
 
 /// The input was read to its end and the whole text was written.
@@ -102,14 +97,48 @@ fn refuse<K: Sink>(alloc: Global, fault: ScriptFault, out: &mut K) -> Played
     }
 }
 
-/// The base of a play.
-fn base_of(base: Option<u16>) -> Option<Base>
-    requires { IfSome base (λ port. port ≤ 65534) }
-    ensures { result ≡ base }
+/// Plays a script, whose lines are of its version, and writes its transcript.
+fn play_over<K: Sink, W, C: Carrier<W>>(
+    alloc: Global,
+    script: Script,
+    out: &mut K,
+    carrier: &C,
+    outside: &mut W,
+) -> Played
+    requires limited { AllByRecursion (λ line. IsLimited line.1) script.lines }
+    requires of_version { AllByRecursion (λ line. IsOfVersion script.version line.1) script.lines }
+    ensures plays { (written : List ℕ) × Plays (C.route carrier.now outside.old) (C.route carrier.now outside.new) script
+        result.status result.world written
+        × Appends (K.held out.old) (K.held out.new) written }
+    ensures done { HasDonePlay (C.route carrier.now outside.old) script → result.status ≢ REFUSED }
+    ensures refused { HasRefusal (C.route carrier.now outside.old) script → result.status ≢ DONE }
+    ensures no_world { result.status ≡ NO_MEMORY → result.world ≡ None }
+    ensures world { result.status ≢ NO_MEMORY → IsSome result.world }
+    ensures replayed { IfSome result.world IsReplayed }
+    ensures statuses { Contains (DONE ∷ REFUSED ∷ SINK_FAILED ∷ WIRE_FAILED ∷ NO_MEMORY ∷ []) result.status }
+    ensures caused { IsCaused (result.status ≡ SINK_FAILED) (K.faults out.old) (K.faults out.new)
+        (K.never_fails out.old) (K.never_fails out.new) }
+    ensures wire_caused { IsCaused (result.status ≡ WIRE_FAILED) (C.faults outside.old) (C.faults outside.new)
+        (C.never_fails outside.old) (C.never_fails outside.new) }
 {
-    match base {
-        Some(port) => Some(Base::new(port)),
-        None => None,
+    at_most_one_play();
+    let mut playing = Playing::new(alloc, script.version);
+    let end = play_lines(
+        &mut playing,
+        alloc,
+        script.lines.into_vec(),
+        out,
+        carrier,
+        outside,
+    );
+    let status = play_status(&end);
+    if status == NO_MEMORY {
+        return Played::without_world(status);
+    }
+    playing.world.is_replayed();
+    Played {
+        status,
+        world: Some(playing.world),
     }
 }
 
@@ -141,11 +170,6 @@ pub fn play<K: Sink, W: Wire>(
     ensures no_world { result.status ≡ NO_MEMORY → result.world ≡ None }
     ensures world { result.status ≢ NO_MEMORY → IsSome result.world }
     ensures replayed { IfSome result.world IsReplayed }
-    ensures headline { IfSome result.world (Always EqualHashesAgree) }
-    ensures settled { IfSome result.world (Always SettledAreSound) }
-    ensures stays { IfSome result.world (Throughout QuietStays) }
-    ensures within_limits { IfSome result.world (Always AreWithinLimits) }
-    ensures authentic { IfSome result.world (Always AuthenticUnlessInjected) }
     ensures statuses { Contains (DONE ∷ REFUSED ∷ SINK_FAILED ∷ WIRE_FAILED ∷ NO_MEMORY ∷ []) result.status }
     ensures caused { IsCaused (result.status ≡ SINK_FAILED) (K.faults out.old) (K.faults out.new)
         (K.never_fails out.old) (K.never_fails out.new) }
@@ -153,22 +177,9 @@ pub fn play<K: Sink, W: Wire>(
         (W.never_fails wire.old) (W.never_fails wire.new) }
     ensures unwired { base ≡ None → (wire.new ≡ wire.old) × (result.status ≢ WIRE_FAILED) }
 {
-    at_most_one_play();
-    equal_hashes_always_agree();
-    settled_are_always_sound();
-    quiet_homes_always_stay();
-    always_within_limits();
-    always_authentic();
-    let mut playing = Playing::new(alloc, script.version, base_of(base));
-    let end = playing.play(alloc, script.lines.into_vec(), out, wire);
-    let status = play_status(&end);
-    if status == NO_MEMORY {
-        return Played::without_world(status);
-    }
-    playing.world.is_replayed();
-    Played {
-        status,
-        world: Some(playing.world),
+    match base {
+        None => play_over(alloc, script, out, &Mail, &mut ()),
+        Some(base) => play_over(alloc, script, out, &Ports::new(base), wire),
     }
 }
 
@@ -187,11 +198,6 @@ fn play_bytes<K: Sink, W: Wire>(
     ensures no_world { result.status ≡ NO_MEMORY → result.world ≡ None }
     ensures done_world { result.status ≡ DONE → IsSome result.world }
     ensures replayed { IfSome result.world IsReplayed }
-    ensures headline { IfSome result.world (Always EqualHashesAgree) }
-    ensures settled { IfSome result.world (Always SettledAreSound) }
-    ensures stays { IfSome result.world (Throughout QuietStays) }
-    ensures within_limits { IfSome result.world (Always AreWithinLimits) }
-    ensures authentic { IfSome result.world (Always AuthenticUnlessInjected) }
     ensures statuses { Contains (DONE ∷ REFUSED ∷ SINK_FAILED ∷ WIRE_FAILED ∷ NO_MEMORY ∷ []) result.status }
     ensures caused { IsCaused (result.status ≡ SINK_FAILED) (K.faults out.old) (K.faults out.new)
         (K.never_fails out.old) (K.never_fails out.new) }
@@ -237,11 +243,6 @@ pub fn lab<S: Source, K: Sink, W: Wire>(
     ensures no_world { (result.status ≡ SOURCE_FAILED) ⊎ (result.status ≡ NO_MEMORY) → result.world ≡ None }
     ensures done_world { result.status ≡ DONE → IsSome result.world }
     ensures replayed { IfSome result.world IsReplayed }
-    ensures headline { IfSome result.world (Always EqualHashesAgree) }
-    ensures settled { IfSome result.world (Always SettledAreSound) }
-    ensures stays { IfSome result.world (Throughout QuietStays) }
-    ensures within_limits { IfSome result.world (Always AreWithinLimits) }
-    ensures authentic { IfSome result.world (Always AuthenticUnlessInjected) }
     ensures statuses { Contains (DONE ∷ REFUSED ∷ SOURCE_FAILED ∷ SINK_FAILED ∷ WIRE_FAILED ∷ NO_MEMORY ∷ []) result.status }
     ensures unwritten { result.status ≡ SOURCE_FAILED → out.new ≡ out.old }
     ensures source_caused { IsCaused (result.status ≡ SOURCE_FAILED) (S.faults src.old) (S.faults src.new)

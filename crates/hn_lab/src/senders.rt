@@ -1,6 +1,6 @@
 //! Those that send Router Advertisements in a play.
 
-ghost use Rattle.std.specs.Prelude.{◌≡◌, ◌≢◌, ◌↔◌, ◌<◌, ◌≤◌, ◌^◌, [], length, position, IsTrue, IfOk, OnOk, Some};
+ghost use Rattle.std.specs.Prelude.{◌≡◌, ◌↔◌, ◌<◌, ◌≤◌, ◌^◌, [], length, position, IsTrue, IfOk, OnOk, Some};
 ghost use Rattle.std.specs.List.{slice_get, slice_set};
 ghost use Rattle.hn_lab.specs.declared.senders.Sending.{Sending as ASending};
 ghost use Rattle.hn_lab.specs.Senders.{shape_of, is_sender_of, sends_at, sender_endpoints, with_sender, without_sender, without_senders};
@@ -147,7 +147,8 @@ impl Senders {
     /// Sets when that at a place sends. Never allocates.
     pub(crate) fn set(&mut self, place: usize, sender: Sender)
         requires { place < length self.old }
-        ensures { (sending : ASending) → slice_get self.old place ≡ Some sending → self.new ≡ slice_set self.old place (record sending { sender = sender }) }
+        ensures { (sending : ASending) → slice_get self.old place ≡ Some sending
+            → self.new ≡ slice_set self.old place (record sending { sender = sender }) }
     {
         self.items[place].sender = sender;
     }
@@ -170,7 +171,8 @@ impl Senders {
     /// Out of memory.
     pub(crate) fn start(&mut self, name: Name, endpoint: EpId, now: Moment) -> Result<(), NoMemory>
         requires { now ≤ 2 ^ 48 }
-        ensures { OnOk result (self.new ≡ with_sender (record { name = name; endpoint = endpoint; sender = started_sender now; shape = None }) self.old) }
+        ensures { OnOk result (self.new ≡ with_sender
+            (record { name = name; endpoint = endpoint; sender = started_sender now; shape = None }) self.old) }
     {
         self.end(&name, endpoint);
         let place = self.items.partition_point(|s| s.endpoint <= endpoint);

@@ -1,5 +1,7 @@
-use Rattle.hn_lab.proofs.Choosings.{running_router}
+use Rattle.hn_base.specs.Name.{name_text}
+use Rattle.hn_world.specs.Names.{member_named}
+use Rattle.hn_lab.proofs.TextReports.{member_of}
 use Rattle.hn_lab.proofs.choosing.running.Goals as goal
 
-pub returns-clause-found : goal.returns-clause-found
-returns-clause-found c = running_router c.args.name.now c.args.world.now c.in-Some-router.router.now c.in_default.ensures c.in-Some-router.ensures
+pub returns : goal.returns
+returns c = member_of (member_named (name_text c.args.name.now) c.args.world.now) c.in-Some.router.now c.in-Some.ensures

@@ -1,4 +1,4 @@
 use Rattle.hn_lab.proofs.playing.Playing.event.Goals as goal
 
 pub returns-clause-ends : goal.returns-clause-ends
-returns-clause-ends c waiting text = (c.in_ok-_notes._notes, c.in_ok-_notes.ensures.ends waiting text)
+returns-clause-ends c route text = (c.in_ok-_notes._notes, c.in_ok-_notes.ensures.ends route text)

@@ -1,0 +1,21 @@
+use Rattle.std.proofs.Common.{◌≡◌, ◌≤◌, ◌-◌, ℕ, List, length}
+use Rattle.hn_lab.specs.Events.{HasWaiting, CopyEnds}
+use Rattle.hn_lab.specs.Process.{Times}
+use Rattle.hn_lab.specs.Stage.{stage_of}
+use Rattle.hn_lab.specs.Told.{Told}
+use Rattle.hn_lab.proofs.flow.flow.Given as goal
+
+-- the copies so far are treated
+abbrev pub invariant-loop-copy : goal.invariant-loop-copy
+invariant-loop-copy g l =
+    let carrier = g.C.Carrier in
+    record {
+      treated : (text : List Told)
+          → (n : ℕ) × Times HasWaiting CopyEnds n (stage_of l.fn.playing (carrier.route l.fn.carrier l.fn.outside) text) (stage_of l.playing (carrier.route l.carrier l.outside) text);
+      kept : length l.fn.playing.world.trace ≤ length l.playing.world.trace;
+      no_fault : carrier.faults l.outside ≡ carrier.faults l.fn.outside;
+      reliable : carrier.never_fails l.fn.outside → carrier.never_fails l.outside;
+    }
+
+abbrev pub decreases-loop-copy : goal.decreases-loop-copy
+decreases-loop-copy g l = 1000000 - length l.playing.world.trace

@@ -1,0 +1,12 @@
+use Rattle.std.proofs.Common.{refl}
+use Rattle.hn_script.specs.declared.line.Line.TheVariants as line
+use Rattle.hn_lab.specs.Line.{OtherEnds}
+use Rattle.hn_lab.specs.Stage.{stage_of}
+use Rattle.hn_lab.specs.declared.playing.Playing.{Playing}
+use Rattle.hn_lab.proofs.RunStops.{nothing_left}
+use Rattle.hn_lab.proofs.line.lose.Goals as goal
+
+pub returns : goal.returns
+returns c route text =
+    let q : Playing = record { world = c.args.playing.now.world; loss = c.args.percent; words = c.args.playing.now.words; senders = c.args.playing.now.senders } in
+    nothing_left (OtherEnds (line.Loss c.args.percent)) c.new.result (stage_of c.args.playing.now route text) (stage_of q route text) c.new.ensures (refl, refl)

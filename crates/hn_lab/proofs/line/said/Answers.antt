@@ -1,0 +1,27 @@
+use Rattle.std.proofs.Common.{◌≡◌, ◌∙◌, Option, None, Some, inl, sym, refl, subst}
+use Rattle.hn_lab.specs.declared.report.Report.{Report}
+use Rattle.hn_lab.specs.Ended.{EndsLeaving}
+use Rattle.hn_lab.specs.Line.{EndsAs, OtherEnds, report_of}
+use Rattle.hn_lab.specs.Report.{ReportEnds}
+use Rattle.hn_lab.specs.Stage.{stage_of}
+use Rattle.hn_lab.proofs.LineEnds.{report_answered}
+use Rattle.hn_lab.proofs.RunAnswers.{leaves_so}
+use Rattle.hn_lab.proofs.RunStops.{leaving_within}
+use Rattle.hn_lab.proofs.line.said.Goals as goal
+
+pub returns-in-Some-clause-ends : goal.returns-in-Some-clause-ends
+returns-in-Some-clause-ends g c text =
+    let p = stage_of c.args.playing.now (g.C.Carrier.route c.args.carrier.now c.args.outside.now) text in
+    let ends = ReportEnds c.in-Some.asked in
+    let is : report_of c.args.line ≡ Some c.in-Some.asked = sym c.report_of.ensures ∙ c.in-Some.is in
+    subst (λ (o : Option Report). EndsLeaving (EndsAs c.args.line o) c.stopping.result p p) (sym is)
+    (leaves_so ends ends p p p (λ code h. h) c.reported.result c.stopping.result c.stopping.ensures.same refl (inl refl) (λ lines h. h)
+    (report_answered c.in-Some.asked c.reported.result p c.reported.ensures.told c.reported.ensures.refused))
+
+pub returns-in-None-clause-ends : goal.returns-in-None-clause-ends
+returns-in-None-clause-ends g c text =
+    let p = stage_of c.args.playing.now (g.C.Carrier.route c.args.carrier.now c.args.outside.now) text in
+    let a = stage_of c.other.new.playing (g.C.Carrier.route c.args.carrier.now c.other.new.outside) text in
+    let is : report_of c.args.line ≡ None = sym c.report_of.ensures ∙ c.in-None.is in
+    leaving_within (OtherEnds c.args.line) (EndsAs c.args.line (report_of c.args.line)) c.other.result p a
+    (λ stop at h. subst (λ (o : Option Report). EndsAs c.args.line o stop p at) (sym is) h) (c.other.ensures.ends text)

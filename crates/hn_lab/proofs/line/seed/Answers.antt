@@ -1,0 +1,14 @@
+use Rattle.std.proofs.Common.{ℕ, refl, ap}
+use Rattle.hn_script.specs.declared.line.Line.TheVariants as line
+use Rattle.hn_lab.specs.Line.{OtherEnds}
+use Rattle.hn_lab.specs.Stage.{stage_of}
+use Rattle.hn_lab.specs.declared.playing.Playing.{Playing}
+use Rattle.hn_lab.proofs.RunStops.{nothing_left}
+use Rattle.hn_lab.proofs.line.seed.Goals as goal
+
+pub returns : goal.returns
+returns c route text =
+    let now = c.args.playing.now in
+    let p = stage_of now route text in
+    let q : Playing = record { world = now.world; loss = now.loss; words = c.of_seed-playing.result; senders = now.senders } in
+    nothing_left (OtherEnds (line.Seed c.args.seed)) c.new.result p (stage_of q route text) c.new.ensures (refl, ap (λ (words : ℕ → ℕ). record p { words = words }) c.of_seed-playing.ensures)

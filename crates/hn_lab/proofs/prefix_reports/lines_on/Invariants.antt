@@ -1,0 +1,11 @@
+use Rattle.std.proofs.Common.{◌≡◌, ◌++◌, [], ◌∷◌, length, take}
+use Rattle.std.specs.Prelude.{map, codes}
+use Rattle.std.specs.Fmt.{decimal}
+use Rattle.hn_base.specs.Name.{name_text}
+use Rattle.hn_lab.specs.PrefixReports.{use_line}
+use Rattle.hn_lab.proofs.prefix_reports.lines_on.Given as goal
+
+-- the first line, and one for each delegated prefix so far
+abbrev pub invariant-loop-d : goal.invariant-loop-d
+invariant-loop-d l =
+    l.lines ≡ (codes "used " ++ name_text l.name ++ codes " " ++ decimal (length l.used) ++ 10 ∷ []) ∷ map (use_line l.name) (take l.d-index l.used)

@@ -1,0 +1,5 @@
+use Rattle.std.proofs.Common.{append_assoc}
+use Rattle.hn_lab.proofs.reports.hash_line.Goals as goal
+
+pub returns : goal.returns
+returns c = simp append_assoc (rw (← c.net-net.ensures) c.format.ensures.ok)

@@ -1,0 +1,5 @@
+use Rattle.std.proofs.Common.{append_assoc}
+use Rattle.hn_lab.proofs.reports.mail_line.Goals as goal
+
+pub returns : goal.returns
+returns c = simp append_assoc (rw (← c.copies-copies.ensures, ← c.waiting-waiting.ensures) c.format.ensures.ok)

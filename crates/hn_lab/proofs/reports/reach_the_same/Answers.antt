@@ -1,0 +1,17 @@
+use Rattle.std.proofs.Common.{◌≡◌}
+use Rattle.std.specs.Prelude.{Decides}
+use Rattle.std.proofs.lemmas.Slice.Eq.{slice_eq-Decides}
+use Rattle.hn_base.specs.Name.{name_text}
+use Rattle.hn_world.specs.Names.{member_named}
+use Rattle.hn_base.proofs.Keys.{node_decided}
+use Rattle.hn_lab.proofs.TextReports.{reach_same}
+use Rattle.hn_lab.proofs.reports.reach_the_same.Goals as goal
+
+pub returns-in-Some-Some : goal.returns-in-Some-Some
+returns-in-Some-Some c =
+    let w = c.args.world.now in
+    let xs = c.reach.result.now in
+    let ys = c.reach-in-Some-Some.result.now in
+    let same : Decides c.eq.result (xs ≡ ys) = slice_eq-Decides node_decided xs ys c.eq.result c.eq.ensures in
+    reach_same c.eq.result (member_named (name_text c.args.left.now) w)
+    (member_named (name_text c.args.right.now) w) c.in-Some-Some.a.now c.in-Some-Some.b.now xs ys c.in-Some-Some.ensures c.in-Some-Some.ensures' c.reach.ensures c.reach-in-Some-Some.ensures same

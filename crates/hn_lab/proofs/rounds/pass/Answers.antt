@@ -1,0 +1,20 @@
+use Rattle.std.proofs.Common.{◌≡◌, ◌+◌, ℕ, min, Some, None, subst, arith}
+use Rattle.hn_world.specs.declared.event.WEvent.TheVariants.{Time}
+use Rattle.hn_lab.specs.declared.end.Stop.TheVariants.{Refused}
+use Rattle.hn_lab.specs.Delivery.{EventEnds}
+use Rattle.hn_lab.specs.Events.{Passes}
+use Rattle.hn_lab.specs.Stage.{stage_of}
+use Rattle.hn_lab.proofs.RunAnswers.{answered_as}
+use Rattle.hn_lab.proofs.rounds.pass.Goals as goal
+
+pub returns-clause-ends : goal.returns-clause-ends
+returns-clause-ends c route text =
+    let p = stage_of c.args.playing.now route text in
+    let a = stage_of c.event.new.self route text in
+    let same : c.min-moment.result ≡ min (c.args.playing.now.world.moment + c.args.step) c.args.end =
+    omega (arith, c.min-moment.ensures, c.saturating_add.ensures, c.moment.ensures.moment, c.requires.end)
+    in
+    let ends = Passes c.args.end c.args.step in
+    answered_as (EventEnds (Time c.min-moment.result)) ends p p a (λ code h. subst (λ (moment : ℕ). EventEnds (Time moment) (Some (Refused code)) p a) same h)
+    (λ _. EventEnds (Time c.min-moment.result) None) (λ _. ends None) c.event.result (λ _ h. subst (λ (moment : ℕ). EventEnds (Time moment) None p a) same h)
+    (c.event.ensures.ends route text)

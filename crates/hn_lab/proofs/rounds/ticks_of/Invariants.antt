@@ -1,0 +1,19 @@
+use Rattle.std.proofs.Common.{◌≡◌, ◌≤◌, List, None, length, take}
+use Rattle.hn_lab.specs.Process.{EachProcess}
+use Rattle.hn_lab.specs.Sending.{TickEnds}
+use Rattle.hn_lab.specs.Stage.{Route, stage_of}
+use Rattle.hn_lab.specs.Told.{Told}
+use Rattle.hn_lab.specs.Writing.{EndsAt}
+use Rattle.hn_lab.proofs.rounds.ticks_of.Given as goal
+
+-- the routers so far have ticked
+abbrev pub invariant-loop-name : goal.invariant-loop-name
+invariant-loop-name g l =
+    let sink = g.K.Sink in
+    record {
+      ticked : (route : Route) (text : List Told)
+          → EndsAt (EachProcess TickEnds (take l.name-index l.names)) None (stage_of l.fn.playing route text) (stage_of l.playing route text) (sink.held l.fn.out) (sink.held l.out);
+      kept : length l.fn.playing.world.trace ≤ length l.playing.world.trace;
+      no_fault : sink.faults l.out ≡ sink.faults l.fn.out;
+      reliable : sink.never_fails l.fn.out → sink.never_fails l.out;
+    }

@@ -1,0 +1,12 @@
+use Rattle.std.proofs.Common.{true, List, refl, ap}
+use Rattle.hn_lab.specs.declared.senders.Sending.{Sending}
+use Rattle.hn_lab.specs.Stage.{stage_of, words_of}
+use Rattle.hn_lab.proofs.RunTurns.{goes}
+use Rattle.hn_lab.proofs.sending.is_due.Goals as goal
+
+pub returns-clause-due : goal.returns-clause-due
+returns-clause-due c route text sending there =
+    let p = stage_of c.args.playing.now route text in
+    goes c.args.place sending c.args.shape c.asked-sender.result c.moment.result true p _ (c.asked-sender.ensures sending there) c.if-not-due.ensures.answer c.moment.ensures.moment
+    c.due.new.self (words_of c.due.new.draw) refl (c.if-not-due.ensures.sent refl)
+    (ap (λ (l : List Sending). record p { senders = l; words = words_of c.due.new.draw }) (c.sent.ensures sending there))

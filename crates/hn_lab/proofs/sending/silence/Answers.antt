@@ -1,0 +1,23 @@
+use Rattle.std.proofs.Common.{List, None, inl, refl, ap}
+use Rattle.hn_lab.specs.declared.senders.Sending.{Sending}
+use Rattle.hn_lab.specs.Delivery.{EventEnds}
+use Rattle.hn_lab.specs.Line.{Sets}
+use Rattle.hn_lab.specs.Process.{Process, ThenProcess}
+use Rattle.hn_lab.specs.Sending.{ending_all}
+use Rattle.hn_lab.specs.Stage.{stage_of}
+use Rattle.hn_lab.proofs.RunAnswers.{answer_on}
+use Rattle.hn_lab.proofs.sending.silence.Goals as goal
+
+pub returns-in_err-event : goal.returns-in_err-event
+returns-in_err-event c route text =
+    let p = stage_of c.args.playing.now route text in
+    let a = stage_of c.event.new.self route text in
+    let first : Process = EventEnds (c.args.event) in
+    let all : Process = ThenProcess first (Sets (ending_all c.args.name)) in
+    answer_on first all p p a (λ code h. inl h) (λ (_ : Unit {0}). first None) (λ _. all None) c.in_err-event.field-0.0 c.from_residual.result c.from_residual.ensures.1
+    (c.in_err-event.ensures.ends route text)
+
+pub returns : goal.returns
+returns c route text =
+    let m = stage_of c.event.new.self route text in
+    (m, c.in_ok-event.ensures.ends route text, (refl, ap (λ (l : List Sending). record m { senders = l }) c.end_all.ensures))

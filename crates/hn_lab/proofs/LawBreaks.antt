@@ -23,13 +23,15 @@ use Rattle.hn_lab.specs.Choosing.{MayHappen, MakesChoice, Chooses, chosen_event,
 use Rattle.hn_lab.specs.Delivery.{EventNotes, EventEnds, Replaces, ComesTo, IsBroken, DeliveryEnds, injection_for}
 use Rattle.hn_lab.specs.Events.{TreatmentEnds, CopyEnds, HasWaiting, Flow, Ticks, Passes, Round, Runs, drawn, is_lost}
 use Rattle.hn_lab.specs.Laws.{IsTold, ResultsAreUnique}
-use Rattle.hn_lab.specs.Line.{Noted, Delivered, Sets, OtherEnds, Follows, EndsBy, LineEnds, receiver, injection, event_of}
+use Rattle.hn_lab.specs.Line.{Noted, Delivered, Sets, OtherEnds, Follows, EndsAs, EndsBy, LineEnds, receiver, injection, event_of, report_of}
 use Rattle.hn_lab.specs.Play.{LineSaid, LinesDone}
 use Rattle.hn_lab.specs.Process.{Process, Nothing, Unless, ThenProcess, EachProcess, Times, Until}
+use Rattle.hn_lab.specs.Report.{unless_report, IsReport}
+use Rattle.hn_lab.specs.declared.report.Report.{Report}
 use Rattle.hn_lab.specs.Sending.{MayTurn, TurnEnds, Turns, TickEnds, Solicits}
 use Rattle.hn_lab.specs.Stage.{Stage, Route, Mail, Ports}
 use Rattle.hn_lab.specs.Syncing.{Exchanges}
-use Rattle.hn_lab.specs.Tells.{TellsLines, TellsSome, ReportsLines, note_lines}
+use Rattle.hn_lab.specs.Tells.{TellsLines, TellsSome, Reports, note_lines}
 use Rattle.hn_lab.specs.UlaReports.{ula_line}
 use Rattle.hn_lab.proofs.LawAlike.{KeepsTold, apart}
 use Rattle.hn_lab.proofs.LawCarry.{tells_sent}
@@ -58,7 +60,7 @@ never_event event p a h = h.1
 never_sets : (change : Stage → Stage) → NeverBreaks (Sets change)
 never_sets change p a h = apart WireFailed h.0
 
-never_reports : (unless : Option ℕ) (AreReport : List (List ℕ) → Type 0) → NeverBreaks (ReportsLines unless AreReport)
+never_reports : (unless : Option ℕ) (AreReport : List (List ℕ) → Type 0) → NeverBreaks (Reports unless AreReport)
 never_reports unless AreReport = never_unless unless (TellsSome AreReport) (λ p a h. h.2)
 
 never_noted : (event : WEvent) (name : Option Name) → NeverBreaks (Noted event name)
@@ -220,18 +222,6 @@ module _ (fault : IoFault) where
     breaks_other (line.Seed seed) p a told h = absurd (apart WireFailed h.0)
     breaks_other (line.Loss percent) p a told h = absurd (apart WireFailed h.0)
     breaks_other (line.Inject name endpoint how bytes) p a told h = absurd (never_noted (injection name endpoint how bytes) (Some name) p a h)
-    breaks_other (line.Show name) p a told h = absurd (never_reports _ _ p a h)
-    breaks_other (line.Hash name) p a told h = absurd (never_reports _ _ p a h)
-    breaks_other (line.Used name) p a told h = absurd (never_reports _ _ p a h)
-    breaks_other (line.Prefixes name) p a told h = absurd (never_reports _ _ p a h)
-    breaks_other (line.Elect name e letter) p a told h = absurd (never_reports _ _ p a h)
-    breaks_other (line.Advert name e) p a told h = absurd (never_reports _ _ p a h)
-    breaks_other (line.Audit name) p a told h = absurd (never_reports _ _ p a h)
-    breaks_other (line.Compare left right) p a told h = absurd (never_reports _ _ p a h)
-    breaks_other line.Mail p a told h = absurd (never_reports _ _ p a h)
-    breaks_other (line.Addresses name) p a told h = absurd (never_reports _ _ p a h)
-    breaks_other (line.Addressed name) p a told h = absurd (never_reports _ _ p a h)
-    breaks_other (line.Ulas name) p a told h = absurd (never_reports _ _ p a h)
     breaks_other (line.Address name) p a told h = absurd (never_choice name IsChoice (chosen_event name) (λ made. []) p a h)
     breaks_other (line.Ula name) p a told h = absurd (never_choice name Decides (decided_event name) (λ made. ula_line name made ∷ []) p a h)
     breaks_other (line.Sync left right) p a told h = absurd (never_unless _ (Exchanges left right) (λ q b x. x) p a h)
@@ -239,9 +229,13 @@ module _ (fault : IoFault) where
     breaks_other (line.Solicit name e) p a told h = absurd (never_unless _ (Solicits name e) (λ q b x. apart WireFailed x.0) p a h)
     breaks_other _ p a told h = absurd h
 
+    breaks_as : (l : Line) (report : Option Report) → BreaksAtCopy (EndsAs l report)
+    breaks_as l (Some report) p a told h = absurd (never_reports (unless_report report p.world) (IsReport report p.world) p a h)
+    breaks_as l None p a told h = breaks_other l p a told h
+
     breaks_by : (l : Line) (event : Option WEvent) → BreaksAtCopy (EndsBy l event)
     breaks_by l (Some event) = breaks_never (ThenProcess (EventEnds event) (Follows event)) (never_then (EventEnds event) (Follows event) (never_event event) (never_follows event))
-    breaks_by l None = breaks_other l
+    breaks_by l None = breaks_as l (report_of l)
 
     -- ---- lines
 

@@ -105,14 +105,14 @@ named_runs name w m is at = record {
 module _ (P : Member → Type 0) (members : List Member) (index : ℕ) where
   -- not all are so where one is not
   pub one_is_not : (m : Member) (answer : Bool) → m ≡ get_or members index m → index < length members → answer ≡ false → IsTrue answer ↔ P m → IsTrue false ↔ All P members
-  one_is_not m answer at within no is =
+  one_is_not m answer at within refused is =
       let there = subst (Contains members) (sym at) (Contains-get_or members index m within) in
-      (λ yes. absurd cc, λ all. sym no ∙ is.1 (All-contains P members m all there))
+      (λ yes. absurd cc, λ all. sym refused ∙ is.1 (All-contains P members m all there))
 
   -- so far all are, and the next one is
   pub one_more : (m : Member) (answer : Bool) → m ≡ get_or members index m → index < length members → IsTrue answer → IsTrue answer ↔ P m
       → All P (take index members) → All P (take (index + 1) members)
-  one_more m answer at within yes is so_far = All-more P members index m within so_far (subst P at (is.0 yes))
+  one_more m answer at within answered is so_far = All-more P members index m within so_far (subst P at (is.0 answered))
 
   -- all are
   pub all_are : All P (take index members) → length members ≤ index → IsTrue true ↔ All P members

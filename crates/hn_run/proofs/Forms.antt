@@ -1,12 +1,12 @@
 -- The words of the command line ask for one form.
 use Rattle.std.proofs.Common.{◌≡◌, ◌≢◌, ◌⊎◌, inl, inr, ℕ, ◌-◌, ◌^◌, ◌<◌, ◌≤◌, List, [], ◌∷◌, length, get_or, drop, take, zero, suc, map, codes, refl, Bool, true, false, not, nat_eq, Option, None}
-use Rattle.std.proofs.Common.{Some, sym, ap, subst, ◌∙◌, arith}
-use Rattle.std.specs.Prelude.{IfNone}
+use Rattle.std.proofs.Common.{Some, sym, ap, subst, ◌∙◌, lit<, arith}
+use Rattle.std.specs.Prelude.{Contains, IfNone}
 use Rattle.std.specs.Cmp.Lexicographic.{pointwise, same_text}
 use Rattle.std.proofs.lemmas.Bool.{false≢true}
 use Rattle.std.proofs.lemmas.List.{get_or-map}
 use Rattle.hn_script.specs.Field.{IsNumberText}
-use Rattle.hn_run.specs.Form.{IsPlainWord, IsBasedWord, AreCountedWords, IsFormOf}
+use Rattle.hn_run.specs.Form.{IsPlainWord, IsBasedWord, AreCountedWords, IsFormOf, statuses_of}
 use Rattle.hn_run.specs.declared.words.Form.{Form}
 use Rattle.hn_run.specs.declared.words.NodeCall.{NodeCall}
 use Rattle.hn_run.specs.declared.words.Form.TheVariants.{Lab, Udp, Node, Decode, Watch, Soak}
@@ -69,20 +69,6 @@ no_counted_form None word count chance words many first second third none = λ f
     (subst (λ (w : List ℕ). P w (get_or words 2 []) (get_or words 3 [])) first asks)))
 no_counted_form (Some found) word count chance words many first second third none = tt
 
--- ---- the numbers of a soak
-
-one_number : (lowest highest : ℕ) (word : List ℕ) (m n : ℕ) → IsNumberText lowest highest word m → IsNumberText lowest highest word n → m ≡ n
-one_number lowest highest word m n h k = sym h.numeral.value ∙ k.numeral.value
-
--- what holds of the numbers that were read holds of those that are asked for
-pub as_asked : (P : ℕ → ℕ → Type 0) (n seed m chance : ℕ) (words : List (List ℕ)) → IsFormOf (Soak n seed) words → IsFormOf (Soak m chance) words → P n seed → P m chance
-as_asked P n seed m chance words h k holds =
-    let first : k.1 ≡ h.1 = cc in
-    let second : k.2 ≡ h.2 = cc in
-    let count : n ≡ m = one_number 2 32 h.1 n m h.4 (subst (λ (word : List ℕ). IsNumberText 2 32 word m) first k.4) in
-    let same : seed ≡ chance = one_number 0 (2 ^ 64 - 1) h.2 seed chance h.5 (subst (λ (word : List ℕ). IsNumberText 0 (2 ^ 64 - 1) word chance) second k.5) in
-    subst (λ (x : ℕ). P x chance) count (subst (λ (x : ℕ). P n x) same holds)
-
 -- ---- the words of `node`
 
 told : (same : Bool) → false ≡ not same → true ≡ same
@@ -124,3 +110,34 @@ pub no_other_form : (r : Option Form) (words : List (List ℕ)) → length words
 no_other_form None words (inl few) none = node_alone words (λ h. omega arith) (λ h. omega arith) (λ h. omega arith) none
 no_other_form None words (inr many) none = node_alone words (λ h. omega arith) (λ h. omega arith) (λ h. omega arith) none
 no_other_form (Some found) words other none = tt
+
+-- ---- the words ask for one list of statuses
+
+-- the statuses of the form that so many words ask for
+abbrev by_length : ℕ → List ℕ
+by_length (suc (suc zero)) = 0 ∷ 2 ∷ 3 ∷ 4 ∷ 6 ∷ []
+by_length (suc (suc (suc (suc zero)))) = 0 ∷ 2 ∷ 4 ∷ 6 ∷ []
+by_length _ = 0 ∷ 2 ∷ 3 ∷ 4 ∷ 5 ∷ 6 ∷ []
+
+of_length : (form : Form) (words : List (List ℕ)) → IsFormOf form words → by_length (length words) ≡ statuses_of form
+of_length Lab words h = ap by_length (ap length h.1)
+of_length (Udp base) words h = ap by_length (ap length h.2)
+of_length (Node call) words h = ap by_length (ap length h.6)
+of_length Decode words h = ap by_length (ap length h.1)
+of_length Watch words h = ap by_length (ap length h.1)
+of_length (Soak n seed) words h = ap by_length (ap length h.3)
+
+-- a status of the form that was read is one of each form that the words ask for
+pub ends_alike : (read form : Form) (words : List (List ℕ)) (status : ℕ) → IsFormOf read words → IsFormOf form words
+    → Contains (statuses_of read) status → Contains (statuses_of form) status
+ends_alike read form words status h k ends = subst (λ (all : List ℕ). Contains all status) (sym (of_length read words h) ∙ of_length form words k) ends
+
+-- a status that is not that of a failed wire
+pub without_wire : (status : ℕ) → Contains (0 ∷ 2 ∷ 3 ∷ 4 ∷ 5 ∷ 6 ∷ []) status → status ≢ 5 → Contains (0 ∷ 2 ∷ 3 ∷ 4 ∷ 6 ∷ []) status
+without_wire status (zero, within, is) other = (0, lit< tt, is)
+without_wire status (suc zero, within, is) other = (1, lit< tt, is)
+without_wire status (suc (suc zero), within, is) other = (2, lit< tt, is)
+without_wire status (suc (suc (suc zero)), within, is) other = (3, lit< tt, is)
+without_wire status (suc (suc (suc (suc zero))), within, is) other = absurd (other (sym is))
+without_wire status (suc (suc (suc (suc (suc zero)))), within, is) other = (4, lit< tt, is)
+without_wire status (suc (suc (suc (suc (suc (suc k))))), within, is) other = absurd (omega arith)

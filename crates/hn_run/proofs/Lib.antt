@@ -1,6 +1,5 @@
 mod HexDigits
 mod Forms
-mod OneForm
 mod Streams
 mod Cut
 mod Decodes
@@ -15,3 +14,4 @@ mod NinthPrefix
 mod Nodes
 mod Ported
 mod NodeSources
+mod LeftOnWire

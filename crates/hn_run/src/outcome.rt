@@ -1,8 +1,15 @@
-ghost use Rattle.std.specs.Prelude.{◌≡◌, None};
+ghost use Rattle.std.specs.Prelude.{◌≡◌, None, IfSome};
+ghost use Rattle.hn_world.specs.Replay.{IsReplayed, Always, Throughout};
+ghost use Rattle.hn_world.specs.Authentic.{AuthenticUnlessInjected};
+ghost use Rattle.hn_world.specs.Leaves.{EqualHashesAgree};
+ghost use Rattle.hn_world.specs.Within.{AreWithinLimits};
+ghost use Rattle.hn_audit.specs.Laws.{SettledAreSound};
+ghost use Rattle.hn_audit.specs.Staying.{QuietStays};
 
+use hn_audit::{quiet_homes_always_stay, settled_are_always_sound};
 use hn_lab::Played;
 use hn_node::Served;
-use hn_world::World;
+use hn_world::{World, always_authentic, always_within_limits, equal_hashes_always_agree};
 
 /// What a run of the program came to.
 #[derive(Drop)]
@@ -29,12 +36,23 @@ impl Outcome {
         }
     }
 
-    /// What a play came to. Never allocates.
-    pub fn of_play(played: Played) -> Outcome
+    /// What a play came to. Its world is the replay of its trace, so the laws of such worlds hold of it. Never allocates.
+    pub(crate) fn of_play(played: Played) -> Outcome
+        requires replayed { IfSome played.world IsReplayed }
         ensures status { result.status ≡ played.status }
         ensures world { result.world ≡ played.world }
         ensures not_served { result.served ≡ None }
+        ensures headline { IfSome result.world (Always EqualHashesAgree) }
+        ensures settled { IfSome result.world (Always SettledAreSound) }
+        ensures stays { IfSome result.world (Throughout QuietStays) }
+        ensures within_limits { IfSome result.world (Always AreWithinLimits) }
+        ensures authentic { IfSome result.world (Always AuthenticUnlessInjected) }
     {
+        equal_hashes_always_agree();
+        settled_are_always_sound();
+        quiet_homes_always_stay();
+        always_within_limits();
+        always_authentic();
         Outcome {
             status: played.status,
             world: played.world,

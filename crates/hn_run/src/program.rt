@@ -1,4 +1,4 @@
-ghost use Rattle.std.specs.Prelude.{◌≡◌, ◌≢◌, ◌↔◌, ◌+◌, ◌^◌, ◌≤◌, ◌⊎◌, ℕ, List, [], ◌∷◌, None, map, length, Contains, IfSome, string_bytes};
+ghost use Rattle.std.specs.Prelude.{◌≡◌, ◌≢◌, ◌↔◌, ◌+◌, ◌^◌, ◌≤◌, ◌⊎◌, ℕ, List, [], ◌∷◌, None, Some, map, length, Contains, IfSome, string_bytes};
 ghost use Rattle.std.specs.Io.KnownBytes.{Consumes};
 ghost use Rattle.hn_io.specs.Faults.{IsCaused};
 ghost use Rattle.hn_world.specs.Replay.{IsReplayed, Always, Throughout};
@@ -8,11 +8,12 @@ ghost use Rattle.hn_base.specs.declared.version.Version.TheVariants.{One};
 ghost use Rattle.hn_world.specs.Within.{IsWithinLimits, AreWithinLimits};
 ghost use Rattle.hn_audit.specs.Laws.{SettledAreSound};
 ghost use Rattle.hn_audit.specs.Staying.{QuietStays};
+ghost use Rattle.hn_wire.specs.declared.datagram.Datagram.{Datagram};
 ghost use Rattle.hn_lab.specs.Lab.{IsLabRun};
 ghost use Rattle.hn_lab.specs.Stage.{Mail, Ports};
 ghost use Rattle.hn_lab.specs.Transcripts.{IsLabTranscript};
 ghost use Rattle.hn_run.specs.Form.{IsFormOf, AsksNothing, LeavesUnused, statuses_of};
-ghost use Rattle.hn_run.specs.Outcome.{IsDecodeRun, IsWatchRun, IsSoakRun};
+ghost use Rattle.hn_run.specs.Outcome.{IsDecodeRun, IsWatchRun, IsSoakRun, LeavesOnWire};
 ghost use Rattle.hn_run.specs.Node.{IsNodeRun, plain_call};
 ghost use Rattle.hn_run.specs.declared.words.Form.{Form};
 ghost use Rattle.hn_run.specs.declared.words.NodeCall.{NodeCall};
@@ -25,7 +26,7 @@ use crate::status::{BAD_USAGE, DONE, NO_MEMORY, REFUSED, SINK_FAILED, SOURCE_FAI
 use crate::watch::run_watch;
 use crate::words::Form;
 use hn_io::{IoFault, Sink, Source};
-use hn_lab::{lab, read_all};
+use hn_lab::{lab, read_all, wire_fails_at_a_copy};
 use hn_wire::{Clock, Wire};
 use std::alloc::Global;
 
@@ -95,11 +96,15 @@ pub fn run<S: Source, K: Sink, W: Wire, C: Clock>(
 
     // What each form comes to. After status 3 there is no more to say; it is said of the bytes that were read, which are
     // all that the source has, where it tells them. By mail, with `lab` and `soak`, a script has exactly one transcript: it
-    // cannot be that it has none, and a front of it is written, with status 0 or 2 the whole.
+    // cannot be that it has none, and a front of it is written, with status 0 or 2 the whole. With status 5 of `udp` the wire
+    // has what waited right before some copy, or that and the copy.
     ensures lab { IsFormOf Form.Lab (map string_bytes words.now) → result.status ≢ SOURCE_FAILED
         → IsLabTranscript Mail (S.left src.old) result.status result.world (K.held out.old) (K.held out.new) }
     ensures udp { (base : ℕ) → IsFormOf (Form.Udp base) (map string_bytes words.now) → result.status ≢ SOURCE_FAILED
         → IsLabRun (Ports base (W.waiting wire.old)) (Ports base (W.waiting wire.new)) (S.left src.old) result.status result.world (K.held out.old) (K.held out.new) }
+    ensures udp_leaves { (base : ℕ) (waiting : List Datagram) → IsFormOf (Form.Udp base) (map string_bytes words.now)
+        → W.waiting wire.old ≡ Some waiting → result.status ≡ WIRE_FAILED
+        → LeavesOnWire base waiting (S.left src.old) result.world (W.waiting wire.new) }
     ensures node { (call : NodeCall) → IsFormOf (Form.Node call) (map string_bytes words.now) → result.status ≢ SOURCE_FAILED
         → IsNodeRun (plain_call call) (S.left src.old) result.status result.served (record { waiting = W.waiting wire.old; readings = C.readings clock.old })
         (record { waiting = W.waiting wire.new; readings = C.readings clock.new }) (K.held out.old) (K.held out.new) }
@@ -140,6 +145,7 @@ pub fn run<S: Source, K: Sink, W: Wire, C: Clock>(
     ensures unstarted { result.status ≡ SOURCE_FAILED → (out.new ≡ out.old) × (clock.new ≡ clock.old) }
     ensures bounded { (read : List ℕ) × (length read ≤ 2 ^ 24 + 1) × Consumes (S.left src.old) (S.left src.new) read }
 {
+    wire_fails_at_a_copy();
     match Form::of(words) {
         Some(Form::Lab) => Outcome::of_play(lab(alloc, src, out, wire, None)),
         Some(Form::Udp { base }) => Outcome::of_play(lab(alloc, src, out, wire, Some(base))),

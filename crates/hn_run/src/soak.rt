@@ -1,11 +1,6 @@
 ghost use Rattle.std.specs.Prelude.{◌≡◌, ◌≢◌, ◌≤◌, [], ◌∷◌, None, Contains, IfSome};
 ghost use Rattle.hn_io.specs.Faults.{IsCaused};
-ghost use Rattle.hn_world.specs.Replay.{IsReplayed, Always, Throughout};
-ghost use Rattle.hn_world.specs.Authentic.{AuthenticUnlessInjected};
-ghost use Rattle.hn_world.specs.Leaves.{EqualHashesAgree};
-ghost use Rattle.hn_world.specs.Within.{AreWithinLimits};
-ghost use Rattle.hn_audit.specs.Laws.{SettledAreSound};
-ghost use Rattle.hn_audit.specs.Staying.{QuietStays};
+ghost use Rattle.hn_world.specs.Replay.{IsReplayed};
 ghost use Rattle.hn_run.specs.Outcome.{IsSoakRun};
 
 use crate::status::{DONE, NO_MEMORY, REFUSED, SINK_FAILED};
@@ -25,11 +20,6 @@ pub fn soak<K: Sink, W: Wire>(alloc: Global, n: u32, seed: u64, out: &mut K, wir
     ensures soak { IsSoakRun n seed result.status result.world (K.held out.old) (K.held out.new) }
     ensures no_world { result.status ≡ NO_MEMORY → result.world ≡ None }
     ensures replayed { IfSome result.world IsReplayed }
-    ensures headline { IfSome result.world (Always EqualHashesAgree) }
-    ensures settled { IfSome result.world (Always SettledAreSound) }
-    ensures stays { IfSome result.world (Throughout QuietStays) }
-    ensures within_limits { IfSome result.world (Always AreWithinLimits) }
-    ensures authentic { IfSome result.world (Always AuthenticUnlessInjected) }
     ensures statuses { Contains (DONE ∷ REFUSED ∷ SINK_FAILED ∷ NO_MEMORY ∷ []) result.status }
     ensures caused { IsCaused (result.status ≡ SINK_FAILED) (K.faults out.old) (K.faults out.new)
         (K.never_fails out.old) (K.never_fails out.new) }

@@ -28,7 +28,8 @@ returns-in-Prefixes c = told_lines c.args.about about.Prefixes c.args.name.now c
 
 pub returns-in_ok-elect_line-in-Elect : goal.returns-in_ok-elect_line-in-Elect
 returns-in_ok-elect_line-in-Elect c =
-    told_line c.args.about (about.Elect c.in-Elect.e c.in-Elect.letter) c.args.name.now c.args.world.now c.args.member.now (IsElectLine c.args.name.now c.in-Elect.e c.in-Elect.letter c.args.member.now)
+    told_line c.args.about (about.Elect c.in-Elect.e c.in-Elect.letter) c.args.name.now c.args.world.now c.args.member.now
+    (IsElectLine c.args.name.now c.in-Elect.e c.in-Elect.letter c.args.member.now)
     (string_bytes c.in_ok-elect_line-in-Elect.field-0) c.of-in-Elect.result c.in-Elect.is (λ lines h. h) c.in_ok-elect_line-in-Elect.ensures c.of-in-Elect.ensures
 
 pub returns-in_ok-advert_line-in-Advert : goal.returns-in_ok-advert_line-in-Advert

@@ -1,9 +1,10 @@
-use Rattle.std.proofs.Common.{map, refl}
+use Rattle.std.proofs.Common.{◌≡◌, map, refl, arith}
 use Rattle.std.specs.String.{string_bytes}
 use Rattle.hn_run.specs.declared.words.Form.TheVariants.{Lab, Udp, Node, Decode, Watch, Soak}
 use Rattle.hn_run.specs.Node.{IsNodeRun, PlainCall}
+use Rattle.hn_run.proofs.LeftOnWire.{leaves_of_base}
 use Rattle.hn_run.proofs.Nodes.{as_called, call_in_range}
-use Rattle.hn_run.proofs.OneForm.{ends_alike, without_wire}
+use Rattle.hn_run.proofs.Forms.{ends_alike, without_wire}
 use Rattle.hn_run.proofs.program.run.Goals as goal
 
 pub returns-in-Some-Lab-clause-lab : goal.returns-in-Some-Lab-clause-lab
@@ -23,6 +24,21 @@ returns-in-Some-Udp-clause-statuses g c form asked =
     let read = rw c.in-Some-Udp.field-0-is at c.in-Some-Udp.ensures.found in
     let status = c.lab-in-Some-Udp.result.status in
     rw c.of_play-in-Some-Udp.ensures.status (ends_alike (Udp c.in-Some-Udp.base) form words status read asked c.lab-in-Some-Udp.ensures.statuses)
+
+pub returns-in-Some-Udp-clause-udp_leaves : goal.returns-in-Some-Udp-clause-udp_leaves
+returns-in-Some-Udp-clause-udp_leaves g c base waiting asked tells five =
+    let words = map string_bytes c.args.words.now in
+    let read = rw c.in-Some-Udp.field-0-is at c.in-Some-Udp.ensures.found in
+    let result = c.lab-in-Some-Udp.result in
+    let five' : result.status ≡ 5 = rw c.of_play-in-Some-Udp.ensures.status at five in
+    let some : result.status ≡ 3 → ⊥ = λ three. omega (arith, five', three) in
+    rw c.of_play-in-Some-Udp.ensures.world
+    (leaves_of_base c.wire_fails_at_a_copy.ensures c.in-Some-Udp.base base waiting (g.W.Wire.waiting c.args.wire.now) (g.W.Wire.waiting c.lab-in-Some-Udp.new.wire) words
+    (g.S.Source.left c.args.src.now) result.status result.world (g.K.Sink.held c.args.out.now) (g.K.Sink.held c.lab-in-Some-Udp.new.out)
+    read asked tells five' (c.lab-in-Some-Udp.ensures.lab some))
+
+pub returns-in-None-clause-udp_leaves : goal.returns-in-None-clause-udp_leaves
+returns-in-None-clause-udp_leaves g c base waiting asked _ _ = absurd (c.in-None.ensures.none (Udp base) asked)
 
 pub returns-in-Some-Soak-clause-statuses : goal.returns-in-Some-Soak-clause-statuses
 returns-in-Some-Soak-clause-statuses g c form asked =

@@ -21,7 +21,7 @@ SOURCES = {'crates.txt': '# crates\nhn_base: hex\nhn_router_c staticlib: hn_base
            'HANDLES': 'Handles allowed: Net.\n', '.gitignore': 'out/\n__pycache__/\n', 'crates/hn_base/src/lib.rt': 'a\n',
            'crates/hn_base/specs/Gone.antt': 'b\n', 'crates/hncp/src/main.rt': 'c\n', 'crates/hnlook/src/main.rt': 'd\n',
            'crates/hn_router_c/src/lib.rt': 'e\n', 'crates/other/src/lib.rt': 'f\n'}
-KIT = 'a kit of the check'
+LOGIC = '0123456789abcdef'        # of a kit of the check, where nothing here was built by another
 DATA = 'crates/transcripts/data'
 CALLS = [('hncp', ['decode'], 'datagram.hex', 'datagram.transcript'), ('hncp', ['lab'], 'taken_name.script', 'taken_name.transcript'),
          ('hncp', ['watch'], 'a_conflict_of_a_stale_number.capture', 'a_conflict_of_a_stale_number.transcript'),
@@ -45,6 +45,21 @@ def is_for_here(path):
     with open(path, 'rb') as file:
         head = file.read(20)
     return head[:5] == b'\x7fELF\2' and head[18:20] == b'\x3e\0'
+
+
+def said(logic):
+    """What a kit's compiler writes into what it makes."""
+    return f'\0rattle logic={logic}\0'.encode()
+
+
+def logic_of(paths):
+    """The first 16 digits of the logic of which a file says that it is made by it."""
+    for path in paths:
+        with open(path, 'rb') as file:
+            found = re.search(rb'rattle logic=([0-9a-f]{16})', file.read())
+        if found:
+            return found[1].decode()
+    return LOGIC
 
 
 def program_or_none(find):
@@ -73,11 +88,11 @@ class Home:
                 shutil.copy(os.path.join(TOP, path), self.at(path))
         for path, text in SOURCES.items():
             self.write(path, text)
-        self.write('../kit/bin/rt', f'#!/bin/sh\necho "{KIT}"\n')
-        os.chmod(self.at('../kit/bin/rt'), 0o755)
         self.git('init', '-q')
         self.commit()
         self.build()
+        self.write('../kit/bin/rt', f'#!/bin/sh\necho "{self.kit}"\n')
+        os.chmod(self.at('../kit/bin/rt'), 0o755)
 
     def at(self, path):
         return os.path.join(self.top, path)
@@ -99,28 +114,37 @@ class Home:
     def build(self):
         """Puts the programs and the library where rt puts them, and notes them as rt ci does."""
         found = {'hncp': common.program(), 'hnlook': program_or_none(common.looker), 'library': os.path.join(TOP, LIBRARY)}
+        self.real = [name for name in PLACES if found[name] and os.path.exists(found[name]) and (name == 'library' or is_for_here(found[name]))]
+        self.logic = logic_of(found[name] for name in self.real)
+        self.kit = f'a kit of the check, logic {self.logic}'
         for name, path in PLACES.items():
             os.makedirs(os.path.dirname(self.at(path)))
-            self.real += [name] if found[name] and os.path.exists(found[name]) and (name == 'library' or is_for_here(found[name])) else []
             if name != 'library':
-                shutil.copyfile(found[name] if name in self.real else shutil.which('true'), self.at(path))
+                self.put(path, self.data_of(found[name]) if name in self.real else self.data_of(shutil.which('true')) + said(self.logic))
                 os.chmod(self.at(path), 0o755)
                 self.keep(name)
         shutil.copyfile(found['library'], self.at(LIBRARY)) if 'library' in self.real else self.make_library()
+
+    def data_of(self, path):
+        with open(self.at(path), 'rb') as file:
+            return file.read()
+
+    def put(self, path, data):
+        with open(self.at(path), 'wb') as file:
+            file.write(data)
 
     def keep(self, name):
         self.write(os.path.join(self.kept, f'proof-{name}-0', 'made.json'), json.dumps({'key': '0', 'files': [[name, self.sum_of(PLACES[name])]]}))
 
     def sum_of(self, path):
-        with open(self.at(path), 'rb') as file:
-            return hashlib.sha256(file.read()).hexdigest()
+        return hashlib.sha256(self.data_of(path)).hexdigest()
 
     def make_library(self):
         """A library whose calls do nothing."""
         with open(self.at('include/hn_router.h'), encoding='utf-8') as file:
             calls = re.findall(r'^(?!typedef)(\w+) (\w+\([^;]*\));', re.sub(r'/\*.*?\*/', '', file.read(), flags=re.DOTALL), re.MULTILINE)
         folder = os.path.dirname(self.at(LIBRARY))
-        text = '#include "hn_router.h"\n' + ''.join(f'{kind} {call} {{ {"" if kind == "void" else "return 2;"} }}\n' for kind, call in calls)
+        text = f'#include "hn_router.h"\nconst char made_by[] = "rattle logic={self.logic}";\n' + ''.join(f'{kind} {call} {{ {"" if kind == "void" else "return 2;"} }}\n' for kind, call in calls)
         self.write(os.path.join(folder, 'calls.c'), text)
         for words in (['gcc', '-w', '-c', '-I', self.at('include'), '-o', 'calls.o', 'calls.c'], ['ar', 'rcs', os.path.basename(LIBRARY), 'calls.o']):
             status, _, messages = run_in(folder, words)
@@ -184,15 +208,19 @@ def check_built(home):
         shutil.copy(aside, home.at(path))
         os.utime(home.at(path), (1, 1))
         count += home.refuses(f'{path} is not newer than ')
-        with open(aside, 'rb') as file:
-            data = file.read()
-        with open(home.at(path), 'wb') as file:
-            at = data.index(b'\x7fELF') + 18
-            file.write(data[:at] + b'\xb7\0' + data[at + 2:])     # aarch64
+        data = home.data_of(aside)
+        at = data.index(b'\x7fELF') + 18
+        home.put(path, data[:at] + b'\xb7\0' + data[at + 2:])     # aarch64
         count += home.refuses(f'{path} is not for x86-64')
-        if name != 'library':
-            with open(home.at(path), 'wb') as file:
-                file.write(data + b'\0')
+        home.put(path, data + said(16 * 'f'))
+        count += home.refuses(f'{path} is not of the kit with logic {home.logic}')
+        if name == 'library':
+            home.put(path, data + b' backend=rattle ')
+            count += home.refuses(f'{path} was made with --backend rattle')
+            home.put(path, data.replace(b'rattle logic=', b'rattle_logic='))
+            count += home.refuses(f'{path} is not of the kit with logic {home.logic}')
+        else:
+            home.put(path, data + b'\0')
             count += home.refuses(f'{path} is no program that rt says it built')
         os.replace(aside, home.at(path))
         home.touch()
@@ -255,7 +283,7 @@ def check_contents(home, path):
         sums += [f'{hashlib.sha256(data).hexdigest()}  {name}'] if name != 'SHA256SUMS' else []
     must_be(common.read(os.path.join(place, title, 'SHA256SUMS')), sums, 'SHA256SUMS')
     about = common.read(os.path.join(place, title, 'RELEASE'))
-    must_be([*about[:2], *about[3:]], ['Rulercress for x86-64 Linux', f'commit {home.git("rev-parse", "HEAD")}', f'kit {KIT}'], 'RELEASE')
+    must_be([*about[:2], *about[3:]], ['Rulercress for x86-64 Linux', f'commit {home.git("rev-parse", "HEAD")}', f'kit {home.kit}'], 'RELEASE')
     return os.path.join(place, title)
 
 

@@ -61,15 +61,16 @@ in_time None next moment now reaches ahead due = absurd reaches
 in_time (Some l) next moment now reaches ahead due = omega arith
 
 module _ (name : Name) (e : EpId) (base : List Told) where
-  -- what a line of text says was sent before
+  -- each moment at which a line says that the endpoint sent
   abbrev pub AreReached : Told → Option ℕ → Type 0
   AreReached t last = (moment : ℕ) → moment < 2 ^ 64 → IsRaOf name e moment t → Reaches last moment
 
-  -- its sender sent last when the last of its lines came up
+  -- its sender is spaced, and sent last at the last moment that the lines say
   pub record IsLast (new : List Told) (s : PlainSender) : Type 0 where
     pub spaced : IsSpaced s
     pub after : All (λ t. AreReached t s.last) new
 
+  -- the lines that came up after this text are spaced
   pub record SpacedLines (s : Option PlainSender) (text : List Told) : Type 0 where
     pub new : List Told
     pub text_is : text ≡ base ++ new

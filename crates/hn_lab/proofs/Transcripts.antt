@@ -17,7 +17,7 @@ use Rattle.hn_lab.specs.Output.{IsCutText, IsFrontOf}
 use Rattle.hn_lab.specs.Play.{begun, IsPlay}
 use Rattle.hn_lab.specs.Stage.{Route, Stage, Mail}
 use Rattle.hn_lab.specs.Told.{Told, bytes_of}
-use Rattle.hn_lab.specs.Transcripts.{DoneOrRefused, IsOfTranscript, IsTranscript, IsWrittenOf, LabIsOfTranscript, Transcript, TranscriptExists, TranscriptIsUnique, WrittenIsOfTranscript}
+use Rattle.hn_lab.specs.Transcripts.{DoneOrRefused, IsOfTranscript, IsTranscript, IsWrittenOf, LabIsOfTranscript, PlayIsOfTranscript, Transcript, TranscriptExists, TranscriptIsUnique, WrittenIsOfTranscript}
 
 -- ---- there is one, and no other
 
@@ -111,8 +111,7 @@ written_is_of one fronts last script status world written t (inr (inr play)) unw
 -- ---- what `lab` comes to
 
 module _ (exists : TranscriptExists) (of_transcript : WrittenIsOfTranscript) where
-  of_plays : (last : Route) (script : Script) (bytes : List ℕ) (status : ℕ) (world : Option Parts) (written : List ℕ) → status ≢ 5 → IsScript script bytes
-      → Plays Mail last script status world written → IsOfTranscript script status world written
+  pub of_plays : PlayIsOfTranscript
   of_plays last script bytes status world written unwired is plays =
       some_then (exists script bytes is) (λ t is_t none. none t (is_t, of_transcript last script status world written t plays unwired is_t))
 

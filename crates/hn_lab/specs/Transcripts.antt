@@ -1,6 +1,7 @@
 -- The transcript of a script by mail: there is exactly one, read as that it cannot be that there is none, and what is written
 -- is a front of it.
 use Rattle.std.specs.Prelude.{◌≡◌, ◌≢◌, ◌⊎◌, ℕ, List, Option, Some}
+use Rattle.std.specs.Io.KnownBytes.{Appends}
 use Rattle.hn_base.specs.Exists.{Some! }
 use Rattle.hn_script.specs.Script.{IsScript}
 use Rattle.hn_script.specs.declared.script.Script.{Script}
@@ -36,6 +37,11 @@ pub record IsWrittenOf (t : Transcript) (status : ℕ) (world : Option Parts) (w
 abbrev pub IsOfTranscript : Script → ℕ → Option Parts → List ℕ → Type 0
 IsOfTranscript script status world written = Some! (λ (t : Transcript). IsTranscript script t × IsWrittenOf t status world written)
 
+-- so it is of the script that bytes are, and it is appended
+abbrev pub AppendsTranscript : Script → ℕ → Option Parts → Option (List ℕ) → Option (List ℕ) → Type 0
+AppendsTranscript script status world before after =
+    (bytes : List ℕ) → IsScript script bytes → (written : List ℕ) × IsOfTranscript script status world written × Appends before after written
+
 -- By mail a script has a transcript.
 abbrev pub TranscriptExists : Type 0
 TranscriptExists = (script : Script) (bytes : List ℕ) → IsScript script bytes → Some! (IsTranscript script)
@@ -49,6 +55,12 @@ abbrev pub WrittenIsOfTranscript : Type 0
 WrittenIsOfTranscript =
     (last : Route) (script : Script) (status : ℕ) (world : Option Parts) (written : List ℕ) (t : Transcript)
     → Plays Mail last script status world written → status ≢ 5 → IsTranscript script t → IsWrittenOf t status world written
+
+-- So it is of the transcript of a script that bytes are.
+abbrev pub PlayIsOfTranscript : Type 0
+PlayIsOfTranscript =
+    (last : Route) (script : Script) (bytes : List ℕ) (status : ℕ) (world : Option Parts) (written : List ℕ) → status ≢ 5 → IsScript script bytes
+    → Plays Mail last script status world written → IsOfTranscript script status world written
 
 -- By mail the lines of a script can be played to their end, or one is refused: it cannot be that neither is so.
 abbrev pub DoneOrRefused : Type 0

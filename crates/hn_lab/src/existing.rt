@@ -1,7 +1,7 @@
 //! By mail each script has a play, and one transcript. Each law is the contract of a function that does nothing.
 
 ghost use Rattle.hn_lab.specs.Existing.{PlayExists, ScriptHasAPlay};
-ghost use Rattle.hn_lab.specs.Transcripts.{DoneOrRefused, TranscriptExists, TranscriptIsUnique, WrittenIsOfTranscript, LabIsOfTranscript};
+ghost use Rattle.hn_lab.specs.Transcripts.{DoneOrRefused, TranscriptExists, TranscriptIsUnique, WrittenIsOfTranscript, PlayIsOfTranscript, LabIsOfTranscript};
 
 use crate::law::{at_most_one_play, cut_text_is_a_front};
 use hn_addr::{choice_exists, chosen_addresses_fit, still_addresses_stay};
@@ -74,6 +74,14 @@ pub fn written_is_of_transcript()
 {
     at_most_one_play();
     cut_text_is_a_front();
+}
+
+/// What the play of a script comes to by mail is of its transcript.
+pub fn play_is_of_transcript()
+    ensures { PlayIsOfTranscript }
+{
+    transcript_exists();
+    written_is_of_transcript();
 }
 
 /// What `lab` comes to by mail is of the transcript of each script that its source has.

@@ -33,7 +33,7 @@ mod ula_report;
 
 pub use end::End;
 pub use existing::{
-    lab_is_of_transcript, play_exists, script_has_a_play, transcript_exists,
+    lab_is_of_transcript, play_exists, play_is_of_transcript, script_has_a_play, transcript_exists,
     written_is_of_transcript,
 };
 pub use input::read_all;

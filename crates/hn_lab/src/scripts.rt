@@ -9,11 +9,11 @@ ghost use Rattle.hn_lab.specs.declared.end.End.TheVariants as ends;
 ghost use Rattle.hn_lab.specs.Lab.{play_status, Plays, IsLineWritten, IsLabOf, IsLabRun, StatusOfScript, HasDonePlay, HasRefusal};
 ghost use Rattle.hn_lab.specs.Reports.{refused_line};
 ghost use Rattle.hn_lab.specs.Stage.{route_of};
-ghost use Rattle.hn_lab.specs.Transcripts.{IsLabTranscript};
+ghost use Rattle.hn_lab.specs.Transcripts.{IsLabTranscript, AppendsTranscript};
 
 use crate::carrying::{Carrier, Mail, Ports};
 use crate::end::End;
-use crate::existing::lab_is_of_transcript;
+use crate::existing::{lab_is_of_transcript, play_is_of_transcript};
 use crate::input::read_all;
 use crate::law::at_most_one_play;
 use crate::output::write_refusal;
@@ -142,8 +142,9 @@ fn play_over<K: Sink, W, C: Carrier<W>>(
     }
 }
 
-/// Plays a script, whose lines are of its version, and writes its transcript. With a base, at most 65,534, copies that are
-/// delivered go over the wire from this port to the port after it.
+/// Plays a script, whose lines are of its version, and writes its transcript. By mail a script has exactly one, as
+/// `AppendsTranscript` says: a front of it is written, and with status `DONE` or `REFUSED` the whole. With a base, at most
+/// 65,534, copies that are delivered go over the wire from this port to the port after it.
 ///
 /// There is no world if and only if the status is 6.
 ///
@@ -165,6 +166,7 @@ pub fn play<K: Sink, W: Wire>(
     requires base { IfSome base (λ port. port ≤ 65534) }
     ensures plays { (written : List ℕ) × Plays (route_of base (W.waiting wire.old)) (route_of base (W.waiting wire.new)) script result.status result.world written
         × Appends (K.held out.old) (K.held out.new) written }
+    ensures transcript { base ≡ None → AppendsTranscript script result.status result.world (K.held out.old) (K.held out.new) }
     ensures done { HasDonePlay (route_of base (W.waiting wire.old)) script → result.status ≢ REFUSED }
     ensures refused { HasRefusal (route_of base (W.waiting wire.old)) script → result.status ≢ DONE }
     ensures no_world { result.status ≡ NO_MEMORY → result.world ≡ None }
@@ -177,6 +179,7 @@ pub fn play<K: Sink, W: Wire>(
         (W.never_fails wire.old) (W.never_fails wire.new) }
     ensures unwired { base ≡ None → (wire.new ≡ wire.old) × (result.status ≢ WIRE_FAILED) }
 {
+    play_is_of_transcript();
     match base {
         None => play_over(alloc, script, out, &Mail, &mut ()),
         Some(base) => play_over(alloc, script, out, &Ports::new(base), wire),

@@ -1,7 +1,7 @@
 use Rattle.std.proofs.Common.{◌∙◌, ℕ, List, Option, Some, ap, sym, subst}
 use Rattle.std.specs.Io.KnownBytes.{Appends}
 use Rattle.hn_lab.specs.Lab.{HasDonePlay, HasRefusal, Plays}
-use Rattle.hn_lab.specs.Stage.{route_of}
+use Rattle.hn_lab.specs.Stage.{Mail, route_of}
 use Rattle.hn_lab.proofs.scripts.play.Goals as goal
 
 pub returns-in-None-clause-plays : goal.returns-in-None-clause-plays
@@ -35,3 +35,9 @@ pub returns-in-Some-clause-refused : goal.returns-in-Some-clause-refused
 returns-in-Some-clause-refused g c has =
     c.play_over-in-Some.ensures.refused (subst (λ (o : Option ℕ). HasRefusal (route_of o (g.W.Wire.waiting c.args.wire.now)) c.args.script)
     (c.in-Some.is ∙ ap Some (sym c.new.ensures)) has)
+
+pub returns-in-None-clause-transcript : goal.returns-in-None-clause-transcript
+returns-in-None-clause-transcript g c by_mail bytes is =
+    let (written, plays, appends) = c.play_over.ensures.plays in
+    let unwired = (c.play_over.ensures.wire_caused.reliable tt).1 in
+    (written, c.play_is_of_transcript.ensures Mail c.args.script bytes c.play_over.result.status c.play_over.result.world written unwired is plays, appends)

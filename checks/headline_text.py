@@ -33,7 +33,7 @@ BEGINNING = '''# The headline on one page
 
 For a reader who knows HNCP and doubts the claim: seven clauses of `run`, the function that the program calls, and the definitions that say what they claim. [ASSURANCE](ASSURANCE.md) has them in words, and what they do not say. Up to "The others" takes ten minutes.
 
-`checks/headline --write` makes the page from the sources. `checks/headline` fails where a clause, a definition or a count is not what the page says, and names the first.
+`checks/headline --write` makes the page from the sources. `checks/headline` fails where a clause, a definition or a count differs, and names the first.
 '''
 
 CLAUSES = '''As they stand, with their comments. Beside `lab` each other form has a clause. That of `soak` says the same of the script of a soak: `hn_run/specs/Outcome.antt: IsSoakRun`, field `of_script`.'''
@@ -42,18 +42,18 @@ SIGNS = '''`×` binds closer than `⊎`, `⊎` closer than `↔`, and `↔` clos
 
 DEFINITIONS = '''Each comes after what first names it. Files are below `crates/`. What is named and not shown is a type of the program, as `State`, or stands under "The others" with its file.'''
 
-OTHERS = '''The two halves, of one world, rest on these too. Told of each file are its lines of them, the first four hexadecimal digits of their SHA-256, and in brackets those that the text above names. `checks/headline --others` prints each that the seven clauses rest on, with its file.'''
+OTHERS = '''The two halves, of one world, rest on these too: of each file their lines, the first four hexadecimal digits of their SHA-256, and in brackets those that the text above names. `checks/headline --others` prints each that the seven clauses rest on, with its file.'''
 
 FARTHER = '''The text names these too. With `Goes` begins how a world comes about, and with `IsPlay` how a script is played:'''
 
-COUNTS = '''A definition is an `abbrev`, `unfoldable`, `record` or `data` of a folder `specs/`; its lines are those that are neither empty nor a comment. All that is named is followed, but for what comes from the kit. "Of one world" leaves out `Always` and `Throughout`, which say of which worlds a half is claimed. Types are those that definitions or their fields name.'''
+COUNTS = '''Definitions are those of folders `specs/`, and their lines those that are neither empty nor comments. All that is named is followed, but for what is the kit's. "Of one world" leaves out `Always` and `Throughout`, which say of which worlds a half is claimed. Types are those that definitions or their fields name.'''
 
 KEY = (
     Row('`ensures c { A }`, `result`', 'ensures { } result', 'the clause `c`: whenever the function answers, `A` holds; its answer'),
     Row('`map string_bytes words.now`', 'string_bytes words', 'the words of the command line, as bytes'),
     Row('`S.left src.old`, `K.held out.new`', 'S src K out',
         'what the source has left before, the sink holds after the call, if they tell that'),
-    Row('`SOURCE_FAILED`', 'SOURCE_FAILED', 'the status 3'),
+    Row('`SOURCE_FAILED`', 'SOURCE_FAILED', 'status 3'),
     Row('`(x : T) → A`', '( : ) →', 'for each `x` of type `T`, `A`'),
     Row('`(x : T) × A`', '×', 'there is an `x` of type `T`, and `A`'),
     Row('`A → B`, `A ↔ B`', '→ ↔', 'if `A` then `B`; `A` if and only if `B`'),

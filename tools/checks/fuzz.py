@@ -79,7 +79,7 @@ def check_fuzz(folder):
     need_look()
     count = check_right(folder)
     for place, wrong in enumerate(WRONG):
-        check_wrong(folder, place, wrong, ['--runs', '120', '--seed', '1', '--jobs', str(min(common.processors(), 4))])
+        check_wrong(folder, place, wrong, ['--runs', '60', '--seed', '1'])
     for place, wrong in enumerate(FAULTS, len(WRONG)):
         check_wrong(folder, place, wrong, ['--faults'])
     check_datagrams()

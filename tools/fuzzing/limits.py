@@ -12,9 +12,17 @@ def filled(head, line, size=MOST):
     return text + b'#' * (size - len(text))
 
 
+HOMES = b'hncp 2\nseed 1\nlink L\n'
+
+
+def shown(data):
+    """A line that says which input it is: the longest of the last ones, cut."""
+    return max(data[-400:].split(b'\n'), key=len)[:24].decode('latin-1').strip() or 'spaces'
+
+
 def home(count, until, step):
     """Routers on one link, which run."""
-    lines = [b'hncp 2\nseed 1\nlink L\n'] + [b'router r%d %08x\nattach r%d 1 L\n' % (k, k, k) for k in range(1, count + 1)]
+    lines = [HOMES] + [b'router r%d %08x\nattach r%d 1 L\n' % (k, k, k) for k in range(1, count + 1)]
     return b''.join(lines) + b'external r1 2001:db8::/56 7200 3600\nrun %d %d\nmail\n' % (until, step)
 
 
@@ -64,8 +72,8 @@ def cases():
         yield Case('lab', ['hncp', 'lab'], data, ''), refused
         yield Case('log', ['hnlook', 'log'], data, ''), refused
         name = 'A' if ONE in data else 'r1'
-        for form in ('why', 'table'):
-            yield Case(form, ['hnlook', form, name], data, ''), 'free' if refused is None or b'router' not in data else refused
+        for form in ('why', 'table') if data.startswith(HOMES) else ():
+            yield Case(form, ['hnlook', form, name], data, ''), refused
     for data, refused in captures():
         yield Case('watch', ['hncp', 'watch'], data, ''), refused
     for data, refused in hexes():

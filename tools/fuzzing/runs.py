@@ -115,15 +115,17 @@ def begun(words, actions):
 
 
 def begun_alone(words, actions):
-    """The same, but a shell starts the program, and ends: else the kernel counts what Python holds as the program's memory."""
+    """The same, but a shell starts the program, and ends: else the kernel counts what Python holds as the program's memory. The
+    program waits for that end, since a shell takes the status of a child that ends before it."""
     if ctypes.CDLL(None).prctl(SUBREAPER, 1, 0, 0, 0):
         raise common.Problem('this system does not hand over the children of children, so memory cannot be measured')
-    reading, writing = os.pipe()
-    shell = begun(['/bin/sh', '-c', 'exec 4<&0; "$@" <&4 4<&- 3>&- & echo $! >&3', 'sh', *words], actions + [(os.POSIX_SPAWN_DUP2, writing, 3)])
-    os.waitpid(shell, 0)
-    child = int(os.read(reading, 99))
-    os.close(reading)
-    os.close(writing)
+    (heard, told), (awaited, go) = os.pipe(), os.pipe()
+    text = 'exec 4<&0; { read word <&5; exec "$@" <&4 3>&- 4<&- 5<&-; } & echo $! >&3'
+    more = [(os.POSIX_SPAWN_DUP2, told, 3), (os.POSIX_SPAWN_DUP2, awaited, 5)]
+    os.waitpid(begun(['/bin/sh', '-c', text, 'sh', *words], actions + more), 0)
+    child = int(os.read(heard, 99))
+    for each in (heard, told, awaited, go):
+        os.close(each)
     return child
 
 

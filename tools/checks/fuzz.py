@@ -17,6 +17,7 @@ WRONG = [
     ('writes no line', 'decode', 'printf tlvs', 'no lines of ASCII'),
     ('takes 100 MB', 'decode', '"$RIGHT" "$@"; status=$?; exec python3 -c "import sys; one = bytes([1]) * 10 ** 8; sys.exit($status)" 2>/dev/null', 'MB for'),
     ('forgets what was before', 'lab', 'tail -n 1 | LC_ALL=C sed "s/[^ -~]//g; s/^/show /"', 'no front of the text'),
+    ('does nothing', 'watch', 'true', 'it wrote nothing'),
     ('takes all words', 'words', 'exit 0', 'status 0'),
 ]
 FAULTS = [

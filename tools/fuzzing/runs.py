@@ -193,7 +193,7 @@ def said_wrong(program, status, messages):
 
 def text_wrong(form, status, text):
     """What is wrong of standard output, beside the status."""
-    wrong = []
+    wrong = [] if text or form in ('lab', 'udp', 'log') else ['it wrote nothing']
     if text and (not text.endswith(b'\n') or not text.isascii()):
         wrong.append('the text is no lines of ASCII')
     last = last_line(text)

@@ -31,7 +31,7 @@ REASONS = {2: 'refused', 3: 'standard input failed', 4: 'standard output failed'
 MB = 1000 * 1000
 # A play of a few hundred rounds beside the bytes of its script, and one that comes to the limits of FORMATS (codes 9 and 16).
 BESIDE, AT_LIMITS, PER_BYTE = 32 * MB, 1000 * MB, 24
-MOST_TEXT = 32 * MB
+MOST_TEXT = 4 * MB
 SECONDS = 20
 PORTS = 30000
 SUBREAPER = 36      # PR_SET_CHILD_SUBREAPER of Linux: a child whose parent ended becomes ours
@@ -259,6 +259,8 @@ def front(case, result, folder):
 def tried(case, folder, seconds=SECONDS, begin=begun):
     """A case is run and looked at: its result, and what is wrong."""
     result = run(case.words, case.data, folder, seconds, begin)
+    if result.memory > most_memory(case.data, result.text) and not result.slow:
+        result = run(case.words, case.data, folder, seconds, begun_alone)       # it may be what Python held
     wrong = wrong_of(case, result)
     if not wrong and not result.slow and case.also:
         wrong = {'twice': twice, 'front': front}[case.also](case, result, folder)

@@ -1,7 +1,8 @@
 -- The endpoints of a router, when one is put in place, added or taken out.
 use Rattle.std.proofs.Common.{◌≡◌, ◌≢◌, ◌<◌, ◌≤◌, ◌+◌, ◌-◌, ◌^◌, ◌∙◌, ℕ, zero, suc, Bool, true, false, List, [], ◌∷◌, length, map, filter, take, drop, set, get_or, refl, sym, subst, arith, Some, inl}
-use Rattle.std.proofs.Common.{inr, length-set}
-use Rattle.std.specs.Prelude.{insert, position, nat_lt}
+use Rattle.std.proofs.Common.{inr, length-set, ap}
+use Rattle.std.specs.Prelude.{insert, position, nat_lt, Option, None, ◌==◌}
+use Rattle.std.specs.Option.{option_map_or}
 use Rattle.std.specs.Ordering.{nat_cmp}
 use Rattle.std.specs.List.Sorted.{IsStrictlySortedBy, IsPartitionPoint, IsPartitionedBy, IsNonDecreasingBy}
 use Rattle.std.proofs.Math.Seq.{map-set_same}
@@ -14,11 +15,13 @@ use Rattle.std.proofs.lemmas.List.Sorted.{IsPartitionedBy-ltb}
 use Rattle.std.proofs.lemmas.List.Sums.{length-filter, count_by-le-length}
 use Rattle.std.proofs.lemmas.Map.Keys.{below_from_sorted, sorted_from_strictly_increasing}
 use Rattle.hn_base.specs.declared.ids.EpId.{EpId}
+use Rattle.hn_base.specs.declared.ids.NodeId.{NodeId}
+use Rattle.hn_dncp.specs.Hash.{hashed}
 use Rattle.hn_dncp.specs.declared.port.Port.{Port}
 use Rattle.hn_base.proofs.AscendingNumbers.{ascending-filter}
-use Rattle.hn_base.proofs.PassingElements.{map-one}
-use Rattle.hn_base.proofs.FrontOfList.{filter-front, filter-back}
-use Rattle.hn_own.specs.Ports.{number, ArePorts, is_port, is_attached, put_port, attached}
+use Rattle.hn_base.proofs.PassingElements.{map-one, none_passes}
+use Rattle.hn_base.proofs.FrontOfList.{filter-front, filter-back, find-at, find-none}
+use Rattle.hn_own.specs.Ports.{number, ArePorts, is_port, port_at, is_attached, put_port, heard_at, attached}
 
 -- an endpoint has a number of 4 bytes other than 0
 abbrev pub IsNumber : Port → Type 0
@@ -108,6 +111,36 @@ ArePorts-set ports i port are found =
       few = let few = are.few in omega (arith, length-set {A = Port});
       numbered = All-set IsNumber ports i port (rw (← here) (are.numbered i port at.0)) are.numbered;
     }
+
+-- ---- one hears the local network state hash
+
+-- so it is of the one at its place
+abbrev heard : NodeId × EpId → ℕ → List Port → ℕ → Port → Port
+heard sender now ports i d = hashed true (Some sender) now (get_or ports i d)
+
+same_number : (at : EpId) (ports : List Port) (i : ℕ) (d : Port) → position (is_port at) ports ≡ Some i → (get_or ports i d).id.0 ≡ at.0
+same_number at ports i d found = eqb-true _ _ (position-Some (is_port at) ports i d found).1
+
+heard_found : (at : EpId) (sender : NodeId × EpId) (now : ℕ) (ports : List Port) (i : ℕ) (d : Port) → position (is_port at) ports ≡ Some i
+    → position (is_port (heard sender now ports i d).id) ports ≡ Some i
+heard_found at sender now ports i d found = ap (λ (n : ℕ). position (λ p. p.id.0 == n) ports) (same_number at ports i d found) ∙ found
+
+pub heard_at-set : (at : EpId) (sender : NodeId × EpId) (now : ℕ) (ports : List Port) (i : ℕ) (d : Port) → ArePorts ports → position (is_port at) ports ≡ Some i
+    → heard_at at sender now ports ≡ set ports i (hashed true (Some sender) now (get_or ports i d))
+heard_at-set at sender now ports i d are found =
+    let place = position-Some (is_port at) ports i d found in
+    let here : port_at at ports ≡ Some (get_or ports i d) = find-at (is_port at) ports i d place.0 (λ k e less. (position-Some (is_port at) ports i e found).2 k less) place.1 in
+    ap (λ (o : Option Port). option_map_or (λ port. put_port (hashed true (Some sender) now port) ports) o ports) here
+    ∙ put_port-set ports i (heard sender now ports i d) are (heard_found at sender now ports i d found)
+
+pub heard_at-none : (at : EpId) (sender : NodeId × EpId) (now : ℕ) (ports : List Port) → position (is_port at) ports ≡ None → heard_at at sender now ports ≡ ports
+heard_at-none at sender now ports none =
+    ap (λ (o : Option Port). option_map_or (λ port. put_port (hashed true (Some sender) now port) ports) o ports)
+    (find-none (is_port at) ports (none_passes (is_port at) ports none))
+
+pub ArePorts-heard : (at : EpId) (sender : NodeId × EpId) (now : ℕ) (ports : List Port) (i : ℕ) (d : Port) → ArePorts ports → position (is_port at) ports ≡ Some i
+    → ArePorts (set ports i (hashed true (Some sender) now (get_or ports i d)))
+ArePorts-heard at sender now ports i d are found = ArePorts-set ports i (heard sender now ports i d) are (heard_found at sender now ports i d found)
 
 -- ---- one more
 

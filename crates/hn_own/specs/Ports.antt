@@ -1,9 +1,12 @@
 -- The endpoints of a router.
-use Rattle.std.specs.Prelude.{ℕ, Bool, ◌<◌, ◌≤◌, ◌^◌, ◌==◌, not, nat_lt, if◌then◌else◌, List, ◌∷◌, ◌++◌, length, map, filter, find, Option, is_some, All}
+use Rattle.std.specs.Prelude.{ℕ, Bool, true, ◌<◌, ◌≤◌, ◌^◌, ◌==◌, not, nat_lt, if◌then◌else◌, List, ◌∷◌, ◌++◌, length, map, filter, find, Option, Some, is_some, All}
+use Rattle.std.specs.Option.{option_map_or}
 use Rattle.std.specs.Ordering.{nat_cmp}
 use Rattle.std.specs.List.Sorted.{IsStrictlySortedBy}
 use Rattle.hn_base.specs.declared.ids.EpId.{EpId}
+use Rattle.hn_base.specs.declared.ids.NodeId.{NodeId}
 use Rattle.hn_dncp.specs.declared.port.Port.{Port}
+use Rattle.hn_dncp.specs.Hash.{hashed}
 
 -- the number of an endpoint
 abbrev pub number : Port → ℕ
@@ -35,6 +38,10 @@ is_attached at ports = is_some (port_at at ports)
 -- the endpoints, with this one in place of the one with its number
 abbrev pub put_port : Port → List Port → List Port
 put_port port ports = map (λ p. if is_port port.id p then port else p) ports
+
+-- the endpoints, where the one of that number, if it is attached, hears the local network state hash from a sender
+abbrev pub heard_at : EpId → NodeId × EpId → ℕ → List Port → List Port
+heard_at at sender now ports = option_map_or (λ port. put_port (hashed true (Some sender) now port) ports) (port_at at ports) ports
 
 -- the endpoints, and a new one at its place in the order
 abbrev pub attached : Port → List Port → List Port

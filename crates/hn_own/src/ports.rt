@@ -1,7 +1,7 @@
 ghost use Rattle.std.specs.Prelude.{◌≡◌, ◌≢◌, ◌<◌, ◌≤◌, ◌^◌, ◌++◌, [], false, nat_lt, length, position, IfOk, OnOk, OnErr, option_copied};
-ghost use Rattle.hn_own.specs.Ports.{ArePorts, is_port, port_at, is_attached, put_port, attached, detached, endpoints_of};
+ghost use Rattle.hn_own.specs.Ports.{ArePorts, is_port, port_at, is_attached, put_port, heard_at, attached, detached, endpoints_of};
 
-use hn_base::{EpId, Exact, NoMemory};
+use hn_base::{EpId, Exact, Moment, NoMemory, NodeId};
 use hn_dncp::Port;
 use std::alloc::{AllocError, Global};
 use std::marker::Model;
@@ -122,6 +122,17 @@ impl Ports {
     {
         if let Some(place) = place_of(&self.items, port.id) {
             self.items[place] = port;
+        }
+    }
+
+    /// The endpoint of a number, if it is attached, hears the local network state hash from a sender: Trickle counts a
+    /// consistent message, and the contact of the sender is renewed, if it is a peer (RFC 7787, section 4.3). Never
+    /// allocates.
+    pub fn hear(&mut self, at: EpId, sender: (NodeId, EpId), now: Moment)
+        ensures { self.new ≡ heard_at at sender now self.old }
+    {
+        if let Some(place) = place_of(&self.items, at) {
+            let _asks = self.items[place].hash(true, Some(sender), now);
         }
     }
 

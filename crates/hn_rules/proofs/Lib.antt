@@ -29,6 +29,7 @@ mod SomeArrivals
 mod SomeWishes
 mod SomeTicks
 mod Parts
+mod Passings
 mod PortFacts
 mod PortsInTurn
 mod Published

@@ -137,6 +137,11 @@ pub recent_fresh : ReachabilityStays → (s : State) → IsRefreshed s → s.mom
 recent_fresh reach_stays s is young leads =
     record { refreshed = is; reached = same_reach s is.reached.moment is.reached.past is.reached.was is.lost young leads reach_stays; young = young }
 
+-- so it is at a moment that is the router's
+pub recent_now : ReachabilityStays → (now : ℕ) (s : State) → now ≡ s.moment → IsRefreshed s → now - s.own.born < 2 ^ 32 - 2 ^ 16 → All (LeadsOn now) s.table.entries → IsFresh s
+recent_now reach_stays now s same is young leads =
+    recent_fresh reach_stays s is (subst (λ (n : ℕ). n - s.own.born < 2 ^ 32 - 2 ^ 16) same young) (subst (λ (n : ℕ). All (LeadsOn n) s.table.entries) same leads)
+
 -- a refresh that changes nothing
 pub same_refresh : (r : Running) → IsFresh r.state → IsRefresh r r
 same_refresh r fresh = (r, inl (record { same = is.published; young = fresh.young }, refl), (r, reaching, inl (sym is.hashed, refl)))

@@ -12,6 +12,7 @@ pub mod NetworkState
 pub mod Claim
 pub mod NodeState
 pub mod Arrival
+pub mod Passing
 pub mod Given
 pub mod Delegating
 pub mod Assigning

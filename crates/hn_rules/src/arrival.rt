@@ -26,7 +26,10 @@ mod claim;
 mod network_state;
 mod node_endpoint;
 mod node_state;
+mod passing;
 mod requests;
+
+pub use passing::Passing;
 
 impl Running {
     /// The rule of an item: whether it touched what a refresh reads.

@@ -22,6 +22,7 @@ mod tick;
 mod ticks;
 
 pub use answers::{Answer, Subject};
+pub use arrival::Passing;
 pub use done::{Done, Note, Outgoing, Publication};
 pub use laws::{
     assigned_is_published, changes_keep_bytes, changes_keep_genuine, changes_keep_hashed,

@@ -13,7 +13,7 @@ use crate::done::Publication;
 use crate::nodes::age_at;
 use crate::running::Running;
 use crate::state::State;
-use hn_base::{EpId, NoMemory, NodeIds, Shared};
+use hn_base::{EpId, Moment, NoMemory, NodeIds, Shared};
 use hn_graph::{AGE_LIMIT, reachability_stays};
 use hn_hash::{network_of, same_hash};
 use hn_io::Draw;
@@ -49,14 +49,13 @@ impl State {
         items.is(self.own.get().items()) && self.own_age() < OLDEST_OWN_DATA
     }
 
-    /// Whether each held node without a moment of loss is one from which paths lead on. Each node is looked at only where
-    /// one of them may be old. Never allocates.
-    fn leads_on(&self) -> bool
+    /// Whether at a moment each held node without a moment of loss is one from which paths lead on. Each node is looked at
+    /// only where one of them may be old. Never allocates.
+    fn leads_on(&self, now: Moment) -> bool
+        requires { now ≤ 2 ^ 48 }
         ensures { IsTrue result
-            → All (λ node. node.stored.lost ≡ None → age_at self.now.moment node.stored < 2 ^ 32 - 2 ^ 15)
-            self.now.table.entries }
+            → All (λ node. node.stored.lost ≡ None → age_at now node.stored < 2 ^ 32 - 2 ^ 15) self.now.table.entries }
     {
-        let now = self.moment.get();
         if self.table.get().is_young(now) {
             return true;
         }
@@ -68,15 +67,15 @@ impl State {
         true
     }
 
-    /// Whether time alone makes no refresh due: the own node data is young, and paths lead on from each reachable node.
-    /// Never allocates.
-    fn is_recent(&self) -> bool
-        ensures young { IsTrue result → self.now.moment - self.now.own.born < 2 ^ 32 - 2 ^ 16 }
+    /// Whether time alone makes no refresh due at a moment: the own node data are young, and paths lead on from each
+    /// reachable node. Never allocates.
+    pub(crate) fn is_recent(&self, now: Moment) -> bool
+        requires { now ≤ 2 ^ 48 }
+        ensures young { IsTrue result → now - self.now.own.born < 2 ^ 32 - 2 ^ 16 }
         ensures leads { IsTrue result
-            → All (λ node. node.stored.lost ≡ None → age_at self.now.moment node.stored < 2 ^ 32 - 2 ^ 15)
-            self.now.table.entries }
+            → All (λ node. node.stored.lost ≡ None → age_at now node.stored < 2 ^ 32 - 2 ^ 15) self.now.table.entries }
     {
-        self.own_age() < OLDEST_OWN_DATA && self.leads_on()
+        now.saturating_sub(self.own.get().born()) < OLDEST_OWN_DATA && self.leads_on(now)
     }
 
     /// The network state hash of the reachable nodes.
@@ -206,7 +205,8 @@ impl Running {
     {
         reachability_stays();
         let _kept = self.state.ports.get().as_slice();
-        if !touched && self.state.is_recent() {
+        let now = self.state.moment.get();
+        if !touched && self.state.is_recent(now) {
             return Ok(());
         }
         self.publish_where_due(alloc)?;

@@ -31,10 +31,10 @@ const SENDER_NAMED: u8 = 5;
 
 /// Whether a Node Endpoint by multicast changes nothing at an endpoint: the sender is a peer, or the endpoint may not
 /// ask for the network state.
-fn stays_at(port: &Port, node: NodeId, endpoint: EpId, now: Moment) -> bool
+pub(crate) fn stays_at(port: &Port, node: NodeId, endpoint: EpId, now: Moment) -> bool
     ensures { result ≡ (has_peer node endpoint port.now.peers || not (may_ask now port.now.asked)) }
 {
-    port.peers.has(node, endpoint) || !port.may_ask(now)
+    !port.may_ask(now) || port.peers.has(node, endpoint)
 }
 
 impl Running {

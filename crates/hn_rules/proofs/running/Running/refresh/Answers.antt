@@ -4,7 +4,7 @@ use Rattle.hn_rules.specs.Rules.{words_of}
 use Rattle.hn_own.specs.Ports.{ArePorts}
 use Rattle.hn_rules.specs.Refresh.{IsRefresh}
 use Rattle.hn_base.proofs.RulesInTurn.{ran_plain}
-use Rattle.hn_rules.proofs.Recent.{recent_fresh, same_refresh}
+use Rattle.hn_rules.proofs.Recent.{recent_now, same_refresh}
 use Rattle.hn_rules.proofs.Refreshes.{fresh_refresh}
 use Rattle.hn_rules.proofs.Refreshing.{ran_refresh}
 use Rattle.hn_rules.proofs.running.Running.refresh.Goals as goal
@@ -13,13 +13,15 @@ pub returns-then-is_recent-clause-ran : goal.returns-then-is_recent-clause-ran
 returns-then-is_recent-clause-ran g c =
     let r = c.args.self.now in
     let recent = c.is_recent.ensures in
-    let fresh = recent_fresh c.reachability_stays.ensures r.state (c.requires c.if-not-touched.true) (recent.young c.if-is_recent.true) (recent.leads c.if-is_recent.true) in
+    let fresh = recent_now c.reachability_stays.ensures c.get-now.result r.state c.get-now.ensures.moment (c.requires c.if-not-touched.true)
+    (recent.young c.if-is_recent.true) (recent.leads c.if-is_recent.true) in
     ran_plain words_of IsRefresh _ r r (same_refresh r fresh) refl
 
 pub returns-then-is_recent-clause-fresh : goal.returns-then-is_recent-clause-fresh
 returns-then-is_recent-clause-fresh g c =
     let recent = c.is_recent.ensures in
-    recent_fresh c.reachability_stays.ensures c.args.self.now.state (c.requires c.if-not-touched.true) (recent.young c.if-is_recent.true) (recent.leads c.if-is_recent.true)
+    recent_now c.reachability_stays.ensures c.get-now.result c.args.self.now.state c.get-now.ensures.moment (c.requires c.if-not-touched.true)
+    (recent.young c.if-is_recent.true) (recent.leads c.if-is_recent.true)
 
 pub returns-clause-ran : goal.returns-clause-ran
 returns-clause-ran g c =

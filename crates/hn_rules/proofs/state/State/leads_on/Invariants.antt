@@ -4,4 +4,4 @@ use Rattle.hn_rules.proofs.Recent.{LeadsOn}
 use Rattle.hn_rules.proofs.state.State.leads_on.Given as goal
 
 abbrev pub invariant-loop-node : goal.invariant-loop-node
-invariant-loop-node l = All (LeadsOn l.self.moment) (take l.node-index l.node-items)
+invariant-loop-node l = All (LeadsOn l.now) (take l.node-index l.node-items)

@@ -6,6 +6,7 @@ mod OneNew
 mod SomeEvents
 mod SomeNew
 mod Keeping
+mod Passings
 mod Planning
 mod Shift
 mod Stays

@@ -1,4 +1,4 @@
-ghost use Rattle.std.specs.Prelude.{◌≡◌, ◌≤◌, ◌^◌, ◌⊎◌, [], ◌∷◌, nat_lt, length, IfOk, OnErr, ◌<◌, Ok, All};
+ghost use Rattle.std.specs.Prelude.{◌≡◌, ◌≤◌, ◌^◌, ◌⊎◌, [], ◌∷◌, nat_lt, length, IfOk, IfSome, OnOk, OnErr, ◌<◌, Ok, All};
 ghost use Rattle.hn_base.specs.Caps.{plain_caps};
 ghost use Rattle.hn_assign.specs.Gathered.{AreAdvertised};
 ghost use Rattle.hn_base.specs.Words.{Took};
@@ -22,6 +22,7 @@ ghost use Rattle.hn_rules.specs.Still.{at_moment};
 ghost use Rattle.hn_router.specs.Act.{plain_event, Tick, Happened, HasResults};
 ghost use Rattle.hn_router.specs.New.{no_caps, IsNew};
 ghost use Rattle.hn_router.specs.Plan.{changed};
+ghost use Rattle.hn_rules.specs.Passing.{after_passing};
 ghost use Rattle.hn_router.specs.Sends.{IsShortSend};
 
 use crate::act::{event_in_range, event_of_bytes, run};
@@ -41,8 +42,8 @@ use hn_link::{common, elected};
 use hn_own::{Addresses, HeldPairs, OwnData, OwnItems, OwnPrefixes, Ports};
 use hn_prefix::Prefix;
 use hn_rules::{
-    Done, Present, Running, State, idle_is_still, idle_until_due, router_stays_later,
-    rules_have_one_result, still_is_idle, view_is_a_network,
+    Done, Origin, Passing, Present, Running, State, idle_is_still, idle_until_due,
+    router_stays_later, rules_have_one_result, still_is_idle, view_is_a_network,
 };
 use hn_store::{LIMIT, Table};
 use std::alloc::Global;
@@ -268,6 +269,48 @@ impl Router {
         self.state.moment = Present::new(now);
     }
 
+    /// What an event changes at a moment, if it is an arrival that is let pass: a status update by multicast (RFC 7787,
+    /// section 4.3) after which at most an endpoint heard the local network state hash. On a link of many routers most
+    /// arrivals are such. Nothing comes of it. `None` where more may change. Never allocates.
+    pub fn passing(&self, event: &Event<'_>, now: Moment) -> Option<Passing>
+        requires not_before { self.now.moment ≤ now }
+        requires in_range { now ≤ 2 ^ 48 }
+        ensures happened { IfSome result (λ p. Happened now (plain_event event.now) self.now
+            (after_passing p now self.now) nothing) }
+        ensures router { IfSome result (λ p. IsRouter (after_passing p now self.now)) }
+    {
+        router_stays();
+        let Event::Arrive {
+            endpoint,
+            from,
+            multicast,
+            bytes,
+        } = *event
+        else {
+            return None;
+        };
+        let origin = Origin {
+            endpoint,
+            from,
+            multicast,
+        };
+        self.state.passing(&origin, bytes, now)
+    }
+
+    /// Lets an arrival pass at a moment, as `passing` answered.
+    ///
+    /// # Errors
+    ///
+    /// Out of memory; the router is as before then.
+    pub fn let_pass(&mut self, passing: Passing, now: Moment) -> Result<(), NoMemory>
+        requires in_range { now ≤ 2 ^ 48 }
+        requires router { IsRouter (after_passing passing now self.old) }
+        ensures ok { OnOk result (self.new ≡ after_passing passing now self.old) }
+        ensures err { OnErr result (self.new ≡ self.old) }
+    {
+        self.state.let_pass(passing, now)
+    }
+
     /// An event happens to the router at a moment that is not before its own, and at most 2^48 ms. Each datagram that
     /// it sends has at most 65,507 bytes. A tick before `due_at` takes no memory, and only the moment changes. After a
     /// tick that does nothing `due_at` is the moment at which something is next due. Whether there is memory or not, it
@@ -307,6 +350,10 @@ impl Router {
         rules_have_one_result();
         if is_tick(event) && now < self.due_at() {
             self.pass(now);
+            return Ok(Done::new(alloc));
+        }
+        if let Some(passing) = self.passing(event, now) {
+            self.let_pass(passing, now)?;
             return Ok(Done::new(alloc));
         }
         let plan = self.plan(alloc, event, now, draw)?;

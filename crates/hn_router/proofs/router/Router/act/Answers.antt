@@ -5,6 +5,7 @@ use Rattle.hn_base.specs.Words.{Took}
 use Rattle.hn_rules.specs.declared.done.Done.{Done}
 use Rattle.hn_rules.specs.declared.state.State.{State}
 use Rattle.hn_rules.specs.Done.{nothing}
+use Rattle.hn_rules.specs.Passing.{after_passing}
 use Rattle.hn_rules.specs.Due.{IsNextDue}
 use Rattle.hn_rules.specs.Still.{at_moment}
 use Rattle.hn_router.specs.Act.{plain_event, PlainEvent, Tick, Happened}
@@ -37,3 +38,11 @@ returns-then-now-due_at-clause-short g c = subst (λ (d : Done). All IsShortSend
 
 pub returns-clause-short : goal.returns-clause-short
 returns-clause-short g c = subst (λ (d : Done). All IsShortSend d.sends) (sym c.commit.ensures.done) c.in_ok-plan.ensures.short
+
+pub returns-in-Some-clause-next : goal.returns-in-Some-clause-next
+returns-in-Some-clause-next g c = λ tick idle.
+    let next = after_passing c.in-Some.passing c.args.now c.args.self.now in
+    let happened : Happened c.args.now Tick c.args.self.now next nothing =
+    subst (λ (e : PlainEvent). Happened c.args.now e c.args.self.now next nothing) tick c.in-Some.ensures.happened in
+    subst (λ (x : State). IsNextDue x x.due) (sym c.in_ok-let_pass.ensures.ok)
+    (next_known c.rules_have_one_result.ensures.tick c.args.now c.args.self.now next nothing happened idle)

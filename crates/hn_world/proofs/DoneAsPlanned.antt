@@ -1,5 +1,6 @@
 -- What was planned, and then done, is the event.
 use Rattle.std.specs.Option.{option_map}
+use Rattle.std.specs.Prelude.{IfSome}
 use Rattle.std.proofs.Common.{◌≡◌, ◌∙◌, ℕ, ◌^◌, ◌<◌, ◌≤◌, ◌-◌, ◌==◌, Bool, true, false, cond, List, [], ◌∷◌, ◌++◌, length, get_or, Option, Some, None, slice_get, slice_set, refl, sym, subst, ap}
 use Rattle.std.proofs.Common.{arith}
 use Rattle.std.proofs.lemmas.List.{append-nil}
@@ -13,6 +14,8 @@ use Rattle.hn_base.specs.declared.name.Name.{Name}
 use Rattle.hn_base.specs.Words.{Drew}
 use Rattle.hn_router.specs.Act.{PlainEvent, Arrive, Tick, IsEventInRange, Happened}
 use Rattle.hn_rules.specs.Done.{nothing}
+use Rattle.hn_rules.specs.Passing.{after_passing}
+use Rattle.hn_rules.specs.declared.arrival.passing.Passing.{Passing}
 use Rattle.hn_rules.specs.Still.{at_moment}
 use Rattle.hn_router.specs.New.{IsNew}
 use Rattle.hn_router.specs.Plan.{PlainPlan}
@@ -27,7 +30,7 @@ use Rattle.hn_world.specs.declared.member.Member.{Member}
 use Rattle.hn_world.specs.declared.parts.Parts.{Parts}
 use Rattle.hn_world.specs.Limits.{table_limit}
 use Rattle.hn_world.specs.Names.{is_named, router_place, member_named}
-use Rattle.hn_world.specs.Planned.{IsPlanned}
+use Rattle.hn_world.specs.Planned.{IsPlanned, LetsCopyPass}
 use Rattle.hn_world.specs.Refusal.{refusal, copy_at}
 use Rattle.hn_world.specs.Replay.{IsSoundWorld, IsSoundMember}
 use Rattle.hn_world.proofs.Accepted.{accepts, is_there, receiver_found}
@@ -266,6 +269,67 @@ passed_step name place before m members trace t notes told accepted found at hap
       gives = first ∙ second;
     } in
     quiet_step (event.Tick name) notes told before (record before { members = members; trace = trace }) step none
+
+-- a copy that a router lets pass
+pub let_pass_step : (copy : ℕ) (c : MailCopy) (m : Member) (next : State) (before : Parts) (members : List Member) (copies : List MailCopy) (trace : List Traced) (t : Traced)
+    → refusal before (event.Deliver copy) ≡ None → copy_at before copy ≡ Some c → slice_get before.members c.to.place ≡ Some m → Happened before.moment (arrival_of c) m.router next nothing
+    → members ≡ slice_set before.members c.to.place (record m { router = next })
+    → t ≡ record { event = event.Deliver copy; words = [] } → trace ≡ before.trace ++ t ∷ []
+    → ((d : MailCopy) → slice_get before.copies (copy - 1) ≡ Some d → copies ≡ slice_set before.copies (copy - 1) (record d { waiting = false }))
+    → Step (record { event = event.Deliver copy; words = [] }) [] before (record before { members = members; copies = copies; trace = trace })
+let_pass_step copy c m next before members copies trace t accepted at is_member happened moved is_event is_entered takes =
+    let entry : Traced = record { event = event.Deliver copy; words = [] } in
+    let there = (copy_there copy before c at).1 in
+    let gone : MailCopy = record c { waiting = false } in
+    let between : Parts = acted (λ n. n) c.to.place m next nothing before in
+    let quiet : Parts = record before {
+      members = slice_set before.members c.to.place (record m { router = next });
+      copies = slice_set before.copies (copy - 1) gone;
+      trace = before.trace ++ entry ∷ [];
+    } in
+    let first : record before { members = members; copies = copies; trace = trace } ≡ quiet = rw (moved, takes c there, is_entered, is_event) refl in
+    let second : quiet ≡ entered entry (taken copy c between) =
+    λ i. record quiet { copies = slice_set (sym (append-nil before.copies) i) (copy - 1) gone; published = sym (append-nil before.published) i } in
+    record {
+      accepted = accepted;
+      in_range = tt;
+      fits = tt;
+      between = taken copy c between;
+      does = record {
+        mail = c;
+        is_copy = there;
+        between = between;
+        acts = record { member = m; is_member = is_member; next = next; done = nothing; happened = happened; took = refl; noted = refl; gives = refl };
+        gives = refl;
+      };
+      gives = first ∙ second;
+    }
+
+-- so it is where the world before it was opened
+pub let_copy_pass_step : (copy place : ℕ) (passing : Passing) (opened before : Parts) (now : ℕ) (members : List Member) (copies : List MailCopy) (trace : List Traced) (t : Traced)
+    → opened ≡ before → refusal before (event.Deliver copy) ≡ None → LetsCopyPass copy place before passing → now ≡ opened.moment
+    → ((m : Member) → slice_get opened.members place ≡ Some m → members ≡ slice_set opened.members place (record m { router = after_passing passing now m.router }))
+    → t ≡ record { event = event.Deliver copy; words = [] } → trace ≡ opened.trace ++ t ∷ []
+    → ((d : MailCopy) → slice_get opened.copies (copy - 1) ≡ Some d → copies ≡ slice_set opened.copies (copy - 1) (record d { waiting = false }))
+    → Step (record { event = event.Deliver copy; words = [] }) [] before (record opened { members = members; copies = copies; trace = trace })
+let_copy_pass_step copy place passing opened before now members copies trace t same accepted passes is_now moves is_event is_entered takes =
+    let here : LetsCopyPass copy place opened passing = subst (λ (w : Parts). LetsCopyPass copy place w passing) (sym same) passes in
+    let c = here.mail in
+    let m = here.passes.member in
+    let next : State = after_passing passing opened.moment m.router in
+    let is_member : slice_get opened.members c.to.place ≡ Some m = subst (λ (p : ℕ). slice_get opened.members p ≡ Some m) (sym here.is_place) here.passes.is_member in
+    let moved_now : members ≡ slice_set opened.members place (record m { router = next }) =
+    subst (λ (n : ℕ). members ≡ slice_set opened.members place (record m { router = after_passing passing n m.router })) is_now (moves m here.passes.is_member) in
+    let moved : members ≡ slice_set opened.members c.to.place (record m { router = next }) =
+    subst (λ (p : ℕ). members ≡ slice_set opened.members p (record m { router = next })) (sym here.is_place) moved_now in
+    let accepted_here = subst (λ (w : Parts). refusal w (event.Deliver copy) ≡ None) (sym same) accepted in
+    subst (λ (w : Parts). Step (record { event = event.Deliver copy; words = [] }) [] w (record opened { members = members; copies = copies; trace = trace })) same
+    (let_pass_step copy c m next opened members copies trace t accepted_here here.is_copy is_member here.passes.happened moved is_event is_entered takes)
+
+-- what is known of one value twice
+pub some_both : {X : Type 0} {P Q R : X → Type 0} (o : Option X) → ((x : X) → P x → Q x → R x) → IfSome o P → IfSome o Q → IfSome o R
+some_both None both p q = tt
+some_both (Some x) both p q = both x p q
 
 pub stopped_step : (name : Name) (place : ℕ) (before : Parts) (members : List Member) (trace : List Traced) (t : Traced)
     → refusal before (event.Stop name) ≡ None → router_place (name_text name) before ≡ Some place

@@ -1,15 +1,17 @@
 //! Events at a router of the world.
 
-ghost use Rattle.std.specs.Prelude.{◌≡◌, ◌-◌, ◌<◌, nat_lt, length, IfOk, OnErr, IsSome, None, Some};
+ghost use Rattle.std.specs.Prelude.{◌≡◌, ◌-◌, ◌<◌, [], nat_lt, length, IfOk, IfSome, OnOk, OnErr, IsSome, None, Some};
 ghost use Rattle.hn_base.specs.Name.{name_text};
 ghost use Rattle.std.specs.List.{slice_get};
+ghost use Rattle.hn_router.specs.Act.{plain_event};
 ghost use Rattle.hn_world.specs.declared.event.WEvent.TheVariants as event;
 ghost use Rattle.hn_world.specs.declared.member.Member.{Member};
 ghost use Rattle.hn_world.specs.Names.{router_place};
+ghost use Rattle.hn_world.specs.Planned.{LetsPass, LetsCopyPass};
 ghost use Rattle.hn_world.specs.Refusal.{refusal};
 ghost use Rattle.hn_world.specs.Replay.{IsSoundWorld};
 ghost use Rattle.hn_world.specs.Routed.{routed, named_by, place_by};
-ghost use Rattle.hn_world.specs.Step.{IsStep, IsWorldEventInRange};
+ghost use Rattle.hn_world.specs.Step.{Step, IsStep, IsWorldEventInRange};
 
 use crate::event::WEvent;
 use crate::parts::Parts;
@@ -18,7 +20,7 @@ use crate::routed::Beside;
 use hn_base::{Name, NoMemory, Sequence};
 use hn_io::Draw;
 use hn_router::{Event, event_in_range};
-use hn_rules::Note;
+use hn_rules::{Note, Passing};
 use std::alloc::Global;
 
 impl Parts {
@@ -76,6 +78,41 @@ impl Parts {
         self.finish(alloc, event, beside, place, plan)
     }
 
+    /// What an event changes at the router of a place, if it is an arrival that the router lets pass. Never allocates.
+    fn passing(&self, place: usize, event: &Event<'_>) -> Option<Passing>
+        requires there { place < length self.now.members }
+        requires sound { IsSoundWorld self.now }
+        ensures { IfSome result (LetsPass place (plain_event event.now) self.now) }
+    {
+        let member = self.members.at(place);
+        member.router.passing(event, self.moment.get())
+    }
+
+    /// A copy is delivered to its endpoint, of the router at a place, which lets it pass.
+    fn pass_copy(
+        &mut self,
+        alloc: Global,
+        copy: u64,
+        place: usize,
+        passing: Passing,
+    ) -> Result<(), NoMemory>
+        requires accepted { refusal self.old (event.Deliver copy) ≡ None }
+        requires passes { LetsCopyPass copy place self.old passing }
+        ensures ok { OnOk result (Step (record { event = event.Deliver copy; words = [] }) [] self.old self.new) }
+        ensures err { OnErr result (self.new ≡ self.old) }
+    {
+        let at = (copy - 1) as usize;
+        let injected = self.trace.injected_with(&WEvent::Deliver { copy });
+        self.trace.items.reserve(1)?;
+        self.members.let_pass(place, passing, self.moment.get())?;
+        self.trace
+            .items
+            .push_reserved(without_words(alloc, WEvent::Deliver { copy }));
+        self.trace.injected = injected;
+        self.copies.take(at);
+        Ok(())
+    }
+
     /// A copy is delivered to its endpoint.
     pub(crate) fn deliver<D: Draw>(
         &mut self,
@@ -98,6 +135,10 @@ impl Parts {
             bytes: mail.bytes.get().as_slice(),
         };
         let place = mail.to.place;
+        if let Some(passing) = self.passing(place, &arrival) {
+            self.pass_copy(alloc, copy, place, passing)?;
+            return Ok(Sequence::new(alloc));
+        }
         let plan = self.plan(alloc, place, &arrival, draw)?;
         let event = WEvent::Deliver { copy };
         let notes = self.finish(alloc, event, Beside::Nothing, place, plan)?;

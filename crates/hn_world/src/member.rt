@@ -1,9 +1,11 @@
-ghost use Rattle.std.specs.Prelude.{◌≡◌, ◌<◌, ◌==◌, [], ◌++◌, ◌∷◌, filter, length, position, not, IfOk, Some, option_copied, find, ◌≤◌, ◌^◌};
+ghost use Rattle.std.specs.Prelude.{◌≡◌, ◌<◌, ◌==◌, [], ◌++◌, ◌∷◌, filter, length, position, not, IfOk, Some, option_copied, find, ◌≤◌, ◌^◌, OnOk, OnErr};
 ghost use Rattle.std.specs.List.{slice_get, slice_set, list_any};
 ghost use Rattle.std.specs.Str.{bytes_eq};
 ghost use Rattle.hn_base.specs.Name.{name_text};
 ghost use Rattle.hn_router.specs.Act.{Tick, Happened};
+ghost use Rattle.hn_rules.specs.Passing.{after_passing};
 ghost use Rattle.hn_rules.specs.Done.{nothing};
+ghost use Rattle.hn_rules.specs.Router.{IsRouter};
 ghost use Rattle.hn_rules.specs.Still.{at_moment};
 ghost use Rattle.hn_world.specs.declared.member.Member.{Member};
 ghost use Rattle.hn_world.specs.Names.{is_named, is_of, link_of, is_on, NamesDiffer};
@@ -14,7 +16,7 @@ use crate::routed::Beside;
 use hn_base::{EpId, Moment, Name, NoMemory, Sequence};
 use hn_io::Draw;
 use hn_router::{Event, Plan, Router};
-use hn_rules::Done;
+use hn_rules::{Done, Passing};
 use std::alloc::Global;
 use std::marker::Model;
 
@@ -230,6 +232,27 @@ impl Members {
         ensures undrawn { D.words draw.new ≡ D.words draw.old }
     {
         pass(&mut self.items[place].router, alloc, now, draw);
+    }
+
+    /// The router at a place lets an arrival pass.
+    ///
+    /// # Errors
+    ///
+    /// Out of memory; the routers are as before then.
+    pub(crate) fn let_pass(
+        &mut self,
+        place: usize,
+        passing: Passing,
+        now: Moment,
+    ) -> Result<(), NoMemory>
+        requires there { place < length self.old }
+        requires in_range { now ≤ 2 ^ 48 }
+        requires router { (m : Member) → slice_get self.old place ≡ Some m → IsRouter (after_passing passing now m.router) }
+        ensures ok { OnOk result ((m : Member) → slice_get self.old place ≡ Some m
+            → self.new ≡ slice_set self.old place (record m { router = after_passing passing now m.router })) }
+        ensures err { OnErr result (self.new ≡ self.old) }
+    {
+        self.items[place].router.let_pass(passing, now)
     }
 
     /// A router stops. Never allocates.

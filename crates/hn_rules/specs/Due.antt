@@ -28,7 +28,7 @@ pub record IsPeerEnd (entries : List HeldNode) (peer : Neighbour) (m : ℕ) : Ty
 abbrev pub IsDueAtPort : List HeldNode → Port → ℕ → Type 0
 IsDueAtPort entries port m = IsOfElement (IsPeerEnd entries) port.peers m ⊎ IsPortDue port m
 
--- the own node data come to the age at which they are published again (RFC 7787, section 4.3)
+-- the own node data come to the age at which they are published again (RFC 7787, section 7.2.3)
 abbrev pub IsOwnAgeDue : State → ℕ → Type 0
 IsOwnAgeDue s m = m ≡ s.own.born + (2 ^ 32 - 2 ^ 16)
 

@@ -39,7 +39,7 @@ pub record Publishes (number : ℕ) (before after : Running) : Type 0 where
     done = record before.done { published = before.done.published ++ record { id = before.state.id; number = number; body = own.body } ∷ [] };
   }
 
--- the own items are those last published, lifetimes compared as the moments at which they end, and their node data is younger than 2^32 - 2^16 ms (RFC 7787, section 4.3)
+-- the own items are those last published, lifetimes compared as the moments at which they end, and their node data is younger than 2^32 - 2^16 ms (RFC 7787, section 7.2.3)
 pub record IsPublished (s : State) : Type 0 where
   pub same : own_items s ≡ s.own.items
   pub young : s.moment - s.own.born < 2 ^ 32 - 2 ^ 16

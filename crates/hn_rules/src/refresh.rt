@@ -22,7 +22,7 @@ use hn_timers::SHORTEST_INTERVAL;
 use std::alloc::Global;
 
 /// The age from which own node data is published again, in milliseconds: 2^16 before it can no longer be sent (RFC
-/// 7787, section 4.3).
+/// 7787, section 7.2.3).
 pub(crate) const OLDEST_OWN_DATA: u64 = (1 << 32) - (1 << 16);
 
 impl State {

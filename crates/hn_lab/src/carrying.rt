@@ -36,12 +36,18 @@ pub trait Carrier<W> {
     /// Holds of an outside whose calls never fail, now and later.
     ghost never_fails: { W → Type 0 };
 
-    /// Carries the bytes of a copy.
+    /// Carries the bytes of a copy. What comes back is written to the buffer.
     ///
     /// # Errors
     ///
     /// The wire failed, or memory ended.
-    fn carry(&self, alloc: Global, outside: &mut W, bytes: &[u8]) -> Result<Carried, IoFault>
+    fn carry(
+        &self,
+        alloc: Global,
+        outside: &mut W,
+        buffer: &mut [u8; 65_536],
+        bytes: &[u8],
+    ) -> Result<Carried, IoFault>
         requires { length bytes.now ≤ 65507 }
         ensures carries { IfOk result (λ carried. Carries bytes.now carried (route self.now outside.old)
             (route self.now outside.new)) }
@@ -65,7 +71,13 @@ impl Carrier<()> for Mail {
 
     ghost never_fails = { λ _. ⊤ };
 
-    fn carry(&self, _alloc: Global, _outside: &mut (), _bytes: &[u8]) -> Result<Carried, IoFault> {
+    fn carry(
+        &self,
+        _alloc: Global,
+        _outside: &mut (),
+        _buffer: &mut [u8; 65_536],
+        _bytes: &[u8],
+    ) -> Result<Carried, IoFault> {
         Ok(Carried::Same)
     }
 }
@@ -116,14 +128,19 @@ impl<W: Wire> Carrier<W> for Ports {
     ghost never_fails = { W.never_fails };
 
     /// Sends the bytes from the base to the port after it, and takes one datagram there.
-    fn carry(&self, alloc: Global, outside: &mut W, bytes: &[u8]) -> Result<Carried, IoFault> {
+    fn carry(
+        &self,
+        alloc: Global,
+        outside: &mut W,
+        buffer: &mut [u8; 65_536],
+        bytes: &[u8],
+    ) -> Result<Carried, IoFault> {
         let base = self.base();
         outside.send(base, base + 1, bytes)?;
-        let mut buf = [0; 65_536];
-        let Some((count, _from)) = outside.take(base + 1, &mut buf)? else {
+        let Some((count, _from)) = outside.take(base + 1, buffer)? else {
             return Ok(Carried::Lost);
         };
-        let got = &buf[..count];
+        let got = &buffer[..count];
         if got == bytes {
             return Ok(Carried::Same);
         }

@@ -15,14 +15,15 @@ use hn_rules::Note;
 use hn_world::{WEvent, World, WorldFault, each_event_is_entered};
 use std::alloc::Global;
 
-/// A play so far: its world, of a hundred copies how many `flow` loses, the random words that are to come, and those that
-/// send Router Advertisements.
+/// A play so far: its world, of a hundred copies how many `flow` loses, the random words that are to come, those that
+/// send Router Advertisements, and the room for a copy that comes back from a wire, which no report sees.
 #[derive(Drop)]
 pub struct Playing {
     pub world: World,
     pub loss: u8,
     pub words: Stream,
     pub senders: Senders,
+    pub buffer: [u8; 65_536],
 }
 
 impl Playing {
@@ -35,6 +36,7 @@ impl Playing {
             loss: 0,
             words: Stream::zeros(),
             senders: Senders::new(alloc),
+            buffer: [0; 65_536],
         }
     }
 

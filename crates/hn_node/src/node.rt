@@ -40,8 +40,12 @@ impl Node {
         requires in_range { now ≤ 2 ^ 48 }
         requires site { IsSite (plain_site site.now) }
         requires short { IsShort event }
-        ensures ok { OnOk result ((l : Logged) × Steps (plain_site site.now) now event l (serving self.old.router (W.waiting wire.old)) (serving self.new.router (W.waiting wire.new)) × Adds l (handed_of (plain_site site.now) l.sends) (D.words draw.old) (D.words draw.new) self.old self.new) }
-        ensures cut { result ≡ Err IoFault.Failed → (l : Logged) × (front : List Datagram) × CutSteps (plain_site site.now) now event l front (serving self.old.router (W.waiting wire.old)) (serving self.new.router (W.waiting wire.new)) × Adds l front (D.words draw.old) (D.words draw.new) self.old self.new }
+        ensures ok { OnOk result ((l : Logged) × Steps (plain_site site.now) now event l
+            (serving self.old.router (W.waiting wire.old)) (serving self.new.router (W.waiting wire.new))
+            × Adds l (handed_of (plain_site site.now) l.sends) (D.words draw.old) (D.words draw.new) self.old self.new) }
+        ensures cut { result ≡ Err IoFault.Failed → (l : Logged) × (front : List Datagram) × CutSteps (plain_site site.now) now event l front
+            (serving self.old.router (W.waiting wire.old)) (serving self.new.router (W.waiting wire.new))
+            × Adds l front (D.words draw.old) (D.words draw.new) self.old self.new }
         ensures moment { OnOk result (self.new.router.moment ≡ now) }
         ensures caused { IsCaused (result ≡ Err IoFault.Failed) (W.faults wire.old) (W.faults wire.new)
             (W.never_fails wire.old) (W.never_fails wire.new) }
@@ -79,8 +83,13 @@ impl Node {
         requires in_range { now ≤ 2 ^ 48 }
         requires site { IsSite (plain_site site.now) }
         requires short { IfSome taken IsShort }
-        ensures ok { OnOk result ((entries : List Logged) × Arrives (plain_site site.now) now taken entries (serving self.old.router (W.waiting wire.old)) (serving self.new.router (W.waiting wire.new)) × Grows entries (handed_in (plain_site site.now) entries) (D.words draw.old) (D.words draw.new) self.old self.new) }
-        ensures cut { result ≡ Err IoFault.Failed → (event : NodeEvent) × (taken ≡ Some event) × ((l : Logged) × (front : List Datagram) × CutSteps (plain_site site.now) now event l front (serving self.old.router (W.waiting wire.old)) (serving self.new.router (W.waiting wire.new)) × Adds l front (D.words draw.old) (D.words draw.new) self.old self.new) }
+        ensures ok { OnOk result ((entries : List Logged) × Arrives (plain_site site.now) now taken entries
+            (serving self.old.router (W.waiting wire.old)) (serving self.new.router (W.waiting wire.new))
+            × Grows entries (handed_in (plain_site site.now) entries) (D.words draw.old) (D.words draw.new) self.old self.new) }
+        ensures cut { result ≡ Err IoFault.Failed → (event : NodeEvent) × (taken ≡ Some event)
+            × ((l : Logged) × (front : List Datagram) × CutSteps (plain_site site.now) now event l front
+            (serving self.old.router (W.waiting wire.old)) (serving self.new.router (W.waiting wire.new))
+            × Adds l front (D.words draw.old) (D.words draw.new) self.old self.new) }
         ensures moment { OnOk result (self.new.router.moment ≤ now) }
         ensures caused { IsCaused (result ≡ Err IoFault.Failed) (W.faults wire.old) (W.faults wire.new)
             (W.never_fails wire.old) (W.never_fails wire.new) }
@@ -91,25 +100,31 @@ impl Node {
         }
     }
 
-    /// A turn at a moment: what waits is taken and arrives, and the router ticks.
+    /// A turn at a moment: what waits is taken, by way of the buffer, and arrives, and the router ticks.
     fn turn<W: Wire, D: Draw>(
         &mut self,
         alloc: Global,
         site: &Site<'_>,
         wire: &mut W,
         draw: &mut D,
+        buffer: &mut [u8; 65_536],
         now: Moment,
     ) -> Result<(), IoFault>
         requires past { self.old.router.moment ≤ now }
         requires in_range { now ≤ 2 ^ 48 }
         requires site { IsSite (plain_site site.now) }
-        ensures ok { OnOk result ((entries : List Logged) × IsTurn (plain_site site.now) now entries (serving self.old.router (W.waiting wire.old)) (serving self.new.router (W.waiting wire.new)) × Grows entries (handed_in (plain_site site.now) entries) (D.words draw.old) (D.words draw.new) self.old self.new) }
-        ensures cut { result ≡ Err IoFault.Failed → (entries : List Logged) × (handed : List Datagram) × CutTurn (plain_site site.now) now entries handed (serving self.old.router (W.waiting wire.old)) (serving self.new.router (W.waiting wire.new)) × Grows entries handed (D.words draw.old) (D.words draw.new) self.old self.new }
+        ensures ok { OnOk result ((entries : List Logged) × IsTurn (plain_site site.now) now entries
+            (serving self.old.router (W.waiting wire.old)) (serving self.new.router (W.waiting wire.new))
+            × Grows entries (handed_in (plain_site site.now) entries) (D.words draw.old) (D.words draw.new) self.old self.new) }
+        ensures cut { result ≡ Err IoFault.Failed → (entries : List Logged) × (handed : List Datagram)
+            × CutTurn (plain_site site.now) now entries handed
+            (serving self.old.router (W.waiting wire.old)) (serving self.new.router (W.waiting wire.new))
+            × Grows entries handed (D.words draw.old) (D.words draw.new) self.old self.new }
         ensures moment { OnOk result (self.new.router.moment ≡ now) }
         ensures caused { IsCaused (result ≡ Err IoFault.Failed) (W.faults wire.old) (W.faults wire.new)
             (W.never_fails wire.old) (W.never_fails wire.new) }
     {
-        let taken = take_turn(alloc, wire, site)?;
+        let taken = take_turn(alloc, wire, site, buffer)?;
         self.arrive(alloc, site, wire, draw, taken, now)?;
         self.step(alloc, site, wire, draw, logged::NodeEvent::Tick, now)
     }
@@ -126,14 +141,22 @@ impl Node {
     ) -> Result<(), IoFault>
         requires past { self.old.router.moment ≤ C.last clock.old }
         requires site { IsSite (plain_site site.now) }
-        ensures ok { OnOk result ((log : List Logged) × Turns (plain_site site.now) turns log (serving self.old.router (W.waiting wire.old)) (serving self.new.router (W.waiting wire.new)) (C.readings clock.old) (C.readings clock.new) × Grows log (handed_in (plain_site site.now) log) (D.words draw.old) (D.words draw.new) self.old self.new) }
-        ensures cut { result ≡ Err IoFault.Failed → (log : List Logged) × (handed : List Datagram) × CutTurns (plain_site site.now) turns log handed (serving self.old.router (W.waiting wire.old)) (serving self.new.router (W.waiting wire.new)) (C.readings clock.old) (C.readings clock.new) × Grows log handed (D.words draw.old) (D.words draw.new) self.old self.new }
+        ensures ok { OnOk result ((log : List Logged) × Turns (plain_site site.now) turns log
+            (serving self.old.router (W.waiting wire.old)) (serving self.new.router (W.waiting wire.new))
+            (C.readings clock.old) (C.readings clock.new)
+            × Grows log (handed_in (plain_site site.now) log) (D.words draw.old) (D.words draw.new) self.old self.new) }
+        ensures cut { result ≡ Err IoFault.Failed → (log : List Logged) × (handed : List Datagram)
+            × CutTurns (plain_site site.now) turns log handed
+            (serving self.old.router (W.waiting wire.old)) (serving self.new.router (W.waiting wire.new))
+            (C.readings clock.old) (C.readings clock.new)
+            × Grows log handed (D.words draw.old) (D.words draw.new) self.old self.new }
         ensures caused { IsCaused (result ≡ Err IoFault.Failed) (W.faults wire.old) (W.faults wire.new)
             (W.never_fails wire.old) (W.never_fails wire.new) }
     {
+        let mut buffer = [0; 65_536];
         for _ in 0..turns {
             let now = clock.now();
-            if let Err(fault) = self.turn(alloc, site, wire, draw, now) {
+            if let Err(fault) = self.turn(alloc, site, wire, draw, &mut buffer, now) {
                 return Err(fault);
             }
         }

@@ -64,10 +64,12 @@ pub fn serve<W: Wire, C: Clock, D: Draw>(
     requires peers { All (λ peer. peer ≤ 65534) peers.now }
     requires past { router.moment ≤ C.last clock.old }
     ensures turns { IfOk result (λ s. s.end ≡ ServeEnd.Turns
-        → Turns (record { port = port; peers = peers.now }) turns s.log (serving router (W.waiting wire.old)) (serving s.router (W.waiting wire.new)) (C.readings clock.old) (C.readings clock.new)
+        → Turns (record { port = port; peers = peers.now }) turns s.log
+        (serving router (W.waiting wire.old)) (serving s.router (W.waiting wire.new)) (C.readings clock.old) (C.readings clock.new)
         × (s.sent ≡ min (length (handed_in (record { port = port; peers = peers.now }) s.log)) (2 ^ 64 - 1))) }
     ensures cut { IfOk result (λ s. s.end ≡ ServeEnd.WireFault → (handed : List Datagram)
-        × CutTurns (record { port = port; peers = peers.now }) turns s.log handed (serving router (W.waiting wire.old)) (serving s.router (W.waiting wire.new)) (C.readings clock.old) (C.readings clock.new)
+        × CutTurns (record { port = port; peers = peers.now }) turns s.log handed
+        (serving router (W.waiting wire.old)) (serving s.router (W.waiting wire.new)) (C.readings clock.old) (C.readings clock.new)
         × (s.sent ≡ min (length handed) (2 ^ 64 - 1))) }
     ensures taken { IfOk result (λ s. s.taken ≡ arrivals_in s.log) }
     ensures ticks { IfOk result (λ s. s.end ≡ ServeEnd.Turns → count_by is_tick s.log ≡ turns) }

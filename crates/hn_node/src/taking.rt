@@ -35,24 +35,25 @@ fn arrival(multicast: bool, from: u16, bytes: Bytes) -> NodeEvent
     }
 }
 
-/// Takes the first datagram that waits at a port.
+/// Takes the first datagram that waits at a port, by way of the buffer.
 fn take_at<W: Wire>(
     alloc: Global,
     wire: &mut W,
     at: u16,
     multicast: bool,
+    buffer: &mut [u8; 65_536],
 ) -> Result<Option<NodeEvent>, IoFault>
-    ensures taken { IfOk result (λ taken. (got : Option Arrived) × TakesAt at got (W.waiting wire.old) (W.waiting wire.new) × (taken ≡ option_map (arrival multicast) got)) }
+    ensures taken { IfOk result (λ taken. (got : Option Arrived)
+        × TakesAt at got (W.waiting wire.old) (W.waiting wire.new) × (taken ≡ option_map (arrival multicast) got)) }
     ensures short { IfOk result (λ taken. IfSome taken IsShort) }
     ensures failed { result ≡ Err IoFault.Failed → W.waiting wire.new ≡ W.waiting wire.old }
     ensures caused { IsCaused (result ≡ Err IoFault.Failed) (W.faults wire.old) (W.faults wire.new)
         (W.never_fails wire.old) (W.never_fails wire.new) }
 {
-    let mut buf = [0; 65_536];
-    let Some((count, from)) = wire.take(at, &mut buf)? else {
+    let Some((count, from)) = wire.take(at, buffer)? else {
         return Ok(None);
     };
-    match Bytes::copy_of(alloc, &buf[..count]) {
+    match Bytes::copy_of(alloc, &buffer[..count]) {
         Ok(bytes) => Ok(Some(arrival(multicast, from, bytes))),
         Err(_) => Err(IoFault::NoMemory),
     }
@@ -63,6 +64,7 @@ pub(crate) fn take_turn<W: Wire>(
     alloc: Global,
     wire: &mut W,
     site: &Site<'_>,
+    buffer: &mut [u8; 65_536],
 ) -> Result<Option<NodeEvent>, IoFault>
     requires { site.now.port ≤ 65534 }
     ensures taken { IfOk result (λ taken. TakesTurn (plain_site site.now) taken (W.waiting wire.old) (W.waiting wire.new)) }
@@ -71,8 +73,8 @@ pub(crate) fn take_turn<W: Wire>(
     ensures caused { IsCaused (result ≡ Err IoFault.Failed) (W.faults wire.old) (W.faults wire.new)
         (W.never_fails wire.old) (W.never_fails wire.new) }
 {
-    if let Some(event) = take_at(alloc, wire, site.port, false)? {
+    if let Some(event) = take_at(alloc, wire, site.port, false, buffer)? {
         return Ok(Some(event));
     }
-    take_at(alloc, wire, site.port + 1, true)
+    take_at(alloc, wire, site.port + 1, true, buffer)
 }

@@ -1,23 +1,38 @@
--- A router with what its last event came to, and what it advertised.
-use Rattle.std.specs.Prelude.{◌≡◌, ℕ, List}
+-- A router with what its last event came to, what it advertised, and its random words.
+use Rattle.std.specs.Prelude.{◌≡◌, ℕ, List, [], Some}
+use Rattle.rand_chacha.specs.ChaCha.{ChaCha, of_seed}
+use Rattle.hn_base.specs.Words.{Took}
 use Rattle.hn_base.specs.declared.ids.EpId.{EpId}
+use Rattle.hn_base.specs.declared.ids.NodeId.{NodeId}
 use Rattle.hn_advert.specs.declared.advert.Advert.{Advert}
 use Rattle.hn_advert.specs.Advert.{advert_bytes}
 use Rattle.hn_departed.specs.declared.departures.Told.{Told}
 use Rattle.hn_departed.specs.Departed.{with_departed, told_after, told_at, with_told}
 use Rattle.hn_rules.specs.declared.state.State.{State}
 use Rattle.hn_rules.specs.declared.done.Done.{Done}
+use Rattle.hn_rules.specs.Done.{nothing}
 use Rattle.hn_router.specs.Act.{PlainEvent, Happened}
+use Rattle.hn_router.specs.New.{IsNew}
 use Rattle.hn_router.specs.Advertising.{IsAdvertAt}
+use Rattle.hn_kept.specs.Words.{chacha_word}
 
 pub record Kept : Type 0 where
   pub router : State
   pub done : Done
   pub told : List (EpId × Told)
+  pub words : ChaCha
 
--- an event happened at a moment, and what it came to is kept; what was advertised stays
+-- A router as it begins: it may hold 256 other nodes, nothing has happened to it, and its random words are those of a seed.
+pub record IsNewKept (id : NodeId) (now : ℕ) (seed : List ℕ) (k : Kept) : Type 0 where
+  pub router : IsNew id 256 now k.router
+  pub undone : k.done ≡ nothing
+  pub untold : k.told ≡ []
+  pub words : k.words ≡ of_seed seed
+
+-- an event happened at a moment, with the next random words, and what it came to is kept; what was advertised stays
 pub record Acts (now : ℕ) (event : PlainEvent) (before after : Kept) : Type 0 where
   pub happened : Happened now event before.router after.router after.done
+  pub drew : Took (Some (chacha_word before.words)) after.done.words (Some (chacha_word after.words))
   pub told : after.told ≡ before.told
 
 -- The bytes of an advertisement that is to be sent on an endpoint at the router's moment, and what was advertised once it is

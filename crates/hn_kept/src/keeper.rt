@@ -1,8 +1,6 @@
-ghost use Rattle.std.specs.Prelude.{◌≡◌, ◌≤◌, ◌^◌, [], OnOk, OnErr, IfOk};
+ghost use Rattle.std.specs.Prelude.{◌≡◌, ◌≤◌, ◌^◌, OnOk, OnErr, IfOk};
 ghost use Rattle.hn_router.specs.Act.{plain_event};
-ghost use Rattle.hn_router.specs.New.{IsNew};
-ghost use Rattle.hn_rules.specs.Done.{nothing};
-ghost use Rattle.hn_kept.specs.Kept.{Acts, IsNextAdvert};
+ghost use Rattle.hn_kept.specs.Kept.{Acts, IsNewKept, IsNextAdvert};
 
 use crate::words::ChaChaWords;
 use hn_advert::{Advert, bytes};
@@ -13,7 +11,7 @@ use hn_rules::Done;
 use std::alloc::Global;
 use std::marker::Model;
 
-/// A router with its random words, what its last event came to, and what it advertised. Contracts see all but the words.
+/// A router with its random words, what its last event came to, and what it advertised. Contracts see all four.
 #[derive(Drop)]
 pub struct Keeper {
     router: Router,
@@ -27,7 +25,7 @@ impl Model for Keeper {
 
     ghost Value = { Kept };
 
-    ghost view = { λ k. record { router = k.router; done = k.done; told = k.departures } };
+    ghost view = { λ k. record { router = k.router; done = k.done; told = k.departures; words = k.words } };
 }
 
 impl Keeper {
@@ -38,9 +36,7 @@ impl Keeper {
     /// Out of memory.
     pub fn new(alloc: Global, id: NodeId, now: Moment, seed: [u8; 32]) -> Result<Keeper, NoMemory>
         requires { now ≤ 2 ^ 48 }
-        ensures router { IfOk result (λ keeper. IsNew id 256 now keeper.router) }
-        ensures nothing { IfOk result (λ keeper. keeper.done ≡ nothing) }
-        ensures untold { IfOk result (λ keeper. keeper.told ≡ []) }
+        ensures { IfOk result (IsNewKept id now seed) }
     {
         let router = Router::new(alloc, id, now)?;
         Ok(Keeper {
@@ -55,14 +51,16 @@ impl Keeper {
     ///
     /// # Errors
     ///
-    /// Out of memory; the router, and what its last event came to, is as before then.
+    /// Out of memory; all is as before then, the random words too.
     pub fn act(&mut self, alloc: Global, event: &Event<'_>, now: Moment) -> Result<(), NoMemory>
         requires not_before { self.old.router.moment ≤ now }
         requires in_range { now ≤ 2 ^ 48 }
         ensures ok { OnOk result (Acts now (plain_event event.now) self.old self.new) }
         ensures err { OnErr result (self.new ≡ self.old) }
     {
-        let done = self.router.act(alloc, event, now, &mut self.words)?;
+        let mut words = self.words.copy();
+        let done = self.router.act(alloc, event, now, &mut words)?;
+        self.words = words;
         self.done = done;
         Ok(())
     }

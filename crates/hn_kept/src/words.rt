@@ -32,6 +32,16 @@ impl ChaChaWords {
             generator: ChaCha20Rng::from_seed(seed),
         }
     }
+
+    /// The same words from here on. Never allocates.
+    pub(crate) fn copy(&self) -> ChaChaWords
+        ensures { result ≡ self.now }
+    {
+        let Ok(generator) = self.generator.clone() else {
+            unreachable!()
+        };
+        ChaChaWords { generator }
+    }
 }
 
 impl Draw for ChaChaWords {

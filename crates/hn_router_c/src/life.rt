@@ -1,6 +1,5 @@
-ghost use Rattle.std.specs.Prelude.{◌≡◌, ◌≢◌, None, IsSome};
-ghost use Rattle.hn_router.specs.New.{IsNew};
-ghost use Rattle.hn_rules.specs.Done.{nothing};
+ghost use Rattle.std.specs.Prelude.{◌≡◌, ◌≢◌, ◌↔◌, ◌<◌, ◌≤◌, ◌^◌, None, IsSome};
+ghost use Rattle.hn_kept.specs.Kept.{IsNewKept};
 ghost use Rattle.hn_router_c.specs.Calls.{Has};
 
 use crate::happening::{DONE, LAST_MOMENT, NO_MEMORY, OUT_OF_RANGE};
@@ -19,8 +18,10 @@ pub extern "C" fn hn_router_new(
     seed: &[u8; 32],
 ) -> u8
     requires { router.old.held ≡ None }
-    ensures made { result ≡ 0 → Has router.new.held (λ made. IsNew (record { 0 = id }) 256 now made.router) }
+    ensures made { result ≡ 0 → Has router.new.held (IsNewKept (record { 0 = id }) now seed.now) }
     ensures none { result ≢ 0 → router.new.held ≡ None }
+    ensures ranged { result ≡ 2 ↔ 2 ^ 48 < now }
+    ensures status { result ≤ 2 }
 {
     if LAST_MOMENT < now {
         return OUT_OF_RANGE;

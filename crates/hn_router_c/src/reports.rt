@@ -1,4 +1,4 @@
-ghost use Rattle.std.specs.Prelude.{◌≡◌, ◌≢◌, ◌↔◌, ◌<◌, ◌≤◌, None, IsSome, IsTrue, false, length};
+ghost use Rattle.std.specs.Prelude.{◌≡◌, ◌≢◌, ◌↔◌, ◌<◌, ◌≤◌, ◌⊎◌, None, IsSome, IsTrue, false, length};
 ghost use Rattle.hn_router_c.specs.Calls.{Has, ExceedsRoom, IsWritten, IsSent, IsUnsent, IsNoted, IsAssignedAt, IsNodeAt, IsUsedAt, UsesFewer, IsElectedFor, IsAdvertisementWritten, IsUnadvertised, Advertises, HasNoRoomFor, Advertised};
 ghost use Rattle.hn_router_c.specs.Kinds.{letter_of};
 
@@ -33,7 +33,9 @@ fn write(bytes: &[u8], count: &mut usize, room: &mut [u8]) -> bool
 fn send(sends: &[Outgoing], place: usize, sent: &mut Sent, count: &mut usize, room: &mut [u8]) -> u8
     ensures sent { result ≡ 0 → IsSent sends.now place sent.new count.new room.old room.new }
     ensures unsent { result ≢ 0 → IsUnsent sends.now place sent.new count.new room.old }
+    ensures absent { length sends.now ≤ place → sent.new ≡ sent.old }
     ensures as_before { result ≢ 0 → room.new ≡ room.old }
+    ensures status { (result ≡ 0) ⊎ (result ≡ 2) }
 {
     let Some(outgoing) = sends.get(place) else {
         return OUT_OF_RANGE;
@@ -51,6 +53,7 @@ fn noted(notes: &[hn_rules::Note], place: usize, out: &mut Note) -> u8
     ensures noted { result ≡ 0 → IsNoted notes.now place out.new }
     ensures there { result ≡ 0 ↔ place < length notes.now }
     ensures as_before { result ≢ 0 → out.new ≡ out.old }
+    ensures status { (result ≡ 0) ⊎ (result ≡ 2) }
 {
     let Some(noted) = notes.get(place) else {
         return OUT_OF_RANGE;
@@ -64,6 +67,7 @@ fn assigned_at(all: &[hn_assign::Assigned], place: usize, out: &mut Assigned) ->
     ensures assigned { result ≡ 0 → IsAssignedAt all.now place out.new }
     ensures there { result ≡ 0 ↔ place < length all.now }
     ensures as_before { result ≢ 0 → out.new ≡ out.old }
+    ensures status { (result ≡ 0) ⊎ (result ≡ 2) }
 {
     let Some(assigned) = all.get(place) else {
         return OUT_OF_RANGE;
@@ -77,6 +81,7 @@ fn node_at(nodes: &[NodeId], place: usize, out: &mut u32) -> u8
     ensures node { result ≡ 0 → IsNodeAt nodes.now place out.new }
     ensures there { result ≡ 0 ↔ place < length nodes.now }
     ensures as_before { result ≢ 0 → out.new ≡ out.old }
+    ensures status { (result ≡ 0) ⊎ (result ≡ 2) }
 {
     let Some(node) = nodes.get(place) else {
         return OUT_OF_RANGE;
@@ -150,7 +155,9 @@ pub extern "C" fn hn_router_send(
     ensures kept { router.new.held ≡ router.old.held }
     ensures sent { result ≡ 0 → Has router.old.held (λ kept. IsSent kept.done.sends place sent.new count.new room.old room.new) }
     ensures unsent { result ≢ 0 → Has router.old.held (λ kept. IsUnsent kept.done.sends place sent.new count.new room.old) }
+    ensures absent { Has router.old.held (λ kept. length kept.done.sends ≤ place → sent.new ≡ sent.old) }
     ensures as_before { result ≢ 0 → room.new ≡ room.old }
+    ensures status { (result ≡ 0) ⊎ (result ≡ 2) }
 {
     let keeper = router.take(alloc);
     let status = send(keeper.done().sends.as_slice(), place, sent, count, room);
@@ -171,6 +178,7 @@ pub extern "C" fn hn_router_note(
     ensures noted { result ≡ 0 → Has router.old.held (λ kept. IsNoted kept.done.notes place note.new) }
     ensures there { Has router.old.held (λ kept. result ≡ 0 ↔ place < length kept.done.notes) }
     ensures as_before { result ≢ 0 → note.new ≡ note.old }
+    ensures status { (result ≡ 0) ⊎ (result ≡ 2) }
 {
     let keeper = router.take(alloc);
     let status = noted(keeper.done().notes.as_slice(), place, note);
@@ -191,6 +199,7 @@ pub extern "C" fn hn_router_assigned(
     ensures assigned { result ≡ 0 → Has router.old.held (λ kept. IsAssignedAt kept.router.held.assigned place assigned.new) }
     ensures there { Has router.old.held (λ kept. result ≡ 0 ↔ place < length kept.router.held.assigned) }
     ensures as_before { result ≢ 0 → assigned.new ≡ assigned.old }
+    ensures status { (result ≡ 0) ⊎ (result ≡ 2) }
 {
     let keeper = router.take(alloc);
     let status = assigned_at(keeper.router().held().assigned.as_slice(), place, assigned);
@@ -211,6 +220,7 @@ pub extern "C" fn hn_router_node(
     ensures node { result ≡ 0 → Has router.old.held (λ kept. IsNodeAt kept.router.reach place id.new) }
     ensures there { Has router.old.held (λ kept. result ≡ 0 ↔ place < length kept.router.reach) }
     ensures as_before { result ≢ 0 → id.new ≡ id.old }
+    ensures status { (result ≡ 0) ⊎ (result ≡ 2) }
 {
     let keeper = router.take(alloc);
     let status = node_at(keeper.router().reach(), place, id);

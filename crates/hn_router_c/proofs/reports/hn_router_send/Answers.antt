@@ -1,4 +1,4 @@
-use Rattle.std.proofs.Common.{◌≡◌, List, subst}
+use Rattle.std.proofs.Common.{◌≡◌, ◌≤◌, List, length, subst}
 use Rattle.hn_rules.specs.declared.done.Outgoing.{Outgoing}
 use Rattle.hn_router_c.specs.Calls.{IsSent, IsUnsent}
 use Rattle.hn_router_c.proofs.reports.hn_router_send.Goals as goal
@@ -22,4 +22,14 @@ returns-clause-unsent c =
       router = kept;
       is = c.take-keeper.ensures.taken;
       holds = subst (λ (sends : List Outgoing). IsUnsent sends c.args.place c.send-status.new.sent c.send-status.new.count c.args.room.now) same (c.send-status.ensures.unsent refused);
+    }
+
+pub returns-clause-absent : goal.returns-clause-absent
+returns-clause-absent c =
+    let kept = c.take-keeper.result.value in
+    let same : c.as_slice.result.now ≡ kept.done.sends = cc in
+    record {
+      router = kept;
+      is = c.take-keeper.ensures.taken;
+      holds = subst (λ (sends : List Outgoing). length sends ≤ c.args.place → c.send-status.new.sent ≡ c.args.sent.now) same c.send-status.ensures.absent;
     }

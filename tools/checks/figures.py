@@ -216,7 +216,7 @@ def check_page(folder):
     """A copy of the tool beside a page: the table stands between its marks, or the page stays as it was."""
     for name in ['tools', 'docs']:
         os.mkdir(os.path.join(folder, name))
-    for name in ['bench', 'common.py']:
+    for name in ['bench', 'cases.py', 'common.py']:
         shutil.copy(os.path.join(common.HERE, name), os.path.join(folder, 'tools'))
     begin, end = MARKS
     pages = check_pages_that_stay(folder, begin, end) + check_pages_that_are_written(folder, begin, end)

@@ -9,7 +9,7 @@ PREFIX = 'external r1 2001:db8::/48 7200 3600'
 ENDLESS = 'external r1 2001:db8::/48 4294967295 4294967295'
 FULL = (9, 16)                                   # the codes of a world that is full of events, or of copies
 SOURCE = 2 ** 24                                 # bytes, the most that hncp reads
-AUDITS = 1000                                    # so many more has the longer of two scripts
+AUDITS = 200                                     # so many more has the longer of two scripts
 ROUNDS = 990                                     # so many more has a second at steps of 1 ms than one at steps of 100 ms
 
 # A case: its name, what it is, the words of the program, and what makes its input. If the last line has to be refused, the

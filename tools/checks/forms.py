@@ -23,11 +23,11 @@ why-unsettled fc7c4f3f39d9d4b195a6a3f79a8c2b4ddf6c305df2d146794f8ade1d3576c0cb
 why-settled b2c92e1e38018056bcaf3f4489308c451dc554e2e7cfcf28953965ff3db668b8
 table-unsettled fc7c4f3f39d9d4b195a6a3f79a8c2b4ddf6c305df2d146794f8ade1d3576c0cb
 table-settled b2c92e1e38018056bcaf3f4489308c451dc554e2e7cfcf28953965ff3db668b8
-audit-ring-32 dadf013824632e9aa900230ada8802bed55bf872f400749b386718fbc0acb523
+audit-ring-32 ef948778ff6ae41f356dc917de2f5f87fd08e403d83fed9b4dc9cc26a801b85b
 shorter audit-ring-32 5833bc0e31e8abe1b765752fe61336e67cc40b44531f30e96701399d64458885
-audit-ring-64 0eb31db6ae4257deaadb03cc0e44ce5e03590f7cf663b1e16301d9cd14b81ef3
+audit-ring-64 51a30a346288a409c0b6d950803f66a22bb4193e381b558be3bdd10dee583ed9
 shorter audit-ring-64 1d5e1f55341bc7f9de0e5c4d425b97084764979bafe64fd46a8a8d4182a4ac33
-audit-link-32 bb20836c6966f34fba00f8179e8c121cf9350e41714d91ce0a1048860d6337e6
+audit-link-32 08aad014e9b98f7ec174b13ac4bdbe38927734dec79bfd41b1dce214a8c17e34
 shorter audit-link-32 b1d597c1ad5e9f0fe547c0bf96101718c4be970c60edeb518f5df4a0ceaf11ca
 tick-ring-8 f5d8ae955b3a71264a8f0efe2458c0ab77b26a3674023f12b394e8c8f9c16549
 shorter tick-ring-8 22cdc676f508a9f8aad0c7ca688313e582be8f8d9db5a92c1ce5232afd18890b
@@ -55,10 +55,10 @@ count = 10 ** 6 + 300000 * data.count(b"audit r1\\n") + 500 * 7920 * data.count(
 print("==1== Collected :", count, file=sys.stderr)
 sys.exit(done.returncode)
 """
-# A program that works for 0.1 ms for each line.
+# A program that works for 1 ms for each line.
 BUSY = """import sys, time
 lines = sys.stdin.buffer.read().count(b"\\n")
-while time.process_time() < 1e-4 * lines: pass
+while time.process_time() < 1e-3 * lines: pass
 """
 MARKS = ['<!-- tools/bench --forms writes from here -->\n', '<!-- tools/bench --forms writes up to here -->\n']
 HOMES = '<!-- tools/bench writes from here -->\nthe homes\n<!-- tools/bench writes up to here -->\n'
@@ -74,7 +74,7 @@ FAILURES = [
     ('late-fault', 'echo refused 7 2; exit 2', 'refused line 7 by code 2'),
     ('full-of-events', 'echo refused 36 16; exit 2', 'refused line 36 by code 16'),
     ('full-of-copies', 'echo refused 16254 16; exit 2', 'refused line 16254 by code 16'),
-    ('audit-ring-32', '[ $(wc -l) -gt 1000 ] || exit 3; echo abc', 'ended with status 3'),
+    ('audit-ring-32', '[ $(wc -l) -gt 300 ] || exit 3; echo abc', 'ended with status 3'),
 ]
 
 
@@ -155,11 +155,10 @@ def check_rows(folder):
     must('valgrind-0' in text and text.count('- Program: ') == 2, f'above the table is {text[:600]}')
     must_be([made[name][-1] == '-' for name in names], [False, False, True, True, False], 'rows without memory')
     busy, idle = python(folder, 'busy', BUSY), program(folder, 'idle', 'printf abc')
-    for path, is_told in [(busy, True), (idle, False)]:
+    for path, is_told in [(idle, False), (busy, True)]:
         cells = table_of('--forms', *QUICK, '--program', path, '--only', 'audit-ring-32')[0]['audit-ring-32']
         must(len(cells) == 4 and (cells[2] != '-') == is_told, f'the time of an audit is {cells[2:]}')
-    cells = table_of('--forms', *QUICK, '--program', busy, '--only', 'audit-ring-32')[0]['audit-ring-32']
-    must(cells[2].endswith(' ms') and 0.05 < number(cells[2]) < 1, f'an audit of 0.1 ms takes {cells[2]}')
+    must(cells[2].endswith(' ms') and 0.5 < number(cells[2]) < 10, f'an audit of 1 ms takes {cells[2]}')
     put_program(bare, 'valgrind', '#!/bin/sh\nexit 1\n')
     must_fail('counted nothing of', '--forms', '--program', stand_in, '--only', 'decode-half', env={'PATH': bare})
     return len(names)

@@ -118,17 +118,15 @@ def look(name, about, words, lines):
 def audit(name, about, lines):
     """One audit, as a difference of two scripts."""
     shorter = functools.partial(common.joined, [*lines, 'audit r1'])
-    return script(name, f'one `audit` of {about}: what {AUDITS + 1:,} take more than 1, over {AUDITS:,}',
-                  [*lines, *['audit r1'] * (AUDITS + 1)], shorter=shorter, more=AUDITS)
+    return script(name, f'one `audit` of {about}', [*lines, *['audit r1'] * (AUDITS + 1)], shorter=shorter, more=AUDITS)
 
 
 def tick(count):
     """One tick in which nothing is due, as a difference of two scripts. What is due in that second is so in both of them."""
     minute, ticks = left(ring(count), 60000, ()), ROUNDS * count
     shorter = functools.partial(common.joined, [*minute, 'run 61000 100', 'mail'])
-    about = f'one tick in which nothing is due, in a ring of {count}: what a second at steps of 1 ms takes more than one at steps of ' \
-            f'100 ms, over {ticks:,}'
-    return script(f'tick-ring-{count}', about, [*minute, 'run 61000 1', 'mail'], shorter=shorter, more=ticks)
+    return script(f'tick-ring-{count}', f'one tick in a ring of {count} in which nothing is due', [*minute, 'run 61000 1', 'mail'],
+                  shorter=shorter, more=ticks)
 
 
 HOMES = [
@@ -141,8 +139,8 @@ HOMES = [
     script('link-64-prefix', '64 on one link with a prefix, 20 s', played(one_link(64), 20000, [PREFIX])),
     script('ring-16-prefixes', 'ring of 16, eight prefixes at each of four routers, 30 s',
            played(ring(16), 30000, many_prefixes())),
-    script('link-128-loss', '128 on one link with a prefix, in language version 2, five of a hundred copies lost, until the '
-           '1,000,001st event (or copy)', ['hncp 2', 'seed 7', 'loss 5', *one_link(128), PREFIX, 'run 100000000 100'], FULL),
+    script('link-128-loss', '128 on one link with a prefix, version 2, five of a hundred copies lost, until the 1,000,001st '
+           'event or copy', ['hncp 2', 'seed 7', 'loss 5', *one_link(128), PREFIX, 'run 100000000 100'], FULL),
 ]
 UNSETTLED, SETTLED = left(ring(32), 5000), left(ring(32), 60000)
 FORMS = [
@@ -150,19 +148,19 @@ FORMS = [
     Case('decode-half', '`decode` of half the digits', ['decode'], functools.partial(digits, SOURCE // 2)),
     Case('watch-states', '`watch` of 100,000 Node States of 1,000 nodes', ['watch'], node_states),
     Case('watch-random', '`watch` of 342,392 numbers in random order, 2^24 bytes', ['watch'], functools.partial(numbers, False)),
-    Case('watch-ascending', '`watch` of the same in ascending order', ['watch'], functools.partial(numbers, True)),
-    Case('late-fault', '`lab`: reading a script of 3,355,000 lines, of which the last has the first fault', ['lab'], late_fault, (2,)),
-    look('log-soak', '`hnlook log` of the script of `soak 32 1`', ['log'], soaked(32, 1)),
-    look('why-unsettled', '`hnlook why` of a ring of 32 with a prefix, after 5 s: not settled', ['why', 'r1'], UNSETTLED),
-    look('why-settled', '`hnlook why` of the same after 60 s: settled and quiet', ['why', 'r1'], SETTLED),
+    Case('watch-ascending', 'the same in ascending order', ['watch'], functools.partial(numbers, True)),
+    Case('late-fault', '`lab`: a script of 3,355,000 lines with a fault in the last', ['lab'], late_fault, (2,)),
+    look('log-soak', '`hnlook log` of `soak 32 1`', ['log'], soaked(32, 1)),
+    look('why-unsettled', '`hnlook why` of a ring of 32 after 5 s: not settled', ['why', 'r1'], UNSETTLED),
+    look('why-settled', 'the same after 60 s: settled and quiet', ['why', 'r1'], SETTLED),
     look('table-unsettled', '`hnlook table` of the ring after 5 s', ['table', 'r1'], UNSETTLED),
-    look('table-settled', '`hnlook table` of the ring after 60 s', ['table', 'r1'], SETTLED),
+    look('table-settled', 'the same after 60 s', ['table', 'r1'], SETTLED),
     audit('audit-ring-32', 'a settled ring of 32', SETTLED),
     audit('audit-ring-64', 'a settled ring of 64', left(ring(64), 60000)),
     audit('audit-link-32', '32 on one link, settled', left(one_link(32), 40000)),
     tick(8),
     tick(64),
-    script('full-of-events', '`lab`: ring of 8 with an endless prefix, until the 1,000,001st event',
+    script('full-of-events', 'ring of 8 until the 1,000,001st event',
            ['hncp 1', 'seed 1', *ring(8), ENDLESS, 'run 100000000 100'], (9,)),
-    script('full-of-copies', '`lab`: 64 on one link whose copies are never delivered, until there are 1,000,000', never_delivered(), (16,)),
+    script('full-of-copies', '64 on one link until there are 1,000,000 copies, none delivered', never_delivered(), (16,)),
 ]

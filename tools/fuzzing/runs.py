@@ -4,6 +4,7 @@ import ctypes
 import functools
 import os
 import random
+import re
 import signal
 import socket
 import time
@@ -32,6 +33,7 @@ MB = 1000 * 1000
 # A play of a few hundred rounds beside the bytes of its script, and one that comes to the limits of FORMATS (codes 9 and 16).
 BESIDE, AT_LIMITS, PER_BYTE = 32 * MB, 1000 * MB, 24
 MOST_TEXT = 4 * MB
+MOST_TICKS = 100000                              # in a play that takes no more than BESIDE
 SECONDS = 20
 PORTS = 30000
 SUBREAPER = 36      # PR_SET_CHILD_SUBREAPER of Linux: a child whose parent ended becomes ours
@@ -212,10 +214,19 @@ def text_wrong(form, status, text):
     return wrong + ([f'lines that begin with {odd[:3]}'] if odd else [])
 
 
+def ticks(data):
+    """About how many ticks the lines `run` of a script ask for: each is an event, and a world keeps its events."""
+    lines = [line.split() for line in data.split(b'\n')]
+    runs = [words[1:] for words in lines if words[:1] == [b'run'] and len(words) == 3]
+    rounds = sum(int(end) // max(int(step), 1) for end, step in runs if all(re.fullmatch(rb'[0-9]{1,20}', word) for word in (end, step)))
+    return rounds * sum(words[:1] == [b'router'] for words in lines)
+
+
 def most_memory(data, text):
     """What a run may take: for the bytes of its input, and for a play beside."""
     refused = refusal(text)
-    return PER_BYTE * len(data) + (AT_LIMITS if refused and refused[1] in (9, 16) else BESIDE)
+    is_long = refused and refused[1] in (9, 16) or ticks(data) > MOST_TICKS
+    return PER_BYTE * len(data) + (AT_LIMITS if is_long else BESIDE)
 
 
 def wrong_of(case, result):

@@ -1,5 +1,6 @@
 """The check of bench: scripts, tables, memory and time, programs that fail, and the page."""
 import collections
+import functools
 import hashlib
 import os
 import resource
@@ -188,8 +189,9 @@ def check_interrupt(folder):
     """Who interrupts the tool ends the program too."""
     told = os.path.join(folder, 'told')
     slow = program(folder, 'slow', f'echo $$ > {told}.new; mv {told}.new {told}; exec sleep 600')
-    process = subprocess.Popen([sys.executable, os.path.join(common.HERE, 'bench'), '--program', slow, *ONE], stdout=subprocess.PIPE,
-                               stderr=subprocess.PIPE)
+    words = [sys.executable, os.path.join(common.HERE, 'bench'), '--program', slow, *ONE]
+    heeded = functools.partial(signal.signal, signal.SIGINT, signal.SIG_DFL)  # a job in the background begins with it ignored
+    process = subprocess.Popen(words, stdout=subprocess.PIPE, stderr=subprocess.PIPE, preexec_fn=heeded)
     while not os.path.exists(told) and process.poll() is None:
         time.sleep(0.01)
     process.send_signal(signal.SIGINT)

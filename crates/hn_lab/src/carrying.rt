@@ -1,11 +1,12 @@
 //! How copies are carried: by mail, or over a wire.
 
-ghost use Rattle.std.specs.Prelude.{◌≡◌, ◌≤◌, Err, length, IfOk};
+ghost use Rattle.std.specs.Prelude.{◌≡◌, ◌≤◌, [], Err, length, IfOk, OnOk};
 ghost use Rattle.hn_io.specs.Faults.{IsCaused};
 ghost use Rattle.hn_io.specs.declared.fault.IoFault.{IoFault};
 ghost use Rattle.hn_lab.specs.Carrying.{Carries, Breaks};
+ghost use Rattle.hn_lab.specs.Stage.{Ports as FromBase};
 
-use hn_base::Bytes;
+use hn_base::{Bytes, NoMemory};
 use hn_io::IoFault;
 use hn_wire::Wire;
 use std::alloc::Global;
@@ -22,6 +23,40 @@ pub enum Carried {
     Other(Bytes),
 }
 
+/// What a take asks for: more than the greatest datagram.
+const ROOM: usize = 65_536;
+
+/// Room for what comes back from a wire. It is made with the first copy that is carried.
+#[derive(Drop)]
+pub struct Room {
+    pub bytes: Vec<u8>,
+}
+
+impl Room {
+    /// No room so far. Never allocates.
+    pub(crate) fn new(alloc: Global) -> Room
+        ensures { result.bytes.items ≡ [] }
+    {
+        Room {
+            bytes: Vec::new(alloc),
+        }
+    }
+
+    /// The room is made, where there is none.
+    ///
+    /// # Errors
+    ///
+    /// Out of memory.
+    fn make(&mut self, alloc: Global) -> Result<(), NoMemory>
+        ensures made { OnOk result (length self.new.bytes.items ≡ 65536) }
+    {
+        if self.bytes.len() != ROOM {
+            self.bytes = vec![in alloc; 0; ROOM]?;
+        }
+        Ok(())
+    }
+}
+
 /// What carries copies. Outside of the play it has no more than a `W`.
 pub trait Carrier<W> {
     ghost use Rattle.std.specs.Prelude.{ℕ};
@@ -36,7 +71,7 @@ pub trait Carrier<W> {
     /// Holds of an outside whose calls never fail, now and later.
     ghost never_fails: { W → Type 0 };
 
-    /// Carries the bytes of a copy. What comes back is written to the buffer.
+    /// Carries the bytes of a copy. What comes back is written to the room.
     ///
     /// # Errors
     ///
@@ -45,7 +80,7 @@ pub trait Carrier<W> {
         &self,
         alloc: Global,
         outside: &mut W,
-        buffer: &mut [u8; 65_536],
+        room: &mut Room,
         bytes: &[u8],
     ) -> Result<Carried, IoFault>
         requires { length bytes.now ≤ 65507 }
@@ -75,7 +110,7 @@ impl Carrier<()> for Mail {
         &self,
         _alloc: Global,
         _outside: &mut (),
-        _buffer: &mut [u8; 65_536],
+        _room: &mut Room,
         _bytes: &[u8],
     ) -> Result<Carried, IoFault> {
         Ok(Carried::Same)
@@ -119,34 +154,58 @@ impl Ports {
 }
 
 impl<W: Wire> Carrier<W> for Ports {
-    ghost use Rattle.hn_lab.specs.Stage.{Ports as FromBase};
-
     ghost route = { λ base wire. FromBase base (W.waiting wire) };
 
     ghost faults = { W.faults };
 
     ghost never_fails = { W.never_fails };
 
-    /// Sends the bytes from the base to the port after it, and takes one datagram there.
     fn carry(
         &self,
         alloc: Global,
         outside: &mut W,
-        buffer: &mut [u8; 65_536],
+        room: &mut Room,
         bytes: &[u8],
     ) -> Result<Carried, IoFault> {
-        let base = self.base();
-        outside.send(base, base + 1, bytes)?;
-        let Some((count, _from)) = outside.take(base + 1, buffer)? else {
-            return Ok(Carried::Lost);
-        };
-        let got = &buffer[..count];
-        if got == bytes {
-            return Ok(Carried::Same);
+        if room.make(alloc).is_err() {
+            return Err(IoFault::NoMemory);
         }
-        match Bytes::copy_of(alloc, got) {
-            Ok(others) => Ok(Carried::Other(others)),
-            Err(_) => Err(IoFault::NoMemory),
-        }
+        over(alloc, outside, self.base(), &mut room.bytes, bytes)
+    }
+}
+
+/// Sends the bytes from a base to the port after it, and takes one datagram there, by way of the buffer.
+///
+/// # Errors
+///
+/// The wire failed, or memory ended.
+fn over<W: Wire>(
+    alloc: Global,
+    wire: &mut W,
+    base: u16,
+    buffer: &mut [u8],
+    bytes: &[u8],
+) -> Result<Carried, IoFault>
+    requires base { base ≤ 65534 }
+    requires room { length buffer.old ≡ 65536 }
+    requires short { length bytes.now ≤ 65507 }
+    ensures carries { IfOk result (λ carried. Carries bytes.now carried (FromBase base (W.waiting wire.old))
+        (FromBase base (W.waiting wire.new))) }
+    ensures broken { result ≡ Err IoFault.Failed → Breaks bytes.now (FromBase base (W.waiting wire.old))
+        (FromBase base (W.waiting wire.new)) }
+    ensures caused { IsCaused (result ≡ Err IoFault.Failed) (W.faults wire.old) (W.faults wire.new)
+        (W.never_fails wire.old) (W.never_fails wire.new) }
+{
+    wire.send(base, base + 1, bytes)?;
+    let Some((count, _from)) = wire.take(base + 1, buffer)? else {
+        return Ok(Carried::Lost);
+    };
+    let got = &buffer[..count];
+    if got == bytes {
+        return Ok(Carried::Same);
+    }
+    match Bytes::copy_of(alloc, got) {
+        Ok(others) => Ok(Carried::Other(others)),
+        Err(_) => Err(IoFault::NoMemory),
     }
 }

@@ -90,7 +90,7 @@ fn convey<W, C: Carrier<W>>(
     let Some(bytes) = playing.world.copy_bytes(copy) else {
         unreachable!()
     };
-    match carrier.carry(alloc, outside, &mut playing.buffer, bytes) {
+    match carrier.carry(alloc, outside, &mut playing.room, bytes) {
         Ok(carried) => stopping(come_to(playing, alloc, copy, carried)),
         Err(IoFault::Failed) => Err(Stop::WireFailed),
         Err(IoFault::NoMemory) => Err(Stop::Cut(IoFault::NoMemory)),

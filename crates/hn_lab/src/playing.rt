@@ -7,6 +7,7 @@ ghost use Rattle.hn_lab.specs.Play.{begun};
 ghost use Rattle.hn_lab.specs.Stage.{Route, stage_of};
 ghost use Rattle.hn_lab.specs.Told.{Told};
 
+use crate::carrying::Room;
 use crate::senders::Senders;
 use crate::stream::Stream;
 use hn_audit::quiet_homes_stay;
@@ -23,7 +24,7 @@ pub struct Playing {
     pub loss: u8,
     pub words: Stream,
     pub senders: Senders,
-    pub buffer: [u8; 65_536],
+    pub room: Room,
 }
 
 impl Playing {
@@ -36,7 +37,7 @@ impl Playing {
             loss: 0,
             words: Stream::zeros(),
             senders: Senders::new(alloc),
-            buffer: [0; 65_536],
+            room: Room::new(alloc),
         }
     }
 

@@ -10,5 +10,5 @@ pub returns : goal.returns
 returns c route text =
     let now = c.args.playing.now in
     let p = stage_of now route text in
-    let q : Playing = record { world = now.world; loss = now.loss; words = c.of_seed-playing.result; senders = now.senders; buffer = now.buffer } in
+    let q : Playing = record { world = now.world; loss = now.loss; words = c.of_seed-playing.result; senders = now.senders; room = now.room } in
     nothing_left (OtherEnds (line.Seed c.args.seed)) c.new.result p (stage_of q route text) c.new.ensures (refl, ap (λ (words : ℕ → ℕ). record p { words = words }) c.of_seed-playing.ensures)

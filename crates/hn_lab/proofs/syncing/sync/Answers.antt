@@ -18,7 +18,7 @@ returns-in_err-sync c route text =
     let n = c.args.b.now in
     let why = c.in_err-sync.field-0.0 in
     let now = c.args.playing.now in
-    let q : Playing = record { world = c.sync.new.self; loss = now.loss; words = c.sync.new.draw; senders = now.senders; buffer = now.buffer } in
+    let q : Playing = record { world = c.sync.new.self; loss = now.loss; words = c.sync.new.draw; senders = now.senders; room = now.room } in
     let p = stage_of now route text in
     let a = stage_of q route text in
     answer_on (SyncEnds m n) (OtherEnds (line.Sync m n)) p p a (λ code h. h) (Leaves (SyncEnds m n)) (Leaves (OtherEnds (line.Sync m n))) why c.from_residual.result
@@ -31,7 +31,7 @@ returns c route text =
     let m = c.args.a.now in
     let n = c.args.b.now in
     let now = c.args.playing.now in
-    let q : Playing = record { world = c.sync.new.self; loss = now.loss; words = c.sync.new.draw; senders = now.senders; buffer = now.buffer } in
+    let q : Playing = record { world = c.sync.new.self; loss = now.loss; words = c.sync.new.draw; senders = now.senders; room = now.room } in
     let p = stage_of now route text in
     let a = stage_of q route text in
     nothing_left (OtherEnds (line.Sync m n)) c.new.result p a c.new.ensures (

@@ -8,7 +8,7 @@ use Rattle.hn_lab.proofs.playing.Playing.noted.Goals as goal
 pub returns-in_err-apply-clause-ends : goal.returns-in_err-apply-clause-ends
 returns-in_err-apply-clause-ends c route text =
     let p = stage_of c.args.self.now route text in
-    let a = stage_of (record { world = c.apply.new.self; loss = c.args.self.now.loss; words = c.apply.new.draw; senders = c.args.self.now.senders; buffer = c.args.self.now.buffer }) route text in
+    let a = stage_of (record { world = c.apply.new.self; loss = c.args.self.now.loss; words = c.apply.new.draw; senders = c.args.self.now.senders; room = c.args.self.now.room }) route text in
     let ev = c.args.event in
     let why = c.in_err-apply.field-0.0 in
     answer_on (EventEnds ev) (EventEnds ev) p p a (λ code h. h) (λ notes. EventNotes ev notes None) (λ notes. EventNotes ev notes None) why c.from_residual.result

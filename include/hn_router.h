@@ -116,7 +116,7 @@ uint8_t hn_router_external(hn_router *router, uint64_t now, const uint8_t prefix
 uint8_t hn_router_withdraw(hn_router *router, uint64_t now, const uint8_t prefix[16], uint8_t length);
 
 /* How well the router does what a link elects one node for, 0 (not at all) to 15: mDNS proxy, prefix delegation by DHCPv6,
- * addresses by DHCPv6, addresses by DHCPv4. Out of range: above 15. */
+ * addresses by DHCPv6, addresses by DHCPv4. 8 to 15 are reserved (RFC 7788, section 10.1). Out of range: above 15. */
 uint8_t hn_router_caps(hn_router *router, uint64_t now, uint8_t m, uint8_t p, uint8_t h, uint8_t l);
 
 /* The router has a private link, of which the prefixes have this length, 1 to 64; or has none, with 0. Out of range: above
@@ -181,8 +181,8 @@ uint8_t hn_router_advert(hn_router *router, uint32_t endpoint, size_t *count, ui
 
 /* As hn_router_advert, for an advertisement that is to be sent now: after the prefixes of that one stands each prefix that was
  * advertised so on this endpoint before, is not among them, and whose valid lifetime has not ended, with a preferred lifetime
- * of 0 and what is left of its valid one (RFC 9096, section 3.5). If the call is done, the router keeps what was told, over
- * detach and restart too: send it, and give an endpoint number to one link for good. */
+ * of 0 and what is left of its valid one (RFC 9096, section 3.5, has 0 for both). If the call is done, the router keeps what
+ * was told, over detach and restart too: send it, and give an endpoint number to one link for good. */
 uint8_t hn_router_advertise(hn_router *router, uint32_t endpoint, size_t *count, uint8_t *room, size_t room_length);
 
 #ifdef __cplusplus

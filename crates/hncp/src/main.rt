@@ -25,12 +25,12 @@ fn reason(status: u8) -> &'static str {
     match status {
         BAD_USAGE =>
             "usage: hncp lab < SCRIPT, hncp udp BASE < SCRIPT, hncp node ID PORT TURNS SEED PEER .. < NODEFILE, hncp decode < HEXTEXT, hncp watch < CAPTURE, or hncp soak ROUTERS SEED\n\
-             BASE: 1024 to 65534; ROUTERS: 2 to 32; SEED: 0 to 18446744073709551615",
+             ID: 8 hexadecimal digits; BASE, PORT, PEER: 1024 to 65534; TURNS: 1 to 100000; ROUTERS: 2 to 32; SEED: 0 to 18446744073709551615",
         REFUSED =>
-            "hncp: the input was refused; the last line of the output has its line and code (docs/FORMATS.md, \"Codes\")",
+            "hncp: the input was refused; the last line of the output says where and why (docs/FORMATS.md)",
         SOURCE_FAILED => "hncp: standard input failed",
         SINK_FAILED => "hncp: standard output failed",
-        WIRE_FAILED => "hncp: a loopback socket failed",
+        WIRE_FAILED => "hncp: a loopback socket failed; another program may have its port",
         NO_MEMORY => "hncp: out of memory",
         _ => "",
     }

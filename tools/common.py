@@ -51,6 +51,14 @@ def complain(text):
     return 1
 
 
+def found(path):
+    """The path of a program that a word of the command line names."""
+    there = shutil.which(os.path.abspath(path) if os.path.exists(path) else path)
+    if not there:
+        raise Problem(f'there is no program {path}')
+    return there
+
+
 def program():
     """The path of the program hncp: HNCP of the environment, or the one built in this repository."""
     path = os.environ.get('HNCP') or os.path.normpath(os.path.join(HERE, '..', 'crates', 'hncp', 'out', 'hncp'))
@@ -171,3 +179,13 @@ def number(text, most=2 ** 64 - 1):
     if text.isascii() and text.isdigit() and len(text) <= 20 and int(text) <= most:
         return int(text)
     return None
+
+
+def number_from(least, most):
+    """Reads a number of these bounds, as the type of an argument."""
+    def read(text):
+        value = number(text, most)
+        if value is None or value < least:
+            raise argparse.ArgumentTypeError(f'{text} is no number from {least} to {most}')
+        return value
+    return read

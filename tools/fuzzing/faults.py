@@ -1,5 +1,6 @@
 """What is made to fail under a run: each stream, each call of the system, a port, and memory; and what has to come of it."""
 import collections
+import functools
 import os
 import re
 import resource
@@ -46,12 +47,14 @@ def inputs():
     return forms
 
 
-def cases(port):
-    """Each form without a fault: what it writes."""
+def cases(port, forms):
+    """Each of these forms without a fault: what it writes."""
     for form, words, data in inputs():
+        if form not in forms:
+            continue
         words = [{'BASE': str(port), 'PEER': str(port + 2)}.get(word, word) for word in words]
         plain = ['hncp', 'lab'] if form == 'udp' else words
-        done = subprocess.run([runs.programs()[plain[0]], *plain[1:]], input=data, stdout=subprocess.PIPE, stderr=subprocess.PIPE, check=False)
+        done = subprocess.run([runs.program(plain[0]), *plain[1:]], input=data, stdout=subprocess.PIPE, stderr=subprocess.PIPE, check=False)
         yield runs.Case(form, words, data, ''), done.stdout, done.returncode
 
 
@@ -69,7 +72,7 @@ def streams(form, text):
 def traced(case, calls, folder):
     """The calls that a run makes of these kinds, in order, as their names and first words."""
     log = os.path.join(folder, 'trace')
-    words = ['strace', '-o', log, '-e', f'trace={calls}', runs.programs()[case.words[0]], *case.words[1:]]
+    words = ['strace', '-o', log, '-e', f'trace={calls}', runs.program(case.words[0]), *case.words[1:]]
     subprocess.run(words, input=case.data, stdout=subprocess.PIPE, stderr=subprocess.PIPE, check=False)
     with open(log, encoding='latin-1') as file:
         return [found.groups() for found in (re.match(r'(\w+)\((\w*)', line) for line in file) if found]
@@ -102,7 +105,7 @@ def built(folder):
 def allocations(case, folder):
     """Each allocation is refused, alone or with all after it."""
     count, library = os.path.join(folder, 'count'), os.path.join(folder, 'refuse.so')
-    words = [runs.programs()[case.words[0]], *case.words[1:]]
+    words = [runs.program(case.words[0]), *case.words[1:]]
     subprocess.run(words, input=case.data, stdout=subprocess.PIPE, stderr=subprocess.PIPE, check=False,
                    env=dict(os.environ, LD_PRELOAD=library, COUNTED=count))
     with open(count, encoding='ascii') as file:
@@ -111,22 +114,23 @@ def allocations(case, folder):
         yield from (Fault('allocation is refused', place), Fault('allocations end', -place))
 
 
+@functools.lru_cache(None)
 def least_memory(program):
     """The least limit of memory with which a program starts."""
     low, high = 0, 1 << 28
     while high - low > PAGE:
         middle = (low + high) // 2
         limits = {resource.RLIMIT_AS: middle}
-        words = [runs.programs()[program], 'nothing']
+        words = [runs.program(program), 'nothing']
         done = subprocess.run(words, stdout=subprocess.PIPE, stderr=subprocess.PIPE, preexec_fn=lambda: limit(limits), check=False)
         low, high = (low, middle) if done.returncode == 1 else (middle, high)
     return high
 
 
-def memory_limits(case, least):
-    span = LONG_SPAN if len(case.data) > 2 * BLOCK else SPAN
+def memory_limits(case):
+    least, span = least_memory(case.words[0]), LONG_SPAN if len(case.data) > 2 * BLOCK else SPAN
     for step in range(STEPS):
-        yield Fault('limited memory', least[case.words[0]] + step * span // STEPS)
+        yield Fault('limited memory', least + step * span // STEPS)
 
 
 def may_trace():
@@ -137,11 +141,8 @@ def may_trace():
 def all_faults(forms, port, folder):
     """Each of these forms with each fault."""
     refuses, traces = built(folder), may_trace()
-    least = {program: least_memory(program) for program in runs.programs()}
-    for case, text, status in cases(port):
-        if case.form not in forms:
-            continue
-        found = list(streams(case.form, text)) + list(memory_limits(case, least))
+    for case, text, status in cases(port, forms):
+        found = list(streams(case.form, text)) + list(memory_limits(case))
         if case.form in ('udp', 'node'):
             found += [Fault('port in use', place) for place in (0, 1)]
         if refuses:
@@ -174,7 +175,7 @@ def before(fault):
 def started(faulty, source, sink, messages, folder):
     """The program, with its fault."""
     case, fault = faulty.case, faulty.fault
-    words, more = [runs.programs()[case.words[0]], *case.words[1:]], {}
+    words, more = [runs.program(case.words[0]), *case.words[1:]], {}
     if isinstance(fault.which, list):
         tells = [word for call, error, when in fault.which for word in ('-e', f'inject={call}:error={error}:when={when}')]
         words = ['strace', '-o', os.devnull, '-e', 'trace=' + ','.join(call for call, *_ in fault.which), *tells] + words

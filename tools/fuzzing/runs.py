@@ -40,8 +40,17 @@ SUBREAPER = 36      # PR_SET_CHILD_SUBREAPER of Linux: a child whose parent ende
 
 
 @functools.lru_cache(None)
-def programs():
-    return {'hncp': common.program(), 'hnlook': common.looker()}
+def program(name):
+    """The path of the program of this name."""
+    return {'hncp': common.program, 'hnlook': common.looker}[name]()
+
+
+def must_be_there(forms):
+    """Each program that these forms ask has to be there, before anything runs."""
+    if set(forms) & {*HNCP}:
+        program('hncp')
+    if set(forms) & {*HNLOOK, 'words'}:
+        program('hnlook')
 
 
 def made(seed, form, place, port):
@@ -139,7 +148,7 @@ def run(words, data, folder, seconds=SECONDS, begin=begun):
     new = os.O_WRONLY | os.O_CREAT | os.O_TRUNC
     actions = [(os.POSIX_SPAWN_OPEN, place, path, new if place else os.O_RDONLY, 0o600) for place, path in enumerate(paths)]
     start, late = time.monotonic(), []
-    child = begin([programs()[words[0]], *words[1:]], actions)
+    child = begin([program(words[0]), *words[1:]], actions)
 
     def end(*_):
         late.append(True)

@@ -4,6 +4,7 @@ import hashlib
 import json
 import os
 
+from common import Problem
 from fuzzing import faults, runs
 
 
@@ -62,9 +63,12 @@ def keep(case, wrong, folder):
 
 def kept(path):
     """The case of such a file."""
-    with open(path, encoding='utf-8') as file:
-        told = json.load(file)
-    case = runs.Case(told['form'], told['words'], told['data'].encode('latin-1'), told['also'])
-    if 'fault' not in told:
-        return case
-    return faults.Faulty(case, faults.Fault(*told['fault']), told['text'].encode('latin-1'), told['status'])
+    try:
+        with open(path, encoding='utf-8') as file:
+            told = json.load(file)
+        case = runs.Case(told['form'], told['words'], told['data'].encode('latin-1'), told['also'])
+        if 'fault' not in told:
+            return case
+        return faults.Faulty(case, faults.Fault(*told['fault']), told['text'].encode('latin-1'), told['status'])
+    except (ValueError, KeyError, TypeError, AttributeError):
+        raise Problem(f'{path} is no file that this tool wrote')

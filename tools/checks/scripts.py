@@ -168,6 +168,19 @@ def check_seeds(folder):
 
 # explain
 
+# What is given to the program, the form, and of what kinds the refusal is said to be; '' is a script.
+KINDS = [
+    (b'hncp 1\nlink L\nlink L\n', 'lab', ['']),
+    (b'hncp 1\nlink 0\n', 'lab', ['', 'capture']),
+    (b'hncp 3\n', 'lab', ['', 'node file']),
+    (b'-\nx\n', 'watch', ['', 'capture']),
+    (b'hncp 1\n', 'watch', ['capture']),
+    (b'0g', 'decode', ['text for hncp decode']),
+]
+# Of refusals of line 0 the page has a sentence each, and no table.
+OF_NO_LINE = {'refused 0 4': 'text for hncp decode', 'refused 0 7': 'hnlook NAME', 'refused 0 12': 'hnlook why NAME'}
+
+
 def check_explain(folder):
     page = common.read(os.path.join(common.HERE, '..', 'docs', 'FORMATS.md'))
     explained = set()
@@ -182,6 +195,9 @@ def check_explain(folder):
         shown = common.read_script(path)[refused[0] - 1].text if refused[0] else 'the whole'
         must(lines[0] == f'refused {refused[0]} {refused[1]}: {meaning}', f'{short(path)}: {lines[0]}')
         must(shown[:60] in lines[1] or not shown.isascii(), f'{short(path)}: {lines[1]} and not {shown[:60]}')
+        kind = ', of a capture' if flags else ''
+        written = [f'refused {refused[0]} {refused[1]}{kind}: {meaning}', *lines[1:]]
+        must_be(lines_of('explain', f'refused {refused[0]} {refused[1]}', path), written, f'{short(path)}, as the program writes it')
         explained.add((refused[1], bool(flags)))
     must(len(explained) >= 10, f'too few codes: {explained}')
     # The page is read each time: a copy of the tool beside another page says what that page says.
@@ -190,11 +206,38 @@ def check_explain(folder):
     for name in ['common.py', 'items.py', 'explain']:
         shutil.copy(os.path.join(common.HERE, name), os.path.join(folder, 'tools'))
     with open(os.path.join(folder, 'docs', 'FORMATS.md'), 'w') as file:
-        file.write('## Scripts\n\n| Code | Refused if |\n|---|---|\n| 77 | the `page` is another |\n')
+        file.write(''.join(f'## {section}\n\n| Code | Refused if |\n|---|---|\n| 77 | the `{what}` is another |\n'
+                           for section, what in [('Scripts', 'page'), ('Captures', 'capture')]))
     done = subprocess.run([os.path.join(folder, 'tools', 'explain'), '3', '77'], stdout=subprocess.PIPE, stderr=subprocess.PIPE)
-    must(done.stdout == b'refused 3 77: the page is another\n', f'of another page: {done.stdout} {done.stderr}')
+    must(done.stdout == b'refused 3 77: the page is another\nof a capture: the capture is another\n', f'of another page: {done.stdout} {done.stderr}')
     lines_of('explain', '1', '99', status=1)
-    return f'{len(explained)} codes, {check_causes(page)} causes, {check_places()} places within values'
+    return f'{len(explained)} codes, {check_kinds(folder, page)} kinds, {check_causes(page)} causes, {check_places()} places within values'
+
+
+def kinds_told(lines):
+    """Of what kinds the lines are."""
+    found = [re.match(r'(?:refused \d+ \d+)?(?:,? ?of (?:an? |the )?([\w ]+))?: ', line) for line in lines]
+    return [each.group(1) or '' for each in found if each]
+
+
+def check_kinds(folder, page):
+    """What the program refuses is told to be of its kind: by the line alone where no other kind has it, and by the file."""
+    path = os.path.join(folder, 'refused')
+
+    def told(refused, data):
+        with open(path, 'wb') as file:
+            file.write(data)
+        return kinds_told(lines_of('explain', refused, path))[:1]
+
+    for data, form, kinds in KINDS:
+        refused = common.call(form, data)[0][-1]
+        must_be(kinds_told(lines_of('explain', refused)), kinds, f'{form}, {refused}')
+        must_be(told(refused, data), ['capture' if form == 'watch' else kinds[0]], f'{form}, {refused} of {data}')
+    must_be(told('refused 1 1', b'hncp 2\n'), ['node file'], 'refused 1 1 of hncp 2, as which a script may begin')
+    for refused, kind in OF_NO_LINE.items():
+        must_be(kinds_told(lines_of('explain', refused)), [kind], refused)
+        must(any(f'`{refused}`' in text for text in page), f'the page has no {refused}')
+    return len(KINDS) + len(OF_NO_LINE)
 
 
 def check_causes(page):

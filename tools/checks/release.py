@@ -300,6 +300,9 @@ def check_use(home, top):
     for name in CHECKED if 'hncp' in home.real else []:
         status, text, messages = run_in(top, ['tools/check', '--only', name, PLACES['hncp']])
         must(status == 0 and text.startswith('ok '), f'tools/check in the archive: {text.strip()}{messages[-200:]}')
+    for words in (['prefix'], ['--count']):
+        told = run_in(top, ['checks/samples', *words])
+        must(told[1:] == run_in(TOP, ['checks/samples', *words])[1:] and told[0] == 0, f'checks/samples in the archive: {told}')
     status, text, _ = run_in(top, ['tools/explain', '5', '8', f'{DATA}/taken_name.script'])
     must(status == 0 and text.startswith('refused 5 8: '), f'tools/explain in the archive: status {status}, {text}')
     status, _, messages = run_in(top, ['tools/release', os.path.dirname(top)])

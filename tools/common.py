@@ -73,7 +73,7 @@ def looker():
     path = os.environ.get('HNLOOK') or os.path.normpath(os.path.join(HERE, '..', 'crates', 'hnlook', 'out', 'hnlook'))
     found = shutil.which(path)
     if not found:
-        raise Problem(f'there is no program {path}; build it by `rt run -- log` in crates/hnlook, or set HNLOOK to the path of hnlook')
+        raise Problem(f'there is no program {path}; build it by `rt run -- log < SCRIPT` in crates/hnlook, or set HNLOOK to the path of hnlook')
     return found
 
 

@@ -6,9 +6,13 @@
  *     tools/fuzz --seed 1 --datagrams 1000000 | ./feed
  *
  * Each arrives at one of two endpoints, or at one that is not attached, by unicast or multicast, from a link-local source or
- * from afar; then the clock goes on, and the router ticks. Now and then other events happen, some of them out of range. After
- * each event all reports are taken, and held to the header: statuses, and how many there are. At the end it writes a line of
- * counts, with the greatest resident size after 10,000 datagrams and at the end. Without sanitizers these two are near each other: a table of 256 nodes is full by then. Status 1: something does not hold. */
+ * from afar; then the clock goes on, and the router ticks. Now and then other events happen, some of them out of range. The
+ * router is node 00000001, and a quarter of the datagrams are of three nodes that name it as their peer. Where others claimed
+ * its identifier until it took a new one, it is soon made anew. After each event all reports are taken, and held to the header:
+ * statuses, and how many there are.
+ *
+ * At the end it writes a line of counts, with the greatest resident size after 10,000 datagrams and at the end. Without
+ * sanitizers these two are near each other: a table of 256 nodes is full by then. Status 1: something does not hold. */
 #define _POSIX_C_SOURCE 200809L
 #include "hn_router.h"
 
@@ -226,6 +230,10 @@ int main(void)
         }
         if (below(20) == 0)
             other_event(&router);
+        if (hn_router_identifier(&router) != 1 && below(100) == 0) {
+            hn_router_free(&router);
+            begin(&router);
+        }
         settle(&router);
         if (datagrams == EARLY)
             early = resident();

@@ -4,8 +4,10 @@ import os
 import random
 import re
 import string
+import struct
 
 import common
+import items
 from checks import samples
 
 # Scripts of the repository that take long to play, and those above so many bytes, are not changed.
@@ -197,6 +199,32 @@ def script(chance):
 def datagram(chance):
     """A datagram: random, of the repository, or one of these that is changed."""
     return chance.randbytes(chance.randrange(60)) if chance.randrange(8) == 0 else samples.mutant(chance, DATAGRAMS)
+
+
+def prefix_field(chance):
+    """A prefix in 2001:db8::/32 as TLVs have it (RFC 7788, section 10): its length, and the bytes that hold it."""
+    length = chance.choice([48, 56, 60, 64])
+    whole = 0x20010db8 << 96 | chance.randrange(8) << 80 | chance.randrange(4) << 68 | chance.randrange(4) << 64
+    return bytes([length]) + (whole >> 128 - length << 128 - length).to_bytes(16, 'big')[:(length + 7) // 8]
+
+
+def friend(chance):
+    """A datagram by which node 00000001 reaches one of three others if it arrives by unicast at endpoint 1 or 2: a Node Endpoint
+    and a Node State (RFC 7787, sections 7.2.1 and 7.2.3), whose data have the router's endpoints as peers, and their hash.
+    """
+    node, endpoint = struct.pack('>L', chance.randrange(2, 5)), chance.randrange(1, 3)
+    said = {samples.tlv(8, struct.pack('>3L', 1, theirs, own)) for theirs in (1, 2) for own in (1, 2)}
+    said.add(samples.tlv(32, bytes([0, 0, chance.randrange(128), chance.randrange(128)]) + b'fuzz'))
+    for _ in range(chance.randrange(4)):
+        lifetimes = struct.pack('>2L', chance.choice([0, 60, 7200, 2 ** 32 - 1]), chance.choice([0, 60, 2 ** 32 - 1]))
+        said.add(chance.choice([
+            samples.tlv(33, samples.tlv(34, lifetimes + prefix_field(chance))),
+            samples.tlv(35, struct.pack('>LB', chance.randrange(1, 3), chance.randrange(16)) + prefix_field(chance)),
+            samples.tlv(36, struct.pack('>L', chance.randrange(1, 3)) + bytes.fromhex('20010db8') + bytes(10) + chance.randbytes(2)),
+        ]))
+    data = b''.join(sorted(said))
+    state = node + struct.pack('>2L', chance.randrange(2 ** 32), chance.randrange(1000)) + items.hash_of(data) + data
+    return samples.tlv(3, node + struct.pack('>L', endpoint)) + samples.tlv(5, state)
 
 
 def spelled(chance, data):

@@ -9,6 +9,7 @@ pub mod BigEndian
 pub mod DecidingTests
 pub mod EachByRecursion
 pub mod Elements
+pub mod ExactRules
 pub mod FirstCause
 pub mod FirstWords
 pub mod FrontOfList
@@ -23,6 +24,7 @@ pub mod NumeralLemmas
 pub mod OneResult
 pub mod PartsAtPlaces
 pub mod PassingElements
+mod PastOwnsNothing
 pub mod Pigeonhole
 pub mod Prefixes
 pub mod Results

@@ -46,3 +46,9 @@ abbrev pub IsTotalBy : {S : Type 0} → (S → List ℕ) → (S → Type 0) → 
 IsTotalBy {S} words P rule =
     (stream : ℕ → ℕ) (before : S) → P before → Begins (words before) stream
     → Some! (λ (after : S). rule before after × Begins (words after) stream)
+
+-- Where the words that were taken so far are known and a fact holds before, a rule has exactly one result over a stream
+-- of words that begins with those.
+pub record IsExactBy {S : Type 0} (words : S → List ℕ) (P : S → Type 0) (rule : RuleOf S) : Type 0 where
+  pub sole : IsSoleBy words rule
+  pub total : IsTotalBy words P rule

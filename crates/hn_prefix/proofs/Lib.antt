@@ -8,3 +8,4 @@ mod SubPrefixAtPlace
 mod ReadLemmas
 mod PlaceAfterStart
 mod WriteLemmas
+mod FirstAtPlace

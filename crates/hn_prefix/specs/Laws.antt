@@ -1,8 +1,8 @@
 -- Laws of prefixes and of their texts.
-use Rattle.std.specs.Prelude.{◌≡◌, ◌↔◌, ℕ, ◌≤◌, List, Option, None, Some}
+use Rattle.std.specs.Prelude.{◌≡◌, ◌↔◌, ℕ, ◌<◌, ◌≤◌, List, Option, None, Some}
 use Rattle.hn_base.specs.Prefix.{PlainPrefix, IsPrefix}
 use Rattle.hn_base.specs.Exists.{Some! }
-use Rattle.hn_prefix.specs.Free.{IsSubPrefix, IsPrefixInside, IsFull, IsFirstFree}
+use Rattle.hn_prefix.specs.Free.{sub_prefix, sub_prefix_count, IsSubPrefix, IsPrefixInside, IsFree, IsFull, IsFirstFree}
 use Rattle.hn_prefix.specs.PrefixText.{prefix_text_of, IsPrefixText}
 
 -- The written form of a prefix is among its read forms.
@@ -26,3 +26,10 @@ FreeOrFull = (outer : PlainPrefix) (start : ℕ) (taken : List PlainPrefix) (len
 abbrev pub InsideAreSubPrefixes : Type 0
 InsideAreSubPrefixes =
     (outer : PlainPrefix) (len : ℕ) → IsPrefix outer → outer.len ≤ len → len ≤ 128 → (p : PlainPrefix) → IsPrefixInside outer len p ↔ IsSubPrefix outer len p
+
+-- The first free prefix from the place of a free one is that one. So a word that names the place of a free prefix gives this prefix.
+abbrev pub PlaceIsFirst : Type 0
+PlaceIsFirst =
+    (outer : PlainPrefix) (place : ℕ) (taken : List PlainPrefix) (len : ℕ) (found : PlainPrefix)
+    → place < sub_prefix_count outer len → IsFree taken (sub_prefix outer len place)
+    → IsFirstFree outer place taken len found → found ≡ sub_prefix outer len place

@@ -4,7 +4,7 @@
 ghost use Rattle.std.specs.Prelude.{◌≡◌, ℕ, ◌^◌, ◌<◌, List, length};
 ghost use Rattle.std.specs.List.{AllByRecursion};
 ghost use Rattle.hn_prefix.specs.AddressText.{groups, address_of_groups, address_text_of, IsAddressText, IsWrittenForm};
-ghost use Rattle.hn_prefix.specs.Laws.{PrefixTextIsRead, PrefixTextIsOfOne, FreeOrFull, InsideAreSubPrefixes};
+ghost use Rattle.hn_prefix.specs.Laws.{PrefixTextIsRead, PrefixTextIsOfOne, FreeOrFull, InsideAreSubPrefixes, PlaceIsFirst};
 
 /// Eight groups of 16 bits and an address of 128 bits are one value.
 pub fn groups_are_the_address()
@@ -40,4 +40,9 @@ pub fn free_or_full()
 /// The prefixes of a length inside another are its sub-prefixes, one at each place below their number.
 pub fn inside_are_sub_prefixes()
     ensures { InsideAreSubPrefixes }
+{}
+
+/// The first free prefix from the place of a free one is that one.
+pub fn place_is_first()
+    ensures { PlaceIsFirst }
 {}

@@ -12,8 +12,8 @@ mod text;
 
 pub use free::first_free;
 pub use laws::{
-    free_or_full, groups_are_the_address, inside_are_sub_prefixes, read_form_is_of_one,
-    written_form_is_one, written_form_is_read,
+    free_or_full, groups_are_the_address, inside_are_sub_prefixes, place_is_first,
+    read_form_is_of_one, written_form_is_one, written_form_is_read,
 };
 pub use parse::{BadText, parse_address};
 pub use prefix::{

@@ -1,4 +1,4 @@
-"""The low crates: those below the router, of which checks/names and checks/lines ask most."""
+"""The low crates: those below the router, of which checks/names asks most."""
 
 LOW = (
     'hn_base', 'hn_tlv', 'hn_prefix', 'hn_timers', 'hn_hash', 'hn_typed', 'hn_decode', 'hn_data', 'hn_store', 'hn_graph',

@@ -30,7 +30,8 @@ fault_is_answered bytes fault f place why = tells_fault Ra (IsIts bytes) told_ap
 
 -- any other answer, to bytes that are an advertisement
 other_is_answered : (bytes : List ℕ) (advert : Advert) (answer : Answer) → IsAdvert bytes advert → ((fault : RaFault) → ¬ (answer ≡ Err (Ra fault))) → IsFaultExactly bytes answer
-other_is_answered bytes advert answer is untold place why = tells_none Ra (IsIts bytes) answer untold (λ fault f. no_advert bytes fault.place fault.why advert f is) (record { place = place; why = why })
+other_is_answered bytes advert answer is untold place why = tells_none Ra (IsIts bytes) answer untold
+    (λ fault f. no_advert bytes fault.place fault.why advert f is) (record { place = place; why = why })
 
 pub advert_is_answered : (bytes : List ℕ) (advert : Advert) → IsAdvert bytes advert → IsFaultExactly bytes (Ok advert)
 advert_is_answered bytes advert is = other_is_answered bytes advert (Ok advert) is (λ fault e. cc)

@@ -1,5 +1,6 @@
 -- The fields of a header and of a Prefix Information option, as the numbers that their bytes make.
-use Rattle.std.proofs.Common.{◌≡◌, ℕ, zero, suc, ◌-◌, ◌*◌, ◌^◌, ◌/◌, ◌%◌, ◌<◌, ◌≤◌, Bool, not, eqb, cond, List, [], ◌∷◌, ◌++◌, length, get_or, take, drop, bit_and, Some, None, refl, sym, ap, subst, ◌∙◌, arith}
+use Rattle.std.proofs.Common.{◌≡◌, ℕ, zero, suc, ◌-◌, ◌*◌, ◌^◌, ◌/◌, ◌%◌, ◌<◌, ◌≤◌, Bool, not, eqb, cond, List, [], ◌∷◌, ◌++◌, length, get_or, take, drop, bit_and, Some, None, refl, sym, ap, subst}
+use Rattle.std.proofs.Common.{◌∙◌, arith}
 use Rattle.std.specs.Int.{w16, w32, w128, to_be_bytes, from_be_bytes}
 use Rattle.std.proofs.lemmas.List.{take-append-drop, get_or-take, length-take-le, length-drop}
 use Rattle.std.proofs.lemmas.Nat.{be_bytes_4}
@@ -129,7 +130,8 @@ address_in addr address len fits is =
     let fit = Bytes-from_reads addr fits in
     (whole_is addr len fit ∙ ap (to_be_bytes w128) (sym is), rw is (front_small addr (omega arith) fit))
 
-pub prefix_begins : (bytes fs tail addr rest : List ℕ) (address : ℕ) → AreOctets bytes → 32 ≤ length bytes → get_or bytes 0 0 ≡ 3 → get_or bytes 1 0 ≡ 4 → fs ≡ take 16 bytes → tail ≡ drop 16 bytes → addr ≡ take 16 tail → rest ≡ drop 16 tail → address ≡ from_be_bytes w128 addr → get_or fs 2 0 ≤ 128
+pub prefix_begins : (bytes fs tail addr rest : List ℕ) (address : ℕ) → AreOctets bytes → 32 ≤ length bytes → get_or bytes 0 0 ≡ 3
+    → get_or bytes 1 0 ≡ 4 → fs ≡ take 16 bytes → tail ≡ drop 16 bytes → addr ≡ take 16 tail → rest ≡ drop 16 tail → address ≡ from_be_bytes w128 addr → get_or fs 2 0 ≤ 128
     → HasOptionFirst bytes (Some (info_in fs address)) rest
 prefix_begins bytes fs tail addr rest address fits long kind units front back first after number in_range =
     let fs_len : length fs ≡ 16 = ap length front ∙ length-take-le 16 bytes (omega arith) in
@@ -143,7 +145,8 @@ prefix_begins bytes fs tail addr rest address fits long kind units front back fi
     let parts : fs ++ (to_be_bytes w128 address ++ rest) ≡ bytes = ap (λ (z : List ℕ). fs ++ z) (joined ∙ back) ∙ ap (λ (z : List ℕ). z ++ drop 16 bytes) front ∙ take-append-drop 16 bytes in
     subst (λ (z : List ℕ). HasOptionFirst z (Some (info_in fs address)) rest) parts begins
 
-pub header_begins : (bytes fs rest : List ℕ) (managed other : Bool) → AreOctets bytes → 16 ≤ length bytes → get_or fs 0 0 ≡ 134 → get_or fs 1 0 ≡ 0 → fs ≡ take 16 bytes → rest ≡ drop 16 bytes → HasFlags (get_or fs 5 0) managed other
+pub header_begins : (bytes fs rest : List ℕ) (managed other : Bool) → AreOctets bytes → 16 ≤ length bytes → get_or fs 0 0 ≡ 134 → get_or fs 1 0 ≡ 0
+    → fs ≡ take 16 bytes → rest ≡ drop 16 bytes → HasFlags (get_or fs 5 0) managed other
     → HasHeaderFirst bytes (fixed_in fs managed other) rest
 header_begins bytes fs rest managed other fits long kind code front back flags =
     let fs_len : length fs ≡ 16 = ap length front ∙ length-take-le 16 bytes long in
@@ -152,7 +155,8 @@ header_begins bytes fs rest managed other fits long kind code front back flags =
 
 -- ---- an option of another type
 
-pub other_begins : (bytes : List ℕ) (size : ℕ) → 2 ≤ length bytes → (get_or bytes 0 0 ≡ 3 → ⊥) → 0 < size → size ≤ length bytes → size ≡ 8 * get_or bytes 1 0 → HasOptionFirst bytes None (drop size bytes)
+pub other_begins : (bytes : List ℕ) (size : ℕ) → 2 ≤ length bytes → (get_or bytes 0 0 ≡ 3 → ⊥) → 0 < size → size ≤ length bytes
+    → size ≡ 8 * get_or bytes 1 0 → HasOptionFirst bytes None (drop size bytes)
 other_begins [] size some other not_empty within is = absurd (omega arith)
 other_begins (kind ∷ []) size some other not_empty within is = absurd (omega arith)
 other_begins (kind ∷ units ∷ body) zero some other not_empty within is = absurd (omega arith)

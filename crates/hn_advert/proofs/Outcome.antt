@@ -59,7 +59,12 @@ body_of p = p.prefix_len ∷ p.flags ∷ to_be_bytes w32 p.valid ++ to_be_bytes 
 information_again : (p : PrefixInformation) → IsPrefixInformation p → information (body_of p) ≡ p
 unfolding information
 information_again p fits =
-    rw (from_be_bytes-to_be_bytes_4 p.valid fits.valid, from_be_bytes-to_be_bytes_4 p.preferred fits.preferred, from_be_bytes-to_be_bytes_4 p.reserved fits.reserved, number_again p.address fits.address) refl
+    rw (
+      from_be_bytes-to_be_bytes_4 p.valid fits.valid,
+      from_be_bytes-to_be_bytes_4 p.preferred fits.preferred,
+      from_be_bytes-to_be_bytes_4 p.reserved fits.reserved,
+      number_again p.address fits.address,
+    ) refl
 
 outcome_prefix : (p : PrefixInformation) (rest : List ℕ) → IsPrefixInformation p → outcome (option_bytes (PrefixOption p) ++ rest) ≡ Begins (PrefixOption p) rest
 unfolding outcome whole prefix
@@ -95,7 +100,8 @@ sized_within kind units after some within =
     let not_cut : ltb (2 + length after) (8 * units) ≡ false = le-ltb _ _ within in
     rw (nonzero, not_cut) refl
 
-outcome_whole : (bytes : List ℕ) (kind : ℕ) → HasWholeOption bytes kind → outcome bytes ≡ whole kind (get_or bytes 1 0) (take (8 * get_or bytes 1 0 - 2) (drop 2 bytes)) (drop (8 * get_or bytes 1 0 - 2) (drop 2 bytes))
+outcome_whole : (bytes : List ℕ) (kind : ℕ) → HasWholeOption bytes kind
+    → outcome bytes ≡ whole kind (get_or bytes 1 0) (take (8 * get_or bytes 1 0 - 2) (drop 2 bytes)) (drop (8 * get_or bytes 1 0 - 2) (drop 2 bytes))
 unfolding outcome
 outcome_whole [] kind has = let none = has.two in absurd (omega arith)
 outcome_whole (k ∷ []) kind has = let none = has.two in absurd (omega arith)

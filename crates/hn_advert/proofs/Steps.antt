@@ -50,7 +50,8 @@ infos_cons bytes rest info infos b o = record {
   infos_are = rw (b.info_is, o.infos_are) refl;
 }
 
-pub fault_cons : (bytes rest : List ℕ) (info : Option Info) (place why : ℕ) (b : HasOptionFirst bytes info rest) → IsFirstOptionFault rest place why → IsFirstOptionFault bytes (length (option_bytes b.option) + place) why
+pub fault_cons : (bytes rest : List ℕ) (info : Option Info) (place why : ℕ) (b : HasOptionFirst bytes info rest) → IsFirstOptionFault rest place why
+    → IsFirstOptionFault bytes (length (option_bytes b.option) + place) why
 fault_cons bytes rest info place why b f = record {
   options = b.option ∷ f.options;
   rest = f.rest;
@@ -74,7 +75,8 @@ pub reads_more : (bytes rest after : List ℕ) (infos : List Info) (info : Optio
 reads_more bytes rest after infos info read b = record {
   options = read.options ++ b.option ∷ [];
   fit = AllByRecursion-append IsNdOption read.options (b.option ∷ []) read.fit (b.fits, tt);
-  parts = rw (flat_map-append option_bytes read.options (b.option ∷ []), append-nil (option_bytes b.option), append_assoc (options_bytes read.options) (option_bytes b.option) after) (read.parts ∙ ap (λ (z : List ℕ). options_bytes read.options ++ z) b.parts);
+  parts = rw (flat_map-append option_bytes read.options (b.option ∷ []), append-nil (option_bytes b.option), append_assoc (options_bytes read.options) (option_bytes b.option) after)
+      (read.parts ∙ ap (λ (z : List ℕ). options_bytes read.options ++ z) b.parts);
   infos_are = rw (filter_map-push info_of read.options b.option, read.infos_are, b.info_is) refl;
 }
 
@@ -86,7 +88,8 @@ reads_all bytes rest infos read ends = record {
   infos_are = read.infos_are;
 }
 
-pub breaks_off : (bytes rest : List ℕ) (infos : List Info) (offset why : ℕ) (read : IsReadTo bytes rest infos) → IsOptionFault rest offset why → IsFirstOptionFault bytes (length (options_bytes read.options) + offset) why
+pub breaks_off : (bytes rest : List ℕ) (infos : List Info) (offset why : ℕ) (read : IsReadTo bytes rest infos) → IsOptionFault rest offset why
+    → IsFirstOptionFault bytes (length (options_bytes read.options) + offset) why
 breaks_off bytes rest infos offset why read f = record {
   options = read.options;
   rest = rest;
@@ -98,7 +101,8 @@ breaks_off bytes rest infos offset why read f = record {
 }
 
 -- a fault at an option, as the program tells its place
-pub breaks_off_at : (bytes rest : List ℕ) (infos : List Info) (offset why : ℕ) → IsReadTo bytes rest infos → IsOptionFault rest offset why → IsFaultOfOptions bytes (16 + length bytes - length rest + offset) why
+pub breaks_off_at : (bytes rest : List ℕ) (infos : List Info) (offset why : ℕ) → IsReadTo bytes rest infos → IsOptionFault rest offset why
+    → IsFaultOfOptions bytes (16 + length bytes - length rest + offset) why
 breaks_off_at bytes rest infos offset why read f =
     let front : List ℕ = options_bytes read.options in
     let sizes : length bytes ≡ length front + length rest = ap length read.parts ∙ length-append front rest in

@@ -29,7 +29,12 @@ total_prefix bytes fits has units =
     let len : get_or (take 16 bytes) 2 0 ≡ get_or bytes 2 0 = get_or-take 16 bytes 2 0 (omega arith) in
     elim (cases_lt 128 (get_or bytes 2 0)) [
       | inl long ↦ inr (2, 6, inr (inr (refl, (has, units, long), refl)))
-      | inr short ↦ inl (_, _, prefix_begins bytes (take 16 bytes) tail (take 16 tail) (drop 16 tail) (from_be_bytes w128 (take 16 tail)) fits (omega (arith, has.within, units)) has.of_kind units refl refl refl refl refl (omega (arith, len, short)))
+      | inr short ↦ inl (
+        _,
+        _,
+        prefix_begins bytes (take 16 bytes) tail (take 16 tail) (drop 16 tail) (from_be_bytes w128 (take 16 tail)) fits
+            (omega (arith, has.within, units)) has.of_kind units refl refl refl refl refl (omega (arith, len, short)),
+      )
     ]
 
 total_whole : (bytes : List ℕ) → AreOctets bytes → 2 ≤ length bytes → 0 < units_of bytes → 8 * units_of bytes ≤ length bytes → BeginsOrFaults bytes
@@ -121,7 +126,8 @@ total_message bytes fits long kind code =
     let fs_kind : get_or fs 0 0 ≡ 134 = get_or-take 16 bytes 0 0 (omega arith) ∙ kind in
     let fs_code : get_or fs 1 0 ≡ 0 = get_or-take 16 bytes 1 0 (omega arith) ∙ code in
     let flags = flags_in byte (octets_front bytes fs 16 fits refl 5) in
-    total_header bytes rest (fixed_in fs (not (eqb (bit_and byte 128) 0)) (not (eqb (bit_and byte 64) 0))) (header_begins bytes fs rest _ _ fits long fs_kind fs_code refl refl flags) (total_options (length rest) rest (omega arith) (octets_after bytes rest 16 fits refl))
+    total_header bytes rest (fixed_in fs (not (eqb (bit_and byte 128) 0)) (not (eqb (bit_and byte 64) 0)))
+    (header_begins bytes fs rest _ _ fits long fs_kind fs_code refl refl flags) (total_options (length rest) rest (omega arith) (octets_after bytes rest 16 fits refl))
 
 pub advert_or_fault : (bytes : List ℕ) → All IsByte bytes → ((advert : Advert) × IsAdvert bytes advert) ⊎ ((place why : ℕ) × AdvertFault bytes place why)
 advert_or_fault bytes all =

@@ -48,7 +48,8 @@ no_options_then_fault (o ∷ os) (p ∷ ps) rest offset why f g fault e =
     let same = same_option o p (options_bytes os ++ rest) (options_bytes ps) f.0 g.0 (sym (append_assoc (option_bytes o) (options_bytes os) rest) ∙ e) in
     no_options_then_fault os ps rest offset why f.1 g.1 fault same.1
 
-same_fault_after : (a b : List NdOption) (r s : List ℕ) (o p v w : ℕ) → AreOptions a → AreOptions b → options_bytes a ++ r ≡ options_bytes b ++ s → IsOptionFault r o v → IsOptionFault s p w → (length (options_bytes a) + o ≡ length (options_bytes b) + p) × (v ≡ w)
+same_fault_after : (a b : List NdOption) (r s : List ℕ) (o p v w : ℕ) → AreOptions a → AreOptions b → options_bytes a ++ r ≡ options_bytes b ++ s
+    → IsOptionFault r o v → IsOptionFault s p w → (length (options_bytes a) + o ≡ length (options_bytes b) + p) × (v ≡ w)
 same_fault_after [] [] r s o p v w f g e x y = let same = same_option_fault s o p v w (subst (λ (z : List ℕ). IsOptionFault z o v) e x) y in (ap (λ n. 0 + n) same.0, same.1)
 same_fault_after [] (q ∷ qs) r s o p v w f g e x y = absurd (no_option r (options_bytes qs ++ s) o v q x g.0 (e ∙ append_assoc (option_bytes q) (options_bytes qs) s))
 same_fault_after (q ∷ qs) [] r s o p v w f g e x y = absurd (no_option s (options_bytes qs ++ r) p w q y f.0 (sym e ∙ append_assoc (option_bytes q) (options_bytes qs) r))

@@ -45,7 +45,8 @@ options_fit (i ∷ infos) fits = (option_fits i fits.0, options_fit infos fits.1
 
 infos_again : (infos : List Info) → AllByRecursion IsInfo infos → filter_map info_of (map option_of infos) ≡ infos
 infos_again [] fits = refl
-infos_again (i ∷ infos) fits = ap (λ (o : Option Info). cons_option o (filter_map info_of (map option_of infos))) (info_again i fits.0) ∙ ap (λ (others : List Info). i ∷ others) (infos_again infos fits.1)
+infos_again (i ∷ infos) fits = ap (λ (o : Option Info). cons_option o (filter_map info_of (map option_of infos))) (info_again i fits.0)
+    ∙ ap (λ (others : List Info). i ∷ others) (infos_again infos fits.1)
 
 pub read_again : (a : Advert) → IsInRange a → IsAdvert (advert_bytes a) a
 read_again a fits = record {
@@ -64,11 +65,14 @@ pub record IsWrittenTo (out : List ℕ) (a : Advert) (count : ℕ) : Type 0 wher
   pub written : out ≡ header_bytes (header_of a) ++ options_bytes (map option_of (take count a.infos))
   pub in_range : AllByRecursion IsInfo (take count a.infos)
 
-pub writes_more : (out new : List ℕ) (a : Advert) (count : ℕ) (i : Info) → IsWrittenTo out a count → count < length a.infos → i ≡ get_or a.infos count i → IsInfo i → new ≡ out ++ option_bytes (option_of i) → IsWrittenTo new a (count + 1)
+pub writes_more : (out new : List ℕ) (a : Advert) (count : ℕ) (i : Info) → IsWrittenTo out a count → count < length a.infos
+    → i ≡ get_or a.infos count i → IsInfo i → new ≡ out ++ option_bytes (option_of i) → IsWrittenTo new a (count + 1)
 writes_more out new a count i so_far here is fit more =
     let next : take (count + 1) a.infos ≡ take count a.infos ++ i ∷ [] = take_more a.infos count i here ∙ ap (λ (j : Info). take count a.infos ++ j ∷ []) (sym is) in
     record {
-      written = more ∙ ap (λ (z : List ℕ). z ++ option_bytes (option_of i)) so_far.written ∙ flat_map_more option_bytes (header_bytes (header_of a)) (map option_of (take count a.infos)) (option_of i) ∙ ap (λ (os : List NdOption). header_bytes (header_of a) ++ options_bytes os) (sym (ap (map option_of) next ∙ map_push option_of (take count a.infos) i));
+      written = more ∙ ap (λ (z : List ℕ). z ++ option_bytes (option_of i)) so_far.written
+          ∙ flat_map_more option_bytes (header_bytes (header_of a)) (map option_of (take count a.infos)) (option_of i)
+          ∙ ap (λ (os : List NdOption). header_bytes (header_of a) ++ options_bytes os) (sym (ap (map option_of) next ∙ map_push option_of (take count a.infos) i));
       in_range = rw next (AllByRecursion-append IsInfo (take count a.infos) (i ∷ []) so_far.in_range (fit, tt));
     }
 

@@ -17,7 +17,8 @@ use Rattle.hn_lab.specs.Output.{IsCutText, IsFrontOf}
 use Rattle.hn_lab.specs.Play.{begun, IsPlay}
 use Rattle.hn_lab.specs.Stage.{Route, Stage, Mail}
 use Rattle.hn_lab.specs.Told.{Told, bytes_of}
-use Rattle.hn_lab.specs.Transcripts.{DoneOrRefused, IsOfTranscript, IsTranscript, IsWrittenOf, LabIsOfTranscript, PlayIsOfTranscript, Transcript, TranscriptExists, TranscriptIsUnique, WrittenIsOfTranscript}
+use Rattle.hn_lab.specs.Transcripts.{DoneOrRefused, IsOfTranscript, IsTranscript, IsWrittenOf, LabIsOfTranscript, PlayIsOfTranscript, Transcript, TranscriptExists, TranscriptIsUnique}
+use Rattle.hn_lab.specs.Transcripts.{WrittenIsOfTranscript}
 
 -- ---- there is one, and no other
 

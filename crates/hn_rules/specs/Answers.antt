@@ -1,4 +1,4 @@
--- The answers of an arrival (RFC 7787, section 4.2): each once, as it was when it came up.
+-- The answers of an arrival (RFC 7787, section 4.4): each once, as it was when it came up.
 use Rattle.std.specs.Prelude.{Bool, ◌==◌, true, false, if◌then◌else◌, List, [], ◌∷◌, ◌++◌}
 use Rattle.std.specs.List.{list_any}
 use Rattle.hn_tlv.specs.Grammar.{spelling}

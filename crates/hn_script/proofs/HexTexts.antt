@@ -51,7 +51,11 @@ printed_id id fits =
     let value = four_bytes (byte_at 3 id) (byte_at 2 id) (byte_at 1 id) (byte_at 0 id)
     (byte_small 3 id) (byte_small 2 id) (byte_small 1 id) (byte_small 0 id) in record {
       eight = refl;
-      numeral = record { digits = (omega arith, hex_digits (to_be_bytes w32 id) (octets (to_be_bytes w32 id) (high_bytes 4 id))); short = omega arith; value = value ∙ from_be_bytes-to_be_bytes_4 id fits };
+      numeral = record {
+        digits = (omega arith, hex_digits (to_be_bytes w32 id) (octets (to_be_bytes w32 id) (high_bytes 4 id)));
+        short = omega arith;
+        value = value ∙ from_be_bytes-to_be_bytes_4 id fits;
+      };
     }
 
 above_digit : (base c : ℕ) → base ≤ 16 → digit_value c < base → IsWordByte c

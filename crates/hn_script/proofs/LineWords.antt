@@ -16,7 +16,8 @@ use Rattle.hn_script.specs.Reading.{ReadsFields}
 use Rattle.hn_script.specs.declared.line.How.{How}
 use Rattle.hn_script.specs.declared.line.How.TheVariants.{Uni}
 use Rattle.hn_script.specs.declared.line.Line.{Line}
-use Rattle.hn_script.specs.declared.line.Line.TheVariants.{Router, Link, Attach, Detach, External, Withdraw, Caps, Stop, Start, Seed, Loss, Time, Tick, Run, Deliver, Drop, Flow, Inject, Show, Hash, Used, Prefixes, Elect, Advert, Audit, Compare, Mail, Private, Sync, Address, Addresses, Addressed, Ula, Ulas, Radv, Solicit}
+use Rattle.hn_script.specs.declared.line.Line.TheVariants.{Router, Link, Attach, Detach, External, Withdraw, Caps, Stop, Start, Seed, Loss, Time, Tick, Run, Deliver, Drop, Flow, Inject, Show, Hash}
+use Rattle.hn_script.specs.declared.line.Line.TheVariants.{Used, Prefixes, Elect, Advert, Audit, Compare, Mail, Private, Sync, Address, Addresses, Addressed, Ula, Ulas, Radv, Solicit}
 use Rattle.hn_script.proofs.WordBytes.{is_letters}
 use Rattle.hn_script.proofs.WordFaults.{fault_after}
 
@@ -116,7 +117,8 @@ a_prefix = record { bits = 0; len = 0 }
 -- ---- the lines of each first word, by what follows it
 
 abbrev pub name_lines : List Line
-name_lines = Link a_name ∷ Stop a_name ∷ Start a_name ∷ Tick a_name ∷ Show a_name ∷ Hash a_name ∷ Used a_name ∷ Prefixes a_name ∷ Audit a_name ∷ Address a_name ∷ Addresses a_name ∷ Addressed a_name ∷ Ula a_name ∷ Ulas a_name ∷ []
+name_lines = Link a_name ∷ Stop a_name ∷ Start a_name ∷ Tick a_name ∷ Show a_name ∷ Hash a_name ∷ Used a_name ∷ Prefixes a_name ∷ Audit a_name ∷
+    Address a_name ∷ Addresses a_name ∷ Addressed a_name ∷ Ula a_name ∷ Ulas a_name ∷ []
 
 pub name_follows : Follows name_lines (λ (a : Name). Named a ∷ [])
 name_follows (Link a) h = (a, refl)

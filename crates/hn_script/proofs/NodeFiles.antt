@@ -39,7 +39,8 @@ same_node_line : PrefixTextIsOfOne → IsTold of_node
 same_node_line one (Caps a) (Caps b) word words h k = same_caps_lines a b (same_fields one (node_spelling (Caps a)).fields (node_spelling (Caps b)).fields words (tt, (tt, (tt, (tt, tt)))) h.2 k.2)
 same_node_line one (Caps a) (External b c d) word words h k = absurd (apart (codes "caps") (codes "external") (h.1 ∙ sym k.1) refl)
 same_node_line one (External a b c) (Caps d) word words h k = absurd (apart (codes "external") (codes "caps") (h.1 ∙ sym k.1) refl)
-same_node_line one (External a b c) (External d e f) word words h k = let values = same_fields one (node_spelling (External a b c)).fields (node_spelling (External d e f)).fields words (tt, (tt, (tt, tt))) h.2 k.2 in cc
+same_node_line one (External a b c) (External d e f) word words h k = let values =
+    same_fields one (node_spelling (External a b c)).fields (node_spelling (External d e f)).fields words (tt, (tt, (tt, tt))) h.2 k.2 in cc
 
 -- ---- what is wrong with the words after a first word
 

@@ -70,7 +70,8 @@ same_code language text = sole_text text (WordsFault language (words_of text)) (
 pub same_fault : (fault other : ScriptFault) → fault.line ≡ other.line → fault.code ≡ other.code → fault ≡ other
 same_fault fault other line code = rw (line, code) refl
 
-pub one_fault_from : {A : Type 0} (language : Language A) (n : ℕ) (texts : List (List ℕ)) (fault other : ScriptFault) → FaultFrom language n texts fault → FaultFrom language n texts other → fault ≡ other
+pub one_fault_from : {A : Type 0} (language : Language A) (n : ℕ) (texts : List (List ℕ)) (fault other : ScriptFault)
+    → FaultFrom language n texts fault → FaultFrom language n texts other → fault ≡ other
 one_fault_from language n [] fault other h k = absurd h
 one_fault_from language n (text ∷ texts) fault other h k = elim h [
   | inl here ↦ elim k [

@@ -27,10 +27,11 @@ short_first One = omega arith
 short_first Two = omega arith
 
 no_first_fault : (version : Version) (code : ℕ) → ¬ FirstLineFault (first_line version) code
-no_first_fault version code = no_text_fault (first_line version) (OnCause ((other : Version) → first_line version ≢ first_line other) 1 NoCause) code (short_first version) (plain_first version) (λ found fault. elim fault [
-  | inl wrong ↦ wrong.0 version refl
-  | inr never ↦ never.1
-])
+no_first_fault version code = no_text_fault (first_line version) (OnCause ((other : Version) → first_line version ≢ first_line other) 1 NoCause) code
+    (short_first version) (plain_first version) (λ found fault. elim fault [
+      | inl wrong ↦ wrong.0 version refl
+      | inr never ↦ never.1
+    ])
 
 -- versions have different first lines
 same_version : (a b : Version) → first_line a ≡ first_line b → a ≡ b
@@ -41,7 +42,8 @@ same_version Two Two same = refl
 
 -- ---- one script
 
-same_lines : PrefixTextIsOfOne → (version : Version) (texts : List (List ℕ)) (lines others : List (ℕ × Line)) → AreLines (of_version version) 2 texts lines → AreLines (of_version version) 2 texts others → lines ≡ others
+same_lines : PrefixTextIsOfOne → (version : Version) (texts : List (List ℕ)) (lines others : List (ℕ × Line))
+    → AreLines (of_version version) 2 texts lines → AreLines (of_version version) 2 texts others → lines ≡ others
 same_lines one version texts lines others h k =
     h.2 ∙ ap (numbered 2) (same_entries (of_version version) (same_line one version) h.0 k.0 texts h.1 k.1) ∙ sym k.2
 

@@ -11,7 +11,8 @@ use Rattle.hn_script.specs.SoakLines.{Adds}
 use Rattle.hn_script.specs.declared.line.Line.{Line}
 use Rattle.hn_script.specs.declared.line.Line.TheVariants.{Router, Link, Attach, External, Seed, Loss, Run}
 use Rattle.hn_script.proofs.SoakScripts.{soak_so, adds_all}
-use Rattle.hn_script.proofs.SoakTexts.{numbered_name, first_name, seed_line, loss_line, link_line, router_line, first_attach_line, second_attach_line, uplink, external_line, run_line, compare_line, audit_line, used_line, prefixes_line, mail_line, show_line, adds_none, adds_one, adds_both, adds_then, adds_no_upward, adds_upward}
+use Rattle.hn_script.proofs.SoakTexts.{numbered_name, first_name, seed_line, loss_line, link_line, router_line, first_attach_line, second_attach_line, uplink, external_line, run_line, compare_line}
+use Rattle.hn_script.proofs.SoakTexts.{audit_line, used_line, prefixes_line, mail_line, show_line, adds_none, adds_one, adds_both, adds_then, adds_no_upward, adds_upward}
 
 -- the name of a text
 name_of : (text : List ℕ) → IsNameText text → (name : Name) × IsNameWord name text
@@ -81,7 +82,8 @@ router k small before =
     let first = before ++ Router name.0 (record { 0 = k }) ∷ [] in
     let above = upward k small name.0 name.1 (one_or_not k) first in (
       above.0 ++ Attach name.0 (record { 0 = 2 }) own.0 ∷ [],
-      adds_then _ _ before above.0 _ _ (adds_both _ _ before first above.0 (adds_one _ before first _ (router_line name.0 _ k small name.1) refl) above.1) (second_attach_line name.0 own.0 _ _ name.1 own.1) refl,
+      adds_then _ _ before above.0 _ _ (adds_both _ _ before first above.0 (adds_one _ before first _ (router_line name.0 _ k small name.1) refl) above.1)
+          (second_attach_line name.0 own.0 _ _ name.1 own.1) refl,
     )
 
 run : CanAdd run_texts

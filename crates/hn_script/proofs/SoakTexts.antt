@@ -88,7 +88,8 @@ short_words first (field ∷ fields) h =
     let short = h.0.short in
     omega (arith, length-append first (32 ∷ join_with_byte 32 (field_text field ∷ map field_text fields)))
 
-line_so : (line : Line) (text : List ℕ) → IsOfVersion One line → AllByRecursion IsShort (line_spelling line).fields → length (line_spelling line).first + 65 * length (line_spelling line).fields ≤ 16384 → line_text line ≡ text → IsLineOf line text
+line_so : (line : Line) (text : List ℕ) → IsOfVersion One line → AllByRecursion IsShort (line_spelling line).fields
+    → length (line_spelling line).first + 65 * length (line_spelling line).fields ≤ 16384 → line_text line ≡ text → IsLineOf line text
 line_so line text of h few is =
     let short = short_words (line_spelling line).first (line_spelling line).fields h in
     record { of_one = of; printable = record { in_range = in_range_of (line_spelling line).fields h; short = omega arith }; text_is = is }
@@ -110,7 +111,8 @@ router_line name word id small h =
     line_so _ _ tt (short_name name word h, (short_node id small, tt)) (omega arith)
     (ap (λ (w : List ℕ). codes "router " ++ (w ++ (codes " " ++ id_text id))) (sym h.text) ∙ ap (λ (w : List ℕ). codes "router " ++ w) (sym (append_assoc word (codes " ") (id_text id))))
 
-pub first_attach_line : (name link : Name) (word other : List ℕ) → IsNameWord name word → IsNameWord link other → IsLineOf (Attach name (record { 0 = 1 }) link) (codes "attach " ++ word ++ codes " 1 " ++ other)
+pub first_attach_line : (name link : Name) (word other : List ℕ) → IsNameWord name word → IsNameWord link other
+    → IsLineOf (Attach name (record { 0 = 1 }) link) (codes "attach " ++ word ++ codes " 1 " ++ other)
 unfolding digits
 first_attach_line name link word other h k =
     line_so _ _ tt (short_name name word h, (short_endpoint 1 (omega arith) (lit< tt), (short_name link other k, tt))) (omega arith)
@@ -118,7 +120,8 @@ first_attach_line name link word other h k =
     ∙ ap (λ (w : List ℕ). codes "attach " ++ (word ++ (codes " 1 " ++ w))) (sym k.text)
     ∙ ap (λ (w : List ℕ). codes "attach " ++ w) (sym (append_assoc word (codes " 1 ") other)))
 
-pub second_attach_line : (name link : Name) (word other : List ℕ) → IsNameWord name word → IsNameWord link other → IsLineOf (Attach name (record { 0 = 2 }) link) (codes "attach " ++ word ++ codes " 2 " ++ other)
+pub second_attach_line : (name link : Name) (word other : List ℕ) → IsNameWord name word → IsNameWord link other
+    → IsLineOf (Attach name (record { 0 = 2 }) link) (codes "attach " ++ word ++ codes " 2 " ++ other)
 unfolding digits
 second_attach_line name link word other h k =
     line_so _ _ tt (short_name name word h, (short_endpoint 2 (omega arith) (lit< tt), (short_name link other k, tt))) (omega arith)
@@ -145,7 +148,13 @@ pub external_line : (name : Name) (prefix : PlainPrefix) → prefix ≡ uplink �
 unfolding digits
 external_line name prefix is h =
     subst (λ (p : PlainPrefix). IsLineOf (External name p 7200 3600) (codes "external r1 2001:db8::/56 7200 3600")) (sym is)
-    (line_so _ _ tt (short_name name (codes "r1") h, (short_uplink, (short_number 0 (2 ^ 32 - 1) 7200 (omega arith) (lit≤ tt) (lit< tt), (short_number 0 7200 3600 (omega arith) (lit≤ tt) (lit< tt), tt)))) (omega arith)
+    (line_so _ _ tt (
+      short_name name (codes "r1") h,
+      (
+        short_uplink,
+        (short_number 0 (2 ^ 32 - 1) 7200 (omega arith) (lit≤ tt) (lit< tt), (short_number 0 7200 3600 (omega arith) (lit≤ tt) (lit< tt), tt)),
+      ),
+    ) (omega arith)
     (ap (λ (w : List ℕ). codes "external " ++ (w ++ (codes " " ++ (prefix_text_of uplink ++ codes " 7200 3600")))) (sym h.text)
     ∙ ap (λ (w : List ℕ). codes "external r1 " ++ (w ++ codes " 7200 3600")) uplink_text))
 
@@ -198,7 +207,8 @@ pub adds_one : (text : List ℕ) (before after : List Line) (line : Line) → Is
 adds_one text before after line h is = record { more = line ∷ []; added = is; lines = (h, tt) }
 
 -- some lines, and then one
-pub adds_then : (texts : List (List ℕ)) (text : List ℕ) (before between after : List Line) (line : Line) → Adds texts before between → IsLineOf line text → after ≡ between ++ line ∷ [] → Adds (texts ++ text ∷ []) before after
+pub adds_then : (texts : List (List ℕ)) (text : List ℕ) (before between after : List Line) (line : Line) → Adds texts before between
+    → IsLineOf line text → after ≡ between ++ line ∷ [] → Adds (texts ++ text ∷ []) before after
 adds_then texts text before between after line h is added =
     adds_both texts (text ∷ []) before between after h (adds_one text between after line is added)
 
@@ -206,7 +216,8 @@ adds_then texts text before between after line h is added =
 pub up_to-more : (n : ℕ) (texts : ℕ → List (List ℕ)) → up_to (n + 1) texts ≡ up_to n texts ++ texts (n + 1)
 up_to-more n texts = rw add-one refl
 
-pub adds_more : (n : ℕ) (texts : ℕ → List (List ℕ)) (before between after : List Line) → Adds (up_to n texts) before between → Adds (texts (n + 1)) between after → Adds (up_to (n + 1) texts) before after
+pub adds_more : (n : ℕ) (texts : ℕ → List (List ℕ)) (before between after : List Line) → Adds (up_to n texts) before between
+    → Adds (texts (n + 1)) between after → Adds (up_to (n + 1) texts) before after
 adds_more n texts before between after h k =
     subst (λ (found : List (List ℕ)). Adds found before after) (sym (up_to-more n texts)) (adds_both (up_to n texts) (texts (n + 1)) before between after h k)
 

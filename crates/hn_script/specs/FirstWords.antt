@@ -13,7 +13,8 @@ IsNoneOf firsts word = AllByRecursion (λ first. word ≢ first) firsts
 
 -- a name
 abbrev pub name_words : List (List ℕ)
-name_words = codes "link" ∷ codes "stop" ∷ codes "start" ∷ codes "tick" ∷ codes "show" ∷ codes "hash" ∷ codes "used" ∷ codes "prefixes" ∷ codes "audit" ∷ codes "address" ∷ codes "addresses" ∷ codes "addressed" ∷ codes "ula" ∷ codes "ulas" ∷ []
+name_words = codes "link" ∷ codes "stop" ∷ codes "start" ∷ codes "tick" ∷ codes "show" ∷ codes "hash" ∷ codes "used" ∷ codes "prefixes"
+    ∷ codes "audit" ∷ codes "address" ∷ codes "addresses" ∷ codes "addressed" ∷ codes "ula" ∷ codes "ulas" ∷ []
 
 -- a name and an endpoint
 abbrev pub endpoint_words : List (List ℕ)

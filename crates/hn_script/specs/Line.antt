@@ -7,7 +7,8 @@ use Rattle.hn_script.specs.Field.{Field, Named, Node, Endpoint, Number, Prefixed
 use Rattle.hn_script.specs.Language.{Spelling, spelled, Language}
 use Rattle.hn_script.specs.Texts.{space}
 use Rattle.hn_script.specs.declared.line.Line.{Line}
-use Rattle.hn_script.specs.declared.line.Line.TheVariants.{Router, Link, Attach, Detach, External, Withdraw, Caps, Stop, Start, Seed, Loss, Time, Tick, Run, Deliver, Drop, Flow, Inject, Show, Hash, Used, Prefixes, Elect, Advert, Audit, Compare, Mail, Private, Sync, Address, Addresses, Addressed, Ula, Ulas, Radv, Solicit}
+use Rattle.hn_script.specs.declared.line.Line.TheVariants.{Router, Link, Attach, Detach, External, Withdraw, Caps, Stop, Start, Seed, Loss, Time, Tick, Run, Deliver, Drop, Flow, Inject, Show, Hash}
+use Rattle.hn_script.specs.declared.line.Line.TheVariants.{Used, Prefixes, Elect, Advert, Audit, Compare, Mail, Private, Sync, Address, Addresses, Addressed, Ula, Ulas, Radv, Solicit}
 
 -- a number of 64 bits
 abbrev pub any_number : ℕ → Field

@@ -1,5 +1,6 @@
 -- The sequence numbers with which a node is shown with different hashes.
-use Rattle.std.proofs.Common.{◌≡◌, ◌≢◌, ◌∙◌, ◌<◌, ◌≤◌, ◌-◌, ◌^◌, ℕ, Bool, true, false, List, [], ◌∷◌, map, filter, Option, Some, None, Any, All, Contains, refl, sym, ap, subst, inl, inr, ⊎_elim, arith, nat_eq}
+use Rattle.std.proofs.Common.{◌≡◌, ◌≢◌, ◌∙◌, ◌<◌, ◌≤◌, ◌-◌, ◌^◌, ℕ, Bool, true, false, List, [], ◌∷◌, map, filter, Option, Some, None, Any, All, Contains, refl, sym, ap, subst, inl, inr, ⊎_elim}
+use Rattle.std.proofs.Common.{arith, nat_eq}
 use Rattle.std.specs.Prelude.{◌==◌, ◌&&◌}
 use Rattle.std.specs.List.{AllByRecursion}
 use Rattle.std.specs.List.Sorted.{IsStrictlySortedBy}
@@ -237,7 +238,8 @@ module _ (shown : List Shown) (fits : All (λ s. s.number < 2 ^ 32) shown) (es :
       let entry : NodeNumber × Option Claim = (key, Some claim.0) in
       let there : Contains es entry = held_entry number_cmp number_total exact_number es up key claim.0 claim.1 in
       let fit : number < 2 ^ 32 = All-contains (λ (s : Shown). s.number < 2 ^ 32) shown (shown_with node number conflict.one) fits conflict.shows_one in
-      let within : Contains (of_node node es) entry = in_filter (λ (p : NodeNumber × Option Claim). range_contains number_cmp (Included (first_of node)) (Included (last_of node)) p.0) es entry there (node_range node number fit) in
+      let within : Contains (of_node node es) entry = in_filter
+      (λ (p : NodeNumber × Option Claim). range_contains number_cmp (Included (first_of node)) (Included (last_of node)) p.0) es entry there (node_range node number fit) in
       Contains-map number_in found entry (in_filter differing (of_node node es) entry within claim.2)
 
   pub are_conflicts : AreConflicts shown node (conflicts_in es node)

@@ -63,7 +63,8 @@ kept_there node k (first ∷ shown) one there is =
 -- what is kept of a node is shown, and of it
 pub kept_is : (node : NodeId) (shown : List Shown) (k : Shown) → kept node shown ≡ Some k → (k.node.0 ≡ node.0) × Contains shown k
 kept_is node shown k is =
-    subst (λ (o : Option Shown). IfSome o (λ s. (s.node.0 ≡ node.0) × Contains shown s)) is (kept_from node (λ s. (s.node.0 ≡ node.0) × Contains shown s) None tt shown (λ one there of_node. (of_node, there)))
+    subst (λ (o : Option Shown). IfSome o (λ s. (s.node.0 ≡ node.0) × Contains shown s)) is
+    (kept_from node (λ s. (s.node.0 ≡ node.0) × Contains shown s) None tt shown (λ one there of_node. (of_node, there)))
 
 -- of a node that is shown something is kept
 pub kept_some : (node : NodeId) (shown : List Shown) (one : Shown) → Contains shown one → one.node ≡ node → (k : Shown) × (kept node shown ≡ Some k)

@@ -78,7 +78,8 @@ module _ (shown : List Shown) (fits : All (λ s. s.number < 2 ^ 32) shown) (r : 
       let found = from_filter_map (seen_at r.claims.entries) entries seen there in
       told found.0.0 found.0.1 found.1 found.2
     where
-      told : (node : NodeId) (o : Option Shown) → Contains entries (node, o) → option_map (seen_of r.claims.entries) o ≡ Some seen → (one : Shown) × Contains entries (one.node, Some one) × (seen ≡ seen_of r.claims.entries one)
+      told : (node : NodeId) (o : Option Shown) → Contains entries (node, o) → option_map (seen_of r.claims.entries) o ≡ Some seen → (one : Shown)
+          × Contains entries (one.node, Some one) × (seen ≡ seen_of r.claims.entries one)
       told node None at is = absurd cc
       told node (Some one) at is =
           (one, subst (λ (n : NodeId). Contains entries (n, Some one)) (sym (own node one at)) at, sym (same_Some (seen_of r.claims.entries one) seen is))
@@ -131,12 +132,14 @@ seen_next places shows xs x seen more so_far is =
 
 same_conflicts : (shown : List Shown) (node : NodeId) (a b : ℕ) → AreConflicts shown node a → AreConflicts shown node b → a ≡ b
 same_conflicts shown node a b p q =
-    let numbers : p.numbers ≡ q.numbers = ascending_unique nat_cmp nat_cmp_total p.numbers q.numbers p.ascending q.ascending (λ n. (λ there. (q.exactly n).1 ((p.exactly n).0 there), λ there. (p.exactly n).1 ((q.exactly n).0 there))) in
+    let numbers : p.numbers ≡ q.numbers = ascending_unique nat_cmp nat_cmp_total p.numbers q.numbers p.ascending q.ascending
+    (λ n. (λ there. (q.exactly n).1 ((p.exactly n).0 there), λ there. (p.exactly n).1 ((q.exactly n).0 there))) in
     p.as_many ∙ ap length numbers ∙ sym q.as_many
 
 same_seen : (shown : List Shown) (a b : Seen) → a.node ≡ b.node → IsSeen shown a → IsSeen shown b → a ≡ b
 same_seen shown a b node p q =
-    let latest : Some (record { node = a.node; number = a.number; hash = a.hash }) ≡ Some (record { node = b.node; number = b.number; hash = b.hash }) = sym p.latest ∙ ap (λ n. kept n shown) node ∙ q.latest in
+    let latest : Some (record { node = a.node; number = a.number; hash = a.hash }) ≡ Some (record { node = b.node; number = b.number; hash = b.hash }) =
+    sym p.latest ∙ ap (λ n. kept n shown) node ∙ q.latest in
     let same : ◌≡◌ {A = Shown} (record { node = a.node; number = a.number; hash = a.hash }) (record { node = b.node; number = b.number; hash = b.hash }) = same_Some _ _ latest in
     let count : a.conflicts ≡ b.conflicts = same_conflicts shown b.node a.conflicts b.conflicts (subst (λ (n : NodeId). AreConflicts shown n a.conflicts) node p.conflicts) q.conflicts in
     λ i. record { node = (same i).node; number = (same i).number; hash = (same i).hash; conflicts = count i }
@@ -155,5 +158,6 @@ same_lists shown (x ∷ xs) (y ∷ ys) e p q =
 pub seen_unique : SeenIsUnique
 seen_unique shown a b p q =
     let nodes : map (λ s. s.node) a ≡ map (λ s. s.node) b =
-    ascending_unique node_cmp node_total (map (λ s. s.node) a) (map (λ s. s.node) b) p.ascending q.ascending (λ n. (λ there. (q.nodes n).1 ((p.nodes n).0 there), λ there. (p.nodes n).1 ((q.nodes n).0 there))) in
+    ascending_unique node_cmp node_total (map (λ s. s.node) a) (map (λ s. s.node) b) p.ascending q.ascending
+    (λ n. (λ there. (q.nodes n).1 ((p.nodes n).0 there), λ there. (p.nodes n).1 ((q.nodes n).0 there))) in
     same_lists shown a b nodes p.each q.each

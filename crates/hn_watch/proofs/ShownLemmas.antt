@@ -70,7 +70,8 @@ pub record IsShownTo (datagram : List ℕ) (place : ℕ) (shown : List Shown) : 
 -- ---- the numbers that are shown
 
 each_fits : (tlv : PlainTlv) (item : PlainItem) → IsItem tlv item → All (λ s. s.number < 2 ^ 32) (option_to_list (shown_by item))
-each_fits tlv (NodeState node number age hash body) is = All-cons (λ (s : Shown). s.number < 2 ^ 32) (record { node = record { 0 = node }; number = number; hash = hash }) [] is.in_range.1.0 (All-nil (λ (s : Shown). s.number < 2 ^ 32))
+each_fits tlv (NodeState node number age hash body) is = All-cons (λ (s : Shown). s.number < 2 ^ 32)
+    (record { node = record { 0 = node }; number = number; hash = hash }) [] is.in_range.1.0 (All-nil (λ (s : Shown). s.number < 2 ^ 32))
 each_fits tlv _ is = All-nil (λ (s : Shown). s.number < 2 ^ 32)
 
 one_fits : (tlv : PlainTlv) (shown : List Shown) → Shows tlv shown → All (λ s. s.number < 2 ^ 32) shown

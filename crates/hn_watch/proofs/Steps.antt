@@ -26,7 +26,8 @@ is_of node number one = one.node.0 == node.0 && one.number == number
 hashes_push : (node : NodeId) (number : ℕ) (shown : List Shown) (one : Shown)
     → hashes_of node number (shown ++ one ∷ []) ≡ hashes_of node number shown ++ map (λ s. s.hash) (cond (is_of node number one) (one ∷ []) [])
 hashes_push node number shown one =
-    ap (map (λ (s : Shown). s.hash)) (filter-append (is_of node number) shown (one ∷ [])) ∙ map-append (λ (s : Shown). s.hash) (filter (is_of node number) shown) (filter (is_of node number) (one ∷ []))
+    ap (map (λ (s : Shown). s.hash)) (filter-append (is_of node number) shown (one ∷ []))
+    ∙ map-append (λ (s : Shown). s.hash) (filter (is_of node number) shown) (filter (is_of node number) (one ∷ []))
 
 module _ (shown : List Shown) (one : Shown) (old new : Remembered) (held : Remembers shown old) (noted : IsNoted one old new) where
   abbrev Claims : List Shown → NodeId → ℕ → Remembered → Type 0
@@ -46,7 +47,8 @@ module _ (shown : List Shown) (one : Shown) (old new : Remembered) (held : Remem
       let hashes : hashes_of node number (shown ++ one ∷ []) ≡ hashes_of node number shown =
       hashes_push node number shown one ∙ ap (λ b. hashes_of node number shown ++ map (λ s. s.hash) (cond b (one ∷ []) [])) test ∙ append-nil (hashes_of node number shown) in
       let key : NodeNumber = record { node = node; number = number } in
-      let other : key ≢ number_of one = λ e. both_ways (is_of node number one) test (and_from _ _ (eq-eqb one.node.0 node.0 (ap (λ (n : NodeNumber). n.node.0) (sym e))) (eq-eqb one.number number (ap (λ (n : NodeNumber). n.number) (sym e)))) in
+      let other : key ≢ number_of one = λ e. both_ways (is_of node number one) test
+      (and_from _ _ (eq-eqb one.node.0 node.0 (ap (λ (n : NodeNumber). n.node.0) (sym e))) (eq-eqb one.number number (ap (λ (n : NodeNumber). n.number) (sym e)))) in
       subst (λ (o : Option Claim). IsClaimOf (hashes_of node number (shown ++ one ∷ [])) o) (sym (noted.other_claims node number other))
       (subst (λ (hs : List (List ℕ)). IsClaimOf hs (claim_of old node number)) (sym hashes) (held.claims node number))
 
@@ -84,7 +86,8 @@ remembers_same shown old new same held = record {
 
 -- ---- what is kept, where a value was put at the node that is shown
 
-pub kept_by_put : (one taken : Shown) (old new : NodeId → Option Shown) → ((node : NodeId) → new node ≡ cond (is_eq (node_cmp one.node node)) (Some taken) (old node)) → Some taken ≡ keeping one.node (old one.node) one
+pub kept_by_put : (one taken : Shown) (old new : NodeId → Option Shown)
+    → ((node : NodeId) → new node ≡ cond (is_eq (node_cmp one.node node)) (Some taken) (old node)) → Some taken ≡ keeping one.node (old one.node) one
     → (node : NodeId) → new node ≡ keeping node (old node) one
 kept_by_put one taken old new put is node =
     elim (cases_Bool (one.node.0 == node.0)) [

@@ -8,7 +8,8 @@ use Rattle.hn_advert.proofs.options.infos_of.Goals as goal
 pub unreachable-requires : goal.unreachable-requires
 unreachable-requires c =
     let fault = c.in_default.field-0 in
-    no_first_fault c.args.options.now _ fault.why c.requires (breaks_off c.args.options.now c.loop-rest.rest.now c.loop-rest.infos fault.place fault.why c.loop-rest.invariant c.in_default.ensures.fault)
+    no_first_fault c.args.options.now _ fault.why c.requires
+    (breaks_off c.args.options.now c.loop-rest.rest.now c.loop-rest.infos fault.place fault.why c.loop-rest.invariant c.in_default.ensures.fault)
 
 pub loop-rest-preserved-in_ok-push : goal.loop-rest-preserved-in_ok-push
 loop-rest-preserved-in_ok-push c =

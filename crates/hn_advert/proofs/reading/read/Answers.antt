@@ -11,7 +11,8 @@ pub returns-in_err-check_options-clause-fault : goal.returns-in_err-check_option
 returns-in_err-check_options-clause-fault c =
     let bytes = c.args.bytes.now in
     let fault : RaFault = c.in_err-check_options.field-0.0 in
-    let found : AdvertFault bytes fault.place fault.why = inr (has_fault bytes c.in_ok-fixed.options.now c.in_ok-fixed.fixed fault.place fault.why c.in_ok-fixed.ensures.header c.in_err-check_options.ensures.fault) in
+    let found : AdvertFault bytes fault.place fault.why = inr
+    (has_fault bytes c.in_ok-fixed.options.now c.in_ok-fixed.fixed fault.place fault.why c.in_ok-fixed.ensures.header c.in_err-check_options.ensures.fault) in
     let passed = err_from_is_err_and c.from_residual-in_err-check_options.result c.from_residual-in_err-check_options.ensures.1 in
     rw (passed.1, passed.2) (fault_is_answered bytes fault found)
 
@@ -19,7 +20,8 @@ pub returns-in_err-check_options-clause-at_advert : goal.returns-in_err-check_op
 returns-in_err-check_options-clause-at_advert c = λ advert is.
     let bytes = c.args.bytes.now in
     let fault : RaFault = c.in_err-check_options.field-0.0 in
-    let found : AdvertFault bytes fault.place fault.why = inr (has_fault bytes c.in_ok-fixed.options.now c.in_ok-fixed.fixed fault.place fault.why c.in_ok-fixed.ensures.header c.in_err-check_options.ensures.fault) in
+    let found : AdvertFault bytes fault.place fault.why = inr
+    (has_fault bytes c.in_ok-fixed.options.now c.in_ok-fixed.fixed fault.place fault.why c.in_ok-fixed.ensures.header c.in_err-check_options.ensures.fault) in
     absurd (no_advert bytes fault.place fault.why advert found is)
 
 pub returns-in_err-infos-clause-fault : goal.returns-in_err-infos-clause-fault
@@ -30,7 +32,8 @@ returns-in_err-infos-clause-fault c =
     rw (passed.1, passed.2) (memory_is_answered bytes advert.0 advert.1)
 
 pub returns-clause-fault : goal.returns-clause-fault
-returns-clause-fault c = advert_is_answered c.args.bytes.now _ (advert_of_parts c.args.bytes.now c.in_ok-fixed.options.now c.in_ok-fixed.fixed c.in_ok-infos.infos c.in_ok-fixed.ensures.header c.in_ok-infos.ensures)
+returns-clause-fault c = advert_is_answered c.args.bytes.now _
+    (advert_of_parts c.args.bytes.now c.in_ok-fixed.options.now c.in_ok-fixed.fixed c.in_ok-infos.infos c.in_ok-fixed.ensures.header c.in_ok-infos.ensures)
 
 pub returns-clause-at_advert : goal.returns-clause-at_advert
 returns-clause-at_advert c = λ advert is.

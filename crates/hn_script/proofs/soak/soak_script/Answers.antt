@@ -10,7 +10,8 @@ pub numbered-requires : goal.numbered-requires
 numbered-requires c =
     let n = c.args.n in
     let seed = c.args.seed in
-    soak_few n seed _ _ c.requires.at_most c.new-lines.ensures (adds_all n seed _ _ _ _ _ _ c.in_ok-add_chance.ensures c.in_ok-add_links.ensures c.in_ok-add_routers.ensures c.in_ok-add_run.ensures c.in_ok-add_reports.ensures)
+    soak_few n seed _ _ c.requires.at_most c.new-lines.ensures
+    (adds_all n seed _ _ _ _ _ _ c.in_ok-add_chance.ensures c.in_ok-add_links.ensures c.in_ok-add_routers.ensures c.in_ok-add_run.ensures c.in_ok-add_reports.ensures)
 
 pub returns : goal.returns
 returns c =

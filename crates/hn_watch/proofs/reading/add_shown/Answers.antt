@@ -15,4 +15,5 @@ returns-in_ok-push c tlvs by =
 pub returns-in_default : goal.returns-in_default
 returns-in_default c tlvs by =
     let tlv = plain c.args.tlv.now in
-    subst (λ (xs : List Shown). AreShownBy (tlvs ++ tlv ∷ []) xs) (append-nil c.args.shown.now) (shown_push tlvs c.args.shown.now tlv [] by (subst (λ (o : Option Shown). Shows tlv (option_to_list o)) c.in_default.is c.shown_by_tlv.ensures))
+    subst (λ (xs : List Shown). AreShownBy (tlvs ++ tlv ∷ []) xs) (append-nil c.args.shown.now)
+    (shown_push tlvs c.args.shown.now tlv [] by (subst (λ (o : Option Shown). Shows tlv (option_to_list o)) c.in_default.is c.shown_by_tlv.ensures))

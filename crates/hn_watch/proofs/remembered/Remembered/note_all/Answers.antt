@@ -17,5 +17,6 @@ loop-one-preserved c =
       held = λ before holds.
           let front = take place shown in
           let more = ap (λ xs. before ++ xs) (take_more shown place none c.loop-one-test.true) ∙ sym (append_assoc before front (one ∷ [])) in
-          subst (λ (xs : List Shown). Remembers xs c.note.new.self) (sym more) (remembers_more (before ++ front) one c.loop-one.self c.note.new.self (c.loop-one.invariant.held before holds) c.note.ensures.noted);
+          subst (λ (xs : List Shown). Remembers xs c.note.new.self) (sym more)
+          (remembers_more (before ++ front) one c.loop-one.self c.note.new.self (c.loop-one.invariant.held before holds) c.note.ensures.noted);
     }

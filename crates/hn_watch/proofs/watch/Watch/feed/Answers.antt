@@ -19,12 +19,14 @@ returns-in-Err-clause-refused c = λ place why.
 pub returns-in_err-shown-clause-refused : goal.returns-in_err-shown-clause-refused
 returns-in_err-shown-clause-refused c = λ place why.
     let passed = err_from_is_err_and c.from_residual.result c.from_residual.ensures.1 in
-    tells_unfound Malformed (λ (f : TlvFault). FirstFault c.args.datagram.now f.place f.why) c.from_residual.result _ (λ g e. cc) (λ f. c.in_default.ensures.at_fault f.place f.why) (record { place = place; why = why })
+    tells_unfound Malformed (λ (f : TlvFault). FirstFault c.args.datagram.now f.place f.why) c.from_residual.result _ (λ g e. cc)
+    (λ f. c.in_default.ensures.at_fault f.place f.why) (record { place = place; why = why })
 
 pub returns-in_err-make_room-clause-refused : goal.returns-in_err-make_room-clause-refused
 returns-in_err-make_room-clause-refused c = λ place why.
     let passed = err_from_is_err_and c.from_residual-in_err-make_room.result c.from_residual-in_err-make_room.ensures.1 in
-    tells_unfound Malformed (λ (f : TlvFault). FirstFault c.args.datagram.now f.place f.why) c.from_residual-in_err-make_room.result _ (λ g e. cc) (λ f. c.in_default.ensures.at_fault f.place f.why) (record { place = place; why = why })
+    tells_unfound Malformed (λ (f : TlvFault). FirstFault c.args.datagram.now f.place f.why) c.from_residual-in_err-make_room.result _ (λ g e. cc)
+    (λ f. c.in_default.ensures.at_fault f.place f.why) (record { place = place; why = why })
 
 pub returns-clause-refused : goal.returns-clause-refused
 returns-clause-refused c = λ place why.

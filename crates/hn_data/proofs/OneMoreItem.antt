@@ -1,8 +1,9 @@
 -- What one more item adds to what is kept.
-use Rattle.std.proofs.Common.{◌≡◌, ◌↔◌, ℕ, ◌⊎◌, inl, inr, ⊎_elim, Bool, IsTrue, true, false, ◌||◌, List, [], ◌∷◌, ◌++◌, Option, Some, None, option_to_list, Contains, refl, sym, ap, subst, ◌∙◌}
+use Rattle.std.proofs.Common.{◌≡◌, ◌↔◌, ℕ, ◌⊎◌, inl, inr, ⊎_elim, Bool, IsTrue, true, false, ◌||◌, List, [], ◌∷◌, ◌++◌, Option, Some, None, option_to_list, Result, Ok, Err, Contains, refl, sym, ap, subst, ◌∙◌, append-nil, append_assoc}
+use Rattle.std.specs.Prelude.{OnOk}
 use Rattle.std.specs.Option.{option_map, option_or}
 use Rattle.std.specs.List.{filter_map}
-use Rattle.std.proofs.lemmas.List.Elements.{Contains-append_left, Contains-append_right, Contains-append_cases}
+use Rattle.std.proofs.lemmas.List.Elements.{Contains-append_left, Contains-append_right, Contains-append_cases, filter_map-append}
 use Rattle.hn_base.proofs.AscendingLists.{Contains-head}
 use Rattle.hn_base.proofs.PartsAtPlaces.{filter_map-push}
 use Rattle.hn_tlv.specs.Grammar.{PlainTlv}
@@ -10,10 +11,15 @@ use Rattle.hn_typed.specs.Item.{PlainItem, PlainCaps, External}
 use Rattle.hn_typed.specs.Table.{IsItem}
 use Rattle.hn_data.specs.Items.{IsReading, AreItems, HasItems, first_of}
 use Rattle.hn_data.specs.Said.{caps_of, version_of}
-use Rattle.hn_data.specs.Delegations.{delegation_of, IsDelegatedIn, IsConnected}
+use Rattle.hn_data.specs.Delegations.{delegation_of, external_of, IsDelegatedIn, IsConnected, AreInsideInOrder}
 use Rattle.hn_data.specs.declared.said.Delegation.{Delegation}
 use Rattle.hn_data.proofs.OneReading.{HasOneReading}
 use Rattle.hn_base.proofs.AscendingLists.{Contains-one}
+
+-- what follows from two facts after an `Ok`
+pub on_ok_both : {T E P Q R : Type 0} (r : Result T E) → (P → Q → R) → OnOk r P → OnOk r Q → OnOk r R
+on_ok_both (Ok x) f p q = f p q
+on_ok_both (Err e) f p q = tt
 
 -- ---- readings
 
@@ -138,3 +144,25 @@ inner_more subs old new one r d =
       λ h. ⊎_elim (λ g. inl g) (λ g. inr (inside.0 g)) (parts.0 (subst (λ (xs : List Delegation). Contains xs d) r.2 h)),
       λ h. subst (λ (xs : List Delegation). Contains xs d) (sym r.2) (parts.1 (⊎_elim (λ g. inl g) (λ g. inr (inside.1 g)) h)),
     )
+
+-- ---- delegated prefixes in their order
+
+inside_append : (a b : List (List ℕ)) (x y : List Delegation) → AreInsideInOrder a x → AreInsideInOrder b y → AreInsideInOrder (a ++ b) (x ++ y)
+inside_append [] b x y h k = subst (λ (xs : List Delegation). AreInsideInOrder b (xs ++ y)) (sym h) k
+inside_append (subs ∷ a) b x y (here, rest, items, others, is) k =
+    (here, rest ++ y, items, inside_append a b rest y others k, ap (λ (xs : List Delegation). xs ++ y) is ∙ append_assoc here rest y)
+
+-- those of items, and of one more
+pub in_order_more : (items : List PlainItem) (item : PlainItem) (old new more : List Delegation) → AreInsideInOrder (filter_map external_of items) old
+    → AreInsideInOrder (filter_map external_of (item ∷ [])) more → new ≡ old ++ more → AreInsideInOrder (filter_map external_of (items ++ item ∷ [])) new
+in_order_more items item old new more was last is =
+    subst (λ (xs : List Delegation). AreInsideInOrder (filter_map external_of (items ++ item ∷ [])) xs) (sym is)
+    (subst (λ (subs : List (List ℕ)). AreInsideInOrder subs (old ++ more)) (sym (filter_map-append external_of items (item ∷ [])))
+    (inside_append (filter_map external_of items) (filter_map external_of (item ∷ [])) old more was last))
+
+-- an External-Connection has those of its items inside
+pub inner_in_order : (subs : List ℕ) (old new : List Delegation) → HasItems subs (λ inner. new ≡ old ++ filter_map delegation_of inner)
+    → (more : List Delegation) × AreInsideInOrder (subs ∷ []) more × (new ≡ old ++ more)
+inner_in_order subs old new (inner, are, is) =
+    let here = filter_map delegation_of inner in
+    (here, (here, [], (inner, are, refl), refl, sym (append-nil here)), is)

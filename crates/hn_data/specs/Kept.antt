@@ -9,7 +9,7 @@ use Rattle.hn_typed.specs.View.{plain_caps}
 use Rattle.hn_data.specs.Items.{IsReading, AreItems}
 use Rattle.hn_data.specs.Peers.{peer_of, peer_cmp}
 use Rattle.hn_data.specs.Said.{version_of, interval_of, assigned_prefix_of, node_address_of}
-use Rattle.hn_data.specs.Delegations.{IsDelegatedIn, IsConnected}
+use Rattle.hn_data.specs.Delegations.{external_of, IsDelegatedIn, IsConnected, AreInsideInOrder}
 use Rattle.hn_data.specs.declared.said.PeerLink.{PeerLink}
 use Rattle.hn_data.specs.declared.said.Delegation.{Delegation}
 use Rattle.hn_data.specs.declared.kept.Kept.{Kept}
@@ -21,6 +21,7 @@ pub record AreKept (items : List PlainItem) (kept : Kept) : Type 0 where
   pub peers_are : (link : PeerLink) → Contains kept.peers.items link ↔ Contains (filter_map peer_of items) link
   pub intervals_are : kept.intervals.items ≡ filter_map interval_of items
   pub delegations_are : (d : Delegation) → Contains kept.delegations.items d ↔ IsDelegatedIn items d
+  pub delegations_in_order : AreInsideInOrder (filter_map external_of items) kept.delegations.items
   pub assigned_are : kept.assigned.items ≡ filter_map assigned_prefix_of items
   pub addresses_are : kept.addresses.items ≡ filter_map node_address_of items
 

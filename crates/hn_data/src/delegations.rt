@@ -8,7 +8,7 @@ ghost use Rattle.hn_typed.specs.Item.{PlainItem};
 ghost use Rattle.hn_typed.specs.Table.{IsItem};
 ghost use Rattle.hn_typed.specs.View.{plain_item};
 ghost use Rattle.hn_data.specs.Items.{IsReading, HasItems};
-ghost use Rattle.hn_data.specs.Delegations.{delegation_of, IsDelegatedIn};
+ghost use Rattle.hn_data.specs.Delegations.{delegation_of, external_of, IsDelegatedIn, AreInsideInOrder};
 ghost use Rattle.hn_data.specs.declared.said.Delegation.{Delegation};
 
 use crate::kept::push_said;
@@ -65,7 +65,9 @@ fn add_inner(list: &mut Vec<Delegation>, subs: &[u8]) -> Result<(), NoMemory>
 /// Adds the delegated prefixes inside an item.
 pub(crate) fn add_delegations(list: &mut Vec<Delegation>, item: &Item<'_>) -> Result<(), NoMemory>
     requires { (tlv : PlainTlv) × IsItem tlv (plain_item item.now) }
-    ensures { OnOk result ((d : Delegation) → Contains list.new.items d ↔ (Contains list.old.items d ⊎ IsDelegatedIn (plain_item item.now ∷ []) d)) }
+    ensures exact { OnOk result ((d : Delegation) → Contains list.new.items d ↔ (Contains list.old.items d ⊎ IsDelegatedIn (plain_item item.now ∷ []) d)) }
+    ensures in_order { OnOk result ((more : List Delegation) × AreInsideInOrder (filter_map external_of (plain_item item.now ∷ [])) more
+        × (list.new.items ≡ list.old.items ++ more)) }
 {
     items_are_unique();
     match item {

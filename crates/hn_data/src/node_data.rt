@@ -8,7 +8,7 @@ ghost use Rattle.hn_data.specs.OwnData.{IsEncoded, IsWrittenIn, IsAscendingSet};
 ghost use Rattle.hn_data.specs.Walk.{IsTlvPlace, IsFoundAt, Decodes};
 ghost use Rattle.hn_data.specs.Kept.{IsKeptBeside};
 ghost use Rattle.hn_data.specs.Peers.{HasPeer, peer_cmp};
-ghost use Rattle.hn_data.specs.Delegations.{HasDelegation, HasExternal};
+ghost use Rattle.hn_data.specs.Delegations.{HasDelegation, HasDelegations, HasExternal};
 ghost use Rattle.hn_data.specs.Said.{HasAssigned, HasAddress};
 ghost use Rattle.hn_base.specs.declared.ids.EpId.{EpId};
 
@@ -156,9 +156,11 @@ impl NodeData {
         self.kept().peers.as_slice()
     }
 
-    /// The delegated prefixes inside the node's External-Connections (RFC 7788, section 10.2.1). Never allocates.
+    /// The delegated prefixes inside the node's External-Connections (RFC 7788, section 10.2.1), in the order of the
+    /// data, each as often as it stands there. Never allocates.
     pub fn delegations(&self) -> &[Delegation]
-        ensures { (d : Delegation) → Contains result.now d ↔ HasDelegation self.now d }
+        ensures exact { (d : Delegation) → Contains result.now d ↔ HasDelegation self.now d }
+        ensures in_order { HasDelegations self.now result.now }
     {
         self.kept().delegations.as_slice()
     }

@@ -13,6 +13,7 @@ returns c =
         peers_are = λ link. (λ h. (says.peers_are link).0 ((c.sort_to_set.ensures.same link).0 h), λ h. (c.sort_to_set.ensures.same link).1 ((says.peers_are link).1 h));
         intervals_are = says.intervals_are;
         delegations_are = says.delegations_are;
+        delegations_in_order = says.delegations_in_order;
         assigned_are = says.assigned_are;
         addresses_are = says.addresses_are;
       };

@@ -13,7 +13,7 @@ returns c =
     let node = c.args.node.now in
     let said = c.delegations.result.now in
     let same : (m : ℕ) → IsOfElement (IsDelegationEnd c.args.now node.age) said m ↔ IsEndIn c.args.now node m = λ m. (
-      λ h. record { version = c.version.ensures.found.0 c.if-is_none.ensures; delegation = h.0; said = (c.delegations.ensures h.0).0 h.1; ends = h.2 },
-      λ h. (h.delegation, (c.delegations.ensures h.delegation).1 h.said, h.ends),
+      λ h. record { version = c.version.ensures.found.0 c.if-is_none.ensures; delegation = h.0; said = (c.delegations.ensures.exact h.0).0 h.1; ends = h.2 },
+      λ h. (h.delegation, (c.delegations.ensures.exact h.delegation).1 h.said, h.ends),
     ) in
     sooner_same (IsOfElement (IsDelegationEnd c.args.now node.age) said) (IsEndIn c.args.now node) c.args.now c.args.best c.next_of_delegations.result same c.next_of_delegations.ensures

@@ -11,7 +11,7 @@ use Rattle.hn_data.specs.declared.view.Entry.{Entry}
 use Rattle.hn_deleg.specs.Live.{remaining, IsAnnouncedPrefix}
 use Rattle.hn_deleg.specs.Used.{AreUsable, IsOutermost, prefixes_of}
 use Rattle.hn_deleg.specs.declared.delegated.Delegated.{Delegated}
-use Rattle.hn_table.specs.Fate.{IsPast}
+use Rattle.hn_table.specs.Fate.{IsCandidate, IsPast}
 
 -- the prefix of a delegated prefix
 abbrev prefix_of : Delegated → PlainPrefix
@@ -38,19 +38,21 @@ some_left n left is some = omega arith
 
 -- a delegation of a node of the view that is live and of at most 64 bits is a candidate
 pub candidate_of : (view : PlainView) (node : Entry) (d : Delegation) → Contains view.nodes node → HasVersion node.body → HasDelegation node.body d → 0 < remaining node.age d.valid → d.prefix.len ≤ 64
-    → IsAnnouncedPrefix view d.prefix
+    → IsCandidate view node d
 candidate_of view node d seen version said live short = record {
-  short = short;
-  node = node;
-  delegation = d;
   announced = record { reachable = seen; version = version; said = said; live = live };
-  is_it = refl;
+  short = short;
 }
 
+-- and so its prefix is announced
+pub announced_prefix : (view : PlainView) (node : Entry) (d : Delegation) → IsCandidate view node d → IsAnnouncedPrefix view d.prefix
+announced_prefix view node d is = record { short = is.short; node = node; delegation = d; announced = is.announced; is_it = refl }
+
 -- one that is inside no other and is not used comes after those that are
-pub past_of : (view : PlainView) (used : List Delegated) (d : Delegation) → AreUsable view used → IsOutermost view d.prefix → ¬ Contains (prefixes_of used) d.prefix → IsPast view used d
-past_of view used d usable outermost not_among =
+pub past_of : (view : PlainView) (used : List Delegated) (node : Entry) (d : Delegation) → AreUsable view used → IsCandidate view node d → IsOutermost view d.prefix
+    → ¬ Contains (prefixes_of used) d.prefix → IsPast view used node d
+past_of view used node d usable candidate outermost not_among =
     elim (usable.first d.prefix outermost) [
       | inl among ↦ absurd (not_among among)
-      | inr full ↦ record { outermost = outermost; not_among = not_among; full = full.0; after = full.1 }
+      | inr full ↦ record { candidate = candidate; outermost = outermost; not_among = not_among; full = full.0; after = full.1 }
     ]

@@ -3,3 +3,4 @@ mod Orders
 mod Fates
 mod Outers
 mod Tables
+mod OneFate

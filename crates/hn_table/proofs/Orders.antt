@@ -3,7 +3,7 @@ use Rattle.std.proofs.Common.{◌≡◌, ◌↔◌, ◌∙◌, ◌+◌, ◌<◌,
 use Rattle.std.specs.List.{filter}
 use Rattle.std.proofs.lemmas.List.{take_more, take_all}
 use Rattle.std.proofs.lemmas.List.Elements.{filter-append}
-use Rattle.hn_data.specs.Delegations.{HasDelegation}
+use Rattle.hn_data.specs.Delegations.{HasDelegation, HasDelegations}
 use Rattle.hn_data.specs.declared.said.Delegation.{Delegation}
 use Rattle.hn_table.specs.Delegated.{AreSaidLines}
 use Rattle.hn_table.specs.InOrder.{InOrder, Adds}
@@ -47,10 +47,10 @@ module _ {A : Type 0} (Shows : A → List ℕ → Type 0) where
       subst (λ (ys : List A). Adds (InOrder Shows ys) before so_far) front h
 
 -- the lines of the delegated prefixes that node data have, where these are all of them
-pub adds_said : (IsLine : Delegation → List ℕ → Type 0) (body : List ℕ) (said : List Delegation) → ((d : Delegation) → Contains said d ↔ HasDelegation body d) → (before now : List ℕ)
+pub adds_said : (IsLine : Delegation → List ℕ → Type 0) (body : List ℕ) (said : List Delegation) → HasDelegations body said → ((d : Delegation) → Contains said d ↔ HasDelegation body d) → (before now : List ℕ)
     → Adds (InOrder IsLine said) before now → Adds (AreSaidLines IsLine body) before now
-adds_said IsLine body said exact before now h = record {
+adds_said IsLine body said are exact before now h = record {
   added = h.added;
-  is_added = record { said = said; exact = exact; in_order = h.is_added };
+  is_added = record { said = said; are_said = are; exact = exact; lines = h.is_added };
   after_is = h.after_is;
 }

@@ -1,9 +1,11 @@
 -- The search for a candidate that has a prefix inside.
-use Rattle.std.proofs.Common.{◌≡◌, ◌≢◌, ◌↔◌, ◌∙◌, ◌+◌, ◌<◌, ◌≤◌, ℕ, List, length, take, get_or, Option, None, Some, All, Contains, sym, subst}
+use Rattle.std.proofs.Common.{◌≡◌, ◌≢◌, ◌↔◌, ◌∙◌, ◌+◌, ◌<◌, ◌≤◌, ℕ, List, length, take, get_or, Option, None, Some, All, Contains, sym, ap, subst, arith, ◌-◌, ◌^◌}
 use Rattle.std.specs.Prelude.{IfSome, IfNone}
 use Rattle.std.proofs.lemmas.List.{take_all}
+use Rattle.std.proofs.lemmas.Nat.{pow_pos}
 use Rattle.std.proofs.lemmas.List.Elements.{All-more, All-contains}
-use Rattle.hn_base.specs.Prefix.{PlainPrefix, IsWithin}
+use Rattle.hn_base.specs.Prefix.{PlainPrefix, IsWithin, last_address}
+use Rattle.hn_base.proofs.Prefixes.{same_prefix}
 use Rattle.hn_data.specs.Delegations.{HasDelegation}
 use Rattle.hn_data.specs.Said.{HasVersion}
 use Rattle.hn_data.specs.View.{PlainView}
@@ -66,3 +68,14 @@ module _ (node : Entry) (p : PlainPrefix) (said : List Delegation) (exact : (d :
   pub none_at : (answer : Option PlainPrefix) → IfNone answer ((d : Delegation) → Contains said d → IsNoOuter node.age p d) → IfNone answer (HasNoOuter p node)
   none_at None none = λ version d has. none d ((exact d).1 has)
   none_at (Some q) none = tt
+
+-- a prefix that has another one inside is shorter
+pub shorter : (p q : PlainPrefix) → q.len ≤ p.len → (q.bits ≤ p.bits) × (last_address p ≤ last_address q) → q ≢ p → q.len < p.len
+shorter p q not_longer range different =
+    let low = range.0 in
+    let high = range.1 in
+    let some = pow_pos (128 - p.len) in
+    let other : ¬ (q.len ≡ p.len) = λ same.
+    let sizes : 2 ^ (128 - q.len) ≡ 2 ^ (128 - p.len) = ap (λ n. 2 ^ (128 - n)) same in
+    different (same_prefix q p (omega (arith, low, high, some, sizes)) same) in
+    omega (arith, not_longer, other)

@@ -2,7 +2,7 @@
 use Rattle.std.specs.Prelude.{◌≡◌, ◌↔◌, ℕ, not, List, [], ◌∷◌, ◌++◌, codes, filter, Contains}
 use Rattle.std.specs.Fmt.{decimal}
 use Rattle.hn_base.specs.declared.ids.NodeId.{NodeId}
-use Rattle.hn_data.specs.Delegations.{HasDelegation}
+use Rattle.hn_data.specs.Delegations.{HasDelegation, HasDelegations}
 use Rattle.hn_data.specs.View.{PlainView}
 use Rattle.hn_data.specs.declared.said.Delegation.{Delegation}
 use Rattle.hn_data.specs.declared.view.Entry.{Entry}
@@ -17,11 +17,12 @@ use Rattle.hn_table.specs.InOrder.{InOrder}
 use Rattle.hn_table.specs.declared.fate.Fate.{Fate}
 use Rattle.hn_table.specs.declared.fate.Fate.TheVariants.{Unreachable}
 
--- a line for each delegated prefix that node data have, in some order
+-- a line for each delegated prefix that node data have, in their order, and for each as often as it stands there
 pub record AreSaidLines (IsLine : Delegation → List ℕ → Type 0) (body text : List ℕ) : Type 0 where
   pub said : List Delegation
+  pub are_said : HasDelegations body said
   pub exact : (d : Delegation) → Contains said d ↔ HasDelegation body d
-  pub in_order : InOrder IsLine said text
+  pub lines : InOrder IsLine said text
 
 -- the line of a delegated prefix of a node that the router sees
 abbrev pub IsFateLine : PlainView → List Delegated → Entry → Delegation → List ℕ → Type 0

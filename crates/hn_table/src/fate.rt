@@ -5,12 +5,12 @@ ghost use Rattle.std.specs.List.{Any};
 ghost use Rattle.hn_data.specs.Delegations.{HasDelegation};
 ghost use Rattle.hn_data.specs.View.{plain_view};
 ghost use Rattle.hn_deleg.specs.Used.{AreUsable};
-ghost use Rattle.hn_table.specs.Fate.{IsFate};
+ghost use Rattle.hn_table.specs.Fate.{IsFate, HasOneFate};
 
-use crate::outer::{outer_of, remaining};
+use crate::outer::{outermost_of, remaining};
 use hn_data::{Delegation, Entry, View, version};
 use hn_deleg::Delegated;
-use hn_prefix::Prefix;
+use hn_prefix::{Prefix, overlap_is_nesting};
 use std::fmt;
 
 /// Whether a delegated prefix is used, and if not, the first reason why.
@@ -23,7 +23,7 @@ pub(crate) enum Fate {
     Ended,
     /// It is longer than 64 bits.
     Long,
-    /// It is inside another one.
+    /// It is inside others, of which this is the outermost.
     Inside(Prefix),
     /// It comes after the 32 prefixes that are used.
     Past,
@@ -80,8 +80,17 @@ pub(crate) fn fate_of(view: &View<'_>, used: &[Delegated], node: &Entry, d: &Del
     if is_used(used, &d.prefix) {
         return Fate::Used;
     }
-    match outer_of(view, &d.prefix) {
-        Some(outer) => Fate::Inside(outer),
-        None => Fate::Past,
+    let outermost = outermost_of(view, &d.prefix);
+    if outermost == d.prefix {
+        Fate::Past
+    } else {
+        Fate::Inside(outermost)
     }
+}
+
+/// No delegated prefix has two fates: it is used, or there is one first reason why it is not.
+pub fn one_fate()
+    ensures { HasOneFate }
+{
+    overlap_is_nesting();
 }

@@ -11,4 +11,5 @@ mod router_lines;
 mod table;
 mod words;
 
+pub use fate::one_fate;
 pub use table::table_text;

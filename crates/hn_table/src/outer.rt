@@ -1,14 +1,15 @@
-//! The search for a candidate that has a prefix inside.
+//! The search for candidates that have a prefix inside.
 
 ghost use Rattle.std.specs.Prelude.{◌≡◌, true, false, Contains, IfNone, IfSome};
 ghost use Rattle.hn_base.specs.Prefix.{PlainPrefix, IsWithin};
 ghost use Rattle.hn_data.specs.View.{plain_view};
 ghost use Rattle.hn_data.specs.declared.said.Delegation.{Delegation as ADelegation};
 ghost use Rattle.hn_deleg.specs.Live.{remaining, IsAnnouncedPrefix};
+ghost use Rattle.hn_deleg.specs.Used.{IsOutermost};
 ghost use Rattle.hn_table.specs.Outer.{IsOuter, IsNoOuter, IsOuterAmong, IsOuterAt, HasNoOuter, IsOuterCandidate};
 
 use hn_data::{Delegation, Entry, View, version};
-use hn_prefix::Prefix;
+use hn_prefix::{Prefix, prefixes_are_ranges, within_is_not_shorter};
 
 /// What remains of a lifetime in seconds at this age of the data, in milliseconds; one of 4294967295 s never ends.
 pub(crate) fn remaining(age: u64, seconds: u32) -> u64
@@ -56,8 +57,8 @@ fn outer_at(node: &Entry, prefix: &Prefix) -> Option<Prefix>
     outer_among(node.age, node.body.delegations(), prefix)
 }
 
-/// Another candidate that has the prefix inside, of the first node that has one. Never allocates.
-pub(crate) fn outer_of(view: &View<'_>, prefix: &Prefix) -> Option<Prefix>
+/// Another candidate that has the prefix inside, of the first node that has one.
+fn outer_of(view: &View<'_>, prefix: &Prefix) -> Option<Prefix>
     ensures found { IfSome result (IsOuterCandidate (plain_view view.entry.now) prefix.now) }
     ensures none { IfNone result ((q : PlainPrefix) → IsAnnouncedPrefix (plain_view view.entry.now) q → IsWithin prefix.now q → q ≡ prefix.now) }
 {
@@ -67,4 +68,22 @@ pub(crate) fn outer_of(view: &View<'_>, prefix: &Prefix) -> Option<Prefix>
         }
     }
     None
+}
+
+/// The outermost candidate that has a candidate inside, which is that one itself if no other has it. Never allocates.
+pub(crate) fn outermost_of(view: &View<'_>, prefix: &Prefix) -> Prefix
+    requires { IsAnnouncedPrefix (plain_view view.now) prefix.now }
+    ensures outermost { IsOutermost (plain_view view.entry.now) result }
+    ensures inside { IsWithin prefix.now result }
+{
+    prefixes_are_ranges();
+    within_is_not_shorter();
+    // Each length tells that this is a prefix, so the lengths fall.
+    let _ = prefix.len();
+    let mut outermost = *prefix;
+    while let Some(outer) = outer_of(view, &outermost) {
+        let _ = outer.len();
+        outermost = outer;
+    }
+    outermost
 }

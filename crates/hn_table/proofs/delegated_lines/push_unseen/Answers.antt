@@ -19,5 +19,5 @@ pub returns : goal.returns
 returns c =
     let line : Delegation → List ℕ → Type 0 = λ d text. text ≡ delegated_line c.args.node.now.id d Unreachable in
     let said = c.delegations-d-items.result.now in
-    adds_said line c.args.node.now.stored.body said c.delegations-d-items.ensures (string_bytes c.args.text.now) (string_bytes c.loop-d.text)
+    adds_said line c.args.node.now.stored.body said c.delegations-d-items.ensures.in_order c.delegations-d-items.ensures.exact (string_bytes c.args.text.now) (string_bytes c.loop-d.text)
     (adds_all line said c.loop-d.d-index (string_bytes c.args.text.now) (string_bytes c.loop-d.text) c.loop-d-test.false c.loop-d.invariant)

@@ -83,6 +83,6 @@ rest_has_a_run comes s router rest =
 -- each router has a run
 pub anew_has_a_run : WishesExist → SubroutineHasADueRun → AnewHasARun
 anew_has_a_run wished comes s router stream =
-    some_then (wished s router) (λ wishes w.
+    let (wishes, w) = wished s router in
     some_then (comes (seen_by s) wishes s.held.assigned stream w.are_asked.ascending router.well.pairs.assigned w.fitting w.prefixes) (λ ran runs none.
-    none ran (record { usable = w.usable; are_usable = w.are_usable; wishes = wishes; are_asked = w.are_asked; run = runs.0 }, runs.1)))
+    none ran (record { usable = w.usable; are_usable = w.are_usable; wishes = wishes; are_asked = w.are_asked; run = runs.0 }, runs.1))

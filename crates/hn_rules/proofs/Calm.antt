@@ -1,5 +1,5 @@
 -- A tick of a router that keeps nothing which has come to its moment.
-use Rattle.std.proofs.Common.{◌≡◌, ◌∙◌, ℕ, ◌≤◌, cond, List, [], ◌∷◌, map, Option, Some, refl, sym, ap, subst}
+use Rattle.std.proofs.Common.{◌≡◌, ◌∙◌, ℕ, ◌≤◌, cond, not, List, [], ◌∷◌, map, Option, Some, refl, sym, ap, subst}
 use Rattle.std.specs.Prelude.{Contains, ◌==◌}
 use Rattle.std.specs.List.{filter_map, cons_option}
 use Rattle.std.specs.Option.{option_map}
@@ -18,7 +18,7 @@ use Rattle.hn_own.specs.Laws.{NoneEnds}
 use Rattle.hn_own.specs.Ports.{ArePorts, endpoints_of}
 use Rattle.hn_own.specs.declared.own.OwnItems.{OwnItems}
 use Rattle.hn_own.specs.declared.own_prefixes.OwnPrefix.{OwnPrefix}
-use Rattle.hn_store.specs.Loss.{remembered}
+use Rattle.hn_store.specs.Loss.{is_forgotten, remembered}
 use Rattle.hn_store.specs.Nodes.{held}
 use Rattle.hn_store.specs.declared.stored.HeldNode.{HeldNode}
 use Rattle.hn_store.specs.declared.stored.Stored.{Stored}
@@ -35,6 +35,8 @@ use Rattle.hn_rules.specs.Seen.{seen_by}
 use Rattle.hn_rules.specs.Still.{at_moment, IsUneventful}
 use Rattle.hn_rules.specs.Tick.{IsExpiry, forgetting, IsPortTick}
 use Rattle.hn_rules.specs.Ticks.{IsLosing, IsSettling, IsTick}
+use Rattle.hn_rules.specs.Updates.{LeavesAges, RestfulTickLeavesAges}
+use Rattle.hn_base.proofs.Elements.{from_filter}
 use Rattle.hn_rules.proofs.AssignRuns.{run_seen}
 use Rattle.hn_rules.proofs.Endpoints.{ports_stand}
 use Rattle.hn_rules.proofs.Forgetting.{stays, filter_map-same, same_held, refreshed_forgetting}
@@ -142,8 +144,15 @@ module _ (laws : CalmLaws) (s : State) (now : ℕ) (router : IsRouter s) (begun 
         let none : settled ≡ after = only IsRefresh laws.one_refresh after settled here (same_refresh after (with_held forgot ran.held same fresh_forgot)) in
         record { holds = ran.held; same = same; is = ap (λ (x : Running). x.state) none }
 
-    rested : (after : Running) → IsTick start after → IsRested s after.state
-    rested after (lost, losing, (forgetful, forgets, (settled, settling, ticks))) =
+    -- the router after it, but for its endpoints
+    record IsWhole (after : Running) : Type 0 where
+      pub holds : Held
+      pub same : AreAssignmentsUnchanged s.held.assigned holds.assigned
+      pub endpoints : endpoints_of after.state.ports ≡ endpoints_of s.ports
+      pub is : after.state ≡ record forgot { held = holds; ports = after.state.ports }
+
+    whole_of : (after : Running) → IsTick start after → IsWhole after
+    whole_of after (lost, losing, (forgetful, forgets, (settled, settling, ticks))) =
         let none : forgetful ≡ forgetting start = forgets ∙ ap forgetting (nothing_lost lost losing) in
         let rest = settles settled (subst (λ (x : Running). IsSettling x settled) none settling) in
         let ports_are : settled.state.ports ≡ s.ports = ap (λ (x : State). x.ports) rest.is in
@@ -151,9 +160,18 @@ module _ (laws : CalmLaws) (s : State) (now : ℕ) (router : IsRouter s) (begun 
         keeps_each (Kept settled.state) (λ at. AtPort at IsPortTick) (λ at. keeps_kept_at settled.state at IsPortTick tick_keeps) (endpoints_of settled.state.ports) settled after ticks
         (kept_self settled.state (subst ArePorts (sym ports_are) router.well.ports))
         in
-        let whole : after.state ≡ record forgot { held = rest.holds; ports = after.state.ports } =
-        kept.untouched.gives ∙ ap (λ (x : State). let y : State = record x { ports = after.state.ports } in y) rest.is in
-        let assigned_is : after.state.held.assigned ≡ rest.holds.assigned = ap (λ (x : State). x.held.assigned) whole in
+        record {
+          holds = rest.holds;
+          same = rest.same;
+          endpoints = (ports_stand settled after ticks).1 ∙ ap endpoints_of ports_are;
+          is = kept.untouched.gives ∙ ap (λ (x : State). let y : State = record x { ports = after.state.ports } in y) rest.is;
+        }
+
+    rested : (after : Running) → IsTick start after → IsRested s after.state
+    rested after tick =
+        let w = whole_of after tick in
+        let whole = w.is in
+        let assigned_is : after.state.held.assigned ≡ (w.holds).assigned = ap (λ (x : State). x.held.assigned) whole in
         let table_is : after.state.table.entries ≡ forgot.table.entries = ap (λ (x : State). x.table.entries) whole in
         record {
           id = ap (λ (x : State). x.id) whole;
@@ -161,10 +179,23 @@ module _ (laws : CalmLaws) (s : State) (now : ℕ) (router : IsRouter s) (begun 
           own = ap (λ (x : State). x.own) whole;
           private = ap (λ (x : State). x.private) whole;
           reach = ap (λ (x : State). x.reach) whole;
-          endpoints = (ports_stand settled after ticks).1 ∙ ap endpoints_of ports_are;
+          endpoints = w.endpoints;
           known = λ id there. ap (λ (entries : List HeldNode). held entries id.0) table_is ∙ known_forgot id there;
-          assigned = subst (AreAssignmentsUnchanged s.held.assigned) (sym assigned_is) rest.same;
+          assigned = subst (AreAssignmentsUnchanged s.held.assigned) (sym assigned_is) w.same;
+        }
+
+    leaves : (after : Running) → IsTick start after → LeavesAges s after.state
+    leaves after tick =
+        let whole = (whole_of after tick).is in
+        record {
+          delegated = ap (λ (x : State). x.delegated) whole;
+          entries = λ node there.
+              (from_filter (λ (n : HeldNode). not (is_forgotten now n)) s.table.entries node
+              (subst (λ (list : List HeldNode). Contains list node) (ap (λ (x : State). x.table.entries) whole) there)).0;
         }
 
 pub restful_tick : CalmLaws → RestfulTick
 restful_tick laws now s after router begun quiet changes_none tick = rested laws s now router begun quiet changes_none after tick
+
+pub restful_tick_leaves_ages : CalmLaws → RestfulTickLeavesAges
+restful_tick_leaves_ages laws now s after router begun quiet changes_none tick = leaves laws s now router begun quiet changes_none after tick

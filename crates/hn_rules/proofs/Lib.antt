@@ -11,6 +11,7 @@ mod FreeIds
 mod Genuines
 mod Growing
 mod Hashed
+pub mod MovedPorts
 mod Known
 mod LawAssigned
 mod LawDelegated
@@ -26,10 +27,13 @@ mod NodeLists
 mod OneResults
 mod SomeRefreshes
 mod SomeArrivals
-mod SomeWishes
+pub mod SomeWishes
 mod SomeTicks
+mod OwnIntervals
 mod Parts
 mod Passings
+mod PeersUpdates
+mod TickSends
 mod PortFacts
 mod PortsInTurn
 mod Published
@@ -54,6 +58,7 @@ mod SameIds
 mod Routers
 mod Sayings
 mod SentBytes
+mod SentLately
 mod Shorts
 mod TickParts
 mod Ticking

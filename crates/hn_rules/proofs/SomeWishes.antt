@@ -1,11 +1,12 @@
--- What is asked for a router's posts cannot be missing, nor can a run of the assignment subroutine over a stream of words.
-use Rattle.std.proofs.Common.{◌≡◌, ◌≤◌, ◌+◌, ℕ, true, false, List, [], ◌∷◌, ◌++◌, length, map, Contains, Option, Some, None, refl, sym, subst, inl, inr, arith}
+-- There is a list of what is asked for a router's posts, and a run of the assignment subroutine over a stream of words cannot be missing.
+use Rattle.std.proofs.Common.{◌≡◌, ◌∙◌, ◌≤◌, ◌<◌, ◌+◌, ℕ, true, false, List, [], ◌∷◌, ◌++◌, length, map, Contains, Option, Some, None, refl, sym, subst, inl, inr, arith}
 use Rattle.std.specs.Prelude.{All, ◌↔◌, ◌==◌}
 use Rattle.std.specs.Cmp.{IsTotalOrder}
+use Rattle.std.specs.List.{slice_get}
 use Rattle.std.specs.List.Sorted.{IsStrictlySortedBy}
-use Rattle.std.proofs.lemmas.Bool.{cond_both}
+use Rattle.std.proofs.lemmas.Bool.{cond_both, cases_lt, cases_eq}
 use Rattle.std.proofs.lemmas.List.Elements.{All-contains, Contains-append_left, Contains-append_right, Contains-append_cases}
-use Rattle.std.proofs.lemmas.Option.{slice_get_read}
+use Rattle.std.proofs.lemmas.Option.{slice_get_read, same_Some}
 use Rattle.hn_base.specs.Ascending.{IsExact}
 use Rattle.hn_base.specs.Exists.{Some! }
 use Rattle.hn_base.specs.Prefix.{PlainPrefix, IsPrefix}
@@ -16,7 +17,8 @@ use Rattle.hn_base.proofs.AscendingMade.{ascending_of}
 use Rattle.hn_base.proofs.Elements.{all_of}
 use Rattle.hn_base.proofs.FirstWords.{begins_both}
 use Rattle.hn_base.proofs.PartsAtPlaces.{contains_at}
-use Rattle.hn_base.proofs.SomeExists.{IsEach, some_then, some_by, some_each}
+use Rattle.hn_base.proofs.SomeExists.{IsEach, some_then}
+use Rattle.hn_base.proofs.SoOrNot.{Decided, one_or_none}
 use Rattle.hn_data.specs.View.{IsNetwork}
 use Rattle.hn_deleg.specs.declared.delegated.Delegated.{Delegated}
 use Rattle.hn_deleg.specs.Laws.{UsableExists, UsableArePrefixes}
@@ -74,6 +76,25 @@ in_pairs : (ps : List PlainPrefix) (es : List EpId) (pair : Pair) → IsInPairs 
 in_pairs [] es pair = (λ h. absurd (nothing_in pair h), λ h. absurd (nothing_in pair.delegated h.0))
 in_pairs (p ∷ ps) es pair = in_more p ps es pair (in_pairs ps es pair)
 
+-- ---- what belongs to each element of a list, and whether a used prefix is wanted
+
+each_has : {A B : Type 0} (Q : A → B → Type 0) (xs : List A) → ((x : A) → Contains xs x → (y : B) × Q x y) → (ys : List B) × IsEach Q xs ys
+each_has Q [] each = ([], tt)
+each_has Q (x ∷ xs) each =
+    let first = each x (Contains-head x xs) in
+    let rest = each_has Q xs (λ z h. each z (Contains-tail x xs z h)) in
+    (first.0 ∷ rest.0, (first.1, rest.1))
+
+pub unwanted_or_not : (list : List Delegated) (k : ℕ) (u : Delegated) → slice_get list k ≡ Some u → Decided (IsUnwanted list k)
+unwanted_or_not list k u at = elim (cases_eq u.preferred 0) [
+  | inr lasts ↦ inr (λ un. lasts (subst (λ (v : Delegated). v.preferred ≡ 0) (same_Some un.deprecated u (sym un.at ∙ at)) un.ended))
+  | inl ended ↦
+      elim (one_or_none (λ (v : Delegated). 0 < v.preferred) list (λ v _. elim (cases_lt 0 v.preferred) [ inl some ↦ inl some | inr none ↦ inr (λ some. omega (arith, none, some)) ])) [
+        | inl other ↦ inl (record { deprecated = u; at = at; ended = ended; other = other.0; in_list = other.1; preferred = other.2 })
+        | inr none ↦ inr (λ un. none un.other un.in_list un.preferred)
+      ]
+]
+
 -- ---- a wish for each
 
 module _ (links : CommonLinkExists) (one_link : CommonLinkIsUnique) (s : State) (network : IsNetwork s.id.0 (view_of s)) (usable : List Delegated) where
@@ -84,28 +105,35 @@ module _ (links : CommonLinkExists) (one_link : CommonLinkIsUnique) (s : State) 
   abbrev IsWishOf : Pair → Wish → Type 0
   IsWishOf pair wish = (wish_pair wish ≡ pair) × IsWishFor s usable wish
 
-  some_wish : (pair : Pair) → Contains (prefixes_of usable) pair.delegated → Contains posts pair.endpoint → Some! (IsWishOf pair)
-  some_wish pair among post =
+  wish_for : (pair : Pair) → Contains (prefixes_of usable) pair.delegated → Contains posts pair.endpoint → (wish : Wish) × IsWishOf pair wish
+  wish_for pair among post =
       let (u, there, is) = Contains-from_map (λ (u : Delegated). u.prefix) usable pair.delegated among in
       let at = slice_get_read usable (length usable) there.0 u refl there.1 (sym there.2) in
       let (common, is_common) = links (seen_by s) pair.endpoint.0 network in
-      some_by (IsUnwanted usable there.0)
-      (λ unwanted none. none (record { delegated = pair.delegated; wanted = false; endpoint = pair.endpoint; common = common; length = length_at s.private pair.endpoint }) (
-        refl,
-        record {
-          place = there.0;
-          asked = record { delegated = u; at = at; prefix = sym is; wanted = (λ clash. absurd cc, λ not. absurd (not unwanted)); common = is_common; length = refl };
-          post = post;
-        },
-      ))
-      (λ wanted none. none (record { delegated = pair.delegated; wanted = true; endpoint = pair.endpoint; common = common; length = length_at s.private pair.endpoint }) (
-        refl,
-        record {
-          place = there.0;
-          asked = record { delegated = u; at = at; prefix = sym is; wanted = (λ _. wanted, λ _. refl); common = is_common; length = refl };
-          post = post;
-        },
-      ))
+      elim (unwanted_or_not usable there.0 u at) [
+        | inl unwanted ↦ (
+          record { delegated = pair.delegated; wanted = false; endpoint = pair.endpoint; common = common; length = length_at s.private pair.endpoint },
+          (
+            refl,
+            record {
+              place = there.0;
+              asked = record { delegated = u; at = at; prefix = sym is; wanted = (λ clash. absurd cc, λ not. absurd (not unwanted)); common = is_common; length = refl };
+              post = post;
+            },
+          ),
+        )
+        | inr wanted ↦ (
+          record { delegated = pair.delegated; wanted = true; endpoint = pair.endpoint; common = common; length = length_at s.private pair.endpoint },
+          (
+            refl,
+            record {
+              place = there.0;
+              asked = record { delegated = u; at = at; prefix = sym is; wanted = (λ _. wanted, λ _. refl); common = is_common; length = refl };
+              post = post;
+            },
+          ),
+        )
+      ]
 
   each_pairs : (pairs : List Pair) (wishes : List Wish) → IsEach IsWishOf pairs wishes → map wish_pair wishes ≡ pairs
   each_pairs [] [] each = refl
@@ -138,19 +166,25 @@ module _ (links : CommonLinkExists) (one_link : CommonLinkIsUnique) (s : State) 
         let among = Contains-map (λ (u : Delegated). u.prefix) usable u (contains_at usable is.place u is.asked.at) in
         (in_pairs (prefixes_of usable) posts (wish_pair wish)).1 (subst (Contains (prefixes_of usable)) (sym is.asked.prefix) among, is.post)
 
-    some_asked : Some! (AreAsked s usable)
-    some_asked =
+    all_asked : (wishes : List Wish) × AreAsked s usable wishes
+        × ((pair : Pair) → Contains (prefixes_of usable) pair.delegated → Contains posts pair.endpoint → (wish : Wish) × Contains wishes wish × (wish_pair wish ≡ pair))
+    all_asked =
         let (pairs, up, same) = ascending_of pair_cmp total exact (pairs_of (prefixes_of usable) posts) in
-        some_then (some_each IsWishOf pairs (λ pair there. let h = (in_pairs (prefixes_of usable) posts pair).0 ((same pair).0 there) in some_wish pair h.0 h.1)) (λ wishes each none.
-        none wishes (record {
-          ascending = (sorted_parts wish_pair pair_cmp wishes).1 (subst (IsStrictlySortedBy pair_cmp) (sym (each_pairs pairs wishes each)) up);
-          exact = λ wish. (
-            each_asked pairs wishes each wish,
-            λ is.
-                let (found, there, also) = each_there pairs wishes each (wish_pair wish) ((same (wish_pair wish)).1 (of_pairs wish is)) in
-                subst (Contains wishes) (one_wish s.private (seen_by s) usable are.ascending one_link also.1.place is.place found wish also.1.asked is.asked also.0) there,
-          );
-        }))
+        let (wishes, each) = each_has IsWishOf pairs (λ pair there. let h = (in_pairs (prefixes_of usable) posts pair).0 ((same pair).0 there) in wish_for pair h.0 h.1) in (
+          wishes,
+          record {
+            ascending = (sorted_parts wish_pair pair_cmp wishes).1 (subst (IsStrictlySortedBy pair_cmp) (sym (each_pairs pairs wishes each)) up);
+            exact = λ wish. (
+              each_asked pairs wishes each wish,
+              λ is.
+                  let (found, there, also) = each_there pairs wishes each (wish_pair wish) ((same (wish_pair wish)).1 (of_pairs wish is)) in
+                  subst (Contains wishes) (one_wish s.private (seen_by s) usable are.ascending one_link also.1.place is.place found wish also.1.asked is.asked also.0) there,
+            );
+          },
+          λ pair among post.
+              let (wish, there, also) = each_there pairs wishes each pair ((same pair).1 ((in_pairs (prefixes_of usable) posts pair).1 (among, post))) in
+              (wish, there, also.0),
+        )
 
 -- ---- what is asked fits
 
@@ -188,21 +222,21 @@ pub record AssigningLaws : Type 0 where
   pub asking : AskingLaws
   pub subroutine : SubroutineHasAResult
 
-pub some_wishes : AskingLaws → WishesExist
-some_wishes laws s router =
+pub wishes_exist : AskingLaws → WishesExist
+wishes_exist laws s router =
     let network = laws.network s router in
     let (usable, are) = laws.usable (seen_by s) in
-    some_then (some_asked laws.links laws.one_link s network usable laws.pairs_total laws.pairs_exact are) (λ wishes asked none.
+    let (wishes, asked, each) = all_asked laws.links laws.one_link s network usable laws.pairs_total laws.pairs_exact are in
     let fitting = all_of IsFitting wishes (λ wish there. asked_fits s usable are router.well.private wish ((asked.exact wish).0 there)) in
     let prefixes = all_of (λ (wish : Wish). IsPrefix wish.delegated) wishes
     (λ wish there. asked_is_prefix s usable (laws.prefixes (seen_by s) usable are) wish ((asked.exact wish).0 there)) in
-    none wishes (record { usable = usable; are_usable = are; are_asked = asked; fitting = fitting; prefixes = prefixes }))
+    (wishes, record { usable = usable; are_usable = are; are_asked = asked; each = each; fitting = fitting; prefixes = prefixes })
 
 some_run : AssigningLaws → (s : State) (stream : ℕ → ℕ) → IsRouter s → Some! (λ (ran : Assigned). IsRunAssigned s ran × Begins ran.words stream)
 some_run laws s stream router =
-    some_then (some_wishes laws.asking s router) (λ wishes w.
+    let (wishes, w) = wishes_exist laws.asking s router in
     some_then (laws.subroutine (seen_by s) wishes s.held stream router.well.pairs.assigned router.well.pairs.backoffs w.fitting w.prefixes) (λ ran runs none.
-    none ran (record { usable = w.usable; are_usable = w.are_usable; wishes = wishes; are_asked = w.are_asked; is_subroutine = runs.0 }, runs.1)))
+    none ran (record { usable = w.usable; are_usable = w.are_usable; wishes = wishes; are_asked = w.are_asked; is_subroutine = runs.0 }, runs.1))
 
 pub total_assigning : AssigningLaws → AssigningHasAResult
 total_assigning laws stream r is begins none =

@@ -2,7 +2,6 @@
 use Rattle.std.specs.Prelude.{◌≡◌, ◌↔◌, ℕ, ◌^◌, ◌<◌, ◌≤◌, true, List, [], length, Contains, Some, All}
 use Rattle.hn_base.specs.declared.ids.EpId.{EpId}
 use Rattle.hn_base.specs.declared.ids.NodeId.{NodeId}
-use Rattle.hn_base.specs.Exists.{Some! }
 use Rattle.hn_base.specs.Prefix.{PlainPrefix, IsPrefix}
 use Rattle.hn_hash.specs.Network.{network_hash, AreNumbered}
 use Rattle.hn_tlv.specs.Grammar.{PlainTlv, IsTlv}
@@ -15,17 +14,19 @@ use Rattle.hn_data.specs.declared.said.AssignedPrefix.{AssignedPrefix}
 use Rattle.hn_data.specs.declared.said.PeerLink.{PeerLink}
 use Rattle.hn_data.specs.declared.view.Entry.{Entry}
 use Rattle.hn_deleg.specs.declared.delegated.Delegated.{Delegated}
-use Rattle.hn_deleg.specs.Used.{AreUsable}
+use Rattle.hn_deleg.specs.Used.{AreUsable, prefixes_of}
 use Rattle.hn_link.specs.CommonLink.{IsOnCommonLink}
 use Rattle.hn_assign.specs.declared.assigned.Wish.{Wish}
+use Rattle.hn_assign.specs.declared.pair.Pair.{Pair}
 use Rattle.hn_assign.specs.Facts.{IsFitting}
+use Rattle.hn_assign.specs.Pair.{wish_pair}
 use Rattle.hn_own.specs.Addresses.{OwnAddress, may_address}
 use Rattle.hn_own.specs.HeldPairs.{published_in}
 use Rattle.hn_own.specs.Own.{items_of}
 use Rattle.hn_own.specs.OwnPrefixes.{may_delegate}
 use Rattle.hn_own.specs.Ports.{ArePorts, endpoints_of}
 use Rattle.hn_own.specs.Ranges.{IsRangedAddress}
-use Rattle.hn_own.specs.Posts.{private_post}
+use Rattle.hn_own.specs.Posts.{posts_of, private_post}
 use Rattle.hn_store.specs.Nodes.{held}
 use Rattle.hn_store.specs.declared.stored.Stored.{Stored}
 use Rattle.hn_rules.specs.declared.done.Done.{Done}
@@ -275,14 +276,16 @@ AssigningHasAResult = IsTotal (λ r. IsRouter r.state) IsAssigning
 
 -- ---- what is asked is there
 
--- what a router asks for: the delegated prefixes that it uses, with a wish for each pair, which fits
+-- What a router asks for: there is a wish for each pair of a delegated prefix that it uses and a post. Each wish fits.
 pub record HasWishes (s : State) (wishes : List Wish) : Type 0 where
   pub usable : List Delegated
   pub are_usable : AreUsable (seen_by s) usable
   pub are_asked : AreAsked s usable wishes
+  pub each : (pair : Pair) → Contains (prefixes_of usable) pair.delegated → Contains (posts_of s.private s.ports) pair.endpoint
+      → (wish : Wish) × Contains wishes wish × (wish_pair wish ≡ pair)
   pub fitting : All IsFitting wishes
   pub prefixes : All (λ wish. IsPrefix wish.delegated) wishes
 
--- A list of what a router asks for cannot be missing.
+-- There is a list of what a router asks for.
 abbrev pub WishesExist : Type 0
-WishesExist = (s : State) → IsRouter s → Some! (HasWishes s)
+WishesExist = (s : State) → IsRouter s → (wishes : List Wish) × HasWishes s wishes

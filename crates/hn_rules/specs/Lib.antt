@@ -18,6 +18,7 @@ pub mod Delegating
 pub mod Assigning
 pub mod Tick
 pub mod Ticks
+pub mod Updates
 pub mod Due
 pub mod Still
 pub mod Idle

@@ -26,6 +26,7 @@ ghost use Rattle.hn_rules.specs.Rested.{KeepsId, RestfulTick, UsedWhereAssigned,
 ghost use Rattle.hn_rules.specs.Rules.{IsSole};
 ghost use Rattle.hn_rules.specs.Tick.{IsExpiry, forgetting, IsPortsTick};
 ghost use Rattle.hn_rules.specs.Ticks.{IsTick};
+ghost use Rattle.hn_rules.specs.Updates.{PeersAreAttached, PeersUpdatesPass, TicksSendUpdates, OwnIntervalIsDefault, RestfulTickLeavesAges, RestfulTickMovesPorts, TicksHaveSent};
 
 use hn_assign::{
     pairs_are_ordered, still_run_stays, subroutine_has_a_result, subroutine_has_one_result,
@@ -137,7 +138,7 @@ pub fn view_is_a_network()
     own_is_reachable();
 }
 
-/// A list of what a router asks for cannot be missing: the delegated prefixes that it uses, and a wish for each pair.
+/// There is a list of what a router asks for: the delegated prefixes that it uses, and a wish for each pair.
 pub fn wishes_exist()
     ensures { WishesExist }
 {
@@ -490,4 +491,78 @@ pub fn changes_keep_genuine()
     item_is_unique();
     written_is_read();
     items_are_unique();
+}
+
+/// A status update by multicast with the router's own network state hash, from a peer of the endpoint at which it arrives,
+/// is let pass, where no node data have come to their age.
+pub fn updates_of_peers_are_let_pass()
+    ensures { PeersUpdatesPass }
+{
+    reachability_stays();
+    list_is_of_bytes();
+    spelling_is_prefix_free();
+    item_is_unique();
+    written_is_read();
+    items_are_unique();
+}
+
+/// Such an update arrives at an endpoint that is attached.
+pub fn peers_are_attached()
+    ensures { PeersAreAttached }
+{
+    list_is_of_bytes();
+    spelling_is_prefix_free();
+    item_is_unique();
+    written_is_read();
+    items_are_unique();
+}
+
+/// A tick sends status updates by multicast on its endpoints, and nothing else.
+pub fn ticks_send_status_updates()
+    ensures { TicksSendUpdates }
+{
+    packing_is_read();
+    written_is_read();
+}
+
+/// Node data that a router publishes promise no keep-alive interval.
+pub fn own_interval_is_default()
+    ensures { OwnIntervalIsDefault }
+{
+    list_is_of_bytes();
+    spelling_is_prefix_free();
+    item_is_unique();
+    written_is_read();
+    items_are_unique();
+}
+
+/// Where nothing that a router keeps has come to its moment, a tick keeps the peers of each endpoint, with their contacts, and
+/// an endpoint that last sent at that moment sent something.
+pub fn restful_tick_moves_ports()
+    ensures { RestfulTickMovesPorts }
+{
+    reachability_stays();
+    ending_leaves();
+    rules_have_one_result();
+    packing_is_not_empty();
+}
+
+/// Where nothing that a router keeps has come to its moment, a tick leaves its own delegated prefixes, and it holds no new node.
+pub fn restful_tick_leaves_ages()
+    ensures { RestfulTickLeavesAges }
+{
+    reachability_stays();
+    ending_leaves();
+    rules_have_one_result();
+}
+
+/// After a tick each endpoint of a router last sent less than 20 s ago.
+pub fn ticks_have_sent()
+    ensures { TicksHaveSent }
+{
+    router_stays_later();
+    rules_keep_the_rest();
+    refresh_makes_a_router();
+    rules_keep_a_router();
+    rules_keep_the_endpoints();
 }

@@ -1,8 +1,8 @@
-use Rattle.hn_rules.proofs.SomeWishes.{some_wishes}
+use Rattle.hn_rules.proofs.SomeWishes.{wishes_exist}
 use Rattle.hn_rules.proofs.laws.wishes_exist.Goals as goal
 
 pub returns : goal.returns
-returns c = some_wishes (record {
+returns c = wishes_exist (record {
   usable = c.usable_exists.ensures;
   prefixes = c.usable_are_prefixes.ensures;
   links = c.common_link_exists.ensures;

@@ -1,16 +1,22 @@
 -- Paths among other nodes.
-use Rattle.std.proofs.Common.{◌≡◌, ◌∙◌, ℕ, List, Contains, subst}
+use Rattle.std.proofs.Common.{◌≡◌, ◌∙◌, ℕ, List, Contains, sym, subst}
+use Rattle.hn_data.specs.Peers.{HasPeer, peer_link}
+use Rattle.hn_data.specs.declared.said.PeerLink.{PeerLink}
 use Rattle.hn_data.specs.declared.view.Entry.{Entry}
 use Rattle.hn_graph.specs.Path.{AreAdjacent, IsRecent, IsReachable}
 use Rattle.hn_graph.specs.Laws.{IsLike, KeepsReach, ReachabilityStays}
+use Rattle.hn_graph.specs.SameLinks.{SaysSamePeers, KeepsLinks, SameLinksReach}
 use Rattle.hn_graph.proofs.Ways.{HasWay, way_to_own, way_further, path_from_way, along_path}
 
--- what adjacent nodes know of a node is its identifier and its node data
-like_adjacent : (x y z w : Entry) → IsLike x z → IsLike y w → AreAdjacent x y → AreAdjacent z w
+-- what adjacent nodes know of a node is its identifier and its peers
+like_adjacent : (x y z w : Entry) → SaysSamePeers x z → SaysSamePeers y w → AreAdjacent x y → AreAdjacent z w
 like_adjacent x y z w to_z to_w are = record {
   here = are.here;
   there = are.there;
-  linked = rw (to_z.body, to_z.id, to_w.body, to_w.id) are.linked;
+  linked = record {
+    there = subst (λ (id : ℕ). HasPeer z.body (peer_link id are.there are.here)) (sym to_w.id) ((to_z.peers (peer_link y.id.0 are.there are.here)).0 are.linked.there);
+    back = subst (λ (id : ℕ). HasPeer w.body (peer_link id are.here are.there)) (sym to_z.id) ((to_w.peers (peer_link x.id.0 are.here are.there)).0 are.linked.back);
+  };
 }
 
 -- a path leads to a node that is like this one
@@ -18,9 +24,9 @@ record HasLikeWay (own : ℕ) (nodes : List Entry) (x : Entry) : Type 0 where
   pub node : Entry
   pub there : Contains nodes node
   pub way : HasWay own nodes node
-  pub like : IsLike x node
+  pub like : SaysSamePeers x node
 
-module _ (own : ℕ) (before after : List Entry) (keeps : KeepsReach own before after) where
+module _ (own : ℕ) (before after : List Entry) (keeps : KeepsLinks own before after) where
   -- one leads there among the nodes before, and one among those after
   record HasBoth (x : Entry) : Type 0 where
     pub was : HasWay own before x
@@ -60,5 +66,21 @@ module _ (own : ℕ) (before after : List Entry) (keeps : KeepsReach own before 
       let last = along_path own after (HasLikeWay own before) back_start back_step y reachable in
       subst (IsReachable own before) (last.1.like.id ∙ last.2) (path_from_way own before last.1.node last.1.way)
 
+pub same_links_reach : SameLinksReach
+same_links_reach own before after keeps y = (forth own before after keeps y, back own before after keeps y)
+
+-- nodes with the same node data say the same peers
+says_same : (x y : Entry) → IsLike x y → SaysSamePeers x y
+says_same x y like = record {
+  id = like.id;
+  peers = λ (link : PeerLink). (subst (λ (body : List ℕ). HasPeer body link) (sym like.body), subst (λ (body : List ℕ). HasPeer body link) like.body);
+  recent = like.recent;
+}
+
 pub reach_stays : ReachabilityStays
-reach_stays own before after keeps y = (forth own before after keeps y, back own before after keeps y)
+reach_stays own before after keeps =
+    same_links_reach own before after
+    (record {
+      kept = λ x there reachable. let next = keeps.kept x there reachable in (next.0, next.1, says_same x next.0 next.2);
+      known = λ y there. let old = keeps.known y there in (old.0, old.1, says_same y old.0 old.2);
+    })

@@ -3,3 +3,4 @@ pub mod Search
 pub mod Later
 pub mod Laws
 pub mod Following
+pub mod SameLinks

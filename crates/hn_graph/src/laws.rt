@@ -2,6 +2,7 @@
 
 ghost use Rattle.hn_graph.specs.Following.{ReachabilityFollows};
 ghost use Rattle.hn_graph.specs.Laws.{OwnIsReachable, ReachableIsANode, ReachabilityStays, ReachabilityOfLater};
+ghost use Rattle.hn_graph.specs.SameLinks.{SameLinksReach};
 
 /// The own node is reachable.
 pub fn own_is_reachable()
@@ -17,6 +18,12 @@ pub fn reachable_is_a_node()
 /// are not reachable changes nothing, nor does time while no age comes to its limit.
 pub fn reachability_stays()
     ensures { ReachabilityStays }
+{}
+
+/// Where each reachable node is still there and says the same peers, and no node is new, the same nodes are reachable. So
+/// other node data with the same peers change nothing.
+pub fn same_links_reach()
+    ensures { SameLinksReach }
 {}
 
 /// While time passes and no age comes to its limit, the same nodes are reachable.

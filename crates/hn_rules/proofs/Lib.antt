@@ -50,6 +50,7 @@ mod PostParts
 mod PrivatePosts
 mod RangedParts
 mod Recent
+mod ReachStays
 mod Refreshes
 mod Refreshing
 mod Resting

@@ -142,19 +142,19 @@ pub recent_now : ReachabilityStays → (now : ℕ) (s : State) → now ≡ s.mom
 recent_now reach_stays now s same is young leads =
     recent_fresh reach_stays s is (subst (λ (n : ℕ). n - s.own.born < 2 ^ 32 - 2 ^ 16) same young) (subst (λ (n : ℕ). All (LeadsOn n) s.table.entries) same leads)
 
--- a refresh that changes nothing
-pub same_refresh : (r : Running) → IsFresh r.state → IsRefresh r r
-same_refresh r fresh = (r, inl (record { same = is.published; young = fresh.young }, refl), (r, reaching, inl (sym is.hashed, refl)))
+-- where the same nodes are reachable and each has its moment of loss, the search changes nothing
+pub reaching_rests : (r : Running) → IsReach r.state r.state.reach → All (IsMarked r.state.reach) r.state.table.entries → IsReaching r r
+reaching_rests r is_reach marked = record {
+  reach = r.state.reach;
+  is_reach = is_reach;
+  gives = ap with_nodes (sym (marks_same r.state.reach r.state.moment r.state.table.entries marked));
+}
   where
-    is : IsRefreshed r.state
-    is = fresh.refreshed
-
     with_nodes : List HeldNode → Running
     with_nodes nodes = record r { state = record r.state { table = record r.state.table { entries = nodes } } }
 
-    reaching : IsReaching r r
-    reaching = record {
-      reach = r.state.reach;
-      is_reach = fresh.reached;
-      gives = ap with_nodes (sym (marks_same r.state.reach r.state.moment r.state.table.entries is.lost));
-    }
+-- a refresh that changes nothing
+pub same_refresh : (r : Running) → IsFresh r.state → IsRefresh r r
+same_refresh r fresh =
+    let is = fresh.refreshed in
+    (r, inl (record { same = is.published; young = fresh.young }, refl), (r, reaching_rests r fresh.reached is.lost, inl (sym is.hashed, refl)))

@@ -22,6 +22,7 @@ pub mod Updates
 pub mod Due
 pub mod Still
 pub mod Idle
+pub mod KnownReach
 pub mod Events
 pub mod Changes
 pub mod Router

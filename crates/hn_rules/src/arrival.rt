@@ -6,12 +6,14 @@ ghost use Rattle.hn_tlv.specs.View.{plain};
 ghost use Rattle.hn_typed.specs.View.{plain_item};
 ghost use Rattle.hn_base.specs.Rules.{Then};
 ghost use Rattle.hn_rules.specs.Rules.{Ran};
+ghost use Rattle.hn_rules.specs.KnownReach.{KnowsReach};
 ghost use Rattle.hn_rules.specs.Refresh.{IsRefresh};
 ghost use Rattle.hn_rules.specs.Router.{IsRefreshed, IsFresh, IsUntouched};
 ghost use Rattle.hn_rules.specs.Arrival.{IsItemRule, IsTlvRule, IsTlvs, IsAnswering, IsArrival};
 
 use crate::answers::Answer;
 use crate::done::Note;
+use crate::reaching::{NOTHING, Touched};
 use crate::running::{Origin, Running};
 use hn_base::{Bytes, NoMemory, Sequence};
 use hn_dncp::pack;
@@ -32,34 +34,40 @@ mod requests;
 pub use passing::Passing;
 
 impl Running {
-    /// The rule of an item: whether it touched what a refresh reads.
+    /// The rule of an item: what it touched that a refresh reads.
     fn item<D: Draw>(
         &mut self,
         alloc: Global,
         from: &Origin,
         item: &Item<'_>,
         draw: &mut D,
-    ) -> Result<bool, NoMemory>
+    ) -> Result<Touched, NoMemory>
         ensures ran { OnOk result (Ran (IsItemRule from.now (plain_item item.now))
             (D.words draw.old) (D.words draw.new) self.old self.new) }
-        ensures untouched { IfOk result (λ touched. touched ≡ false → IsUntouched self.old.state self.new.state) }
+        ensures untouched { IfOk result (λ touched. touched.any ≡ false → IsUntouched self.old.state self.new.state) }
+        ensures known { IfOk result (λ touched. touched.any ≡ true → touched.links ≡ false
+            → KnowsReach self.old.state → KnowsReach self.new.state) }
     {
         let _kept = self.state.ports.get().as_slice();
         match *item {
             Item::NodeEndpoint { node, endpoint, .. } => {
-                self.node_endpoint(alloc, from, node, endpoint)
+                let touched = self.node_endpoint(alloc, from, node, endpoint)?;
+                Ok(Touched {
+                    any: touched,
+                    links: touched,
+                })
             }
             Item::RequestNetwork { .. } => {
                 self.request_network(alloc)?;
-                Ok(false)
+                Ok(NOTHING)
             }
             Item::RequestNode { node, .. } => {
                 self.request_node(alloc, node)?;
-                Ok(false)
+                Ok(NOTHING)
             }
             Item::NetworkState { hash, .. } => {
                 self.network_state(alloc, from, hash)?;
-                Ok(false)
+                Ok(NOTHING)
             }
             Item::NodeState {
                 node,
@@ -77,21 +85,23 @@ impl Running {
                 };
                 self.node_state(alloc, &carried, draw)
             }
-            _ => Ok(false),
+            _ => Ok(NOTHING),
         }
     }
 
-    /// A TLV: the rule of its item; one that the item table refuses is noted. Whether it touched what a refresh reads.
+    /// A TLV: the rule of its item; one that the item table refuses is noted. What it touched that a refresh reads.
     fn tlv<D: Draw>(
         &mut self,
         alloc: Global,
         from: &Origin,
         tlv: &Tlv<'_>,
         draw: &mut D,
-    ) -> Result<bool, NoMemory>
+    ) -> Result<Touched, NoMemory>
         ensures ran { OnOk result (Ran (IsTlvRule from.now (plain tlv.now))
             (D.words draw.old) (D.words draw.new) self.old self.new) }
-        ensures untouched { IfOk result (λ touched. touched ≡ false → IsUntouched self.old.state self.new.state) }
+        ensures untouched { IfOk result (λ touched. touched.any ≡ false → IsUntouched self.old.state self.new.state) }
+        ensures known { IfOk result (λ touched. touched.any ≡ true → touched.links ≡ false
+            → KnowsReach self.old.state → KnowsReach self.new.state) }
     {
         match read(tlv) {
             Ok(item) => self.item(alloc, from, &item, draw),
@@ -100,7 +110,7 @@ impl Running {
                     kind: fault.kind,
                     why: fault.why,
                 })?;
-                Ok(false)
+                Ok(NOTHING)
             }
         }
     }
@@ -122,10 +132,10 @@ impl Running {
         ensures fresh { OnOk result (IsFresh self.new.state) }
     {
         let touched = self.tlv(alloc, from, tlv, draw)?;
-        if fresh && !touched {
+        if fresh && !touched.any {
             return Ok(());
         }
-        self.refresh(alloc, touched, draw)
+        self.refresh_after(alloc, touched, draw)
     }
 
     /// The TLVs of a datagram, in order.

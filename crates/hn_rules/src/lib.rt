@@ -13,6 +13,7 @@ mod idle;
 mod laws;
 mod nodes;
 mod present;
+mod reaching;
 mod refresh;
 mod running;
 mod seen;

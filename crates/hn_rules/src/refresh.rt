@@ -1,20 +1,22 @@
 //! A refresh: publish where due, reachability, moments of loss, the network state hash, resets of Trickle.
 
-ghost use Rattle.std.specs.Prelude.{◌≡◌, ◌≤◌, ◌<◌, ◌-◌, ◌^◌, ◌↔◌, false, None, All, length, IsTrue, IfOk, OnOk};
+ghost use Rattle.std.specs.Prelude.{◌≡◌, ◌≤◌, ◌<◌, ◌-◌, ◌^◌, ◌↔◌, true, false, None, All, length, IsTrue, IfOk, OnOk};
 ghost use Rattle.hn_own.specs.Own.{AreFew};
 ghost use Rattle.hn_base.specs.Rules.{Each};
 ghost use Rattle.hn_rules.specs.Rules.{Ran, AtPort};
 ghost use Rattle.hn_rules.specs.Nodes.{age_at};
 ghost use Rattle.hn_rules.specs.Router.{IsRefreshed, IsFresh};
+ghost use Rattle.hn_rules.specs.KnownReach.{KnowsReach, HaveSamePeers};
 ghost use Rattle.hn_rules.specs.Refresh.{own_items, Publishes, IsPublished, IsPublishing, IsReaching, network_state_hash};
 ghost use Rattle.hn_rules.specs.Refresh.{IsPortReset, IsReset, IsHashing, IsRefresh};
 
 use crate::done::Publication;
 use crate::nodes::age_at;
+use crate::reaching::{Touched, say_same_peers};
 use crate::running::Running;
 use crate::state::State;
 use hn_base::{EpId, Moment, NoMemory, NodeIds, Shared};
-use hn_graph::{AGE_LIMIT, reachability_stays};
+use hn_graph::{AGE_LIMIT, reachability_stays, same_links_reach};
 use hn_hash::{network_of, same_hash};
 use hn_io::Draw;
 use hn_own::{OwnData, OwnItems};
@@ -88,13 +90,20 @@ impl State {
 }
 
 impl Running {
-    /// Publishes own items with a sequence number.
-    fn publish_items(&mut self, alloc: Global, number: u32, items: OwnItems) -> Result<(), NoMemory>
+    /// Publishes own items with a sequence number: whether they say the same peers as before.
+    fn publish_items(
+        &mut self,
+        alloc: Global,
+        number: u32,
+        items: OwnItems,
+    ) -> Result<bool, NoMemory>
         requires items { items ≡ own_items self.old.state }
         requires few { AreFew items }
-        ensures { OnOk result (Publishes number self.old self.new) }
+        ensures publishes { OnOk result (Publishes number self.old self.new) }
+        ensures peers { IfOk result (λ same. same ≡ true → HaveSamePeers self.old.state.own.body self.new.state.own.body) }
     {
         let own = OwnData::new(alloc, items, self.state.moment.get())?;
+        let same = say_same_peers(self.state.own.get().body(), own.body());
         self.done.published.push(Publication {
             id: self.state.id,
             number,
@@ -102,7 +111,7 @@ impl Running {
         })?;
         self.state.number = number;
         self.state.own = Shared::new(alloc, own)?;
-        Ok(())
+        Ok(same)
     }
 
     /// Publishes the present own items with a sequence number.
@@ -110,16 +119,18 @@ impl Running {
         ensures { OnOk result (Publishes number self.old self.new) }
     {
         let items = self.state.own_items(alloc)?;
-        self.publish_items(alloc, number, items)
+        self.publish_items(alloc, number, items)?;
+        Ok(())
     }
 
-    /// Publishes where due.
-    fn publish_where_due(&mut self, alloc: Global) -> Result<(), NoMemory>
-        ensures { OnOk result (IsPublishing self.old self.new) }
+    /// Publishes where due: whether the own node data say the same peers as before.
+    fn publish_where_due(&mut self, alloc: Global) -> Result<bool, NoMemory>
+        ensures publishing { OnOk result (IsPublishing self.old self.new) }
+        ensures peers { IfOk result (λ same. same ≡ true → HaveSamePeers self.old.state.own.body self.new.state.own.body) }
     {
         let items = self.state.own_items(alloc)?;
         if self.state.is_published(&items) {
-            return Ok(());
+            return Ok(true);
         }
         self.publish_items(alloc, self.state.number.wrapping_add(1), items)
     }
@@ -136,7 +147,7 @@ impl Running {
     }
 
     /// Reachability, and moments of loss.
-    fn find_reach(&mut self, alloc: Global) -> Result<(), NoMemory>
+    pub(crate) fn find_reach(&mut self, alloc: Global) -> Result<(), NoMemory>
         ensures { OnOk result (IsReaching self.old self.new) }
     {
         let reach = self.state.reachable(alloc)?;
@@ -203,14 +214,38 @@ impl Running {
         ensures refreshed { OnOk result (IsRefreshed self.new.state) }
         ensures fresh { OnOk result (IsFresh self.new.state) }
     {
+        let touched = Touched {
+            any: touched,
+            links: touched,
+        };
+        self.refresh_after(alloc, touched, draw)
+    }
+
+    /// The same, where this was touched. Where no links are, no age is due and the own node data say the same peers, the
+    /// same nodes are reachable, and none is looked for.
+    pub(crate) fn refresh_after<D: Draw>(
+        &mut self,
+        alloc: Global,
+        touched: Touched,
+        draw: &mut D,
+    ) -> Result<(), NoMemory>
+        requires untouched { touched.any ≡ false → IsRefreshed self.old.state }
+        requires linked { touched.links ≡ false → KnowsReach self.old.state }
+        ensures ran { OnOk result (Ran IsRefresh (D.words draw.old) (D.words draw.new) self.old self.new) }
+        ensures refreshed { OnOk result (IsRefreshed self.new.state) }
+        ensures fresh { OnOk result (IsFresh self.new.state) }
+    {
         reachability_stays();
+        same_links_reach();
         let _kept = self.state.ports.get().as_slice();
         let now = self.state.moment.get();
-        if !touched && self.state.is_recent(now) {
+        let recent = self.state.is_recent(now);
+        if !touched.any && recent {
             return Ok(());
         }
-        self.publish_where_due(alloc)?;
-        self.find_reach(alloc)?;
+        let same = self.publish_where_due(alloc)?;
+        let known = touched.leaves_reach(same, recent);
+        self.renew_reach(alloc, known)?;
         self.find_hash(alloc, draw)
     }
 }

@@ -7,6 +7,7 @@ ghost use Rattle.hn_rules.specs.Rules.{Ran};
 ghost use Rattle.hn_rules.specs.Ticks.{IsLosing, IsSettling, IsTick};
 
 use crate::laws::{refresh_makes_a_router, rules_keep_a_router, rules_keep_the_rest};
+use crate::reaching::Touched;
 use crate::running::Running;
 use hn_base::NoMemory;
 use hn_io::Draw;
@@ -23,7 +24,11 @@ impl Running {
         rules_keep_the_rest();
         let expired = self.expire_ports(alloc)?;
         let ended = self.end_prefixes()?;
-        self.refresh(alloc, expired | ended, draw)
+        let touched = Touched {
+            any: expired | ended,
+            links: false,
+        };
+        self.refresh_after(alloc, touched, draw)
     }
 
     /// Prefixes are assigned, and a refresh.
@@ -31,8 +36,8 @@ impl Running {
         requires { IsRouter self.old.state }
         ensures { OnOk result (Ran IsSettling (D.words draw.old) (D.words draw.new) self.old self.new) }
     {
-        let touched = self.assign(alloc, draw)?;
-        self.refresh(alloc, touched, draw)
+        let any = self.assign(alloc, draw)?;
+        self.refresh_after(alloc, Touched { any, links: false }, draw)
     }
 
     /// A tick.

@@ -1,15 +1,13 @@
 use Rattle.std.proofs.Common.{subst}
-use Rattle.std.proofs.lemmas.Result.{on_ok_weaker}
 use Rattle.hn_own.specs.Ports.{ArePorts}
 use Rattle.hn_rules.proofs.Arriving.{ran_node_endpoint, ran_network_request}
 use Rattle.hn_rules.proofs.Touched.{network_request_untouched, request_node_untouched, network_state_untouched}
 use Rattle.hn_rules.proofs.running.Running.item.Goals as goal
 
-pub returns-in-NodeEndpoint-clause-ran : goal.returns-in-NodeEndpoint-clause-ran
-returns-in-NodeEndpoint-clause-ran g c =
-    on_ok_weaker c.node_endpoint.result
-    (λ holds. rw c.in-NodeEndpoint.is (ran_node_endpoint c.args.from.now c.in-NodeEndpoint.node c.in-NodeEndpoint.endpoint _ c.args.self.now c.node_endpoint.new.self holds))
-    c.node_endpoint.ensures.rule
+pub returns-in_ok-touched-in-NodeEndpoint-clause-ran : goal.returns-in_ok-touched-in-NodeEndpoint-clause-ran
+returns-in_ok-touched-in-NodeEndpoint-clause-ran g c =
+    rw c.in-NodeEndpoint.is
+    (ran_node_endpoint c.args.from.now c.in-NodeEndpoint.node c.in-NodeEndpoint.endpoint _ c.args.self.now c.node_endpoint.new.self c.in_ok-touched-in-NodeEndpoint.ensures.rule)
 
 pub returns-in_ok-request_network-in-RequestNetwork-clause-ran : goal.returns-in_ok-request_network-in-RequestNetwork-clause-ran
 returns-in_ok-request_network-in-RequestNetwork-clause-ran g c = rw c.in-RequestNetwork.is (ran_network_request _ c.args.self.now _ c.in_ok-request_network-in-RequestNetwork.ensures)

@@ -36,7 +36,7 @@ use Rattle.hn_rules.proofs.Entries.{entry_own, entry_other, entry_held}
 use Rattle.hn_rules.proofs.LawDelegated.{DelegationLaws, said_too}
 use Rattle.hn_rules.proofs.LawPublished.{peer_from, peer_in}
 use Rattle.hn_rules.proofs.LawSaid.{own_version}
-use Rattle.hn_rules.proofs.Recent.{own_there, own_or_held}
+use Rattle.hn_rules.proofs.RefreshChangesNothing.{own_there, own_or_held}
 
 -- ---- what a router knows of a node of its table
 

@@ -23,7 +23,7 @@ use Rattle.hn_rules.specs.Changes.{IsAnswerAbout}
 use Rattle.hn_rules.specs.Nodes.{age_at}
 use Rattle.hn_rules.specs.Requests.{sent_age, sent_data, own_state, held_state, state_item}
 use Rattle.hn_rules.specs.Router.{IsWell, IsHashed}
-use Rattle.hn_rules.proofs.Known.{held_all}
+use Rattle.hn_rules.proofs.LawsFromBelow.{held_all}
 use Rattle.hn_rules.proofs.LawPublished.{ReadLaws, own_bytes}
 
 -- the laws of TLVs, items and hashes

@@ -11,7 +11,7 @@ use Rattle.hn_rules.specs.declared.state.State.{State}
 use Rattle.hn_rules.specs.Assigning.{IsRunAssigned}
 use Rattle.hn_rules.specs.Seen.{seen_by}
 use Rattle.hn_rules.proofs.LawPairs.{wished_few}
-use Rattle.hn_rules.proofs.Parts.{AreHeldWell}
+use Rattle.hn_rules.proofs.PartsOfRouters.{AreHeldWell}
 
 -- the laws of the subroutine, and of the order of pairs, on which it rests
 pub record AssignLaws : Type 0 where

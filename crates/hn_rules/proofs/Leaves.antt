@@ -17,7 +17,7 @@ use Rattle.hn_rules.specs.Nodes.{own_entry, held_entry, entry_of, view_of, leaf_
 use Rattle.hn_rules.specs.Router.{IsWell}
 use Rattle.hn_rules.specs.Laws.{HashIsOfLeaves}
 use Rattle.hn_store.specs.Laws.{HeldIsOfAnEntry}
-use Rattle.hn_rules.proofs.Known.{held_all}
+use Rattle.hn_rules.proofs.LawsFromBelow.{held_all}
 
 -- ---- a node's part is that of its leaf, and its number has 32 bits
 

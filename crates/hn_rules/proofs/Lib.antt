@@ -12,7 +12,7 @@ mod Genuines
 mod Growing
 mod Hashed
 pub mod MovedPorts
-mod Known
+mod LawsFromBelow
 mod LawAssigned
 mod LawDelegated
 mod LawPairs
@@ -30,7 +30,7 @@ mod SomeArrivals
 pub mod SomeWishes
 mod SomeTicks
 mod OwnIntervals
-mod Parts
+mod PartsOfRouters
 mod Passings
 mod PeersUpdates
 mod TickSends
@@ -38,18 +38,18 @@ mod PortFacts
 mod PortsInTurn
 mod Published
 mod Dues
-mod Laters
-mod Stills
+mod SeenWhileTimePasses
+mod NothingDueLasts
 mod Silences
-mod Shrinking
+mod NoPeerExpired
 mod SilentPorts
-mod Idles
+mod TickDoesNothing
 mod AtPorts
-mod Calm
+mod NothingKeptIsDue
 mod PostParts
 mod PrivatePosts
 mod RangedParts
-mod Recent
+mod RefreshChangesNothing
 mod ReachStays
 mod Refreshes
 mod Refreshing
@@ -63,7 +63,7 @@ mod SentLately
 mod Shorts
 mod TickParts
 mod Ticking
-mod Touched
+mod TouchesNothingRead
 mod UsedLemmas
 mod Walk
 mod Wells

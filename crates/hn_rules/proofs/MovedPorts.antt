@@ -17,7 +17,7 @@ use Rattle.hn_rules.specs.Refresh.{IsPublishing, IsPortReset, IsHashing, IsRefre
 use Rattle.hn_rules.specs.Rules.{AtPort, begun_at, with_port}
 use Rattle.hn_rules.specs.Tick.{IsPortSending, IsPortTick, IsPortsTick}
 use Rattle.hn_rules.specs.Updates.{HasMoved, RestfulTickMovesPorts}
-use Rattle.hn_rules.proofs.Calm.{CalmLaws, nothing_lost}
+use Rattle.hn_rules.proofs.NothingKeptIsDue.{CalmLaws, nothing_lost}
 use Rattle.hn_rules.proofs.Leads.{Keeps, keeps_each, keeps_option}
 
 -- an endpoint that is put is the one that was put, or was there and has another number

@@ -23,10 +23,10 @@ use Rattle.hn_rules.specs.Passing.{IsStatusUpdate, IsLetPass}
 use Rattle.hn_rules.specs.Router.{IsFresh}
 use Rattle.hn_rules.specs.Rules.{AtPort, begun_at, with_port}
 use Rattle.hn_rules.proofs.AtPorts.{at_port}
-use Rattle.hn_rules.proofs.Recent.{same_refresh}
+use Rattle.hn_rules.proofs.RefreshChangesNothing.{same_refresh}
 use Rattle.hn_rules.proofs.Refreshes.{fresh_untouched}
 use Rattle.hn_rules.proofs.Resting.{named_stays, compared_stays}
-use Rattle.hn_rules.proofs.Touched.{network_state_untouched}
+use Rattle.hn_rules.proofs.TouchesNothingRead.{network_state_untouched}
 
 -- A status update by multicast at an endpoint: its Node Endpoint changes nothing there, and at its moment another refresh
 -- changes nothing.

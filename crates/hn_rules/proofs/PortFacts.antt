@@ -19,7 +19,7 @@ use Rattle.hn_dncp.specs.Hash.{contacted, hashed}
 use Rattle.hn_dncp.specs.Tick.{after_firing, after_interval, after_keep_alive, ticked, interval_words}
 use Rattle.hn_rules.specs.Tick.{Without}
 use Rattle.hn_rules.specs.Router.{IfThere, IsPortPast}
-use Rattle.hn_rules.proofs.Known.{KnownLaws}
+use Rattle.hn_rules.proofs.LawsFromBelow.{KnownLaws}
 use Rattle.hn_rules.proofs.Finding.{without-few, without-all, without-pairs}
 
 -- the facts of an endpoint

@@ -17,7 +17,7 @@ use Rattle.hn_rules.specs.declared.running.Running.{Running}
 use Rattle.hn_rules.specs.declared.state.State.{State}
 use Rattle.hn_rules.specs.Rules.{Rule, AtPort}
 use Rattle.hn_rules.proofs.Leads.{keeps_each, keeps_each_of, keeps_option}
-use Rattle.hn_rules.proofs.Parts.{are-put}
+use Rattle.hn_rules.proofs.PartsOfRouters.{are-put}
 use Rattle.hn_rules.proofs.Refreshes.{found_number, only_one}
 use Rattle.hn_rules.proofs.Walk.{found_put}
 

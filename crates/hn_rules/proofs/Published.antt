@@ -16,7 +16,7 @@ use Rattle.hn_rules.specs.declared.done.Publication.{Publication}
 use Rattle.hn_rules.specs.declared.state.State.{State}
 use Rattle.hn_rules.specs.Changes.{TableChange, Accept, Mark, Forget, Empty, MayChangeTable, table_after}
 use Rattle.hn_rules.specs.Genuine.{IsText, TextsCollide, WasPublished, HoldsPublished, SaysPublished, TlvSaysPublished, TlvsSayPublished, BytesSayPublished, IsGenuineAnswer}
-use Rattle.hn_rules.proofs.Known.{held_all}
+use Rattle.hn_rules.proofs.LawsFromBelow.{held_all}
 
 -- ---- more is published
 

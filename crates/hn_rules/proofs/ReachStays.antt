@@ -43,8 +43,8 @@ use Rattle.hn_rules.specs.Refresh.{next_number, IsPublishing, IsReaching}
 use Rattle.hn_rules.specs.Router.{IsRefreshed, IsUntouched}
 use Rattle.hn_rules.proofs.Forgetting.{IsMarked}
 use Rattle.hn_rules.proofs.Refreshes.{refreshed_untouched}
-use Rattle.hn_rules.proofs.Shrinking.{expiry_ports}
-use Rattle.hn_rules.proofs.Recent.{LeadsOn, own_there, same_reach, reaching_rests}
+use Rattle.hn_rules.proofs.NoPeerExpired.{expiry_ports}
+use Rattle.hn_rules.proofs.RefreshChangesNothing.{LeadsOn, own_there, same_reach, reaching_rests}
 
 -- ---- peers
 

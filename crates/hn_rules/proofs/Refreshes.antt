@@ -27,7 +27,7 @@ use Rattle.hn_rules.specs.Refresh.{own_items, IsPublishing, IsReaching, network_
 use Rattle.hn_rules.specs.Tick.{IsPortSending, IsPortTick, IsPortsTick}
 use Rattle.hn_rules.specs.Changes.{EachKeeps}
 use Rattle.hn_rules.specs.Router.{IsWell, IsRefreshed, IsFresh, IsUntouched, IsRouter}
-use Rattle.hn_rules.proofs.Parts.{are-put}
+use Rattle.hn_rules.proofs.PartsOfRouters.{are-put}
 use Rattle.hn_rules.proofs.Leads.{Keeps, keeps_option, keeps_each}
 use Rattle.hn_rules.proofs.Walk.{refresh_walk, ports_walk}
 

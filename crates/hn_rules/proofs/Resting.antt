@@ -39,7 +39,7 @@ use Rattle.hn_rules.specs.Still.{AreHeard}
 use Rattle.hn_rules.specs.Tick.{IsExpired, IsPortExpiry, IsExpiry, IsPortMoving, IsPortTick, IsPortsTick}
 use Rattle.hn_base.specs.Words.{Begins}
 use Rattle.std.proofs.Common.{get_or}
-use Rattle.hn_rules.proofs.Touched.{none_expire, put_found}
+use Rattle.hn_rules.proofs.TouchesNothingRead.{none_expire, put_found}
 
 -- a rule that changes nothing at any element
 each_rests : {S A : Type 0} (rule : A → RuleOf S) (xs : List A) (s : S) → ((x : A) → rule x s s) → Each rule xs s s

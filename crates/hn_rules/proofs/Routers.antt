@@ -22,7 +22,7 @@ use Rattle.hn_rules.specs.Rules.{Rule}
 use Rattle.hn_rules.specs.Tick.{IsExpiry, forgetting, IsPortsTick}
 use Rattle.hn_rules.proofs.Forgetting.{refreshed_forgetting}
 use Rattle.hn_rules.proofs.Leads.{Keeps, keeps_plain, keeps_each}
-use Rattle.hn_rules.proofs.Parts.{made_from, well_from, made-later}
+use Rattle.hn_rules.proofs.PartsOfRouters.{made_from, well_from, made-later}
 use Rattle.hn_rules.proofs.Refreshes.{Router, Well, router_refresh, router_ticks, refreshed-later}
 use Rattle.hn_rules.proofs.Walk.{tlv_walk, expiry_walk, ending_walk, forgetting_walk, assigning_walk, delegating_walk, withdrawing_walk, caps_walk, private_walk, addressing_walk, restarting_walk}
 use Rattle.hn_rules.proofs.RangedParts.{ranged_from, ranged_later, ranged_attaching, ranged_detaching}

@@ -9,7 +9,7 @@ use Rattle.hn_rules.specs.Rested.{KeepsId}
 use Rattle.hn_rules.specs.Rules.{AtPort}
 use Rattle.hn_rules.specs.Ticks.{IsTick}
 use Rattle.hn_rules.proofs.Leads.{keeps_each, keeps_option}
-use Rattle.hn_rules.proofs.Shrinking.{expiry_ports}
+use Rattle.hn_rules.proofs.NoPeerExpired.{expiry_ports}
 use Rattle.hn_rules.proofs.SilentPorts.{ticks_ports}
 
 publishing_id : KeepsId IsPublishing

@@ -26,7 +26,7 @@ use Rattle.hn_rules.specs.Nodes.{age_at}
 use Rattle.hn_rules.specs.Requests.{sent_age, sent_data, own_state, held_state, state_item}
 use Rattle.hn_rules.specs.Router.{IsWell, IsHashed}
 use Rattle.hn_rules.proofs.AnswerTlvs.{AnswerLaws, network_tlv, IsSentState, state_writable, of_known, own_sent, held_sent, answer_tlv}
-use Rattle.hn_rules.proofs.Known.{held_all}
+use Rattle.hn_rules.proofs.LawsFromBelow.{held_all}
 
 -- the laws of answers, TLVs and packings
 pub record SayLaws : Type 0 where

@@ -29,7 +29,7 @@ use Rattle.hn_rules.specs.Nodes.{age_at}
 use Rattle.hn_rules.specs.Requests.{sent_age, sent_data, own_state, held_state, state_item}
 use Rattle.hn_rules.specs.Router.{IsWell}
 use Rattle.hn_rules.proofs.AnswerTlvs.{of_known}
-use Rattle.hn_rules.proofs.Known.{held_all}
+use Rattle.hn_rules.proofs.LawsFromBelow.{held_all}
 
 spelling_size : (tlv : PlainTlv) → length (spelling tlv) ≤ length tlv.value + 7
 spelling_size tlv = simp (length-append, length-replicate) (omega arith)

@@ -33,8 +33,8 @@ use Rattle.hn_rules.specs.Still.{at_moment, IsUneventful}
 use Rattle.hn_rules.specs.Tick.{forgetting, IsPortTick, IsPortsTick}
 use Rattle.hn_rules.specs.Ticks.{IsTick}
 use Rattle.hn_rules.proofs.Announcing.{AnnouncingLaws, AreTwins, Lives, candidate_too, preferred_too}
-use Rattle.hn_rules.proofs.Calm.{CalmLaws, start, forgot, nothing_lost, fresh_forgot, same_view}
-use Rattle.hn_rules.proofs.Laters.{view_later}
+use Rattle.hn_rules.proofs.NothingKeptIsDue.{CalmLaws, start, forgot, nothing_lost, fresh_forgot, same_view}
+use Rattle.hn_rules.proofs.SeenWhileTimePasses.{view_later}
 use Rattle.hn_rules.proofs.Leads.{keeps_each}
 use Rattle.hn_rules.proofs.Refreshes.{Kept, kept_self, keeps_kept_at, fresh_refresh, fresh_untouched, reset_keeps, tick_keeps, untouched_same}
 

@@ -31,10 +31,10 @@ use Rattle.hn_rules.specs.Changes.{PrefixChange, Delegate, Withdraw, End, prefix
 use Rattle.hn_rules.specs.Changes.{PutPrivate, PutAddresses, PutId, PutClaimed, PutCaps, Publish, change, EachKeeps}
 use Rattle.hn_rules.specs.Laws.{ChangesKeepWell}
 use Rattle.hn_rules.proofs.Finding.{find_all}
-use Rattle.hn_rules.proofs.Known.{KnownLaws}
+use Rattle.hn_rules.proofs.LawsFromBelow.{KnownLaws}
 use Rattle.hn_rules.proofs.LawAssigned.{AssignLaws, held-assigned}
-use Rattle.hn_rules.proofs.Parts.{IsTableWell, IsOwnWell, IsMade, made_from, well_from, ports-put, ports-attached, ports-detached, table-accepts, table-marked, table-remembered, table-emptied}
-use Rattle.hn_rules.proofs.Parts.{held-none}
+use Rattle.hn_rules.proofs.PartsOfRouters.{IsTableWell, IsOwnWell, IsMade, made_from, well_from, ports-put, ports-attached, ports-detached, table-accepts, table-marked, table-remembered, table-emptied}
+use Rattle.hn_rules.proofs.PartsOfRouters.{held-none}
 use Rattle.hn_rules.proofs.LawPublished.{ReadLaws}
 use Rattle.hn_rules.proofs.PostParts.{posts-put, posts-attached, posts-detached, posts-addressed, posts-assigned, posts-private, posts-published}
 use Rattle.hn_rules.proofs.PrivatePosts.{links_some, of_length}

@@ -1,4 +1,4 @@
-use Rattle.hn_rules.proofs.Idles.{idle_still}
+use Rattle.hn_rules.proofs.TickDoesNothing.{idle_still}
 use Rattle.hn_rules.proofs.laws.idle_is_still.Goals as goal
 
 pub returns : goal.returns

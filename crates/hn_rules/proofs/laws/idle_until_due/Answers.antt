@@ -1,4 +1,4 @@
-use Rattle.hn_rules.proofs.Idles.{idle_until}
+use Rattle.hn_rules.proofs.TickDoesNothing.{idle_until}
 use Rattle.hn_rules.proofs.laws.idle_until_due.Goals as goal
 
 pub returns : goal.returns

@@ -1,4 +1,4 @@
-use Rattle.hn_rules.proofs.Laters.{due_stays}
+use Rattle.hn_rules.proofs.SeenWhileTimePasses.{due_stays}
 use Rattle.hn_rules.proofs.laws.next_due_stays.Goals as goal
 
 pub returns : goal.returns

@@ -1,4 +1,4 @@
-use Rattle.hn_rules.proofs.Recent.{same_refresh}
+use Rattle.hn_rules.proofs.RefreshChangesNothing.{same_refresh}
 use Rattle.hn_rules.proofs.Refreshes.{fresh_refresh}
 use Rattle.hn_rules.proofs.laws.refresh_after_a_refresh_rests.Goals as goal
 

@@ -1,4 +1,4 @@
-use Rattle.hn_rules.proofs.Calm.{restful_tick}
+use Rattle.hn_rules.proofs.NothingKeptIsDue.{restful_tick}
 use Rattle.hn_rules.proofs.laws.restful_tick.Goals as goal
 
 pub returns : goal.returns

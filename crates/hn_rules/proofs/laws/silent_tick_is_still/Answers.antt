@@ -1,4 +1,4 @@
-use Rattle.hn_rules.proofs.Idles.{silent_still}
+use Rattle.hn_rules.proofs.TickDoesNothing.{silent_still}
 use Rattle.hn_rules.proofs.laws.silent_tick_is_still.Goals as goal
 
 pub returns : goal.returns

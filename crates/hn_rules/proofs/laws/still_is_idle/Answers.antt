@@ -1,4 +1,4 @@
-use Rattle.hn_rules.proofs.Idles.{still_idle}
+use Rattle.hn_rules.proofs.TickDoesNothing.{still_idle}
 use Rattle.hn_rules.proofs.laws.still_is_idle.Goals as goal
 
 pub returns : goal.returns

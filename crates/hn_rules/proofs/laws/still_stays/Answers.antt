@@ -1,4 +1,4 @@
-use Rattle.hn_rules.proofs.Stills.{still_stays}
+use Rattle.hn_rules.proofs.NothingDueLasts.{still_stays}
 use Rattle.hn_rules.proofs.laws.still_stays.Goals as goal
 
 pub returns : goal.returns

@@ -1,4 +1,4 @@
-use Rattle.hn_rules.proofs.Stills.{reached_while_uneventful}
+use Rattle.hn_rules.proofs.NothingDueLasts.{reached_while_uneventful}
 use Rattle.hn_rules.proofs.laws.uneventful_reaches.Goals as goal
 
 pub returns : goal.returns

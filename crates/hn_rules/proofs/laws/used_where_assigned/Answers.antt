@@ -1,5 +1,5 @@
 use Rattle.hn_rules.proofs.Announcing.{AnnouncingLaws}
-use Rattle.hn_rules.proofs.Calm.{CalmLaws}
+use Rattle.hn_rules.proofs.NothingKeptIsDue.{CalmLaws}
 use Rattle.hn_rules.proofs.LawDelegated.{DelegationLaws}
 use Rattle.hn_rules.proofs.LawPublished.{ReadLaws}
 use Rattle.hn_rules.proofs.UsedLemmas.{used_where_assigned}

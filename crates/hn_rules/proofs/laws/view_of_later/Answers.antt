@@ -1,5 +1,5 @@
 use Rattle.std.proofs.Common.{arith}
-use Rattle.hn_rules.proofs.Laters.{view_later}
+use Rattle.hn_rules.proofs.SeenWhileTimePasses.{view_later}
 use Rattle.hn_rules.proofs.laws.view_of_later.Goals as goal
 
 pub returns : goal.returns

@@ -1,6 +1,6 @@
 use Rattle.std.proofs.Common.{subst}
 use Rattle.hn_own.specs.Ports.{ArePorts}
-use Rattle.hn_rules.proofs.Touched.{none_expire}
+use Rattle.hn_rules.proofs.TouchesNothingRead.{none_expire}
 use Rattle.hn_rules.proofs.running.Running.expire_port.Goals as goal
 
 pub returns-then-not-has_expired-clause-rule : goal.returns-then-not-has_expired-clause-rule

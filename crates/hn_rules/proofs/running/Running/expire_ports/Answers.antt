@@ -4,7 +4,7 @@ use Rattle.hn_rules.proofs.Resting.{none_expire_at}
 use Rattle.hn_rules.specs.Rules.{AtPort}
 use Rattle.hn_rules.specs.Tick.{IsPortExpiry}
 use Rattle.hn_base.proofs.RulesInTurn.{each_next}
-use Rattle.hn_rules.proofs.Touched.{neither}
+use Rattle.hn_rules.proofs.TouchesNothingRead.{neither}
 use Rattle.hn_rules.proofs.running.Running.expire_ports.Goals as goal
 
 pub returns-then-not-has_silent_peer-clause-rule : goal.returns-then-not-has_silent_peer-clause-rule

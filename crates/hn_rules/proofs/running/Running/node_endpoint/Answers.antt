@@ -7,7 +7,7 @@ use Rattle.std.specs.Prelude.{◌||◌, not}
 use Rattle.hn_rules.specs.NodeEndpoint.{node_endpoint}
 use Rattle.hn_rules.proofs.AtPorts.{at_port}
 use Rattle.hn_rules.proofs.Resting.{named_stays}
-use Rattle.hn_rules.proofs.Touched.{named_untouched}
+use Rattle.hn_rules.proofs.TouchesNothingRead.{named_untouched}
 use Rattle.hn_rules.proofs.running.Running.node_endpoint.Goals as goal
 
 pub returns-then-stays_at-clause-rule : goal.returns-then-stays_at-clause-rule

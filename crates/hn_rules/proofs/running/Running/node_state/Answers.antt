@@ -2,7 +2,7 @@ use Rattle.std.proofs.Common.{sym, subst, ◌∙◌}
 use Rattle.hn_store.specs.Acceptance.{plain_state}
 use Rattle.hn_rules.specs.KnownReach.{KnowsReach}
 use Rattle.hn_rules.proofs.ReachStays.{taken_leaves}
-use Rattle.hn_rules.proofs.Touched.{node_state_untouched}
+use Rattle.hn_rules.proofs.TouchesNothingRead.{node_state_untouched}
 use Rattle.hn_rules.proofs.running.Running.node_state.Goals as goal
 
 pub returns-clause-untouched : goal.returns-clause-untouched

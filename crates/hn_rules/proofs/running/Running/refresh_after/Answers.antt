@@ -5,7 +5,7 @@ use Rattle.hn_own.specs.Ports.{ArePorts}
 use Rattle.hn_rules.specs.Refresh.{IsRefresh}
 use Rattle.hn_base.proofs.RulesInTurn.{ran_plain}
 use Rattle.hn_rules.proofs.ReachStays.{reach_rests}
-use Rattle.hn_rules.proofs.Recent.{recent_now, same_refresh}
+use Rattle.hn_rules.proofs.RefreshChangesNothing.{recent_now, same_refresh}
 use Rattle.hn_rules.proofs.Refreshes.{fresh_refresh}
 use Rattle.hn_rules.proofs.Refreshing.{ran_refresh}
 use Rattle.hn_rules.proofs.running.Running.refresh_after.Goals as goal

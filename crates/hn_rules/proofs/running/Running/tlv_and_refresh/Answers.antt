@@ -6,7 +6,7 @@ use Rattle.hn_tlv.specs.View.{plain}
 use Rattle.hn_rules.specs.Arrival.{IsTlvRule}
 use Rattle.hn_rules.specs.Refresh.{IsRefresh}
 use Rattle.hn_base.proofs.RulesInTurn.{ran_plain, ran_both}
-use Rattle.hn_rules.proofs.Recent.{same_refresh}
+use Rattle.hn_rules.proofs.RefreshChangesNothing.{same_refresh}
 use Rattle.hn_rules.proofs.Refreshes.{refreshed_untouched, fresh_untouched}
 use Rattle.hn_rules.proofs.ReachStays.{knows_touched}
 use Rattle.hn_rules.proofs.running.Running.tlv_and_refresh.Goals as goal

@@ -4,7 +4,7 @@ use Rattle.std.proofs.lemmas.Bool.{iff_false}
 use Rattle.std.proofs.lemmas.List.{take_all}
 use Rattle.hn_dncp.specs.declared.peers.Neighbour.{Neighbour}
 use Rattle.hn_rules.specs.Tick.{IsExpired}
-use Rattle.hn_rules.proofs.Touched.{all_next}
+use Rattle.hn_rules.proofs.TouchesNothingRead.{all_next}
 use Rattle.hn_rules.proofs.state.State.is_some_expired.Goals as goal
 
 pub loop-peer-preserved : goal.loop-peer-preserved

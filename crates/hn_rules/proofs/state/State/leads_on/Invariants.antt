@@ -1,6 +1,6 @@
 use Rattle.std.proofs.Common.{take}
 use Rattle.std.specs.Prelude.{All}
-use Rattle.hn_rules.proofs.Recent.{LeadsOn}
+use Rattle.hn_rules.proofs.RefreshChangesNothing.{LeadsOn}
 use Rattle.hn_rules.proofs.state.State.leads_on.Given as goal
 
 abbrev pub invariant-loop-node : goal.invariant-loop-node

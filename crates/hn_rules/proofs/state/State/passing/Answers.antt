@@ -1,7 +1,7 @@
 use Rattle.std.proofs.Common.{◌∙◌, sym, ap, subst}
 use Rattle.hn_own.specs.Ports.{ArePorts, port_at}
 use Rattle.hn_rules.proofs.Passings.{IsPassing, heard_passes, other_passes}
-use Rattle.hn_rules.proofs.Recent.{recent_fresh}
+use Rattle.hn_rules.proofs.RefreshChangesNothing.{recent_fresh}
 use Rattle.hn_rules.proofs.Refreshes.{refreshed-later}
 use Rattle.hn_rules.proofs.state.State.passing.Goals as goal
 

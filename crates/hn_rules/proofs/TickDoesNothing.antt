@@ -43,12 +43,12 @@ use Rattle.hn_rules.specs.Tick.{IsExpiry, forgetting, IsPortsTick}
 use Rattle.hn_rules.specs.Ticks.{IsTick}
 use Rattle.hn_rules.proofs.AssignRuns.{run_seen}
 use Rattle.hn_rules.proofs.Forgetting.{IsMarked, stays}
-use Rattle.hn_rules.proofs.Recent.{marks_same, same_refresh}
+use Rattle.hn_rules.proofs.RefreshChangesNothing.{marks_same, same_refresh}
 use Rattle.hn_rules.proofs.Resting.{none_expire_at, only, ports_rest}
 use Rattle.hn_rules.proofs.Refreshes.{refreshed-later, seen_marked}
 use Rattle.hn_rules.proofs.OneResults.{sole_expiry}
 use Rattle.hn_rules.proofs.PortsInTurn.{with_ports}
-use Rattle.hn_rules.proofs.Shrinking.{none_expired, expiry_ports}
+use Rattle.hn_rules.proofs.NoPeerExpired.{none_expired, expiry_ports}
 use Rattle.hn_rules.proofs.SilentPorts.{all_idle, ticks_ports}
 use Rattle.hn_rules.proofs.Silences.{Silent, none_after, seen_again, silent_refresh, silent_walk}
 use Rattle.hn_rules.proofs.Walk.{assigning_walk, ports_walk}

@@ -23,7 +23,7 @@ use Rattle.hn_rules.specs.Router.{IsPast}
 use Rattle.hn_rules.specs.Seen.{seen_by}
 use Rattle.hn_rules.specs.Still.{at_moment}
 use Rattle.hn_rules.proofs.Entries.{entry_own, entry_other}
-use Rattle.hn_rules.proofs.Known.{held_all}
+use Rattle.hn_rules.proofs.LawsFromBelow.{held_all}
 use Rattle.hn_rules.proofs.NodeLists.{mapped_each}
 
 module _ (known : HeldIsOfAnEntry) (s : State) (now later : ℕ) (past : IsPast s) (begun : s.moment ≤ now) (goes : now ≤ later) where

@@ -41,7 +41,7 @@ use Rattle.hn_rules.proofs.AssignRuns.{run_seen}
 use Rattle.hn_rules.proofs.Endpoints.{ports_stand}
 use Rattle.hn_rules.proofs.Forgetting.{stays, filter_map-same, same_held, refreshed_forgetting}
 use Rattle.hn_rules.proofs.Leads.{keeps_each}
-use Rattle.hn_rules.proofs.Recent.{LeadsOn, recent_fresh, same_refresh}
+use Rattle.hn_rules.proofs.RefreshChangesNothing.{LeadsOn, recent_fresh, same_refresh}
 use Rattle.hn_rules.proofs.Refreshes.{Kept, kept_self, keeps_kept_at, refreshed-later, tick_keeps}
 use Rattle.hn_rules.proofs.Resting.{none_expire_at, only}
 

@@ -44,8 +44,8 @@ use Rattle.hn_rules.specs.Seen.{seen_by}
 use Rattle.hn_rules.specs.Still.{at_moment, AreHeard}
 use Rattle.hn_rules.specs.Tick.{IsExpired}
 use Rattle.hn_rules.proofs.Entries.{entry_held}
-use Rattle.hn_rules.proofs.Laters.{view_later}
-use Rattle.hn_rules.proofs.Recent.{reach_later, same_reach}
+use Rattle.hn_rules.proofs.SeenWhileTimePasses.{view_later}
+use Rattle.hn_rules.proofs.RefreshChangesNothing.{reach_later, same_reach}
 
 -- the laws of the crates below that it stands on
 pub record StillLaws : Type 0 where

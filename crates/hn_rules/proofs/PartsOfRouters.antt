@@ -29,7 +29,7 @@ use Rattle.hn_own.specs.OwnPrefixes.{AreOwnPrefixes}
 use Rattle.hn_own.specs.HeldPairs.{AreHeldPairs, no_pairs}
 use Rattle.hn_rules.specs.Router.{IfThere, IsNodePast, IsWell}
 use Rattle.hn_rules.proofs.RangedParts.{IsRangedState}
-use Rattle.hn_rules.proofs.Known.{KnownLaws, held_all}
+use Rattle.hn_rules.proofs.LawsFromBelow.{KnownLaws, held_all}
 use Rattle.hn_rules.proofs.Finding.{find-none_filter}
 use Rattle.hn_rules.proofs.PortFacts.{IsPortWell}
 use Rattle.hn_rules.proofs.PostParts.{ArePostsWell}

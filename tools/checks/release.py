@@ -26,6 +26,7 @@ DATA = 'crates/transcripts/data'
 CALLS = [('hncp', ['decode'], 'datagram.hex', 'datagram.transcript'), ('hncp', ['lab'], 'taken_name.script', 'taken_name.transcript'),
          ('hncp', ['watch'], 'a_conflict_of_a_stale_number.capture', 'a_conflict_of_a_stale_number.transcript'),
          ('hnlook', ['table', 'gate'], 'a_backoff_waits.home', 'a_backoff_waits.table-gate')]
+MANUAL = ['man/hncp.1', 'man/hnlook.1', 'man/hncp-tools.1']
 CHECKED = ['forge', 'explain', 'docs/BESIDE-REAL-GATEWAYS.md']     # checks that are run in the archive, those of some seconds
 
 
@@ -238,24 +239,26 @@ def check_places(home):
 
 
 def made_twice(home):
-    """The path of an archive, which comes out the same for another folder, with other times and another mask."""
+    """The paths of an archive and of a package, where there is dpkg-deb. They come out the same for another folder, with other
+    times and another mask."""
     status, text, messages = home.release()
     must(status == 0 and not messages, f'status {status}, {messages[-200:]}')
-    name, *counts = text.split()
-    with open(os.path.join(home.to, name), 'rb') as file:
-        data = file.read()
-    with tarfile.open(os.path.join(home.to, name)) as tar:
+    lines = [line.split() for line in text.splitlines()]
+    made = [name for name, *counts in lines if not name.endswith(':')]
+    must(len(lines) == 2 and len(made) == (2 if shutil.which('dpkg-deb') else 1) and sorted(os.listdir(home.to)) == sorted(made), text)
+    with tarfile.open(os.path.join(home.to, made[0])) as tar:
         files = len(tar.getnames())
-    must(os.listdir(home.to) == [name] and counts == [f'files={files}', f'bytes={len(data)}', f'sha256={hashlib.sha256(data).hexdigest()}'], text)
+    datas = [home.data_of(os.path.join(home.to, name)) for name in made]
+    for (name, *counts), data in zip(lines, datas):
+        must_be(counts, [f'files={files}', f'bytes={len(data)}', f'sha256={hashlib.sha256(data).hexdigest()}'], name)
     other = home.at('../other')
     os.mkdir(other)
     os.utime(home.at('README.md'))
     home.touch()
     time.sleep(1.1)     # the time of a gzip would be another
-    must(home.release(to=other, preexec_fn=lambda: os.umask(0o077))[:2] == (0, text), 'a second archive has another sum')
-    with open(os.path.join(other, name), 'rb') as file:
-        must(file.read() == data, 'a second archive is another')
-    return os.path.join(home.to, name)
+    must(home.release(to=other, preexec_fn=lambda: os.umask(0o077))[:2] == (0, text), 'a second archive or package has another sum')
+    must_be([home.data_of(os.path.join(other, name)) for name in made], datas, 'a second archive or package')
+    return [os.path.join(home.to, name) for name in made]
 
 
 def check_contents(home, path):
@@ -268,7 +271,7 @@ def check_contents(home, path):
     title = os.path.basename(path)[:-len('.tar.gz')]
     names = [entry.name.split('/', 1)[1] for entry in entries]
     stored = home.git('ls-files', '--', *home.committed).split('\n')
-    must_be(names, sorted([*stored, *PLACES.values(), 'RELEASE', 'SHA256SUMS']), 'names')
+    must_be(names, sorted([*stored, *PLACES.values(), *MANUAL, 'RELEASE', 'SHA256SUMS']), 'names')
     moment = int(home.git('show', '-s', '--format=%ct', 'HEAD'))
     sums = []
     for entry, name in zip(entries, names):
@@ -283,7 +286,9 @@ def check_contents(home, path):
         sums += [f'{hashlib.sha256(data).hexdigest()}  {name}'] if name != 'SHA256SUMS' else []
     must_be(common.read(os.path.join(place, title, 'SHA256SUMS')), sums, 'SHA256SUMS')
     about = common.read(os.path.join(place, title, 'RELEASE'))
-    must_be([*about[:2], *about[3:]], ['Rulercress for x86-64 Linux', f'commit {home.git("rev-parse", "HEAD")}', f'kit {home.kit}'], 'RELEASE')
+    version = re.search(r'-(\d+\.\d+\.\d+)-', title)[1]
+    must(f'## {version}' in common.read(home.at('CHANGES.md')), f'CHANGES.md has no version {version}')
+    must_be([*about[:3], *about[4:]], ['Rulercress for x86-64 Linux', f'version {version}', f'commit {home.git("rev-parse", "HEAD")}', f'kit {home.kit}'], 'RELEASE')
     return os.path.join(place, title)
 
 
@@ -324,8 +329,7 @@ def check_release(folder):
         raise Missing('this machine is no x86-64')
     home = Home(folder)
     count = check_trees(home) + check_built(home) + check_places(home)
-    path = made_twice(home)
-    top = check_contents(home, path)
+    top = check_contents(home, made_twice(home)[0])
     used = check_use(home, top)
     files = sum(len(names) for _, _, names in os.walk(top))
     lacking = [name for name in PLACES if name not in home.real]

@@ -1,0 +1,130 @@
+"""The check of the Debian package of tools/release: it is made, installed into an empty folder, used there and removed."""
+import gzip
+import os
+import re
+import shutil
+import subprocess
+
+import common
+from checks.helpers import must, must_be, need
+from checks.release import CALLS, DATA, LIBRARY, Home, made_twice, run_in
+
+SHARE = 'usr/share/rulercress'
+COMMANDS = ['annotate', 'capture', 'decode-capture', 'explain', 'forge', 'judge', 'picture', 'relay', 'seeds', 'timeline']
+ADMIN = 'var/lib/dpkg'
+
+
+def check_told(path):
+    """What the package says of itself, and what is in it: files of root below usr, with right modes."""
+    fields = dict(line.split(': ', 1) for line in output(['dpkg-deb', '--field', path]).splitlines() if re.match(r'[A-Z][\w-]*: ', line))
+    version = re.search(r'_([^_]+)_amd64\.deb$', path)[1]
+    must_be([fields['Package'], fields['Version'], fields['Architecture']], ['rulercress', version, 'amd64'], 'fields of the package')
+    must('python3 (>= 3.9)' in fields['Depends'] and re.search(r'\blibc6\b', fields['Depends']), f'Depends: {fields["Depends"]}')
+    lines = [line.split(None, 5) for line in output(['dpkg-deb', '--contents', path]).splitlines()]
+    for mode, owner, _, _, _, name in lines:
+        right = {'d': ['drwxr-xr-x'], 'l': ['lrwxrwxrwx'], '-': ['-rw-r--r--', '-rwxr-xr-x']}[mode[0]]
+        must(owner == 'root/root' and mode in right and re.match(r'\./(usr/|$)', name), f'{mode} {owner} {name}')
+    return len(lines)
+
+
+def output(words):
+    done = subprocess.run(words, stdin=subprocess.DEVNULL, stdout=subprocess.PIPE, stderr=subprocess.PIPE)
+    must(done.returncode == 0, f'{" ".join(words[:2])}: status {done.returncode}, {done.stderr.decode("utf-8", "replace").strip()[-200:]}')
+    return done.stdout.decode('utf-8', 'replace')
+
+
+def dpkg(root, *words):
+    """Runs dpkg on a folder that stands for the root of a system with nothing installed."""
+    output(['dpkg', f'--root={root}', f'--log={os.devnull}', '--force-depends', *words])
+
+
+def empty_root(root):
+    for name in ('info', 'updates', 'triggers', 'alternatives', 'parts'):
+        os.makedirs(os.path.join(root, ADMIN, name))
+    for name in ('status', 'available'):
+        with open(os.path.join(root, ADMIN, name), 'w', encoding='ascii'):
+            pass
+
+
+def held(root):
+    """All that is in a root, but for what dpkg notes."""
+    found = []
+    for at, folders, names in os.walk(root):
+        folders[:] = [name for name in folders if os.path.relpath(os.path.join(at, name), root) != ADMIN]
+        found += [os.path.relpath(os.path.join(at, name), root) for name in [*folders, *names]]
+    return sorted(found)
+
+
+def check_manual(root):
+    """Each command has a manual page, and the pages are in roff's language."""
+    pages = os.path.join(root, 'usr/share/man/man1')
+    commands = sorted(os.listdir(os.path.join(root, 'usr/bin')))
+    for name in commands:
+        with gzip.open(os.path.join(pages, f'{name}.1.gz'), 'rt', encoding='utf-8') as file:
+            text = file.read()
+        must(text.startswith('.TH ') and '\n.SH NAME\n' in text and '\n.SH DESCRIPTION\n' in text, f'the manual page of {name} begins {text[:60]}')
+    if shutil.which('mandoc'):
+        for name in ('hncp', 'hnlook', 'hncp-tools'):
+            told = subprocess.run(['mandoc', '-T', 'lint', '-W', 'warning', os.path.join(pages, f'{name}.1.gz')], stdout=subprocess.PIPE, stderr=subprocess.STDOUT)
+            must(told.returncode == 0, f'mandoc: {told.stdout.decode("utf-8", "replace").splitlines()[:1]}')
+    return commands
+
+
+def check_used(home, root):
+    """Programs, tools and library work where they are installed, with nothing of the repository and no kit."""
+    top, used = os.path.join(root, SHARE), []
+    status, text, messages = run_in(top, ['sha256sum', '-c', '--quiet', 'SHA256SUMS'])
+    must(status == 0 and not text, f'SHA256SUMS: {text}{messages}'[:200])
+    for name, words, given, expected in CALLS:
+        if name in home.real:
+            with open(os.path.join(top, DATA, given), 'rb') as file:
+                _, text, _ = run_in(root, [os.path.join(root, 'usr/bin', name), *words], data=file.read())
+            must_be(text.splitlines(), common.read(os.path.join(top, DATA, expected)), f'{name} {words[0]} of the package')
+            used += [name] if name not in used else []
+    for name in COMMANDS:
+        status, text, messages = run_in(root, [os.path.join(root, f'usr/bin/hncp-{name}'), '--help'])
+        must(status == 0 and text.startswith(f'usage: hncp-{name}'), f'hncp-{name} --help: status {status}, {text[:60]}{messages[-100:]}')
+    status, text, _ = run_in(root, [os.path.join(root, 'usr/bin/hncp-explain'), '5', '8', os.path.join(top, DATA, 'taken_name.script')])
+    must(status == 0 and text.startswith('refused 5 8: '), f'hncp-explain: status {status}, {text}')
+    if 'hncp' in home.real:
+        status, text, messages = run_in(root, [os.path.join(root, 'usr/bin/hncp-seeds'), '-n', '2', os.path.join(top, DATA, 'a_lossy_home.script'), 'ids=same'])
+        must(status == 0 and text.endswith('2 of 2 seeds\n'), f'hncp-seeds: status {status}, {text[-100:]}{messages[-100:]}')
+        used.append('hncp-seeds')
+    library = os.path.join(root, 'usr/lib/x86_64-linux-gnu', os.path.basename(LIBRARY))
+    words = ['gcc', '-std=c11', '-O1', '-I', os.path.join(root, 'usr/include'), '-o', os.path.join(home.to, 'events'),
+             os.path.join(top, 'checks/c/events.c'), os.path.join(top, 'include/hn_heap.c'), library]
+    if 'library' in home.real:
+        output(words)
+        output([os.path.join(home.to, 'events')])
+        used.append('the library')
+    return used
+
+
+def check_lintian(path):
+    """What lintian says that is an error; nothing where there is none."""
+    if not shutil.which('lintian'):
+        return 'no lintian here'
+    told = subprocess.run(['lintian', '--no-cfg', path], stdin=subprocess.DEVNULL, stdout=subprocess.PIPE, stderr=subprocess.DEVNULL)
+    lines = told.stdout.decode('utf-8', 'replace').splitlines()
+    errors = [line for line in lines if line.startswith('E:')]
+    must(not errors, f'lintian: {errors[:1]}')
+    return f'lintian has no error and {sum(line.startswith("W:") for line in lines)} warnings'
+
+
+def check_package(folder):
+    need('git', 'gcc', 'ar', 'true', 'dpkg-deb')
+    home = Home(folder)
+    path = made_twice(home)[1]
+    entries = check_told(path)
+    said = check_lintian(path)
+    if os.geteuid() or not shutil.which('dpkg'):
+        return f'{entries} entries, two alike; {said}; not installed, which root does by dpkg'
+    root = home.at('../root')
+    empty_root(root)
+    before = held(root)
+    dpkg(root, '--install', path)
+    commands = check_manual(root)
+    used = check_used(home, root)
+    dpkg(root, '--purge', 'rulercress')
+    must_be(held(root), before, 'left after the package was removed')
+    return f'{entries} entries, two alike; {said}; installed {len(commands)} commands, used {", ".join(used)}; nothing left'

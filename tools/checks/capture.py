@@ -128,6 +128,9 @@ def judged(folder):
 
 
 def check_capture(folder):
+    """Held to: tshark reads right checksums, addresses of endpoints on one link, the sender's Node Endpoint, so many
+    copies at each moment as `mail` says, in homes with loss too, and by `hncp watch` the numbers that routers show;
+    links are apart; `judge` finds nothing where nobody stops."""
     need('tshark')
     need_look()
     total = copies = 0

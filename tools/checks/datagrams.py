@@ -49,6 +49,9 @@ def bads(text):
 
 
 def check_lua(folder):
+    """Held to: datagrams of the repository, some at limits, and mutants of a seeded generator: it marks exactly those
+    that `hncp decode` calls malformed, `bad` or ` body=`, and of the others the texts of all TLVs are the same; and
+    names, user agents, IPv4 and cut datagrams."""
     need('tshark')
     if b'Lua' not in subprocess.run(['tshark', '--version'], stdout=subprocess.PIPE, stderr=subprocess.PIPE).stdout:
         raise Missing('this tshark is built without Lua')
@@ -95,6 +98,8 @@ def check_readable(path):
 # decode-capture
 
 def check_capture(folder):
+    """Held to: captures with fragments, a lost fragment, an ICMP error, two ports, a frame cut short, and none of
+    HNCP."""
     need('tshark')
     pool = [data for data in samples.stored() if data]
     long = samples.tlv(33, b'') + samples.tlv(1000, bytes(range(256)) * 16) + samples.tlv(1001, bytes(59000))
@@ -144,6 +149,8 @@ def without_hashes(lines):
 
 
 def check_forge(folder):
+    """Held to: the datagrams of the repository's scripts come out byte for byte; with made hashes too, but where a
+    router notes that the hash is wrong or asks for the data; text of mutants comes out as the same text."""
     stored = [(short(path), text) for path in samples.scripts() for text in dict.fromkeys(samples.injected(path))]
     decoded = [(name, text, common.decode('' if text == '-' else text)) for name, text in stored]
     whole = [each for each in decoded if not each[2][0].startswith('malformed')]

@@ -271,6 +271,9 @@ def check_program():
 
 
 def check_bench(folder):
+    """Held to: the SHA-256 of scripts; programs of the shell, some with a valgrind that is none: rows, ratios and
+    hashes are those that follow by hand, and a program that sleeps, works or holds 67 MB is told as such. Programs
+    that fail, an interrupt, pages with and without a place; two homes by the program itself."""
     scripts = check_scripts()
     check_tables(folder)
     check_sizes(folder)

@@ -205,6 +205,9 @@ def check_page(folder):
 
 
 def check_forms(folder):
+    """Held to: the SHA-256 of inputs, and their sizes, numbers and order; what both programs say of them, as that the
+    audits are sound. Figures and differences that follow by hand; forms that fail; a page with both places. It
+    needs hnlook."""
     need_look()
     inputs = check_inputs()
     check_programs()

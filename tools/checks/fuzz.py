@@ -77,6 +77,8 @@ def check_datagrams():
 
 
 def check_fuzz(folder):
+    """Held to: the program passes, and one seed gives one table. Programs of the shell that are wrong in one way each
+    are found, what failed fails again, and the right program passes it."""
     need_look()
     count = check_right(folder)
     for place, wrong in enumerate(WRONG):

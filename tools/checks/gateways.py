@@ -218,6 +218,9 @@ def check_simulated(folder):
 
 
 def check_judge(folder):
+    """Held to: a capture of three routers as the program sent it, its fronts and rests, with numbers that wrap, and
+    captures of `tools/capture`: nothing is found. In it 49 faults, one at a time: each is found in its frame, and
+    nothing that does not follow from it. Random mutants of it give no traceback."""
     sound, planted, mutants = check_sound(), check_faults(), check_mutants()
     if shutil.which('tshark'):
         check_captures(folder)

@@ -210,7 +210,14 @@ def compare_heard(sample, found, counts):
 
 
 def check_look(_, count):
-    """Tries so many random scripts."""
+    """Tries so many random scripts.
+
+    Held to: random scripts, half of them with loss, whose logs are held to what hncp alone says. Without loss the
+    script is unrolled by `mail` lines: the log has those events, with those notes, and what it drops cannot be
+    delivered. With loss: the datagrams of `hncp udp`, heard on the loopback, are the copies that the log delivers;
+    counts are those of `mail`, and numbers those of `show`. Not compared are the bytes of a unicast that was lost,
+    and notes within `flow` and `run`.
+    """
     need_look()
     counts, missing = collections.Counter(), None
     for start in range(0, count, AT_ONCE):

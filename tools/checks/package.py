@@ -112,6 +112,8 @@ def check_lintian(path):
 
 
 def check_package(folder):
+    """Held to: what it says of itself; owners and modes; lintian, where that is there; as root it is installed by dpkg
+    into an empty folder, where programs, tools, sums and manual pages work, and removed: nothing is left."""
     need('git', 'gcc', 'ar', 'true', 'dpkg-deb')
     home = Home(folder)
     path = made_twice(home)[1]

@@ -324,6 +324,11 @@ def check_use(home, top):
 
 
 def check_release(folder):
+    """Held to: a repository of its own, with stand-ins for what is not built: each refusal above leaves nothing, and
+    so does a write that fails; two archives are the same, with other times and another mask; names, modes, owners,
+    times and sums. It needs git and gcc The archive is unpacked in an empty folder: with no kit on the path the
+    programs give the repository's texts, `checks/samples` prints what it prints here, some checks pass, and gcc
+    builds the daemon; with the real library it runs `checks/c/events.c`."""
     need('git', 'gcc', 'ar', 'true')
     if platform.machine() != 'x86_64':
         raise Missing('this machine is no x86-64')

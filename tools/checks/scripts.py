@@ -36,6 +36,9 @@ def check_moment(lines, place, moment):
 
 
 def check_annotate(folder):
+    """Held to: in scripts of at most 90 lines, each line of the script wrote as many lines as playing the script up to
+    it shows; `time` is refused below the moment, and not at it. Of a log: so many copies as `mail` says, in the
+    order of lines and moments."""
     written = 0
     for path in samples.scripts():
         transcript, lines = samples.transcript_of(path), common.read_script(path)
@@ -129,6 +132,8 @@ def edges_of(text):
 
 
 def check_picture(folder):
+    """Held to: its edges are the attached endpoints less the detached ones, and the uplinks; in scripts without
+    `detach` each assigned prefix is shown."""
     need('dot')
     edges = pictured = 0
     for path in samples.scripts():
@@ -152,6 +157,7 @@ def check_picture(folder):
 # seeds
 
 def check_seeds(folder):
+    """Held to: plays of a script with each seed put in by the check."""
     path = next(path for path in samples.scripts() if short(path) == 'a_vanishing_router.script')
     texts, expected = common.read(path), []
     for seed in range(1, 101):
@@ -182,6 +188,8 @@ OF_NO_LINE = {'refused 0 4': 'text for hncp decode', 'refused 0 7': 'hnlook NAME
 
 
 def check_explain(folder):
+    """Held to: the rows of the page, and another page beside a copy of the tool; the kind of each input that the
+    program refuses; places within values against those of a datagram."""
     page = common.read(os.path.join(common.HERE, '..', 'docs', 'FORMATS.md'))
     explained = set()
     for path in samples.scripts() + samples.captures():

@@ -283,7 +283,12 @@ def compare_refused(said, where):
 
 
 def check_settled(_, count):
-    """Tries so many random homes."""
+    """Tries so many random homes.
+
+    Held to: random homes, each left where something happened: it says settled and quiet where `audit` does. Else a
+    cause of the kind that `audit` says, which the reports and attachments bear out. Not looked at is that no other
+    cause comes first, and who has whom as a peer.
+    """
     need_why()
     counts = collections.Counter()
     for seed in range(count):

@@ -207,7 +207,12 @@ def need_table():
 
 
 def check_tables(_, count):
-    """Tries so many random homes."""
+    """Tries so many random homes.
+
+    Held to: random homes without loss, with delegated prefixes that are not used. The table of each router is made
+    in Python, from the bytes of datagrams and reports after each event, and compared line by line. The own node
+    data have to give the network state hash, and each backoff ends when it says.
+    """
     need_table()
     counts = collections.Counter()
     for seed in range(count):

@@ -289,6 +289,9 @@ def large_script(path):
 
 
 def check_timeline(folder):
+    """Held to: plays up to single moments: the text has the changes that they show, and a click into the page the
+    reports that they write; the rules of RFC 4862, case by case; pages open within 3 seconds, ask for nothing, and
+    leave no error on the console; with a program that plays another run nothing is shown."""
     need_look()
     told = compare_text()
     cases = compare_hosts()

@@ -288,7 +288,9 @@ def check_contents(home, path):
     about = common.read(os.path.join(place, title, 'RELEASE'))
     version = re.search(r'-(\d+\.\d+\.\d+)-', title)[1]
     must(f'## {version}' in common.read(home.at('CHANGES.md')), f'CHANGES.md has no version {version}')
-    must_be([*about[:3], *about[4:]], ['Rulercress for x86-64 Linux', f'version {version}', f'commit {home.git("rev-parse", "HEAD")}', f'kit {home.kit}'], 'RELEASE')
+    processor = 'x86-64-v2' if home.real and home.real != ['library'] else 'x86-64'
+    must_be([*about[:3], *about[4:]], ['Rulercress for x86-64 Linux', f'version {version}', f'commit {home.git("rev-parse", "HEAD")}', f'kit {home.kit}',
+                                        f'processor of the programs: {processor}', 'processor of the library: x86-64-v2'], 'RELEASE')
     return os.path.join(place, title)
 
 

@@ -314,15 +314,21 @@ def check_use(home, top):
     must(status == 0 and text.startswith('refused 5 8: '), f'tools/explain in the archive: status {status}, {text}')
     status, _, messages = run_in(top, ['tools/release', os.path.dirname(top)])
     must(status == 1 and 'is no clone' in messages, f'tools/release in the archive: status {status}, {messages}')
-    example = ['examples/hnd/hnd.c', 'include/hn_heap.c', LIBRARY]
-    tests = ['checks/c/events.c', 'include/hn_heap.c', LIBRARY]
-    for words, sources, wanted in [(['../hnd'], example, 2), (['../events'], tests, 0)][:2 if 'library' in home.real else 1]:
-        status, _, messages = run_in(top, ['gcc', '-std=c11', '-O1', '-I', 'include', '-o', words[0], *sources])
-        must(status == 0, f'gcc {sources[0]} in the archive: {messages[-300:]}')
-        status, text, messages = run_in(top, words)
-        must(status == wanted, f'{sources[0]} in the archive: status {status}, {text}{messages[-200:]}')
-        used.append(os.path.basename(words[0]))
+    tests = ['gcc', '-std=c11', '-O1', '-I', 'include', '-o', '../events', 'checks/c/events.c', 'include/hn_heap.c', LIBRARY]
+    for words, made, wanted, is_tried in [(['make', '-C', 'daemon', 'O=../../hnd', 'CC=gcc'], '../hnd/hnd', 2, has_mnl()),
+                                          (tests, '../events', 0, 'library' in home.real)]:
+        if is_tried:
+            status, _, messages = run_in(top, words)
+            must(status == 0, f'{" ".join(words[:3])} in the archive: {messages[-300:]}')
+            status, text, messages = run_in(top, [made])
+            must(status == wanted, f'{made} in the archive: status {status}, {text}{messages[-200:]}')
+            used.append(os.path.basename(made))
     return used
+
+
+def has_mnl():
+    """Whether the daemon can be built: it takes make and libmnl."""
+    return bool(shutil.which('make')) and run_in('/', ['gcc', '-E', '-x', 'c', '-'], data=b'#include <libmnl/libmnl.h>\n')[0] == 0
 
 
 def check_release(folder):

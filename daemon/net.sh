@@ -1,29 +1,33 @@
 #!/bin/sh
-# Tries hnd between network namespaces of this machine: three routers and a host, joined by pairs of veth.
+# Tries hnd between network namespaces of this machine: three routers and two hosts, joined by pairs of veth.
 #
-#     examples/hnd/net.sh DAEMON          such as: examples/hnd/net.sh ./hnd
+#     daemon/net.sh DAEMON          such as: daemon/net.sh daemon/out/hnd
 #
-#     gateway -- middle -- far -- host
+#     near -- gateway -- middle -- far -- host
 #
-# The gateway has the delegated prefix 2001:db8:0:100::/56, and far sends Router Advertisements. This is tried:
+# The gateway has the delegated prefix 2001:db8:0:100::/56. Each router sends Router Advertisements, sets addresses and
+# routes, and runs babeld, which carries the routes to the others. This is tried:
 #
 #   - The routers agree: they have one network state hash and reach three nodes, and all prefixes are applied.
 #   - The host comes to its link after that, and solicits. It takes an address by SLAAC in the prefix of the link.
 #   - radvdump and tcpdump read this prefix in the advertisement.
+#   - The near host reaches the address of each router and that of the other host, by ping.
 #   - The gateway's prefix is withdrawn. Then the address of the host is deprecated.
-#   - Each daemon ends with status 0, and tools/judge finds nothing in what the routers sent to each other.
+#   - Each daemon ends with status 0, and leaves no address and no route. tools/judge finds nothing in what the routers
+#     sent to each other.
 #
 # It takes root and ip (iproute2). Without them, or where no namespace can be made, the one line is "skipped: ..", with
-# status 0. What takes tcpdump, radvdump or tools/judge (tshark, Python and hncp) is skipped without them. The last line
-# is "agreed" with status 0, or a line says what failed, with status 1. It ends within two minutes, and leaves nothing.
+# status 0. What takes babeld, ping, tcpdump, radvdump or tools/judge (tshark, Python and hncp) is skipped without them. The
+# last line is "agreed" with status 0, or a line says what failed, with status 1. It ends within two minutes, and leaves
+# nothing.
 set -eu
 
 if [ $# -ne 1 ] || [ ! -f "$1" ] || [ ! -x "$1" ]; then
-    echo 'usage: examples/hnd/net.sh DAEMON, which is made of examples/hnd/hnd.c' >&2
+    echo 'usage: daemon/net.sh DAEMON, which is made by make in the folder daemon' >&2
     exit 2
 fi
 daemon=$(cd "$(dirname "$1")" && pwd)/$(basename "$1")
-top=$(cd "$(dirname "$0")/../.." && pwd)
+top=$(cd "$(dirname "$0")/.." && pwd)
 HNCP=${HNCP:-$top/crates/hncp/out/hncp}
 export HNCP
 uplink=2001:db8:0:100::/56
@@ -34,7 +38,7 @@ work=$(mktemp -d)
 
 # Ends what runs in the namespaces, and removes them and the folder.
 clean_up() {
-    for name in gateway middle far host; do
+    for name in gateway middle far near host; do
         for process in $(ip netns pids "$net-$name"); do
             kill -KILL "$process" || true
         done
@@ -130,8 +134,16 @@ start() {
     input=$2
     shift 2
     : > "$work/$name.log"
-    ip netns exec "$net-$name" "$daemon" -t 110 "$@" < "$input" > "$work/$name.log" 2>&1 &
+    ip netns exec "$net-$name" "$daemon" -arf -t 110 "$@" < "$input" > "$work/$name.log" 2>&1 &
     daemons="$daemons $!"
+}
+
+# Starts babeld on a router: it carries the routes of hnd, which have the protocol number 44: route NAME INTERFACE..
+route() {
+    name=$1
+    shift
+    ip netns exec "$net-$name" babeld -I "$work/$name.pid" -S "$work/$name.state" -C 'redistribute proto 44 allow' \
+        -C 'redistribute local deny' "$@" > "$work/$name-babeld.log" 2>&1 &
 }
 
 # Writes what a router said last: its hash, how many nodes it reaches, how many assignments are applied and are not.
@@ -145,14 +157,14 @@ state() {
               print hash, reach, yes + 0, no + 0 }' "$work/$1.log"
 }
 
-# Whether the routers agree. The gateway has one link, and each of the others two. No daemon may have ended.
+# Whether the routers agree. Each has two links. No daemon may have ended.
 agree() {
     for process in $daemons; do
         [ -d "/proc/$process" ] || fail 'a daemon has ended'
     done
     hash=$(state gateway)
     hash=${hash%% *}
-    [ "$(state gateway)" = "$hash 3 1 0" ] || return 1
+    [ "$(state gateway)" = "$hash 3 2 0" ] || return 1
     [ "$(state middle)" = "$hash 3 2 0" ] && [ "$(state far)" = "$hash 3 2 0" ]
 }
 
@@ -174,6 +186,21 @@ has_host_line() {
 # Whether it is deprecated.
 is_deprecated() {
     host_line | grep -q 'deprecated .* preferred_lft 0sec'
+}
+
+# Writes the addresses of a global scope on an interface: addresses NAME INTERFACE
+addresses() {
+    ip -n "$net-$1" -o -6 addr show dev "$2" scope global | awk '{ sub("/.*", "", $4); print $4 }'
+}
+
+# Whether the near host has an address.
+has_near_address() {
+    [ -n "$(addresses near to-gateway)" ]
+}
+
+# Whether the near host reaches an address: reaches ADDRESS
+reaches() {
+    ip netns exec "$net-near" ping -6 -c 1 -W 1 "$1" > /dev/null 2>&1
 }
 
 # Whether tcpdump reads the prefix in an advertisement.
@@ -203,24 +230,25 @@ judge() {
 make_net() {
     [ "$(id -u)" = 0 ] || skip 'network namespaces take root'
     command -v ip > /dev/null || skip 'there is no ip; on Debian: apt-get install iproute2'
-    for name in gateway middle far host; do
+    for name in gateway middle far near host; do
         ip netns add "$net-$name" 2> "$work/why" || skip "there are no network namespaces: $(cat "$work/why")"
     done
+    join near gateway
     join gateway middle
     join middle far
     join far host
-    for name in gateway middle far; do
-        put $name all/forwarding 1
+    for at in near/to-gateway host/to-far; do
+        put "${at%/*}" "${at#*/}/accept_ra" 1
+        put "${at%/*}" "${at#*/}/autoconf" 1
     done
-    put host to-far/accept_ra 1
-    put host to-far/autoconf 1
     put host to-far/disable_ipv6 1
-    for at in gateway/to-middle middle/to-gateway middle/to-far far/to-middle far/to-host host/to-far; do
+    for at in near/to-gateway gateway/to-near gateway/to-middle middle/to-gateway middle/to-far far/to-middle far/to-host \
+        host/to-far; do
         put "${at%/*}" "${at#*/}/accept_dad" 0
         ip -n "$net-${at%/*}" link set lo up
         ip -n "$net-${at%/*}" link set "${at#*/}" up
     done
-    for at in gateway/to-middle middle/to-gateway middle/to-far far/to-middle far/to-host; do
+    for at in gateway/to-near gateway/to-middle middle/to-gateway middle/to-far far/to-middle far/to-host; do
         wait_for 5 has_address "${at%/*}" "${at#*/}" || fail "${at#*/} of ${at%/*} has no link-local address"
     done
 }
@@ -236,9 +264,16 @@ try_routers() {
     exec 3<> "$work/commands"
     look_at_clock
     begun=$clock
-    start gateway "$work/commands" -i 00000001 -p "$uplink:7200:3600" to-middle
+    start gateway "$work/commands" -i 00000001 -p "$uplink:7200:3600" to-near to-middle
     start middle /dev/null -i 00000002 to-gateway to-far
-    start far /dev/null -i 00000003 -a to-middle to-host
+    start far /dev/null -i 00000003 to-middle to-host
+    routed=
+    if have 'the ping between hosts' babeld ping; then
+        routed=yes
+        route gateway to-middle
+        route middle to-gateway to-far
+        route far to-middle
+    fi
     wait_for 60 agree || fail 'the routers do not agree within 60 s'
     time_to_agree=$(since "$begun")
     echo "agreed after $time_to_agree s: $hash"
@@ -269,6 +304,23 @@ try_host() {
     fi
 }
 
+# The near host reaches each router and the other host. Babel needs some seconds for its routes.
+try_ping() {
+    [ -n "$routed" ] || return 0
+    look_at_clock
+    begun=$clock
+    wait_for 20 has_near_address || fail 'the near host takes no address'
+    for at in gateway/to-near gateway/to-middle middle/to-gateway middle/to-far far/to-middle far/to-host host/to-far; do
+        for address in $(addresses "${at%/*}" "${at#*/}"); do
+            wait_for 30 reaches "$address" || fail "the near host does not reach $address of ${at%/*}"
+        done
+    done
+    echo "near reaches each router and host $(since "$begun") s later"
+    address=$(addresses host to-far | head -n 1)
+    ip netns exec "$net-near" ping -6 -q -c 20 -i 0.05 -W 1 "$address" > "$work/ping.log" 2>&1 || fail 'the ping fails'
+    echo "ping from near to host: $(sed -n 's/.*received, //p' "$work/ping.log")"
+}
+
 # The delegated prefix is withdrawn.
 try_withdrawal() {
     look_at_clock
@@ -286,9 +338,13 @@ try_end() {
     daemons=
     echo quit >&3
     kill "$2" "$3"
-    wait_for 5 have_ended "$@" || fail 'a daemon does not end'
+    wait_for 8 have_ended "$@" || fail 'a daemon does not end'
     for process; do
         wait "$process" || fail "a daemon ended with status $?"
+    done
+    for name in gateway middle far; do
+        left=$(ip -n "$net-$name" -6 route show proto 44; ip -n "$net-$name" -o -6 addr show scope global)
+        [ -z "$left" ] || fail "hnd leaves on $name: $left"
     done
 }
 
@@ -314,6 +370,7 @@ deadline=$((clock + 9500)) # all waits end by then, and 20 s later tools/judge e
 make_net
 try_routers
 try_host
+try_ping
 try_withdrawal
 try_end
 try_judge

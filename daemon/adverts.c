@@ -1,0 +1,332 @@
+/* Router Advertisements: when they are sent, what is put behind those of the library, and what solicits them. */
+#include "hnd.h"
+
+#include <arpa/inet.h>
+#include <netinet/icmp6.h>
+#include <string.h>
+
+/* In milliseconds (RFC 4861, sections 6.2.1 and 10). After each of the first FIRST_ADVERTS the next one comes after
+ * FIRST_INTERVAL. Later ones come after LEAST_INTERVAL, and up to MORE_INTERVAL more. There are never two within
+ * LEAST_BETWEEN. A solicitation is answered within LONGEST_DELAY. A link on which there is nothing to advertise is given
+ * QUIET before the first one: hosts that still have a route of an earlier daemon keep it so long. */
+enum { FIRST_ADVERTS = 3, FIRST_INTERVAL = 16000, LEAST_INTERVAL = 198000, MORE_INTERVAL = 402000 };
+enum { LEAST_BETWEEN = 3000, LONGEST_DELAY = 500, QUIET = 15000 };
+
+/* In seconds: the most that hosts are told of a prefix (RFC 9096, section 3.4), and how long a server of names counts,
+ * which is three times the longest interval (RFC 8106, section 5.1). */
+enum { MOST_PREFERRED = 2700, MOST_VALID = 5400, SERVER_LIFETIME = 1800 };
+
+/* Bytes: of the head, of a Prefix Information, and of the most that one packet takes: 1,280 less the header of IPv6. */
+enum { HEAD = 16, INFO = 32, MOST_PACKET = 1240 };
+
+/* Kinds of options, and how many prefixes of earlier daemons are kept. */
+enum { SOURCE = 1, PREFIX = 3, SERVERS = 25, MOST_DEPARTED = 64 };
+
+/* Prefixes that an earlier daemon had on a link, and until when hosts may hold them. */
+static struct {
+    const struct link *link;
+    struct prefix prefix;
+    uint64_t ends;
+} departed[MOST_DEPARTED];
+static size_t departed_count;
+static bool is_ending;
+
+/* Whether advertisements are sent on a link now. */
+static bool is_advertising(const struct link *link)
+{
+    return icmp >= 0 && link->is_attached && link->is_fit;
+}
+
+/* A link begins to advertise. Two advertisements stay apart, though. */
+void begin_adverts(struct link *link)
+{
+    uint64_t earliest = link->adverts.earliest, at = now();
+    link->adverts = (struct advertising){.begun = at, .earliest = earliest, .next = at + QUIET};
+}
+
+/* Whether hosts are to be told anything: a prefix, or a default route. */
+static bool has_news(const struct advertising *it)
+{
+    return it->length > HEAD || it->bytes[6] != 0 || it->bytes[7] != 0;
+}
+
+/* An advertisement is due on a link after so many milliseconds, or when one may be sent, unless it is due before. */
+static void hasten(struct advertising *it, uint64_t delay)
+{
+    uint64_t at = now() + delay;
+    if (it->count == 0 && !has_news(it) && at < it->begun + QUIET)
+        return;
+    it->next = earlier(it->next, at < it->earliest ? it->earliest : at);
+}
+
+/* A prefix that an earlier daemon had on a link: hosts are told that it is not preferred any more. */
+void remember_departed(struct link *link, const struct prefix *prefix)
+{
+    if (departed_count == MOST_DEPARTED)
+        return;
+    departed[departed_count].link = link;
+    departed[departed_count].prefix = *prefix;
+    departed[departed_count++].ends = now() + MOST_VALID * 1000;
+    hasten(&link->adverts, 0);
+}
+
+/* If what is to be advertised on a link has changed, it is due at once. Of its lifetimes only this counts: whether a
+ * prefix is preferred. */
+static void watch(struct link *link)
+{
+    static uint8_t now_there[MOST_ADVERT];
+    struct advertising *it = &link->adverts;
+    size_t length = 0;
+    if (!is_done(hn_router_advert(&router, link->endpoint, &length, now_there, sizeof now_there), "advert"))
+        return;
+    for (uint8_t *option = now_there + HEAD; option < now_there + length; option += INFO)
+        memset(option + 4, memcmp(option + 8, "\0\0\0", 4) != 0, 8);
+    if (length == it->length && memcmp(now_there, it->bytes, length) == 0)
+        return;
+    memcpy(it->bytes, now_there, length);
+    it->length = length;
+    hasten(it, 0);
+}
+
+void watch_adverts(void)
+{
+    for (struct link *link = links; link < links + link_count; link++) {
+        if (is_advertising(link))
+            watch(link);
+    }
+}
+
+/* A number of 32 bits in the order of the network. */
+static uint32_t get(const uint8_t *at)
+{
+    uint32_t number;
+    memcpy(&number, at, sizeof number);
+    return ntohl(number);
+}
+
+static void put(uint8_t *at, uint32_t number)
+{
+    number = htonl(number);
+    memcpy(at, &number, sizeof number);
+}
+
+/* The Prefix Information of a prefix among options, or nothing. */
+static const uint8_t *find_info(const uint8_t *bytes, size_t length, const struct prefix *prefix)
+{
+    for (const uint8_t *option = bytes; option < bytes + length; option += option[1] * 8) {
+        if (option[0] == PREFIX && option[2] == prefix->length && memcmp(option + 16, prefix->bits, 16) == 0)
+            return option;
+    }
+    return NULL;
+}
+
+/* Lowers the lifetimes of an advertisement in the room. The last one of all takes back the default route and what is
+ * preferred. */
+static void lower(size_t length)
+{
+    if (is_ending)
+        memset(room + 6, 0, 2);
+    for (uint8_t *option = room + HEAD; option < room + length; option += option[1] * 8) {
+        if (option[0] != PREFIX)
+            continue;
+        if (!settings.keeps_lifetimes && get(option + 4) > MOST_VALID)
+            put(option + 4, MOST_VALID);
+        if (is_ending)
+            put(option + 8, 0);
+        else if (!settings.keeps_lifetimes && get(option + 8) > MOST_PREFERRED)
+            put(option + 8, MOST_PREFERRED);
+    }
+}
+
+/* Whether a prefix is assigned to a link, applied or not. */
+static bool is_assigned(const struct link *link, const struct prefix *prefix)
+{
+    size_t count;
+    for (const hn_assigned *it = assignments(&count), *end = it + count; it < end; it++) {
+        if (it->endpoint == link->endpoint && it->length == prefix->length && memcmp(it->prefix, prefix->bits, 16) == 0)
+            return true;
+    }
+    return false;
+}
+
+/* Puts what an earlier daemon had on the link behind the prefixes in the room, with a preferred lifetime of 0. Returns the
+ * length. */
+static size_t add_departed(const struct link *link, size_t length)
+{
+    size_t kept = 0, prefixes = length;
+    for (size_t place = 0; place < departed_count; place++) {
+        uint64_t left = departed[place].ends <= now() ? 0 : (departed[place].ends - now()) / 1000;
+        const struct prefix *prefix = &departed[place].prefix;
+        if (left == 0)
+            continue;
+        departed[kept++] = departed[place];
+        if (departed[place].link != link || is_assigned(link, prefix)
+            || find_info(room + HEAD, prefixes - HEAD, prefix) != NULL)
+            continue;
+        uint8_t *option = room + length;
+        memset(option, 0, INFO);
+        option[0] = PREFIX;
+        option[1] = INFO / 8;
+        option[2] = prefix->length;
+        option[3] = 0xc0;
+        put(option + 4, (uint32_t)left);
+        memcpy(option + 16, prefix->bits, 16);
+        length += INFO;
+    }
+    departed_count = kept;
+    return length;
+}
+
+/* Puts the hardware address of the link and the servers of names behind the options in the room. Returns the length. */
+static size_t add_options(const struct link *link, size_t length)
+{
+    if (link->has_hardware) {
+        room[length] = SOURCE;
+        room[length + 1] = 1;
+        memcpy(room + length + 2, link->hardware, 6);
+        length += 8;
+    }
+    if (settings.server_count > 0) {
+        memset(room + length, 0, 8);
+        room[length] = SERVERS;
+        room[length + 1] = (uint8_t)(1 + 2 * settings.server_count);
+        put(room + length + 4, is_ending ? 0 : SERVER_LIFETIME);
+        memcpy(room + length + 8, settings.servers, 16 * settings.server_count);
+        length += 8 + 16 * settings.server_count;
+    }
+    return length;
+}
+
+/* Sends an advertisement in as many packets as it takes, each with the same head. Returns how many, and 0 where one fails:
+ * hosts drop fragments (RFC 6980). */
+static unsigned send_parts(const struct link *link, size_t length)
+{
+    static const uint8_t all_nodes[16] = {0xff, 0x02, [15] = 0x01};
+    uint8_t part[MOST_PACKET];
+    unsigned parts = 0;
+    size_t place = HEAD;
+    memcpy(part, room, HEAD);
+    do {
+        size_t count = HEAD;
+        for (size_t size; place < length && count + (size = room[place + 1] * 8u) <= MOST_PACKET; place += size, count += size)
+            memcpy(part + count, room + place, size);
+        if (!send_out(icmp, link, all_nodes, 0, part, count))
+            return 0;
+        parts++;
+    } while (place < length);
+    return parts;
+}
+
+/* Sends an advertisement on a link, as of now. One that fails is told, and tried again later; but not the last one. */
+static void advertise(struct link *link)
+{
+    struct advertising *it = &link->adverts;
+    size_t length = 0;
+    it->earliest = it->next = now() + LEAST_BETWEEN;
+    it->is_over = is_ending;
+    if (!tick() || !is_done(hn_router_advertise(&router, link->endpoint, &length, room, sizeof room - MOST_DEPARTED * INFO - 64),
+                            "advertise"))
+        return;
+    lower(length);
+    length = add_options(link, is_ending ? length : add_departed(link, length));
+    unsigned parts = send_parts(link, length);
+    if (parts == 0)
+        return;
+    say(OF_ADVERT, "advertised %s bytes=%zu%s%s", link->name, length, parts > 1 ? " in parts" : "", is_ending ? " last" : "");
+    it->earliest = now() + LEAST_BETWEEN;
+    it->next = now() + (it->count < FIRST_ADVERTS ? FIRST_INTERVAL : LEAST_INTERVAL + draw_number(MORE_INTERVAL));
+    it->count += it->count < FIRST_ADVERTS;
+}
+
+/* Whether options are well formed. One of the source's hardware address may be forbidden. */
+static bool are_options(const uint8_t *bytes, size_t length, bool may_have_source)
+{
+    for (size_t place = 0; place < length; place += bytes[place + 1] * 8u) {
+        if (length - place < 8 || bytes[place + 1] == 0 || bytes[place + 1] * 8u > length - place)
+            return false;
+        if (bytes[place] == SOURCE && !may_have_source)
+            return false;
+    }
+    return true;
+}
+
+/* A solicitation is answered, if it is one by RFC 4861, section 6.1.1. */
+static void take_solicitation(const struct arrival *it)
+{
+    bool is_unspecified = IN6_IS_ADDR_UNSPECIFIED(&it->from.sin6_addr);
+    if (it->length < 8 || room[1] != 0 || !are_options(room + 8, it->length - 8, !is_unspecified)) {
+        say(OF_STRAY, "dropped %s from=%s why=solicitation", it->link->name, address_text(it->from.sin6_addr.s6_addr));
+        return;
+    }
+    say(OF_ADVERT, "solicited %s", it->link->name);
+    hasten(&it->link->adverts, draw_number(LONGEST_DELAY));
+}
+
+/* Another router advertises. If it tells hosts that a prefix of this link is not preferred, such as when it ends, they are
+ * told that it still is (RFC 4861, section 6.2.7). */
+static void take_advert(const struct arrival *it)
+{
+    struct advertising *own = &it->link->adverts;
+    if (it->length < HEAD || room[1] != 0 || !IN6_IS_ADDR_LINKLOCAL(&it->from.sin6_addr)
+        || !are_options(room + HEAD, it->length - HEAD, true))
+        return;
+    for (const uint8_t *option = room + HEAD; option < room + it->length; option += option[1] * 8) {
+        struct prefix prefix = {.length = option[2]};
+        if (option[0] != PREFIX || option[1] != INFO / 8 || get(option + 8) != 0)
+            continue;
+        memcpy(prefix.bits, option + 16, 16);
+        const uint8_t *held = own->length < HEAD ? NULL : find_info(own->bytes + HEAD, own->length - HEAD, &prefix);
+        if (held != NULL && held[8] != 0)
+            hasten(own, draw_number(LONGEST_DELAY));
+    }
+}
+
+/* Takes a solicitation, or an advertisement of another router. Both come from this link, by their hop limit. */
+enum received take_neighbor(void)
+{
+    struct arrival it;
+    enum received received = receive(icmp, &it);
+    if (received != PACKET || it.hops != 255 || it.length == 0 || !is_advertising(it.link) || is_ending)
+        return received;
+    if (room[0] == ND_ROUTER_SOLICIT)
+        take_solicitation(&it);
+    else
+        take_advert(&it);
+    return received;
+}
+
+/* When the next advertisement is due. */
+uint64_t adverts_due(void)
+{
+    uint64_t due = NEVER;
+    for (const struct link *link = links; link < links + link_count; link++) {
+        if (is_advertising(link) && !link->adverts.is_over)
+            due = earlier(due, link->adverts.next);
+    }
+    return due;
+}
+
+/* Sends those that are due. */
+void send_adverts(void)
+{
+    for (struct link *link = links; link < links + link_count; link++) {
+        if (is_advertising(link) && !link->adverts.is_over && link->adverts.next <= now())
+            advertise(link);
+    }
+}
+
+/* It is the end: each link that advertised has a last advertisement, as soon as one may be sent (RFC 4861, section 6.2.5).
+ * Whether all are sent. */
+bool end_adverts(void)
+{
+    bool are_over = true;
+    is_ending = true;
+    for (struct link *link = links; link < links + link_count; link++) {
+        link->adverts.is_over |= link->adverts.count == 0;
+        if (!is_advertising(link) || link->adverts.is_over)
+            continue;
+        link->adverts.next = link->adverts.earliest;
+        are_over = false;
+    }
+    return are_over;
+}

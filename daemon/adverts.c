@@ -44,6 +44,16 @@ void begin_adverts(struct link *link)
     link->adverts = (struct advertising){.begun = at, .earliest = earliest, .next = at + QUIET};
 }
 
+/* Whether an earlier daemon had a prefix on a link. */
+static bool has_departed(const struct link *link)
+{
+    for (size_t place = 0; place < departed_count; place++) {
+        if (departed[place].link == link)
+            return true;
+    }
+    return false;
+}
+
 /* Whether hosts are to be told anything: a prefix, or a default route. */
 static bool has_news(const struct advertising *it)
 {
@@ -228,7 +238,7 @@ static void advertise(struct link *link)
                             "advertise"))
         return;
     lower(length);
-    length = add_options(link, is_ending ? length : add_departed(link, length));
+    length = add_options(link, add_departed(link, length));
     unsigned parts = send_parts(link, length);
     if (parts == 0)
         return;
@@ -315,14 +325,14 @@ void send_adverts(void)
     }
 }
 
-/* It is the end: each link that advertised has a last advertisement, as soon as one may be sent (RFC 4861, section 6.2.5).
- * Whether all are sent. */
+/* It is the end: each link on which this daemon or an earlier one advertised has a last advertisement, as soon as one may be
+ * sent (RFC 4861, section 6.2.5). Whether all are sent. */
 bool end_adverts(void)
 {
     bool are_over = true;
     is_ending = true;
     for (struct link *link = links; link < links + link_count; link++) {
-        link->adverts.is_over |= link->adverts.count == 0;
+        link->adverts.is_over |= link->adverts.count == 0 && !has_departed(link);
         if (!is_advertising(link) || link->adverts.is_over)
             continue;
         link->adverts.next = link->adverts.earliest;

@@ -115,7 +115,7 @@ bool read_delegation(const char *text, struct delegation *it);
 /* log.c: lines of one kind are limited to some in a second. */
 enum kind { OF_COMMAND, OF_STATE, OF_ASSIGNMENT, OF_LINK, OF_ROUTE, OF_ADVERT, OF_NOTE, OF_STRAY, OF_SEND, OF_CALL, KINDS };
 void open_log(void);
-void say(enum kind kind, const char *form, ...) __attribute__((format(printf, 2, 3)));
+bool say(enum kind kind, const char *form, ...) __attribute__((format(printf, 2, 3)));
 int log_descriptor(void);
 uint64_t log_due(void);
 void write_log(void);
@@ -186,6 +186,7 @@ void take_over(struct link *link);
 void forget_routes(const struct link *link);
 void follow_routes(const hn_assigned *list, size_t count);
 uint64_t routes_due(void);
+void end_left(void);
 void end_routes(void);
 void write_addresses(void (*write)(FILE *, const struct link *, const uint8_t *, const struct prefix *), FILE *to);
 

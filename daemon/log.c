@@ -198,8 +198,8 @@ static void tell_left_out(void)
     }
 }
 
-/* Writes a line, unless there were many of its kind in this second. */
-void say(enum kind kind, const char *form, ...)
+/* Writes a line, unless there were many of its kind in this second. Whether there were not. */
+bool say(enum kind kind, const char *form, ...)
 {
     va_list values;
     uint64_t second = now() / 1000;
@@ -210,11 +210,12 @@ void say(enum kind kind, const char *form, ...)
     }
     if (++kinds[kind].count > kinds[kind].limit) {
         kinds[kind].left_out++;
-        return;
+        return false;
     }
     va_start(values, form);
     write_line(form, values);
     va_end(values);
+    return true;
 }
 
 /* What is to be polled for writing: nothing, where no line waits. */

@@ -115,6 +115,8 @@ static void finish(void)
     tick();
     for (uint64_t until = were_some ? now() + LINGER : 0; now() < until;)
         turn(until);
+    end_left();
+    report();
     while (!end_adverts())
         turn(adverts_due());
     drop_held(NULL);

@@ -14,9 +14,10 @@ enum { LONGEST_DELAY = 100, KEEP_ALIVE = 20000 };
 enum { PEERS_FULL = 6, REFUSED = 7 };
 
 hn_router router;
-static bool is_changed = true; /* an event came since the last report */
-static bool is_refused;        /* the last event was */
-static uint64_t retry;         /* no tick before, for want of memory */
+static bool is_changed = true;  /* an event came since the last report */
+static bool is_refused;         /* the last event was */
+static uint64_t retry;          /* no tick before, for want of memory */
+static uint64_t untold = NEVER; /* when the state is told again, since there was no place for its lines */
 
 /* What was told last. Before the first time no node is reachable, and later always one. */
 static struct {
@@ -224,7 +225,8 @@ const hn_assigned *assignments(size_t *count)
     return told.assigned;
 }
 
-/* Tells the identifier, how many nodes are reachable, and the network state hash, if they have changed. */
+/* Tells the identifier, how many nodes are reachable, and the network state hash, if they have changed. What has no place in
+ * this second is told in the next one. */
 static void tell_state(void)
 {
     uint32_t id = hn_router_identifier(&router);
@@ -232,12 +234,12 @@ static void tell_state(void)
     uint64_t hash;
     hn_router_network_hash(&router, (uint8_t *)&hash);
     hash = be64toh(hash);
-    if (told.nodes == 0 || id != told.id)
-        say(OF_STATE, "id=%08" PRIx32, id);
-    if (told.nodes == 0 || hash != told.hash)
-        say(OF_STATE, "net=%016" PRIx64, hash);
-    if (nodes != told.nodes)
-        say(OF_STATE, "reach %zu", nodes);
+    bool are_told = (told.nodes != 0 && id == told.id) || say(OF_STATE, "id=%08" PRIx32, id);
+    are_told &= (told.nodes != 0 && hash == told.hash) || say(OF_STATE, "net=%016" PRIx64, hash);
+    are_told &= nodes == told.nodes || say(OF_STATE, "reach %zu", nodes);
+    untold = are_told ? NEVER : (now() / 1000 + 1) * 1000;
+    if (!are_told)
+        return;
     told.id = id;
     told.hash = hash;
     told.nodes = nodes;
@@ -291,7 +293,7 @@ void want_report(void)
  * are an event of their own. */
 void report(void)
 {
-    for (unsigned times = 0; times < 3 && (is_changed || routes_due() <= now()); times++) {
+    for (unsigned times = 0; times < 3 && (is_changed || earlier(routes_due(), untold) <= now()); times++) {
         is_changed = false;
         tell_state();
         tell_assignments();

@@ -228,6 +228,15 @@ uint64_t routes_due(void)
     return settings.routes ? again : NEVER;
 }
 
+/* It is the end: what an earlier daemon left will not be used again. */
+void end_left(void)
+{
+    for (struct set *it = sets; it < sets + set_count; it++) {
+        if (it->left_until != 0)
+            it->left_until = again = 1;
+    }
+}
+
 /* Takes all of it away. */
 void end_routes(void)
 {

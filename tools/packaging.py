@@ -22,6 +22,7 @@ MAN = 'usr/share/man'
 MAINTAINER = 'Rulercress maintainers <maintainers@users.noreply.rulercress.example>'
 LIBRARIES = 'usr/lib/x86_64-linux-gnu'
 PAGES = ('README.md', 'CHANGES.md', 'CONTRIBUTING.md', 'RELEASE', 'docs')       # links to them lie in the folder of documents
+EXAMPLES = 'daemon/system/'                                                    # how the daemon is started
 NO_COMMANDS = ('release', 'check')                                             # they are of a clone
 GLIBC = re.compile(rb'GLIBC_(\d+)\.(\d+)')
 ABOUT = '''plays homes of HNCP routers, and decodes HNCP datagrams
@@ -82,6 +83,8 @@ def places(files, homes):
             made[f'{LIBRARIES}/pkgconfig/{os.path.basename(path)}'] = 0o644, data
     for page in PAGES:
         made[f'{DOC}/{page}'] = None, f'{SHARE}/{page}'
+    if any(path.startswith(EXAMPLES) for path in files):
+        made[f'{DOC}/examples'] = None, f'{SHARE}/{EXAMPLES}'.rstrip('/')
     return made
 
 
@@ -91,13 +94,15 @@ def changelog(version, moment):
     return packed(f'{NAME} ({version}) unstable; urgency=medium\n\n  * CHANGES.md has what changed.\n\n -- {MAINTAINER}  {day}\n'.encode())
 
 
-def control(version, files, programs):
+def control(version, files):
     """What the package says of itself."""
-    asked = [tuple(map(int, each)) for path in programs for each in GLIBC.findall(files[path][1])]
+    programs = [data for path, (mode, data) in files.items() if re.match(r'usr/s?bin/', path) and mode is not None]
+    asked = [tuple(map(int, each)) for data in programs for each in GLIBC.findall(data)]
     libc = 'libc6 (>= %d.%d)' % max(asked) if asked else 'libc6'
+    more = ', libmnl0' if any(b'libmnl.so.0' in data for data in programs) else ''
     size = sum(len(data) for mode, data in files.values() if mode is not None)
     return '\n'.join([f'Package: {NAME}', f'Version: {version}', 'Architecture: amd64', f'Maintainer: {MAINTAINER}',
-                      f'Installed-Size: {-(-size // 1024)}', f'Depends: {libc}, python3 (>= 3.9)', 'Recommends: tshark',
+                      f'Installed-Size: {-(-size // 1024)}', f'Depends: {libc}{more}, python3 (>= 3.9)', 'Recommends: tshark',
                       'Suggests: gcc, graphviz, valgrind', 'Section: net', 'Priority: optional', f'Description: {ABOUT}'])
 
 
@@ -124,7 +129,7 @@ def tree(top, files, moment):
         os.utime(at, (moment, moment))
 
 
-def package(files, homes, programs, version, moment):
+def package(files, homes, version, moment):
     """The bytes of a package of the files of an archive, where homes says which of them lie elsewhere in Debian. None where
     there is no dpkg-deb."""
     maker = shutil.which('dpkg-deb')
@@ -136,7 +141,7 @@ def package(files, homes, programs, version, moment):
     made[f'usr/share/lintian/overrides/{NAME}'] = 0o644, ''.join(
         line if line.startswith('#') else f'{NAME}: {line}' for line in OVERRIDES.splitlines(True)).encode()
     sums = ''.join(f'{hashlib.md5(data).hexdigest()}  {path}\n' for path, (mode, data) in sorted(made.items()) if mode is not None)
-    about = control(version, made, [homes[path] for path in programs])
+    about = control(version, made)
     made['DEBIAN/md5sums'] = 0o644, sums.encode()
     made['DEBIAN/control'] = 0o644, about.encode()
     with tempfile.TemporaryDirectory(prefix='release-') as folder:

@@ -26,6 +26,7 @@ DATA = 'crates/transcripts/data'
 CALLS = [('hncp', ['decode'], 'datagram.hex', 'datagram.transcript'), ('hncp', ['lab'], 'taken_name.script', 'taken_name.transcript'),
          ('hncp', ['watch'], 'a_conflict_of_a_stale_number.capture', 'a_conflict_of_a_stale_number.transcript'),
          ('hnlook', ['table', 'gate'], 'a_backoff_waits.home', 'a_backoff_waits.table-gate')]
+DAEMON = 'daemon/out/hnd'
 MANUAL = ['man/hncp.1', 'man/hnlook.1', 'man/hncp-tools.1']
 CHECKED = ['forge', 'explain', 'docs/BESIDE-REAL-GATEWAYS.md']     # checks that are run in the archive, those of some seconds
 
@@ -270,12 +271,13 @@ def check_contents(home, path):
         tar.extractall(place)
     title = os.path.basename(path)[:-len('.tar.gz')]
     names = [entry.name.split('/', 1)[1] for entry in entries]
-    stored = home.git('ls-files', '--', *home.committed).split('\n')
-    must_be(names, sorted([*stored, *PLACES.values(), *MANUAL, 'RELEASE', 'SHA256SUMS']), 'names')
+    stored = home.git('ls-files', '--', *home.committed, 'daemon').split('\n')
+    made = [DAEMON] if DAEMON in names else []     # where make and libmnl are there
+    must_be(names, sorted([*stored, *PLACES.values(), *made, *MANUAL, 'RELEASE', 'SHA256SUMS']), 'names')
     moment = int(home.git('show', '-s', '--format=%ct', 'HEAD'))
     sums = []
     for entry, name in zip(entries, names):
-        mode = 0o755 if os.access(home.at(name), os.X_OK) and name != LIBRARY else 0o644
+        mode = 0o755 if name in made or (os.access(home.at(name), os.X_OK) and name != LIBRARY) else 0o644
         found = entry.name, entry.isfile(), entry.mode, entry.mtime, entry.uid, entry.gid, entry.uname, entry.gname
         must(found == (f'{title}/{name}', True, mode, moment, 0, 0, 'root', 'root'), f'{name}: {found}')
         with open(os.path.join(place, entry.name), 'rb') as file:

@@ -3,8 +3,8 @@
 The lines are those of docs/FORMATS.md, "The text of a datagram". The numbers before a name may be left out.
 """
 import hashlib
-
 import re
+import struct
 
 import common
 from common import Problem
@@ -78,6 +78,22 @@ def hash_of(value):
 def network_state(states):
     """What a network state hash is made of: numbers and hashes in ascending order of nodes (RFC 7787, section 4.1.1)."""
     return b''.join(number + digest for _, number, digest in sorted(states))
+
+
+def list_fault(octets):
+    """The place and the cause of what is no list of TLVs, or None: as `first_fault`, without a call."""
+    at = 0
+    while at < len(octets):
+        if len(octets) - at < 4:
+            return at, 1
+        end = at + 4 + struct.unpack('>H', octets[at + 2:at + 4])[0]
+        if end > len(octets):
+            return at, 2
+        for place in range(end, end + -end % 4):
+            if place >= len(octets) or octets[place]:
+                return place, 3 if place >= len(octets) else 4
+        at = end + -end % 4
+    return None
 
 
 def first_fault(octets):

@@ -220,6 +220,24 @@ def silent(sound):
     return last
 
 
+def dead(sound):
+    """The last router sends nothing more from 20 s on; nobody else notices."""
+    sound.keep(lambda each: each.source != homes.address(C, 1) or each.moment < 20.0)
+    return next(each for each in reversed(sound.datagrams) if each.source == homes.address(C, 1))
+
+
+def of_two_minds(sound):
+    """The home goes on at rest, but that the last router says another network state hash in its keep-alives, for a minute and more."""
+    lasts = {each.source: each for each in sound.datagrams if each.destination == homes.GROUP}
+    made = []
+    for number in range(1, 6):
+        for source, last in lasts.items():
+            odd = source == homes.address(C, 1)
+            payload = last.payload[:-8] + bytes(8) if odd else last.payload
+            made += [sound.add(last.moment + 20.0 * number, source, last.destination, payload)] * odd
+    return made[-1]
+
+
 def asked_twice(sound):
     request = sound.find(lambda kinds: kinds == [ENDPOINT, 1], 1.0)
     return sound.add(request.moment + 0.05, request.source, request.destination, request.payload)
@@ -272,6 +290,10 @@ def unpadded(data):
     return on_kind(33, edit)(data)
 
 
+def preferred_above_valid(value):
+    return spelled([(34, at(0, struct.pack('>II', 7200, 7201))(sub)) for _, sub in tlvs(value)])
+
+
 def assigned(number, prefix, endpoint_priority=2):
     return tlv(35, struct.pack('>IB', number, endpoint_priority) + b'\x40' + prefix)
 
@@ -286,7 +308,7 @@ FAULTS = [
     ('a pad byte before sub-TLVs is not zero', 'bad', published(C, with_more(tlv(35, struct.pack('>IB', 9, 2) + b'\x08\x20\1' + REQUEST)))),
     ('a bit past the prefix length', 'bad', published(C, with_more(tlv(35, struct.pack('>IB', 9, 2) + b'\x3f' + DEN[:7] + b'\1')))),
     ('a user agent that is not in UTF-8', 'bad no-version', published(C, on_kind(32, lambda value: value[:4] + b'\xff'))),
-    ('a sub-TLV without padding inside the enclosing TLV', 'no-padding bad', published(A, unpadded)),
+    ('a sub-TLV without padding inside the enclosing TLV', 'no-padding', published(A, unpadded)),
     ('node data that are no list of TLVs', 'body', published(C, with_more(bytes(2)))),
     ('a source that is not link-local', 'far-source', added(40.0, '2001:db8::9', HERE, endpoint(9, 1) + REQUEST)),
     ('HNCP over IPv4', 'far-source far-destination', added(40.0, '10.0.0.9', '10.0.0.1', endpoint(9, 1) + REQUEST)),
@@ -308,6 +330,8 @@ FAULTS = [
     ('a multicast again after 50 ms', 'too-soon', doubled(1.0, 0.05)),
     ('a multicast again after 3 s, in a home at rest', 'too-soon', doubled(45.0, 3.0)),
     ('no keep-alive for 25 s', 'too-late', silent),
+    ('a router that sends nothing for the last 50 s', 'silent', dead),
+    ('a router that says another network state hash for a minute', 'differ', of_two_minds),
     ('two requests within 50 ms', 'asks-often', asked_twice),
     ('an answer without one of the nodes', 'network-hash', state_left_out),
     ('an answer with another network state hash', 'network-hash', other_network),
@@ -322,6 +346,11 @@ FAULTS = [
     ('reserved bits of an Assigned-Prefix', 'reserved', published(C, on_kind(35, at(4, b'\x12')))),
     ('a delegated prefix that ended, as a Node State tells', 'ended', lived_out(True)),
     ('a delegated prefix that ended before the end', 'ended', lived_out(False)),
+    ('a node that is its own peer', 'own-peer', published(C, with_more(tlv(8, struct.pack('>III', C, 2, 1))))),
+    ('an assigned prefix of multicast addresses', 'scope', published(C, with_more(assigned(9, packed('ff02::')[:8])))),
+    ('an assigned prefix of link-local addresses', 'scope', published(C, with_more(assigned(9, packed('fe80::')[:8])))),
+    ('a delegated prefix of link-local addresses', 'scope', published(C, with_more(tlv(33, tlv(34, struct.pack('>IIB', 7200, 3600, 64) + packed('fe80::')[:8]))))),
+    ('a preferred lifetime above the valid one', 'preferred', published(A, on_kind(33, preferred_above_valid))),
     ('no delegated prefix', 'inside-nothing', at_the_end(A, without(33))),
     ('two links with one prefix', 'overlap', at_the_end(C, swapped(DEN, LAN))),
     ('one link with two prefixes', 'two-prefixes', at_the_end(A, with_more(assigned(1, packed('2001:db8:0:99::')[:8])))),

@@ -1,5 +1,4 @@
 """The checks of what stands beside real gateways: judge and relay."""
-import bisect
 import os
 import random
 import re
@@ -10,82 +9,38 @@ import subprocess
 import captures
 import common
 import items
-from checks import faults, homes, samples
+from checks import faults, frames, homes, samples, talks
 from checks.helpers import SEED, Missing, lines_of, must, must_be, need, run, short
 from judging.judgement import Judgement, judge
+from judging.rules import TOLD
 from judging.text import text_of
 
 PAGE = os.path.join(common.HERE, '..', 'docs', 'BESIDE-REAL-GATEWAYS.md')
 MUTANTS = 10000
 TOGETHER = 100         # mutants that are judged as one capture
-BATCH = 2 ** 18        # bytes that are decoded by one call
 TURNS = 4000           # of a node behind a relay: five seconds, and more on a busy machine
 PATIENCE = 120         # seconds until such a node has to have ended
 SOUND_HOMES = ['a_home_with_an_uplink.script', 'a_triangle_of_gateways.script', 'an_uplink_that_flaps.script']
 WHOLE = 20             # how many shorter captures of the sound home are judged
 
 
-# Many datagrams by few calls
-
-def fault_of(octets):
-    """The place and the cause of what is no list of TLVs, or None: as items.first_fault, without a call."""
-    at = 0
-    while at < len(octets):
-        if len(octets) - at < 4:
-            return at, 1
-        length = struct.unpack('>H', octets[at + 2:at + 4])[0]
-        end = at + 4 + length
-        if end > len(octets):
-            return at, 2
-        for place in range(end, end + -length % 4):
-            if place >= len(octets) or octets[place]:
-                return place, 3 if place >= len(octets) else 4
-        at = end + -length % 4
-    return None
-
-
-def decode_all(payloads):
-    """What `hncp decode` says of each. Sound lists are one list together, which is decoded at once."""
-    texts, batch, size = {}, [], 0
-    for payload in dict.fromkeys(payloads):
-        fault = fault_of(payload)
-        if fault:
-            texts[payload] = [f'malformed place={fault[0]} why={fault[1]}']
-            continue
-        batch.append(payload)
-        size += len(payload)
-        if size > BATCH:
-            decode_batch(batch, texts)
-            batch, size = [], 0
-    decode_batch(batch, texts)
-    return [texts[payload] for payload in payloads]
-
-
-def decode_batch(batch, texts):
-    starts = [0]
-    for payload in batch:
-        texts[payload] = []
-        starts.append(starts[-1] + len(payload))
-    for line in common.decode(b''.join(batch).hex())[1:]:
-        indent, place, rest = re.match(r'( *)(\d+)(.*)', line, re.S).groups()
-        at = bisect.bisect_right(starts, int(place)) - 1
-        texts[batch[at]].append(f'{indent}{int(place) - starts[at]}{rest}')
-    for payload in batch:
-        texts[payload].insert(0, f'tlvs {sum(not line.startswith(" ") for line in texts[payload])}')
-
-
-class Told(captures.Datagram):
+class Decoded(captures.Datagram):
     """A datagram whose text is known."""
 
     lines = None
 
 
+def texts_of(payloads):
+    """What `hncp decode` says of each, by few calls: of what is no list of TLVs it is made here."""
+    texts = captures.decode_all(payload for payload in payloads if not items.list_fault(payload))
+    for payload in payloads:
+        fault = items.list_fault(payload)
+        if fault:
+            texts[payload] = [f'malformed place={fault[0]} why={fault[1]}']
+    return [texts[payload] for payload in payloads]
+
+
 # judge
-
-def judged(datagrams):
-    made = judge(datagrams)
-    return made, {finding.rule for finding in made.findings}
-
 
 def renumbered(node, more):
     """The sound home with greater numbers of a node; they wrap."""
@@ -123,11 +78,13 @@ def check_faults():
     for name, rules, plant in faults.FAULTS:
         sound = faults.Plant()
         planted = plant(sound)
-        made, found = judged(sound.datagrams)
+        made = judge(sound.datagrams)
+        found = {finding.rule for finding in made.findings + made.told}
         must(found == set(rules.split()), f'{name}: found {" ".join(sorted(found)) or "nothing"}, and not {rules}')
-        frames = {finding.frame for finding in made.findings if finding.rule == rules.split()[0]}
+        must(bool(made.findings) == (not found <= set(TOLD)), f'{name}: {len(made.findings)} findings')
+        frames = {finding.frame for finding in made.findings + made.told if finding.rule == rules.split()[0]}
         must(planted is None or planted.frame in frames, f'{name}: in the frames {sorted(frames)}, and not {planted and planted.frame}')
-        must(all('RFC ' in finding.sections for finding in made.findings), f'{name}: without a section')
+        must(all('RFC ' in finding.sections for finding in made.findings + made.told), f'{name}: without a section')
     return len(faults.FAULTS)
 
 
@@ -137,12 +94,12 @@ def check_mutants():
     sound = homes.home()
     pool = [each.payload for each in sound] + [data for data in samples.stored() if len(data) <= 600]
     payloads = [samples.mutant(chance, pool) for _ in range(MUTANTS)]
-    texts = decode_all(payloads)
+    texts = texts_of(payloads)
     for place in range(0, MUTANTS, MUTANTS // 200):
         must_be(texts[place], common.decode(payloads[place].hex()), f'{payloads[place].hex()}: decoded with others')
-        must(items.first_fault(payloads[place]) == fault_of(payloads[place]), f'{payloads[place].hex()}: another fault')
+        must(items.first_fault(payloads[place]) == items.list_fault(payloads[place]), f'{payloads[place].hex()}: another fault')
     addresses = [*dict.fromkeys(each.source for each in sound), 'ff02::11', 'ff02::1', '2001:db8::1', '10.0.0.1', '']
-    known, items.first_fault = items.first_fault, fault_of
+    known, items.first_fault = items.first_fault, items.list_fault
     found = 0
     try:
         for first in range(0, MUTANTS, TOGETHER):
@@ -152,7 +109,7 @@ def check_mutants():
                 source, destination = (chance.choice(addresses) if chance.randrange(8) == 0 else end for end in (base.source, base.destination))
                 port = chance.choice([8231, 8231, 8231, 50000])
                 moment = base.moment + chance.choice([0, 0, 0, 0, 0, 0, 10 ** 9, -10 ** 9])
-                datagram = Told(base.frame, moment, '0', source, 8231, destination, port, payload, len(payload) + (chance.randrange(50) == 0))
+                datagram = Decoded(base.frame, moment, '0', source, 8231, destination, port, payload, len(payload) + (chance.randrange(50) == 0))
                 datagram.lines = lines
                 made.take(datagram)
             made.close()
@@ -219,14 +176,21 @@ def check_simulated(folder):
 
 def check_judge(folder):
     """Held to: a capture of three routers as the program sent it, its fronts and rests, with numbers that wrap, and
-    captures of `tools/capture`: nothing is found. In it 49 faults, one at a time: each is found in its frame, and
-    nothing that does not follow from it. Random mutants of it give no traceback."""
-    sound, planted, mutants = check_sound(), check_faults(), check_mutants()
+    captures of `tools/capture`: nothing is found. In it 56 faults, one at a time: each is found in its frame, and
+    nothing that does not follow from it. Random mutants of it give no traceback.
+
+    Who talks: homes with a gateway that is deaf or dies: the rule is found, in the rest of the capture too. Homes where
+    one leaves a link, comes late or moves, their fronts and rests, and with lost frames: nothing.
+
+    Frames: one address on two links by VLANs, by `-i any` and merged; frames that stand twice, out of order, without a
+    fragment. Datagrams with twice as many prefixes, peers or nodes take about twice as many calls."""
+    sound, planted, mutants, talking = check_sound(), check_faults(), check_mutants(), talks.check_talks()
+    hostile, more = frames.check_hostile(), '; no capture files, as there is no tshark'
     if shutil.which('tshark'):
         check_captures(folder)
         sound += check_simulated(folder)
-    more = '' if shutil.which('tshark') else '; no capture files, as there is no tshark'
-    return f'nothing in {sound} sound captures, each of {planted} faults, {mutants} mutants{more}'
+        more = f', {frames.check_frames(folder)} kinds of frames'
+    return f'nothing in {sound} sound captures, each of {planted} faults, {talking} captures of who talks, {hostile} hostile, {mutants} mutants{more}'
 
 
 def check_page(_):

@@ -12,8 +12,10 @@ import common
 from checks import samples
 
 HOME = os.path.join(common.HERE, 'checks', 'home.datagrams')
+TALKS = os.path.join(common.HERE, 'checks', 'talks')
 GROUP = 'ff02::11'
 OTHER_END = {(1, 1): (2, 1), (2, 1): (1, 1), (2, 2): (3, 1), (3, 1): (2, 2)}
+ETHERNET, COOKED = 1, 276
 MULTICAST_SIZE = 24  # bytes: a Node Endpoint and a Network State, which no answer has alone
 
 
@@ -34,6 +36,15 @@ def home():
     return made
 
 
+def talk(name):
+    """The datagrams of a file of the folder `talks`: on each line the moment in milliseconds, source, destination and bytes."""
+    made = []
+    for line in common.read(os.path.join(TALKS, name + '.datagrams')):
+        moment, source, destination, text = line.split()
+        made.append(captures.Datagram(len(made) + 1, int(moment) / 1000, '0', source, captures.PORT, destination, captures.PORT, bytes.fromhex(text)))
+    return made
+
+
 def frame_of(datagram):
     """An Ethernet frame with the datagram, over IPv6 or IPv4."""
     source, destination = (samples.packed(each) for each in (datagram.source, datagram.destination))
@@ -49,9 +60,23 @@ def frame_of(datagram):
 
 def write(path, datagrams):
     """A capture of datagrams at their moments."""
+    write_frames(path, [(datagram.moment, frame_of(datagram)) for datagram in datagrams])
+
+
+def write_frames(path, frames, link_type=ETHERNET):
+    """A capture of frames, each with its moment in seconds."""
     with open(path, 'wb') as file:
-        file.write(samples.FILE_HEAD)
-        for datagram in datagrams:
-            frame = frame_of(datagram)
-            seconds, rest = divmod(round(datagram.moment * 1000000), 1000000)
+        file.write(samples.FILE_HEAD[:-4] + struct.pack('<I', link_type))
+        for moment, frame in frames:
+            seconds, rest = divmod(round(moment * 1000000), 1000000)
             file.write(struct.pack('<IIII', seconds, rest, len(frame), len(frame)) + frame)
+
+
+def tagged(frame, *tags):
+    """An Ethernet frame with tags of VLANs: the kind of each, and its number."""
+    return frame[:12] + b''.join(struct.pack('>HH', *tag) for tag in tags) + frame[12:]
+
+
+def cooked(frame, interface):
+    """An Ethernet frame as `tcpdump -i any` writes it, with the number of the interface (LINKTYPE_LINUX_SLL2)."""
+    return frame[12:14] + struct.pack('>HIHBB', 0, interface, 1, 0, 6) + frame[6:12] + bytes(2) + frame[14:]

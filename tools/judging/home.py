@@ -1,19 +1,13 @@
 """The home at the end of a capture: which nodes, peers, links and prefixes, and what does not fit."""
-import functools
-import ipaddress
-
 import items
+from judging.groups import Groups
 from judging.rules import Finding
 from judging.senders import KEEP_ALIVE
-from judging.states import ENDLESS, FLOODING, shown, walk
+from judging.states import ENDLESS, FLOODING, has_scope, network, shown, walk
 
 SILENCE = 2.1     # keep-alive intervals after which a peer is gone (RFC 7788, section 3)
 REST = 10.0       # seconds after which an assignment is applied, if nobody objects (RFC 7695, section 4.3; RFC 7788, section 6.3.3)
-
-
-@functools.lru_cache(maxsize=4096)
-def network(text):
-    return ipaddress.ip_network(text)
+BITS = 128
 
 
 class Assigned:
@@ -26,15 +20,37 @@ class Assigned:
         self.prefix = network(words['prefix'])
 
 
-def nested(assigned):
-    """The pairs of assigned prefixes that overlap, which is that one is inside the other or the same."""
-    around = []
+class Prefixes:
+    """Prefixes, to be looked up by what is inside them: one look for each length that there is."""
+
+    def __init__(self, texts):
+        self.texts = {}
+        for text in texts:
+            prefix = network(text)
+            self.texts.setdefault((int(prefix.network_address) >> (BITS - prefix.prefixlen), prefix.prefixlen), text)
+        self.lengths = sorted({length for _, length in self.texts})
+
+    def around(self, prefix):
+        """Those that a prefix is inside of, the largest first."""
+        value = int(prefix.network_address)
+        keys = ((value >> (BITS - length), length) for length in self.lengths if length <= prefix.prefixlen)
+        return [self.texts[key] for key in keys if key in self.texts]
+
+
+def clashing(assigned, link_of):
+    """Of each assigned prefix the first one around it, or equal to it, on another link."""
+    around = []     # nested prefixes: each with the first one of those so far, and the first one on another link than that
     for each in sorted(assigned, key=lambda each: (each.prefix, each.post)):
-        while around and not each.prefix.subnet_of(around[-1].prefix):
+        while around and not each.prefix.subnet_of(around[-1][0].prefix):
             around.pop()
-        for one in around:
-            yield one, each
-        around.append(each)
+        link = link_of(each.post)
+        first, second = around[-1][1:] if around else (each, None)
+        if link_of(first.post) != link:
+            yield first, each
+            second = second or each
+        elif second:
+            yield second, each
+        around.append((each, first, second))
 
 
 class Home:
@@ -43,35 +59,67 @@ class Home:
     def __init__(self, states, senders, end):
         self.states, self.senders, self.end = states, senders, end
         self.latest = states.latest
-        self.data = {node: states.data[state.version] for node, state in self.latest.items() if state.version in states.data}
-        self.peers = {node: {(words['node'], int(words['endpoint']), int(words['own'])) for words in data.named('peer')}
-                      for node, data in self.data.items()}
-        self.heard = {endpoint: last for endpoint, last in senders.heard_last().items() if not self.is_silent(endpoint, last)}
-        self.reached = self.reach()
+        self.data = {node: states.data[state.key] for node, state in self.latest.items() if state.key in states.data}
+        self.peers = {node: data.peers() for node, data in self.data.items()}
+        self.last = senders.heard_last()
+        self.heard = {endpoint: last for endpoint, last in self.last.items() if not self.is_silent(endpoint, last)}
+        self.reached = self.reach(node for node, _ in self.heard)
         self.is_whole = self.knows_all()
         self.links = self.find_links()
         self.assigned = [Assigned(data, words) for node, data in self.data.items() if node in self.reached for words in data.named('assigned')]
         self.delegated = self.find_delegated()
-        self.by_size = sorted({text for text, _, _, _ in self.delegated}, key=lambda text: network(text).prefixlen)
+        self.prefixes = Prefixes(text for text, _, _, _ in self.delegated)
+        self.said = self.said_last()
+        self.hashes = {}     # node -> the network state hash of what it reaches, where the data of that are known
+        self.confirmed = self.find_confirmed()
         self.young = []      # what does not fit, in a home that changed too lately to be judged
 
-    def is_silent(self, endpoint, last):
+    def silence_of(self, endpoint):
+        """How long an endpoint may be silent before it is no peer any more, or None where it promises nothing."""
         node, number = endpoint
         said = self.senders.intervals.get(node, {})
-        seconds = said.get(number, said.get(0, KEEP_ALIVE))
-        return 0 < seconds * SILENCE < self.end - last.moment
+        return said.get(number, said.get(0, KEEP_ALIVE)) * SILENCE or None
+
+    def is_silent(self, endpoint, last):
+        seconds = self.silence_of(endpoint)
+        return seconds is not None and seconds < self.end - last.moment
 
     def is_mutual(self, node, peer, endpoint, own):
         return (node, own, endpoint) in self.peers.get(peer, ())
 
-    def reach(self):
-        """The nodes that are heard, and those that they reach by mutual peers (RFC 7787, section 4.6)."""
-        found, left = set(), [node for node, _ in self.heard]
+    def reach(self, nodes):
+        """These nodes, and those that they reach by mutual peers (RFC 7787, section 4.6)."""
+        found, left = set(), list(nodes)
         while left:
             node = left.pop()
             if node not in found:
                 found.add(node)
                 left += [peer for peer, endpoint, own in self.peers.get(node, ()) if self.is_mutual(node, peer, endpoint, own)]
+        return found
+
+    def said_last(self):
+        """Of each endpoint that is heard the network state hash that it said last."""
+        found = {}
+        for sender in self.senders.senders():
+            if sender.said and sender.post in self.heard and found.get(sender.post, sender.said[-1]) <= sender.said[-1]:
+                found[sender.post] = sender.said[-1]
+        return {post: digest for post, (_, digest) in found.items()}
+
+    def hash_of(self, nodes):
+        parts = [self.latest[node].part for node in nodes if node in self.latest]
+        return items.hash_of(items.network_state(parts)).hex()
+
+    def find_confirmed(self):
+        """The nodes whose last data the capture has: somebody said the network state hash that they make."""
+        found, reached = set(), {}
+        for (node, _), digest in self.said.items():
+            if node not in reached:
+                nodes = self.reach([node])
+                made = self.hash_of(nodes) if all(each in self.data for each in nodes) else None
+                reached.update((each, (nodes, made)) for each in nodes)
+            if reached[node][1] == digest:
+                found |= reached[node][0]
+        self.hashes.update((node, made) for node, (_, made) in reached.items() if made)
         return found
 
     def knows_all(self):
@@ -80,18 +128,18 @@ class Home:
         return bool(self.reached) and all(node in self.data for node in self.reached | named)
 
     def find_links(self):
-        """Of each endpoint its link: endpoints of mutual peers are on one (RFC 7788, section 6.1)."""
-        links = {}
-        posts = {(node, int(words['endpoint'])) for node in self.reached & set(self.data) for words in self.data[node].named('assigned')}
-        posts |= {(node, own) for node in self.reached for _, _, own in self.peers.get(node, ())} | set(self.heard)
-        for post in sorted(posts):
-            links[post] = {post}
-        for node in sorted(self.reached):
+        """Which endpoints are on one link: those of mutual peers are."""
+        links = Groups()
+        for post in self.heard:
+            links.of(post)
+        for node in self.reached & set(self.data):
+            for words in self.data[node].named('assigned'):
+                links.of((node, int(words['endpoint'])))
+        for node in self.reached:
             for peer, endpoint, own in self.peers.get(node, ()):
+                links.of((node, own))
                 if self.is_mutual(node, peer, endpoint, own):
-                    joined = links.setdefault((node, own), {(node, own)}) | links.setdefault((peer, endpoint), {(peer, endpoint)})
-                    for post in joined:
-                        links[post] = joined
+                    links.join((node, own), (peer, endpoint))
         return links
 
     def find_delegated(self):
@@ -102,10 +150,6 @@ class Home:
             for text, valid, preferred in self.data[node].delegated():
                 found.append((text, node, valid if valid == ENDLESS else valid - age, preferred if preferred == ENDLESS else preferred - age))
         return found
-
-    def around(self, prefix):
-        """The delegated prefixes that have a prefix inside, the largest first."""
-        return [text for text in self.by_size if prefix.subnet_of(network(text))]
 
     # Findings
 
@@ -130,17 +174,16 @@ class Home:
 
     def judge_inside(self):
         for each in self.assigned:
-            if self.is_whole and not self.around(each.prefix):
+            if self.is_whole and has_scope(each.text) and not self.prefixes.around(each.prefix):
                 yield finding('inside-nothing', each.state, f'{shown(each.text)} of endpoint {each.post[1]} is inside no delegated prefix')
 
     def judge_pairs(self):
-        for one, other in nested(self.assigned):
-            if other.post not in self.links.get(one.post, {one.post}):
-                yield self.clash('overlap', one, other, 'overlap, on two links')
+        for one, other in clashing(self.assigned, self.links.of):
+            yield self.clash('overlap', one, other, 'overlap, on two links')
         first = {}
         for each in sorted(self.assigned, key=lambda each: each.state.frame):
-            link = min(self.links.get(each.post, {each.post}))
-            for text in self.around(each.prefix)[:1]:
+            link = self.links.of(each.post)
+            for text in self.prefixes.around(each.prefix)[:1]:
                 one = first.setdefault((link, text), each)
                 if one.prefix != each.prefix:
                     yield self.clash('two-prefixes', one, each, f'are on one link, and both inside {shown(text)}')
@@ -153,11 +196,11 @@ class Home:
         return finding(rule, other.state, f'{where} {how}')
 
     def judge_addresses(self):
-        first = {}
+        first, assigned = {}, Prefixes(each.text for each in self.assigned)
         for node in sorted(self.reached & set(self.data)):
             for words in self.data[node].named('address'):
                 address, state = words['address'], self.data[node].state
-                if self.is_whole and not any(network(address).subnet_of(each.prefix) for each in self.assigned):
+                if self.is_whole and not assigned.around(network(address)):
                     yield finding('address-outside', state, f'{shown(address)} is inside no assigned prefix')
                 if first.setdefault(address, node) != node:
                     yield finding('address-twice', state, f'{shown(address)}, which node {first[address]} has too')
@@ -165,37 +208,46 @@ class Home:
     # The table
 
     def lines(self):
+        delegated, heard = {}, {}
+        for each in self.delegated:
+            delegated.setdefault(each[1], []).append(each)
+        for post in sorted(self.last):
+            heard.setdefault(post[0], []).append(post)
         for node in sorted(self.latest):
-            yield from self.node_lines(node)
+            yield from self.node_lines(node, heard.get(node, ()), delegated.get(node, ()))
         for node in sorted(self.reached):
             for peer, endpoint, own in sorted(self.peers.get(node, ())):
                 if not self.is_mutual(node, peer, endpoint, own):
                     yield f'peer {name((node, own))} - {name((peer, endpoint))} mutual={"no" if peer in self.data else "unknown"}'
                 elif (node, own) < (peer, endpoint):
                     yield f'peer {name((node, own))} - {name((peer, endpoint))} mutual=yes'
-        groups = sorted({tuple(sorted(link)) for link in self.links.values()})
-        for place, link in enumerate(groups, 1):
-            yield f'link {place}: {" ".join(map(name, link))}'
-            for each in sorted((each for each in self.assigned if each.post in link), key=lambda each: each.prefix):
-                inside = ','.join(map(shown, self.around(each.prefix))) or ('none' if self.is_whole else 'unknown')
-                yield f'  assigned {shown(each.text)} by={name(each.post)} priority={each.priority} inside={inside}'
+        yield from self.link_lines()
         yield from self.network_lines()
         for each in self.young:
             yield f'changed less than {REST:g} s before the end, so not counted: {each}'
 
-    def node_lines(self, node):
+    def link_lines(self):
+        assigned = {}
+        for each in self.assigned:
+            assigned.setdefault(self.links.of(each.post), []).append(each)
+        for place, (link, posts) in enumerate(self.links.groups().items(), 1):
+            yield f'link {place}: {" ".join(map(name, posts))}'
+            for each in sorted(assigned.get(link, ()), key=lambda each: each.prefix):
+                inside = ','.join(map(shown, self.prefixes.around(each.prefix))) or ('none' if self.is_whole else 'unknown')
+                yield f'  assigned {shown(each.text)} by={name(each.post)} priority={each.priority} inside={inside}'
+
+    def node_lines(self, node, heard, delegated):
         latest, data = self.latest[node], self.data.get(node)
         where = f'data=frame {data.state.frame}' if data else 'data=unknown'
         reached = 'yes' if node in self.reached else 'no'
         yield f'node {node} number={latest.number} hash={latest.digest} age={self.age(node):.3f} s reached={reached} {where}'
-        for (_, endpoint), last in sorted((pair for pair in self.senders.heard_last().items() if pair[0][0] == node), key=lambda pair: pair[0]):
-            silent = '' if (node, endpoint) in self.heard else f' silent since frame {last.frame}'
-            yield f'  endpoint {endpoint} source={last.source}{silent}'
+        for post in heard:
+            silent = '' if post in self.heard else f' silent since frame {self.last[post].frame}'
+            yield f'  endpoint {post[1]} source={self.last[post].source}{silent}'
         for words in data.named('version') if data else []:
             yield f'  version m={words["m"]} p={words["p"]} h={words["h"]} l={words["l"]} agent={agent(words["agent"])}'
-        for text, owner, valid, preferred in self.delegated:
-            if owner == node:
-                yield f'  delegated {shown(text)} valid={seconds(valid)} preferred={seconds(preferred)}'
+        for text, _, valid, preferred in delegated:
+            yield f'  delegated {shown(text)} valid={seconds(valid)} preferred={seconds(preferred)}'
         for words in data.named('address') if data else []:
             yield f'  address {shown(words["address"])} endpoint={words["endpoint"]}'
         for item in walk(data.below) if data else []:
@@ -206,15 +258,12 @@ class Home:
                 yield f'  a TLV of type {item.kind} that does not decode, at place {item.place} of frame {data.state.frame}: what it says is not used'
 
     def network_lines(self):
-        parts = [self.latest[node].part for node in self.reached if node in self.latest]
-        if not parts:
-            return
-        made = items.hash_of(items.network_state(parts)).hex()
-        yield f'network state hash {made} of the {len(parts)} node(s) that are reached'
-        said = {name(sender.endpoint): sender.said[-1][1] for sender in self.senders.known.values()
-                if sender.said and sender.endpoint in self.heard}
-        for post, digest in sorted(said.items()):
-            yield f'  {post} said last {digest}, which is {"the same" if digest == made else "another"}'
+        nodes = [node for node in self.reached if node in self.latest]
+        if nodes:
+            made = self.hash_of(nodes)
+            yield f'network state hash {made} of the {len(nodes)} node(s) that are reached'
+            for post, digest in sorted(self.said.items()):
+                yield f'  {name(post)} said last {digest}, which is {"the same" if digest == made else "another"}'
 
 
 def finding(rule, state, text):

@@ -4,9 +4,11 @@ import re
 import captures
 import items
 from judging.home import Home
-from judging.rules import TYPES, Finding
+from judging.frames import Frames
+from judging.rules import TOLD, TYPES, Finding
 from judging.senders import Senders
 from judging.states import HEAD, States, walk
+from judging.talks import Talks
 
 SLACK = 0.01    # seconds that moments may be off
 EXTERNAL = 33   # the type of an External-Connection
@@ -19,6 +21,8 @@ class Judgement:
         self.findings = []
         self.senders = Senders(self.findings, slack, ports)
         self.states = States(self.findings, self.senders)
+        self.talks = Talks(self.findings, self.senders, self.states)
+        self.told, self.remarks = [], []    # what is no finding, and lines on the capture
         self.count, self.cut = 0, []
         self.end = 0.0
         self.home = None
@@ -38,8 +42,9 @@ class Judgement:
             return
         found = items.tree(enumerate(rest, 2))
         self.take_refused(datagram, found)
-        self.senders.take(datagram, found)
+        sender = self.senders.take(datagram, found)
         self.states.take(datagram, found)
+        self.talks.take(sender, datagram, found)
 
     def find(self, rule, datagram, text, **more):
         self.findings.append(Finding(rule, datagram.frame, datagram.source, text, **more))
@@ -60,17 +65,17 @@ class Judgement:
     def take_bad(self, datagram, item, value, node):
         why, sections = int(item.words['why']), TYPES[item.kind]
         text = f'place={item.place} type={item.kind} why={why}: {items.BAD[why]}'
-        self.find('bad', datagram, text, node=node, sections=f'RFC 7787, section 7; {sections}' if why == 2 else sections)
         fault = items.inner_fault(item.kind, value) if why == 2 else None
         if fault:
             place, cause = fault
             where = f'place {place} of the value, {item.place + HEAD + place} of the datagram'
             if cause == 3 and place == len(value):
-                text = f'the length {item.length} of the TLV of type {item.kind} ends before the padding of its last sub-TLV: {where}'
-                self.find('no-padding', datagram, text, node=node)
+                what = f'the length {item.length} of the TLV of type {item.kind} ends before the padding of its last sub-TLV: {where}'
+                self.find('no-padding', datagram, f'{what}; decode says bad {text}', node=node)
                 self.read_padded(item, value)
-            else:
-                self.findings[-1].text += f'; {where}: {items.MALFORMED[cause]}'
+                return
+            text += f'; {where}: {items.MALFORMED[cause]}'
+        self.find('bad', datagram, text, node=node, sections=f'RFC 7787, section 7; {sections}' if why == 2 else sections)
 
     @staticmethod
     def read_padded(item, value):
@@ -84,15 +89,20 @@ class Judgement:
     def close(self):
         """Ends it: the home as it is then is judged too, and the findings come in the order of frames."""
         self.states.end()
+        self.senders.end(self.states.posts)
         self.home = Home(self.states, self.senders, self.end)
         self.home.judge(self.findings)
+        self.talks.end(self.home)
         self.findings.sort(key=lambda finding: finding.frame)
+        self.told = [each for each in self.findings if each.rule in TOLD]
+        self.findings = [each for each in self.findings if each.rule not in TOLD]
 
 
 def judge(datagrams, **settings):
     """The judgement of all of these."""
-    made = Judgement(**settings)
-    for datagram in datagrams:
+    made, frames = Judgement(**settings), Frames(datagrams)
+    made.remarks += frames.lines()
+    for datagram in captures.decoded_ahead(frames.datagrams):
         made.take(datagram)
     made.close()
     return made

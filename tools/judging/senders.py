@@ -1,4 +1,5 @@
 """Who sends what, and when: sources, destinations, Node Endpoints, Trickle, keep-alives and requests."""
+import collections
 import functools
 import ipaddress
 
@@ -10,6 +11,7 @@ LAG = 0.1                                 # seconds that a gateway may begin an 
 DELAY = IMIN / 2                          # how late a keep-alive or a reply by multicast may come (RFC 7787, sections 4.4, 6.1.2)
 MOST_BYTES = 4000                         # that a node has to be able to receive (RFC 7788, section 3)
 KEEP_ALIVE = 20.0                         # seconds, unless the node says otherwise (RFC 7788, section 3)
+FEW = 64                                  # requests or hashes of one endpoint within some hundred milliseconds; no more are counted
 FIRST_OF_HNCP = 32                        # the types from here to 43 are those of RFC 7788
 DATA_KINDS = (8, 9, *range(FIRST_OF_HNCP, 44))    # types that have their place within node data alone
 
@@ -33,18 +35,36 @@ def is_multicast(text):
 
 
 class Sender:
-    """What is remembered of a source on a link."""
+    """What is remembered of an endpoint that speaks from a source, or of a source that names none."""
 
-    def __init__(self):
-        self.endpoint = None       # (node, endpoint) of its last Node Endpoint
-        self.ports = set()         # the ports that it sent from
+    def __init__(self, link, source, post):
+        self.link, self.source = link, source
+        self.post = post           # (node, endpoint) of its Node Endpoints, or None
+        self.first = None          # its first datagram
         self.last = None           # its last datagram
         self.state = None          # the last one with a Network State
         self.multicast = None      # the last one by multicast with a Network State
         self.trickle = None        # the Trickle of its last hash
         self.said = []             # (moment, hash) of its Network States
-        self.asked = []            # (moment, destination, whether it is the first to that destination)
+        self.asked = collections.deque(maxlen=FEW)    # (moment, destination, whether it is the first to that destination)
         self.knows = set()         # whom it asked
+
+
+class Source:
+    """An address on a link. As a rule one endpoint speaks from it, but captures of two links may have been merged."""
+
+    def __init__(self):
+        self.ports = set()         # the ports that it sent from
+        self.senders = {}          # (node, endpoint), or None -> Sender
+        self.post = None           # that of its last Node Endpoint
+        self.moments = []          # of all its datagrams
+
+    def hashes(self, since):
+        """The hashes that it said from a moment on."""
+        found = set()
+        for sender in self.senders.values():
+            found.update(digest for moment, digest in sender.said[-FEW:] if moment >= since)
+        return found
 
 
 class Trickle:
@@ -69,9 +89,13 @@ class Trickle:
             self.length = min(2 * self.length, IMAX)
         return max(self.length, self.next) / 2 - self.early
 
+    def begin_anew(self, moment, early):
+        """What came may be a keep-alive. The next one comes in the second half of an interval that is as long."""
+        self.start, self.next, self.early = moment, self.length, early
+
     def sent(self, moment, maybe_keep_alive):
         if maybe_keep_alive:
-            self.start, self.next, self.early = moment, self.length, DELAY
+            self.begin_anew(moment, DELAY)
             return
         if self.next > self.length:
             # The interval that this multicast came in is as long, and half of it or more was over.
@@ -86,12 +110,18 @@ class Senders:
         self.findings = findings
         self.slack = slack
         self.ports = ports
-        self.known = {}            # (link, source) -> Sender
-        self.endpoints = {}        # (link, node, endpoint) -> the first source
+        self.known = {}            # (link, address) -> Source
+        self.endpoints = {}        # (link, node, endpoint) -> the source that spoke for it last
+        self.sources = {}          # (link, node, endpoint) -> all that did
+        self.changes = []          # (datagram, the endpoint before, the endpoint then) where a source names another one
         self.intervals = {}        # node -> {endpoint: seconds}, by the Keep-Alive Intervals of its data
 
-    def of(self, datagram, address):
-        return self.known.setdefault((datagram.link, address), Sender())
+    def of(self, link, address):
+        return self.known.setdefault((link, address), Source())
+
+    def senders(self):
+        """The endpoints that were heard, each from each of its sources."""
+        return [sender for source in self.known.values() for post, sender in source.senders.items() if post]
 
     def find(self, rule, datagram, text, **more):
         self.findings.append(Finding(rule, datagram.frame, datagram.source, text, **more))
@@ -105,18 +135,18 @@ class Senders:
             self.find('far-destination', datagram, f'a multicast to {datagram.destination}, and not to {GROUP}')
         elif not multicast and not is_link_local(datagram.destination):
             self.find('far-destination', datagram, f'the destination {datagram.destination} is not link-local')
-        sender = self.of(datagram, datagram.source)
-        sender.ports.add(datagram.source_port)
-        if datagram.port not in self.ports and datagram.port not in self.of(datagram, datagram.destination).ports:
+        self.of(datagram.link, datagram.source).ports.add(datagram.source_port)
+        if datagram.port not in self.ports and datagram.port not in self.of(datagram.link, datagram.destination).ports:
             what = 'a multicast' if multicast else f'a unicast to {datagram.destination}, which sent nothing from there,'
             self.find('port', datagram, f'{what} to port {datagram.port}')
         if datagram.length > MOST_BYTES:
             self.find('long', datagram, f'{datagram.length} bytes, and a node need not be able to receive more than {MOST_BYTES}')
 
     def take(self, datagram, found):
-        """What the items say."""
-        sender = self.of(datagram, datagram.source)
-        self.take_endpoints(sender, datagram, found)
+        """What the items say. The answer is the sender."""
+        source = self.of(datagram.link, datagram.source)
+        self.take_endpoints(source, datagram, found)
+        sender = source.senders.setdefault(source.post, Sender(datagram.link, datagram.source, source.post))
         for item in found:
             if item.kind in DATA_KINDS:
                 text = f'a TLV of type {item.kind} at place {item.place} of the datagram, outside of node data'
@@ -126,38 +156,54 @@ class Senders:
             self.take_state(sender, datagram, states[-1])
         if any(item.name == 'request-network' for item in found) and not is_multicast(datagram.destination):
             self.take_request(sender, datagram)
-        sender.last = datagram
+        sender.first, sender.last = sender.first or datagram, datagram
+        source.moments.append(datagram.moment)
+        return sender
 
     # Node Endpoints
 
-    def take_endpoints(self, sender, datagram, found):
+    def take_endpoints(self, source, datagram, found):
         named = False
         for item in found:
             if item.name == 'network-state' and not named:
                 self.find('no-endpoint', datagram, f'a Network State at place {item.place}, and no Node Endpoint before it')
             if item.name == 'node-endpoint':
                 named = True
-                self.take_endpoint(sender, datagram, item.words['node'], int(item.words['endpoint']))
+                self.take_endpoint(source, datagram, item.words['node'], int(item.words['endpoint']))
         if found and not named and not any(item.name == 'network-state' for item in found):
             self.find('listener', datagram, 'no Node Endpoint: it asks and listens, and becomes nobody\'s peer')
 
-    def take_endpoint(self, sender, datagram, node, endpoint):
+    def take_endpoint(self, source, datagram, node, endpoint):
+        post = node, endpoint
         if endpoint == 0:
             self.find('endpoint-zero', datagram, 'a Node Endpoint with endpoint 0', node=node)
-        if sender.endpoint not in (None, (node, endpoint)):
-            text = f'Node Endpoint {node}/{endpoint}, and {sender.endpoint[0]}/{sender.endpoint[1]} before'
-            self.find('other-endpoint', datagram, text, node=node)
-        sender.endpoint = node, endpoint
-        first = self.endpoints.setdefault((datagram.link, node, endpoint), datagram.source)
-        if first != datagram.source:
-            self.find('two-sources', datagram, f'Node Endpoint {node}/{endpoint} came from {first} before', node=node)
-            self.endpoints[datagram.link, node, endpoint] = datagram.source
+        if source.post not in (None, post):
+            self.changes.append((datagram, source.post, post))
+        source.post = post
+        before = self.endpoints.get((datagram.link, *post))
+        if before not in (None, datagram.source):
+            self.find('two-sources', datagram, f'Node Endpoint {node}/{endpoint} came from {before} before', node=node)
+        self.endpoints[(datagram.link, *post)] = datagram.source
+        self.sources.setdefault((datagram.link, *post), set()).add(datagram.source)
+
+    def end(self, posts):
+        """Judges the sources that named another endpoint than before. One address may be on two links whose captures were merged:
+        then the data of the nodes have both endpoints, and no other source speaks for them. If the nodes are two, the one before
+        goes on to speak."""
+        for datagram, before, post in self.changes:
+            is_merged = all(each in posts and len(self.sources[(datagram.link, *each)]) == 1 for each in (before, post))
+            if not is_merged or before[0] != post[0] and not self.goes_on(datagram, before):
+                text = f'Node Endpoint {post[0]}/{post[1]}, and {before[0]}/{before[1]} before'
+                self.find('other-endpoint', datagram, text, node=post[0])
+
+    def goes_on(self, datagram, post):
+        return self.of(datagram.link, datagram.source).senders[post].last.moment > datagram.moment
 
     # Trickle and keep-alives
 
     def keep_alive_of(self, sender):
-        """The keep-alive interval of the source's endpoint in seconds, 0 for none, and whether its data say so."""
-        node, endpoint = sender.endpoint or (None, None)
+        """The keep-alive interval of an endpoint in seconds, 0 for none, and whether its data say so."""
+        node, endpoint = sender.post or (None, None)
         said = self.intervals.get(node, {})
         seconds = said.get(endpoint, said.get(0))
         return (KEEP_ALIVE, False) if seconds is None else (seconds, True)
@@ -170,21 +216,25 @@ class Senders:
             text = f'{datagram.moment - last.moment:.3f} s after frame {last.frame}; its keep-alive interval is {interval:g} s{where}'
             self.find('too-late', datagram, text)
         sender.state = datagram
-        sender.said = [each for each in sender.said if each[0] > datagram.moment - 1] + [(datagram.moment, digest)]
+        sender.said.append((datagram.moment, digest))
         if is_multicast(datagram.destination):
             self.take_multicast(sender, datagram, digest, interval)
 
     def take_multicast(self, sender, datagram, digest, keep_alive):
         last, sender.multicast = sender.multicast, datagram
+        gap = datagram.moment - last.moment if last else None
+        maybe_keep_alive = last is None or keep_alive and gap >= keep_alive - self.slack
         if last is None or digest != sender.trickle.digest:
-            if last and 0 <= datagram.moment - last.moment < IMIN / 2 - self.slack:
+            if last and 0 <= gap < IMIN / 2 - self.slack:
                 self.find_soon(datagram, last, IMIN / 2, 'another')
             sender.trickle = Trickle(datagram.moment, digest)
+            if maybe_keep_alive:
+                sender.trickle.begin_anew(datagram.moment, 0.0 if last is None else DELAY)
             return
-        gap, least = datagram.moment - last.moment, sender.trickle.least(datagram.moment)
+        least = sender.trickle.least(datagram.moment)
         if 0 <= gap < least - self.slack:
             self.find_soon(datagram, last, least, 'the same')
-        sender.trickle.sent(datagram.moment, keep_alive and gap >= keep_alive - self.slack)
+        sender.trickle.sent(datagram.moment, maybe_keep_alive)
 
     def find_soon(self, datagram, last, least, which):
         gap = datagram.moment - last.moment
@@ -193,27 +243,30 @@ class Senders:
 
     # Requests
 
-    def heard_from(self, datagram, address):
-        """The hashes that a source said lately enough to be answered now."""
-        earliest = datagram.moment - IMIN - DELAY - self.slack
-        return {digest for moment, digest in self.of(datagram, address).said if moment >= earliest}
-
     def take_request(self, sender, datagram):
         """At most one request for each hash within Imin on a link. The first one to a destination counts for that destination
         alone, since a node may ask each one that it does not know (RFC 7787, section 4.5)."""
         is_first = datagram.destination not in sender.knows
         sender.knows.add(datagram.destination)
-        earliest = datagram.moment - IMIN + self.slack
-        sender.asked = [each for each in sender.asked if each[0] > earliest] + [(datagram.moment, datagram.destination, is_first)]
+        while sender.asked and sender.asked[0][0] <= datagram.moment - IMIN + self.slack:
+            sender.asked.popleft()
+        sender.asked.append((datagram.moment, datagram.destination, is_first))
+        since = datagram.moment - IMIN - DELAY - self.slack
         same = [each for each in sender.asked if each[1] == datagram.destination]
         again = [each for each in sender.asked if not each[2]]
         for asked, where in [(same, f' to {datagram.destination}'), (again, ' to nodes that it asked before')]:
-            hashes = set().union(*(self.heard_from(datagram, address) for _, address, _ in asked))
+            if len(asked) < 2:
+                continue
+            hashes = set().union(*(self.of(datagram.link, address).hashes(since) for address in {address for _, address, _ in asked}))
             if len(asked) > max(1, len(hashes)):
                 text = f'{len(asked)} requests within {datagram.moment - asked[0][0]:.3f} s{where}, for {max(1, len(hashes))} hash(es)'
                 self.find('asks-often', datagram, text)
                 return
 
     def heard_last(self):
-        """Of each Node Endpoint the last datagram of its source: (node, endpoint) -> datagram."""
-        return {sender.endpoint: sender.last for sender in self.known.values() if sender.endpoint}
+        """Of each endpoint that was heard its last datagram: (node, endpoint) -> datagram."""
+        found = {}
+        for sender in self.senders():
+            if sender.post not in found or found[sender.post].moment < sender.last.moment:
+                found[sender.post] = sender.last
+        return found

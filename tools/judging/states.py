@@ -1,4 +1,6 @@
 """What Node States say: numbers, hashes, ages, and the data of nodes."""
+import functools
+import ipaddress
 import re
 
 import items
@@ -12,6 +14,7 @@ OLDEST = 2 ** 32 - 2 ** 15           # milliseconds (RFC 7787, section 4.6)
 AGE_SLACK, AGE_DRIFT = 1.0, 0.002    # seconds that an age may be off, and by how much of the time that went by
 FLOODING = 5.0                       # seconds until new data are everywhere, and nobody shows the old ones any more
 RESERVED_CAPABILITY = 8
+NO_SCOPE = [ipaddress.ip_network(each) for each in ('fe80::/10', 'ff00::/8', '::ffff:169.254.0.0/112', '::ffff:224.0.0.0/100')]
 LAST_OF_ALL = 32                     # types above this count beside an HNCP-Version alone (RFC 7788, section 4)
 
 
@@ -43,6 +46,11 @@ class State:
         return self.node, self.number, self.digest
 
     @property
+    def key(self):
+        """What names the data: a node may publish the same ones under a new number."""
+        return self.node, self.digest
+
+    @property
     def part(self):
         """What a network state hash is made of."""
         return bytes.fromhex(self.node), self.number.to_bytes(4, 'big'), bytes.fromhex(self.digest)
@@ -57,6 +65,20 @@ class Data:
 
     def named(self, name):
         return [item.words for item in self.below if item.name == name]
+
+    def peers(self):
+        """The peers: node, its endpoint, the own one."""
+        return {(words['node'], int(words['endpoint']), int(words['own'])) for words in self.named('peer')}
+
+    def posts(self):
+        """The own endpoints that they name."""
+        named = [words['own'] for words in self.named('peer')]
+        named += [words['endpoint'] for name in ('assigned', 'address', 'keep-alive') for words in self.named(name)]
+        return {(self.state.node, int(number)) for number in named}
+
+    def intervals(self):
+        """The Keep-Alive Intervals in seconds, by endpoint; the first of an endpoint counts."""
+        return {int(words['endpoint']): int(words['interval']) / 1000 for words in reversed(self.named('keep-alive'))}
 
     def delegated(self):
         """The delegated prefixes, each with both lifetimes in seconds."""
@@ -91,8 +113,10 @@ class States:
         self.senders = senders
         self.hashes = {}       # (node, number) -> {hash: frame}
         self.shown = {}        # (link, source, node) -> the number that it showed last
-        self.origins = {}      # (node, number, hash) -> (origination, moment) of the first state
-        self.data = {}         # (node, number, hash) -> Data
+        self.origins = {}      # (node, number, hash) -> the first state
+        self.versions = {}     # node -> the first state of each of its numbers and hashes, as they came
+        self.data = {}         # (node, hash) -> Data
+        self.posts = set()     # (node, endpoint) for each endpoint that node data name as an own one
         self.latest = {}       # node -> State
         self.answers = {}      # (link, source, destination) -> Answer
         self.told = set()
@@ -128,8 +152,8 @@ class States:
     def take_number(self, datagram, state):
         key = datagram.link, datagram.source, state.node
         before = self.shown.get(key)
-        sender = self.senders.of(datagram, datagram.source).endpoint
-        is_own = sender is not None and sender[0] == state.node
+        post = self.senders.of(datagram.link, datagram.source).post
+        is_own = post is not None and post[0] == state.node
         if before is not None and is_older(state.number, before):
             why = 'its own number; it began anew, or another node has its identifier' if is_own else 'of what it knows of the node'
             self.find('number-falls', state, f'number {state.number} after {before}, {why}')
@@ -137,6 +161,8 @@ class States:
         latest = self.latest.get(state.node)
         if latest is None or is_own or not is_older(state.number, latest.number):
             self.latest[state.node] = state
+            if state.key in self.data:
+                self.senders.intervals[state.node] = self.data[state.key].intervals()
 
     def take_hash(self, state):
         known = self.hashes.setdefault((state.node, state.number), {})
@@ -146,7 +172,10 @@ class States:
         known.setdefault(state.digest, state.frame)
 
     def take_age(self, state):
-        origin, first = state.moment - state.age, self.origins.setdefault(state.version, state)
+        origin, first = state.moment - state.age, self.origins.get(state.version)
+        if first is None:
+            first = self.origins[state.version] = state
+            self.versions.setdefault(state.node, []).append(state)
         off, since = origin - (first.moment - first.age), abs(state.moment - first.moment)
         if abs(off) > AGE_SLACK + self.senders.slack + AGE_DRIFT * since:
             way = 'less' if off > 0 else 'more'
@@ -159,10 +188,10 @@ class States:
         made = items.hash_of(state.octets).hex()
         if made != state.digest:
             self.find('data-hash', state, f'number {state.number} has the hash {state.digest}, and its data give {made}')
-        elif state.version not in self.data and 'body' not in state.item.words:
-            self.data[state.version] = Data(state)
-            said = {int(words['endpoint']): int(words['interval']) / 1000 for words in reversed(self.data[state.version].named('keep-alive'))}
-            self.senders.intervals[state.node] = said
+        elif state.key not in self.data and 'body' not in state.item.words:
+            data = self.data[state.key] = Data(state)
+            self.posts |= data.posts()
+            self.senders.intervals[state.node] = data.intervals()
         if 'body' not in state.item.words:
             self.take_items(datagram, state)
 
@@ -186,6 +215,21 @@ class States:
                 self.take_version(state, item, value)
             if item.name == 'assigned' and value[4] & 0xf0:
                 self.once('reserved', state, f'reserved bits of the Assigned-Prefix {item.words["prefix"]} are set', item.words['prefix'])
+            self.take_words(state, item)
+
+    def take_words(self, state, item):
+        """What the fields of an item say that cannot be."""
+        words = item.words
+        if item.name == 'peer' and words['node'] == state.node:
+            text = f'the Peer {words["node"]}/{words["endpoint"]} of endpoint {words["own"]} is the node itself'
+            self.once('own-peer', state, text, (words['endpoint'], words['own']))
+        if item.name in ('assigned', 'delegated') and not has_scope(words['prefix']):
+            kind = {'assigned': 'Assigned-Prefix', 'delegated': 'Delegated-Prefix'}[item.name]
+            text = f'the {kind} {shown(words["prefix"])} is of link-local or multicast addresses'
+            self.once('scope', state, text, (item.name, words['prefix']))
+        if item.name == 'delegated' and int(words['preferred']) > int(words['valid']):
+            text = f'{shown(words["prefix"])} is preferred for {words["preferred"]} s, and valid for {words["valid"]} s'
+            self.once('preferred', state, text, words['prefix'])
 
     def misplaced(self, state, text, where):
         if ('misplaced', state.version, text) not in self.told:
@@ -201,7 +245,7 @@ class States:
 
     def take_lifetimes(self, state):
         """Lifetimes count from the origination of the data: a state without the data tells their age too."""
-        known = self.data.get(state.version)
+        known = self.data.get(state.key)
         for prefix, valid, _ in known.delegated() if known else []:
             left = valid - state.age
             if valid != ENDLESS and left <= -FLOODING:
@@ -235,6 +279,19 @@ class States:
     def end(self):
         for key in list(self.answers):
             self.close(key)
+
+
+@functools.lru_cache(maxsize=4096)
+def network(text):
+    return ipaddress.ip_network(text)
+
+
+@functools.lru_cache(maxsize=4096)
+def has_scope(text):
+    """Whether a prefix is of addresses that hosts can have beyond a link: none of link-local or multicast ones (RFC 4291, sections
+    2.5.6 and 2.7; RFC 3927; RFC 5771)."""
+    prefix = network(text)
+    return not any(prefix.prefixlen >= each.prefixlen and prefix.network_address in each for each in NO_SCOPE)
 
 
 def shown(text):

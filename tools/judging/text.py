@@ -23,20 +23,24 @@ def listed(findings, every):
 
 def text_of(made, every):
     """The lines on a judgement."""
-    sources = {source for (_, source), sender in made.senders.known.items() if sender.ports}
+    sources = {address for (_, address), source in made.senders.known.items() if source.ports}
     yield f'capture datagrams={made.count} sources={len(sources)} end={made.end:.6f}'
+    yield from made.remarks
     for datagram in made.cut:
         yield f'frame {datagram.frame} {datagram.source} cut: the capture has {len(datagram.payload)} of {datagram.length} bytes; not judged'
     for title, wanted in [('by hncp decode, whose text is proved', rules.BY_DECODE), ('computed by judge, not proved', rules.BY_JUDGE)]:
         found = [finding for finding in made.findings if finding.rule in wanted]
         yield f'findings {title}: {len(found)}'
         yield from listed(found, every)
+    if made.told:
+        yield f'told by judge, and no finding: {len(made.told)}'
+        yield from listed(made.told, every)
     yield f'the home at the end, computed by judge from what hncp decode says{"" if made.home.is_whole else "; not all of it was captured"}:'
     for line in made.home.lines():
         yield f'  {line}'
 
 
 def rule_lines():
-    for title, found in [('by hncp decode', rules.BY_DECODE), ('computed by judge', rules.BY_JUDGE)]:
+    for title, found in [('by hncp decode', rules.BY_DECODE), ('computed by judge', rules.BY_JUDGE), ('told by judge, no finding', rules.TOLD)]:
         for name, (sections, meaning) in found.items():
             yield f'{name}: {meaning} ({sections}); {title}'

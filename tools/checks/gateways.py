@@ -11,6 +11,7 @@ import common
 import items
 from checks import faults, frames, homes, samples, talks
 from checks.helpers import SEED, Missing, lines_of, must, must_be, need, run, short
+from checks.namespaces import Namespaces
 from judging.judgement import Judgement, judge
 from judging.rules import TOLD
 from judging.text import text_of
@@ -214,46 +215,14 @@ def check_page(_):
 
 # relay
 
-class Link:
-    """Two network namespaces with a link between them, and what runs in them; all of it is gone at the end."""
+class Link(Namespaces):
+    """Two network namespaces with a link between them."""
 
     def __init__(self):
-        self.names = [f'hncp-{os.getpid()}-{each}' for each in 'ab']
-        self.running = []
+        super().__init__('ab')
 
-    def __enter__(self):
-        try:
-            for name in self.names:
-                self.ip('netns', 'add', name)
-                self.inside(name, 'sh', '-c', 'echo 0 > /proc/sys/net/ipv6/conf/default/accept_dad').communicate()
-            self.ip('link', 'add', 'wire', 'netns', self.names[0], 'type', 'veth', 'peer', 'name', 'wire', 'netns', self.names[1])
-            for name in self.names:
-                for interface in ('lo', 'wire'):
-                    self.ip('-n', name, 'link', 'set', interface, 'up')
-        except BaseException:
-            self.__exit__()
-            raise
-        return self
-
-    @staticmethod
-    def ip(*words):
-        done = subprocess.run(['ip', *words], stdout=subprocess.PIPE, stderr=subprocess.PIPE)
-        if done.returncode != 0:
-            raise Missing(f'ip {" ".join(words)}: {done.stderr.decode("utf-8", "replace").strip()}')
-
-    def inside(self, name, *words):
-        """A program in one of the namespaces."""
-        made = subprocess.Popen(['ip', 'netns', 'exec', name, *words], stdin=subprocess.DEVNULL, stdout=subprocess.PIPE, stderr=subprocess.PIPE)
-        self.running.append(made)
-        return made
-
-    def __exit__(self, *_):
-        for each in self.running:
-            if each.poll() is None:
-                each.terminate()
-            each.communicate()
-        for name in self.names:
-            subprocess.run(['ip', 'netns', 'del', name], stdout=subprocess.PIPE, stderr=subprocess.PIPE)
+    def begin(self):
+        self.join('a', 'wire', 'b', 'wire')
 
 
 def check_relay(folder):
@@ -266,19 +235,19 @@ def check_relay(folder):
     status, _, messages = run('relay', 'no-such-interface')
     must(status == 1 and 'there is no interface' in messages, f'without an interface: status {status}, {messages}')
     with Link() as link:
-        ear = link.inside(link.names[0], 'tcpdump', '-Z', 'root', '-i', 'wire', '-U', '-w', path, 'udp port 8231 or ip6 proto 44')
+        ear = link.inside('a', 'tcpdump', '-Z', 'root', '-i', 'wire', '-U', '-w', path, 'udp port 8231 or ip6 proto 44')
         while b'listening on' not in (line := ear.stderr.readline()):
             if not line:
                 raise Missing('tcpdump does not listen in a namespace')
         relays = [link.inside(name, tool, 'wire', '--id', f'0000000{place}', '--seed', str(place), '--turns', str(TURNS), *more)
-                  for place, (name, more) in enumerate(zip(link.names, (['--file', uplink], [])), 1)]
+                  for place, (name, more) in enumerate((('a', ['--file', uplink]), ('b', [])), 1)]
         texts = [each.communicate(timeout=PATIENCE) for each in relays]
         ear.terminate()
         ear.communicate()
         for each, (text, messages) in zip(relays, texts):
             must(each.returncode == 0 and b' reach=2 ' in text, f'relay: status {each.returncode}, {text.decode()} {messages.decode()[-200:]}')
             must(b'neighbours=1 ' in text and b' failed=0' in text, f'relay: {text.decode()}')
-    left = [name for name in link.names if name in subprocess.run(['ip', 'netns', 'list'], stdout=subprocess.PIPE).stdout.decode()]
+    left = [name for name in link.names.values() if name in subprocess.run(['ip', 'netns', 'list'], stdout=subprocess.PIPE).stdout.decode()]
     must(not left, f'left behind: {left}')
     # A busy machine may delay what a relay hands on, so moments count for little here.
     text = lines_of('judge', '--slack', '5000', path)

@@ -1,2 +1,5 @@
-pub mod Turns
 pub mod Endpoints
+pub mod FirstGoes
+pub mod Lengths
+pub mod EndSoon
+pub mod Turns

@@ -1,5 +1,5 @@
 -- Prefixes that were advertised and are no longer (RFC 9096, section 3.5). Moments are in milliseconds, lifetimes in seconds.
-use Rattle.std.specs.Prelude.{ℕ, ◌+◌, ◌-◌, ◌*◌, ◌/◌, ◌==◌, ◌&&◌, not, nat_lt, min, Bool, List, ◌++◌, map, if◌then◌else◌}
+use Rattle.std.specs.Prelude.{ℕ, zero, suc, ◌+◌, ◌-◌, ◌*◌, ◌/◌, ◌==◌, ◌&&◌, not, nat_lt, nat_le, min, Bool, List, [], ◌∷◌, ◌++◌, length, take, drop, map, Some, None, is_some, unwrap_or, if◌then◌else◌}
 use Rattle.std.specs.List.{filter, list_any}
 use Rattle.hn_base.specs.Prefix.{PlainPrefix}
 use Rattle.hn_base.specs.declared.ids.EpId.{EpId}
@@ -16,39 +16,79 @@ left_of now until = if until == 18446744073709551615 then 4294967295 else min ((
 
 -- what is told of a prefix that is advertised now
 abbrev pub told_of : ℕ → Info → Told
-told_of now info = record { prefix = info.prefix; until = until_of now info.valid }
+told_of now info = record { prefix = info.prefix; until = until_of now info.valid; departed = None }
 
 -- a prefix that was told, and is not to be preferred
 abbrev pub deprecated : ℕ → Told → Info
 deprecated now told = record { prefix = told.prefix; valid = left_of now told.until; preferred = 0 }
+
+-- ---- which have departed
 
 -- whether a prefix is among those
 abbrev pub is_prefix_among : PlainPrefix → List Info → Bool
 is_prefix_among prefix infos = list_any (λ info. info.prefix.bits == prefix.bits && info.prefix.len == prefix.len) infos
 
 -- whether what was told has not ended and is not among those
-abbrev pub is_departed : ℕ → List Info → Told → Bool
-is_departed now infos told = nat_lt now told.until && not (is_prefix_among told.prefix infos)
+abbrev pub is_gone : ℕ → List Info → Told → Bool
+is_gone now infos told = nat_lt now told.until && not (is_prefix_among told.prefix infos)
 
--- all of what was told that is so
+-- What is gone has departed, now if it has not before. From then on it is told for 7,200 s at most: a host that hears of it
+-- keeps it for no longer (RFC 4862, section 5.5.3 e).
+abbrev pub departs : ℕ → Told → Told
+departs now told = record {
+  prefix = told.prefix;
+  until = if is_some told.departed then told.until else min told.until (until_of now 7200);
+  departed = Some (unwrap_or told.departed now);
+}
+
+-- all of what was told that is gone
 abbrev pub departed : ℕ → List Info → List Told → List Told
-departed now infos told = filter (is_departed now infos) told
+departed now infos told = map (departs now) (filter (is_gone now infos) told)
 
--- the prefixes of an advertisement: those that are to be advertised, and the departed ones
-abbrev pub with_departed : ℕ → List Info → List Told → List Info
-with_departed now infos told = infos ++ map (deprecated now) (departed now infos told)
+-- ---- how many are kept
 
--- what is told after it
-abbrev pub told_after : ℕ → List Info → List Told → List Told
-told_after now infos told = map (told_of now) infos ++ departed now infos told
+-- the moment of departure
+abbrev pub since : Told → ℕ
+since told = unwrap_or told.departed 0
 
--- what was told on an endpoint, and on the others
+-- without the one that departed first; of those that did at one moment without the last of the list
+abbrev pub without_first : List Told → List Told
+without_first [] = []
+without_first (t ∷ ts) = if list_any (λ u. nat_le (since u) (since t)) ts then t ∷ without_first ts else ts
+
+-- so many times
+abbrev pub without : ℕ → List Told → List Told
+without zero line = line
+without (suc times) line = without times (without_first line)
+
+-- at most 64 are kept: with a 65th the one goes that departed first
+abbrev pub kept : List Told → List Told
+kept line = without (length line - 64) line
+
+-- ---- an advertisement, in which there is room for so many departed ones
+
+-- The departed ones that are kept, in the order in which they are told: those that depart now come first.
+abbrev pub line : ℕ → List Info → List Told → List Told
+line now infos told = kept (departed now infos told)
+
+-- its prefixes: those that are to be advertised, and after them the first departed ones
+abbrev pub with_departed : ℕ → List Info → ℕ → List Told → List Info
+with_departed now infos room told = infos ++ map (deprecated now) (take room (line now infos told))
+
+-- What is told after it. The departed ones that were told have their next turn after the others.
+abbrev pub told_after : ℕ → List Info → ℕ → List Told → List Told
+told_after now infos room told = map (told_of now) infos ++ drop room (line now infos told) ++ take room (line now infos told)
+
+-- ---- on endpoints
+
+-- what was told on an endpoint
 abbrev pub told_at : EpId → List (EpId × Told) → List Told
 told_at at told = map (λ t. t.1) (filter (λ t. t.0.0 == at.0) told)
 
-abbrev pub told_beside : EpId → List (EpId × Told) → List (EpId × Told)
-told_beside at told = filter (λ t. not (t.0.0 == at.0)) told
+-- what was told on the others, and has not ended
+abbrev pub told_beside : ℕ → EpId → List (EpId × Told) → List (EpId × Told)
+told_beside now at told = filter (λ t. not (t.0.0 == at.0) && nat_lt now t.1.until) told
 
 -- this is what was told on the endpoint now
-abbrev pub with_told : EpId → List Told → List (EpId × Told) → List (EpId × Told)
-with_told at here told = told_beside at told ++ map (λ t. (at, t)) here
+abbrev pub with_told : ℕ → EpId → List Told → List (EpId × Told) → List (EpId × Told)
+with_told now at here told = told_beside now at told ++ map (λ t. (at, t)) here

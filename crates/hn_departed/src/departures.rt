@@ -1,6 +1,7 @@
-ghost use Rattle.std.specs.Prelude.{◌≡◌, ◌++◌, [], map, IfOk, OnOk, OnErr};
-ghost use Rattle.hn_departed.specs.Departed.{until_of, left_of, told_of, deprecated, is_prefix_among, departed, with_departed, told_after, told_at, told_beside, with_told};
+ghost use Rattle.std.specs.Prelude.{◌≡◌, ◌++◌, [], take, drop, map, IfOk};
+ghost use Rattle.hn_departed.specs.Departed.{until_of, left_of, told_of, deprecated, is_prefix_among, departs, departed, line, with_departed, told_after, told_at, told_beside, with_told};
 
+use crate::keeping::keep_few;
 use hn_advert::{Info, Infos};
 use hn_base::{EpId, Moment, NoMemory, Sequence};
 use hn_prefix::Prefix;
@@ -13,12 +14,18 @@ const NEVER_ENDS: u32 = 4_294_967_295;
 /// The moment at which such a lifetime ends.
 const NEVER: u64 = 18_446_744_073_709_551_615;
 
+/// How long a departed prefix is told, in seconds: a host that hears of it keeps it for no longer (RFC 4862, section 5.5.3
+/// e).
+const LONGEST: u32 = 7200;
+
 /// A prefix that was advertised.
 #[derive(Clone, Copy, PartialEq, Eq)]
 pub struct Told {
     pub prefix: Prefix,
-    /// When its valid lifetime ends, in milliseconds; 2^64 - 1 where it never does.
+    /// When its valid lifetime ends, in milliseconds; 2^64 - 1 where it never does. A departed prefix ends after 7,200 s.
     pub until: u64,
+    /// When it departed: at the moment of the first advertisement without it.
+    pub departed: Option<Moment>,
 }
 
 /// When a lifetime ends that begins now, in seconds.
@@ -49,6 +56,7 @@ fn told_of(now: Moment, info: &Info) -> Told
     Told {
         prefix: info.prefix,
         until: until_of(now, info.valid),
+        departed: None,
     }
 }
 
@@ -70,6 +78,20 @@ fn is_among(prefix: Prefix, infos: &[Info]) -> bool
     infos.iter().any(|info| info.prefix == prefix)
 }
 
+/// What is gone has departed, now if it has not before.
+fn departs(now: Moment, told: &Told) -> Told
+    ensures { result ≡ departs now told.now }
+{
+    match told.departed {
+        Some(_) => *told,
+        None => Told {
+            prefix: told.prefix,
+            until: told.until.min(until_of(now, LONGEST)),
+            departed: Some(now),
+        },
+    }
+}
+
 /// Those that were told, whose valid lifetime has not ended, and that are not among those.
 fn departed(
     alloc: Global,
@@ -81,10 +103,19 @@ fn departed(
 {
     Ok(
         told.iter()
-            .copied()
             .filter(|told| now < told.until && !is_among(told.prefix, infos))
+            .map(|told| departs(now, told))
             .collect(alloc)?,
     )
+}
+
+/// The departed ones that are kept, in the order in which they are told.
+fn line(alloc: Global, now: Moment, infos: &[Info], told: &[Told]) -> Result<Vec<Told>, NoMemory>
+    ensures { IfOk result (λ few. few.items ≡ line now infos.now told.now) }
+{
+    let mut line = departed(alloc, now, infos, told)?;
+    keep_few(&mut line);
+    Ok(line)
 }
 
 /// The ones that are gone, which are not to be preferred.
@@ -115,18 +146,20 @@ fn told_of_all(alloc: Global, now: Moment, infos: &[Info]) -> Result<Vec<Told>, 
     Ok(infos.iter().map(|info| told_of(now, info)).collect(alloc)?)
 }
 
-/// What is told of those, and after it what is told of the ones that are gone.
+/// What is told of those, and after it what is told of the departed ones. The first ones of these were told, and have their
+/// next turn after the others.
 fn told_with(
     alloc: Global,
     now: Moment,
     infos: &[Info],
-    gone: &[Told],
+    first: &[Told],
+    others: &[Told],
 ) -> Result<Vec<Told>, NoMemory>
-    ensures { IfOk result (λ told. told.items ≡ map (told_of now) infos.now ++ gone.now) }
+    ensures { IfOk result (λ told. told.items ≡ map (told_of now) infos.now ++ others.now ++ first.now) }
 {
     let mut told = told_of_all(alloc, now, infos)?;
-    let mut after = Vec::from_slice(alloc, gone)?;
-    told.append(&mut after)?;
+    told.extend_from_slice(others)?;
+    told.extend_from_slice(first)?;
     Ok(told)
 }
 
@@ -142,18 +175,19 @@ fn told_at(alloc: Global, at: EpId, told: &[(EpId, Told)]) -> Result<Vec<Told>, 
     )
 }
 
-/// What was told on the others.
+/// What was told on the others, and has not ended.
 fn told_beside(
     alloc: Global,
+    now: Moment,
     at: EpId,
     told: &[(EpId, Told)],
 ) -> Result<Vec<(EpId, Told)>, NoMemory>
-    ensures { IfOk result (λ beside. beside.items ≡ told_beside at told.now) }
+    ensures { IfOk result (λ beside. beside.items ≡ told_beside now at told.now) }
 {
     Ok(
         told.iter()
             .copied()
-            .filter(|told| told.0 != at)
+            .filter(|told| told.0 != at && now < told.1.until)
             .collect(alloc)?,
     )
 }
@@ -168,14 +202,15 @@ fn with_endpoint(alloc: Global, at: EpId, here: &[Told]) -> Result<Vec<(EpId, To
 /// What was told on all, where this is what was told on an endpoint now.
 fn with_told(
     alloc: Global,
+    now: Moment,
     at: EpId,
     here: &[Told],
     told: &[(EpId, Told)],
 ) -> Result<Vec<(EpId, Told)>, NoMemory>
-    ensures { IfOk result (λ all. all.items ≡ with_told at here.now told.now) }
+    ensures { IfOk result (λ all. all.items ≡ with_told now at here.now told.now) }
 {
     let mut after = with_endpoint(alloc, at, here)?;
-    let mut all = told_beside(alloc, at, told)?;
+    let mut all = told_beside(alloc, now, at, told)?;
     all.append(&mut after)?;
     Ok(all)
 }
@@ -206,9 +241,12 @@ impl Departures {
         }
     }
 
-    /// The prefixes of an advertisement that is sent on an endpoint now: those that are to be advertised, and after them
-    /// each that was and is not among them, with a preferred lifetime of 0 and what is left of its valid one. And what was
-    /// advertised once it is sent.
+    /// The prefixes of an advertisement that is sent on an endpoint now, with room for so many departed ones. First come
+    /// those that are to be advertised. After them come the first of those that were and are not among them, each with a
+    /// preferred lifetime of 0 and what is left of its valid one. And what was advertised once it is sent.
+    ///
+    /// At most 64 departed prefixes are kept, each for at most 7,200 s; with a 65th the one goes that departed first. Those
+    /// that depart now are told first, and after them those that were not told for longest.
     ///
     /// # Errors
     ///
@@ -219,15 +257,17 @@ impl Departures {
         now: Moment,
         at: EpId,
         infos: &[Info],
+        room: usize,
     ) -> Result<(Infos, Departures), NoMemory>
-        ensures infos { IfOk result (λ next. next.0 ≡ with_departed now infos.now (told_at at self.now)) }
-        ensures told { IfOk result (λ next. next.1 ≡ with_told at (told_after now infos.now (told_at at self.now)) self.now) }
+        ensures infos { IfOk result (λ next. next.0 ≡ with_departed now infos.now room (told_at at self.now)) }
+        ensures told { IfOk result (λ next. next.1 ≡ with_told now at (told_after now infos.now room (told_at at self.now)) self.now) }
     {
         let here = told_at(alloc, at, self.told.as_slice())?;
-        let gone = departed(alloc, now, infos, here.as_slice())?;
-        let after = told_with(alloc, now, infos, gone.as_slice())?;
-        let told = with_told(alloc, at, after.as_slice(), self.told.as_slice())?;
-        let all = all_of(alloc, now, infos, gone.as_slice())?;
+        let line = line(alloc, now, infos, here.as_slice())?;
+        let (first, others) = line.as_slice().split_at(room.min(line.len()));
+        let after = told_with(alloc, now, infos, first, others)?;
+        let told = with_told(alloc, now, at, after.as_slice(), self.told.as_slice())?;
+        let all = all_of(alloc, now, infos, first)?;
         Ok((Sequence::from(all), Departures { told }))
     }
 }

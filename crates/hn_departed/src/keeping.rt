@@ -1,0 +1,56 @@
+//! How many departed prefixes are kept.
+
+ghost use Rattle.std.specs.Prelude.{◌≡◌, ◌<◌, nat_le, length};
+ghost use Rattle.std.specs.List.{list_any, remove};
+ghost use Rattle.hn_departed.specs.Departed.{since, without_first, kept};
+
+use crate::departures::Told;
+use hn_base::Moment;
+
+/// How many departed prefixes of an endpoint are kept at most.
+const MOST: usize = 64;
+
+/// The moment of departure.
+fn since(told: &Told) -> Moment
+    ensures { result ≡ since told.now }
+{
+    told.departed.unwrap_or(0)
+}
+
+/// Whether one of those departed no later than that.
+fn is_any_no_later(told: &Told, rest: &[Told]) -> bool
+    ensures { result ≡ list_any (λ u. nat_le (since u) (since told.now)) rest.now }
+{
+    let moment = since(told);
+    rest.iter().any(|other| since(other) <= moment)
+}
+
+/// The place of the one that departed first; of those that did at one moment that of the last.
+fn first_departed(line: &[Told]) -> usize
+    requires { 0 < length line.now }
+    ensures within { result < length line.now }
+    ensures first { without_first line.now ≡ remove line.now result }
+{
+    let mut place = 0;
+    let mut rest = line;
+    'place: loop {
+        let Some((told, after)) = rest.split_first() else {
+            unreachable!()
+        };
+        if !is_any_no_later(told, after) {
+            return place;
+        }
+        place += 1;
+        rest = after;
+    }
+}
+
+/// At most 64 stay: while there are more, the one goes that departed first.
+pub(crate) fn keep_few(line: &mut Vec<Told>)
+    ensures { line.new.items ≡ kept line.old.items }
+{
+    while MOST < line.len() {
+        let place = first_departed(line.as_slice());
+        line.remove(place);
+    }
+}

@@ -1,1 +1,5 @@
 pub mod Stream
+pub mod HeldPrefixes
+pub mod Sizes
+pub mod NextAdverts
+pub mod DueMoments

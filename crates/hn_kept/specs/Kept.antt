@@ -1,5 +1,5 @@
 -- A router with what its last event came to, what it advertised, and its random words.
-use Rattle.std.specs.Prelude.{◌≡◌, ℕ, List, [], Some}
+use Rattle.std.specs.Prelude.{◌≡◌, ℕ, ◌-◌, ◌/◌, ◌≤◌, List, [], length, Some}
 use Rattle.rand_chacha.specs.ChaCha.{ChaCha, of_seed}
 use Rattle.hn_base.specs.Words.{Took}
 use Rattle.hn_base.specs.declared.ids.EpId.{EpId}
@@ -35,10 +35,18 @@ pub record Acts (now : ℕ) (event : PlainEvent) (before after : Kept) : Type 0 
   pub drew : Took (Some (chacha_word before.words)) after.done.words (Some (chacha_word after.words))
   pub told : after.told ≡ before.told
 
+-- So many departed prefixes have room behind so many that are to be advertised. An advertisement has at most 1,232 bytes:
+-- 1,280 (RFC 8200, section 5), less 40 of the IPv6 header, and 8 for an extension header. It has 16 bytes before its options,
+-- and 32 for each prefix (RFC 4861, sections 4.2 and 4.6.2).
+abbrev pub room_beside : ℕ → ℕ
+room_beside count = (1232 - 16) / 32 - count
+
 -- The bytes of an advertisement that is to be sent on an endpoint at the router's moment, and what was advertised once it is
--- sent: the advertisement of the router, and after its prefixes those that are departed there (RFC 9096, section 3.5).
+-- sent: the advertisement of the router, and after its prefixes, of which there are at most 32, those that are departed there
+-- (RFC 9096, section 3.5) as far as there is room.
 pub record IsNextAdvert (k : Kept) (at : EpId) (bytes : List ℕ) (told : List (EpId × Told)) : Type 0 where
   pub advert : Advert
   pub is_advert : IsAdvertAt k.router at advert
-  pub bytes_are : bytes ≡ advert_bytes (record advert { infos = with_departed k.router.moment advert.infos (told_at at k.told) })
-  pub told_is : told ≡ with_told at (told_after k.router.moment advert.infos (told_at at k.told)) k.told
+  pub few : length advert.infos ≤ 32
+  pub bytes_are : bytes ≡ advert_bytes (record advert { infos = with_departed k.router.moment advert.infos (room_beside (length advert.infos)) (told_at at k.told) })
+  pub told_is : told ≡ with_told k.router.moment at (told_after k.router.moment advert.infos (room_beside (length advert.infos)) (told_at at k.told)) k.told

@@ -1,0 +1,41 @@
+-- An advertisement has 16 bytes, and 32 for each prefix.
+use Rattle.std.proofs.Common.{◌≡◌, ℕ, ◌+◌, ◌*◌, ◌≤◌, List, [], ◌∷◌, length, map, refl, subst, sym, arith, length-append}
+use Rattle.hn_base.specs.declared.ids.EpId.{EpId}
+use Rattle.hn_advert.specs.declared.advert.Advert.{Advert}
+use Rattle.hn_advert.specs.declared.advert.Info.{Info}
+use Rattle.hn_advert.specs.Layout.{option_bytes, header_bytes}
+use Rattle.hn_advert.specs.Advert.{option_of, options_bytes, header_of, advert_bytes}
+use Rattle.hn_departed.specs.declared.departures.Told.{Told}
+use Rattle.hn_departed.specs.Departed.{with_departed, told_at}
+use Rattle.hn_departed.proofs.Lengths.{few_are_kept}
+use Rattle.hn_kept.specs.Kept.{Kept, IsNextAdvert, room_beside}
+
+length-option : (i : Info) → length (option_bytes (option_of i)) ≡ 32
+length-option i = refl
+
+length-header : (a : Advert) → length (header_bytes (header_of a)) ≡ 16
+length-header a = refl
+
+length-options : (infos : List Info) → length (options_bytes (map option_of infos)) ≡ 32 * length infos
+length-options [] = refl
+length-options (i ∷ is) =
+    let all = length-append (option_bytes (option_of i)) (options_bytes (map option_of is)) in
+    let one = length-option i in
+    let rest = length-options is in
+    omega (arith, all, one, rest)
+
+length-advert : (a : Advert) → length (advert_bytes a) ≡ 16 + 32 * length a.infos
+length-advert a =
+    let all = length-append (header_bytes (header_of a)) (options_bytes (map option_of a.infos)) in
+    let header = length-header a in
+    let options = length-options a.infos in
+    omega (arith, all, header, options)
+
+pub is_short : (k : Kept) (at : EpId) (bytes : List ℕ) (told : List (EpId × Told)) → IsNextAdvert k at bytes told → length bytes ≤ 1232
+is_short k at bytes told next =
+    let count = length next.advert.infos in
+    let infos = with_departed k.router.moment next.advert.infos (room_beside count) (told_at at k.told) in
+    let few : length infos ≤ count + room_beside count = few_are_kept.told k.router.moment next.advert.infos (room_beside count) (told_at at k.told) in
+    let size = length-advert (record next.advert { infos = infos }) in
+    let short : length (advert_bytes (record next.advert { infos = infos })) ≤ 1232 = omega (arith, few, size, next.few) in
+    subst (λ (bs : List ℕ). length bs ≤ 1232) (sym next.bytes_are) short

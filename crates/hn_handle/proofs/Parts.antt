@@ -4,6 +4,7 @@
 --     one_argument             a function that is called with one machine value
 --     Apart, heap, fits        such a box as a row, its allocator, and that its machine value has its type
 --     parts_out, parts_in      a `Parted` by value is [what the place owns; the allocator]
+--     paired                   two values make a pair
 use Rattle.std.proofs.Common.{◌≡◌, ℕ, List, [], ◌∷◌, ◌++◌, refl, sym, ap, ◌∙◌, subst}
 use mathlib.Core.Bool.{true, ◌&&◌}
 use lib.Dec.{T}
@@ -13,7 +14,7 @@ use mir.Raw.{raw as bare}
 use mir.Val.{Val, vptr, vstruct, vcons, vnil, of_list, has_ty, WT}
 use base.Logic.{SProp, ent, id⊢, never, fst∗}
 use types.Logic.{Logic, sem}
-use types.Kit.{Item, Goal, Seq, Step, step, ‵, ◌$◌, move, drop, fsplit, fjoin, fpick, fpack, feq_i, feq_l}
+use types.Kit.{Item, Goal, Seq, Step, step, ‵, ◌$◌, move, drop, fsplit, fjoin, fjoin3, fpick, fpack, feq_i, feq_l}
 use denote.RattleType.{RattleType, Valss}
 use denote.Builtin.{RawPtr}
 use denote.Memory.{lone}
@@ -22,6 +23,7 @@ use denote.Steps.{nothing}
 use denote.Param.{layout, bounded}
 use denote.Param.Laws.{Laws}
 use denote.Struct.Struct.{within}
+use denote.Struct.Tuple.{Tuple}
 use denote.Struct.Owning.{shape}
 use Rattle.core.specs.declared.alloc.Allocator.{Ghosts}
 use Rattle.core.proofs.alloc.Calls.{Al, handle_tells}
@@ -73,3 +75,11 @@ module _ (Value Heap : RattleType) (LH : Laws Heap) (g : Ghosts Heap.Denot) wher
         nothing t $ feq_i t (List Val) (vptr b o ∷ []) (vptr b o ∷ []) refl $ fjoin t $ move t (2 ∷ []) $ fjoin t $
         feq_i t (List Val) (both h (vptr b o) ∷ []) (both h (vptr b o) ∷ []) refl $ fjoin t $
         fpack t (Valss (Heap ∷ RawPtr ∷ [])) (within (shape (parted.the_type Value Heap g)) (a, (block_ptr b o, tt)) (both h (vptr b o) ∷ [])) (h ∷ [], (vptr b o ∷ [], tt)) $ fjoin t $ rest)
+
+-- a pair of two values
+module _ (P Q : RattleType) {M : Type 1} {𝓤 : Ura M} {𝓛 : Logic 𝓤} {K : Type 0} {Γ : List (Item 𝓤)} {G : Goal 𝓤 𝓛.H} where
+  pub paired : K → (x : P.Denot) (y : Q.Denot) (v w : Val)
+      → Step K 𝓛 (‵ ((Tuple (P ∷ Q ∷ [])).own_val (x, y) (both v w ∷ [])) ∷ Γ) G (‵ (P.own_val x (v ∷ [])) ∷ ‵ (Q.own_val y (w ∷ [])) ∷ Γ) G
+  paired t x y v w = step (λ rest.
+      nothing t $ move t (1 ∷ 2 ∷ 0 ∷ []) $ fjoin3 t $ feq_i t (List Val) (both v w ∷ []) (both v w ∷ []) refl $ fjoin t $
+      fpack t (Valss (P ∷ Q ∷ [])) (within (record { name = []; args = []; types = []; fields = P ∷ Q ∷ [] }) (x, (y, tt)) (both v w ∷ [])) (v ∷ [], (w ∷ [], tt)) $ rest)

@@ -1,4 +1,5 @@
-ghost use Rattle.std.specs.Prelude.{◌≡◌, Option, Some, None, IsSome};
+ghost use Rattle.std.specs.Prelude.{◌≡◌, Option, Some, None, IsSome, IfSome, is_some, is_none, option_map};
+ghost use denote.RawPtr.{null_ptr};
 ghost use Rattle.hn_handle.specs.Held.{held_at};
 ghost use Rattle.hn_kept.specs.Kept.{Kept};
 
@@ -8,7 +9,7 @@ use std::alloc::Global;
 use std::marker::Model;
 use std::mem::replace;
 
-/// Where a router is, which C keeps: nothing, or a router on the heap and the right to free it.
+/// Where a router is, which C keeps: null, or a router on the heap and the right to free it.
 ///
 /// A handle that is dropped frees nothing: a router that it has stays on the heap, and nobody may free it any more. So take
 /// the router first (`take`), and drop that.
@@ -24,12 +25,15 @@ impl Model for Handle {
 }
 
 // No place.
-fn null() -> *mut u8 {
+fn null() -> *mut u8
+    ensures { result ≡ null_ptr }
+{
     std::ptr::null_mut()
 }
 
 impl Handle {
     fn none_at(at: *mut u8) -> Handle
+        requires { at ≡ null_ptr }
         ensures { result.held ≡ None }
     {
         Handle { at }
@@ -60,6 +64,15 @@ impl Handle {
         }
     }
 
+    // Whether it has no router, and the handle again.
+    fn look(self) -> (bool, Handle)
+        ensures { (result.1.held ≡ self.held) × (result.0 ≡ is_none self.held) }
+    {
+        let Handle { at } = self;
+        let none = at.is_null();
+        (none, Handle { at })
+    }
+
     /// Of a router, which stays where it is.
     pub fn of(keeper: Box<Keeper>) -> Handle
         ensures { result.held ≡ Some keeper.value }
@@ -75,12 +88,16 @@ impl Handle {
         self.unwrap(alloc).join()
     }
 
-    /// Takes the router, and leaves none.
-    pub fn take(&mut self, alloc: Global) -> Box<Keeper>
-        requires { IsSome self.old.held }
-        ensures taken { self.old.held ≡ Some result.value }
+    /// Takes the router, if there is one, and leaves none.
+    pub fn take(&mut self, alloc: Global) -> Option<Box<Keeper>>
+        ensures taken { option_map (λ keeper. keeper.value) result ≡ self.old.held }
         ensures none { self.new.held ≡ None }
     {
-        replace(self, Handle::none()).into_box(alloc)
+        let (none, handle) = replace(self, Handle::none()).look();
+        if none {
+            None
+        } else {
+            Some(handle.into_box(alloc))
+        }
     }
 }

@@ -1,25 +1,25 @@
--- `none_at`: the pointer is the one field, and the handle owns nothing.
-use Rattle.std.proofs.Common.{◌≡◌, List, [], ◌∷◌, refl}
+-- `none_at`: the pointer, which is null, is the one field, and the handle owns nothing.
+use Rattle.std.proofs.Common.{◌≡◌, List, [], ◌∷◌, refl, sym}
 use mir.Syntax.{ty_ptr}
 use mir.Val.{Val, vstruct, vcons, vnil, has_ty}
 use base.Logic.{emp}
-use types.Kit.{raw, ◌$◌, ◌∵◌, !, qed, by, keep, drop, fjoin, fpack, use0, feq_i}
+use types.Kit.{‵, raw, rewrite, ◌$◌, ◌∵◌, !, qed, by, keep, drop, fjoin, fpack, use0, feq_i}
 use types.Run.{no_more, and_then, returns, enter}
 use types.ByLocal.{alloc_all, pass_all, free_all, look_at, get, sets}
 use types.Part.{agg}
 use contract.Monad.{fact, fact_i}
 use denote.Builtin.{RawPtr}
 use denote.RattleType.{Valss}
-use denote.RawPtr.{rawptr_vals, rawptr_Tells, rawptr_Lawful, ptr_val}
+use denote.RawPtr.{Ptr, null_ptr, rawptr_vals, rawptr_Tells, rawptr_Lawful, ptr_val}
 use denote.Signature.{plain}
-use denote.Steps.{nothing}
+use denote.Steps.{nothing, heard}
 use denote.Struct.Struct.{within}
 use denote.Struct.Owning.{shape}
 use denote.Triple.Entry.{on_entry}
 use denote.Triple.Walked.{Stays, stay_dropped, walk_of, Goes-dropped}
 use Rattle.std.proofs.raw_atomic.Walks.{proved, leaves}
 use Rattle.std_alloc.proofs.ResultValues.{and_tt}
-use Rattle.hn_handle.specs.Held.{held_at}
+use Rattle.hn_handle.specs.Held.{held_at, nowhere}
 use Rattle.hn_handle.proofs.Held.{none}
 use Rattle.hn_handle.specs.contracts.handle.Handle as handle
 use Rattle.hn_handle.specs.contracts.handle.Handle.none_at as f
@@ -39,12 +39,12 @@ none_at_spec 𝓤 𝓛 𝓜 𝓡 wired =
     let y : (walk_of 𝓛 f.ended stayed clauses).Ghost = ((κs, qs, bounds, a, (rawptr_vals a.0, tt)), n) in
     let place : Val = ptr_val a.0 in let h : Val = vstruct (vcons place vnil) in
     let typed = (rawptr_Lawful 𝓛).typed a.0 _ refl in
-    qed 𝓛 (raw (on_entry 𝓛 f.signature κs qs a y.0.4) ∷ raw (emp 𝓤) ∷ []) ∵ drop ! $
+    qed 𝓛 (raw (on_entry 𝓛 f.signature κs qs a y.0.4) ∷ raw (fact 𝓤 (a.0 ≡ null_ptr)) ∷ []) ∵ drop ! $ heard ! (a.0 ≡ null_ptr) (λ is.
     enter ! _ _ _ _ _ $ alloc_all ! (λ l. pass_all ! refl typed $
     sets ! (agg ! (and_then ! (get ! refl) (no_more !))) refl (and_tt (has_ty ty_ptr place) typed.0.0, (typed.0.1, tt)) $
     -- what the fields own, what the handle owns beside them, and then the handle
-    nothing ! $ nothing ! $ feq_i ! (List Val) (place ∷ []) (place ∷ []) refl $ fjoin ! $ feq_i ! (List Val) (h ∷ []) (h ∷ []) refl $ fjoin ! $
+    nothing ! $ rewrite ! 0 (λ (p : Ptr). ‵ (nowhere p)) (sym is) refl $ nothing ! $ feq_i ! (List Val) (place ∷ []) (place ∷ []) refl $ fjoin ! $ feq_i ! (List Val) (h ∷ []) (h ∷ []) refl $ fjoin ! $
     fpack ! (Valss (RawPtr ∷ [])) (within (shape handle.the_type) (a.0, tt) (h ∷ [])) (place ∷ [], tt) $ fjoin ! $
     use0 𝓛 (raw (fact 𝓤 (none ≡ none))) (fact_i 𝓤 (none ≡ none) (emp 𝓤) refl) $ nothing ! $ nothing ! $ fjoin ! $ nothing ! $
     returns ! (look_at ! 0 refl) $ free_all ! refl $ keep ! (0 ∷ 1 ∷ 3 ∷ 2 ∷ []) $
-    by ! (leaves 𝓛 f.ended stayed clauses y h (record { at = a.0; held = none }) (tt, tt) (tt, tt))))
+    by ! (leaves 𝓛 f.ended stayed clauses y h (record { at = a.0; held = none }) (tt, tt) (tt, tt)))))

@@ -88,6 +88,16 @@ impl Handle {
         self.unwrap(alloc).join()
     }
 
+    /// Whether it has a router. Never allocates.
+    pub fn has_router(&mut self) -> bool
+        ensures has { result ≡ is_some self.old.held }
+        ensures kept { self.new.held ≡ self.old.held }
+    {
+        let (none, handle) = replace(self, Handle::none()).look();
+        *self = handle;
+        !none
+    }
+
     /// Takes the router, if there is one, and leaves none.
     pub fn take(&mut self, alloc: Global) -> Option<Box<Keeper>>
         ensures taken { option_map (λ keeper. keeper.value) result ≡ self.old.held }

@@ -1,8 +1,8 @@
 """Makes a Debian package of the files of an archive. tools/release calls it.
 
-The tree of the archive lies whole at /usr/share/rulercress, where its sums and the commands of the pages hold. Programs, the
-library, the header and the manual pages lie where Debian has such files, and the tree has links to programs and library. Each
-tool is the command hncp-NAME.
+The tree of the archive lies whole at /usr/share/rulercress, where its sums hold; a copy that follows links is the archive.
+Programs, the library, the header and the manual pages lie where Debian has such files, and the tree has links to programs and
+library. Each tool is the command hncp-NAME.
 """
 import gzip
 import hashlib

@@ -73,8 +73,10 @@ def check_manual(root):
 def check_used(home, root):
     """Programs, tools and library work where they are installed, with nothing of the repository and no kit."""
     top, used = os.path.join(root, SHARE), []
-    status, text, messages = run_in(top, ['sha256sum', '-c', '--quiet', 'SHA256SUMS'])
-    must(status == 0 and not text, f'SHA256SUMS: {text}{messages}'[:200])
+    copied = shutil.copytree(top, os.path.join(home.to, 'copied'))
+    for folder in (top, copied):
+        status, text, messages = run_in(folder, ['sha256sum', '-c', '--quiet', 'SHA256SUMS'])
+        must(status == 0 and not text, f'SHA256SUMS in {folder}: {text}{messages}'[:200])
     for name, words, given, expected in CALLS:
         if name in home.real:
             with open(os.path.join(top, DATA, given), 'rb') as file:

@@ -47,7 +47,8 @@ module _ {A : Type 0} (Shows : A → List ℕ → Type 0) where
       subst (λ (ys : List A). Adds (InOrder Shows ys) before so_far) front h
 
 -- the lines of the delegated prefixes that node data have, where these are all of them
-pub adds_said : (IsLine : Delegation → List ℕ → Type 0) (body : List ℕ) (said : List Delegation) → HasDelegations body said → ((d : Delegation) → Contains said d ↔ HasDelegation body d) → (before now : List ℕ)
+pub adds_said : (IsLine : Delegation → List ℕ → Type 0) (body : List ℕ) (said : List Delegation) → HasDelegations body said
+    → ((d : Delegation) → Contains said d ↔ HasDelegation body d) → (before now : List ℕ)
     → Adds (InOrder IsLine said) before now → Adds (AreSaidLines IsLine body) before now
 adds_said IsLine body said are exact before now h = record {
   added = h.added;

@@ -36,6 +36,13 @@ impl Outcome {
         }
     }
 
+    /// The exit status alone; the world is let go. Never allocates.
+    pub fn status(self) -> u8
+        ensures { result ≡ self.status }
+    {
+        self.status
+    }
+
     /// What a play came to. Its world is the replay of its trace, so the laws of such worlds hold of it. Never allocates.
     pub(crate) fn of_play(played: Played) -> Outcome
         requires replayed { IfSome played.world IsReplayed }

@@ -32,10 +32,9 @@ use Rattle.hn_audit.proofs.BridgeUsed.{used_same}
 use Rattle.hn_audit.proofs.BridgeHomes.{home_of, number_of, IsEndOf, same_link, of_end, of_has, one_link_of, one_on_link}
 use Rattle.hn_base.proofs.PartsAtPlaces.{one_of_ascending}
 
--- a settled and quiet router of a replayed world, and the delegated prefixes that it uses
+-- a settled router of a replayed world, and the delegated prefixes that it uses
 pub record IsCase (w : Parts) (r : Member) (usable : List Delegated) : Type 0 where
   pub known : IsKnown w r
-  pub quiet : IsQuiet w r
   pub are_usable : AreUsable (seen_by r.router) usable
   pub unique : UsableIsUnique
   pub apart : UsableNeverOverlap
@@ -53,9 +52,9 @@ module _ (w : Parts) (r : Member) (usable : List Delegated) (case : IsCase w r u
   uses_same s list s_in are =
       used_same case.unique s.router r.router list usable (case.known.settled.used s r s_in (itself w r case.known)) are case.are_usable
 
-  pub for_used : (s : Member) (c : Assigned) → IsReached w r s → Contains s.router.held.assigned c → Contains (prefixes_of usable) c.delegated
-  for_used s c s_in there =
-      let rest = case.quiet s s_in in
+  pub for_used : IsQuiet w r → (s : Member) (c : Assigned) → IsReached w r s → Contains s.router.held.assigned c → Contains (prefixes_of usable) c.delegated
+  for_used quiet s c s_in there =
+      let rest = quiet s s_in in
       let wished = All-contains (λ (x : Assigned). IsWished rest.wishes (assigned_pair x)) s.router.held.assigned c rest.wished there in
       let for = (rest.are_asked.exact wished.0).0 wished.1 in
       let u = for.asked.delegated in
@@ -104,10 +103,10 @@ module _ (w : Parts) (r : Member) (usable : List Delegated) (case : IsCase w r u
       let a = of_end w r case.known usable e has.there in
       (a.0, a.1, of_has w r case.known usable a.0 e d c a.1 has)
 
-  each_for_used : (e : Endpoint) (d : PlainPrefix) (c : Assigned) → EndpointHasAssignment (home_of w r usable) e d c → Contains (prefixes_of usable) d
-  each_for_used e d c has =
+  each_for_used : IsQuiet w r → (e : Endpoint) (d : PlainPrefix) (c : Assigned) → EndpointHasAssignment (home_of w r usable) e d c → Contains (prefixes_of usable) d
+  each_for_used quiet e d c has =
       let by = holder e d c has in
-      subst (Contains (prefixes_of usable)) by.2.of_delegated (for_used by.0 c by.1.reached by.2.held)
+      subst (Contains (prefixes_of usable)) by.2.of_delegated (for_used quiet by.0 c by.1.reached by.2.held)
 
   published_inside : (e : Endpoint) (d : PlainPrefix) (c : Assigned) (priority : ℕ) → HasPublished (home_of w r usable) e d c priority → IsWithin c.prefix d
   published_inside e d c priority says =
@@ -128,11 +127,11 @@ module _ (w : Parts) (r : Member) (usable : List Delegated) (case : IsCase w r u
       let is : priority ≡ 2 = has_priority by.0 c priority by.1.reached by.2.held says.published in
       omega arith
 
-  pub is_home : IsHome (home_of w r usable)
-  is_home OneLink = one_link
-  is_home OnceOnLink = once_on_link
-  is_home UsedApart = λ d other there also. case.apart (seen_by r.router) usable d other case.are_usable there also
-  is_home ForUsed = each_for_used
-  is_home PublishedInside = published_inside
-  is_home OneEach = one_each
-  is_home PriorityTwo = priority_two
+  pub is_home : IsQuiet w r → IsHome (home_of w r usable)
+  is_home quiet OneLink = one_link
+  is_home quiet OnceOnLink = once_on_link
+  is_home quiet UsedApart = λ d other there also. case.apart (seen_by r.router) usable d other case.are_usable there also
+  is_home quiet ForUsed = each_for_used quiet
+  is_home quiet PublishedInside = published_inside
+  is_home quiet OneEach = one_each
+  is_home quiet PriorityTwo = priority_two

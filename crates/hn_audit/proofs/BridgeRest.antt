@@ -24,14 +24,14 @@ use Rattle.hn_sound.specs.Members.{IsOnLinkOf, IsSeenAtRest}
 use Rattle.hn_world.specs.declared.member.Member.{Member}
 use Rattle.hn_world.specs.declared.parts.Parts.{Parts}
 use Rattle.hn_audit.specs.Settled.{AreSame}
-use Rattle.hn_audit.specs.Quiet.{IsRouterAtRest}
+use Rattle.hn_audit.specs.Quiet.{IsRouterAtRest, IsQuiet}
 use Rattle.hn_audit.proofs.BridgeSets.{router_of}
 use Rattle.hn_audit.proofs.BridgeUsed.{IsAskedFor, asked_for, delegated_at, is_unwanted, is_wanted, place_of}
 use Rattle.hn_audit.proofs.BridgeHomes.{home_of, set_of, length_in, length_is, IsEndOf, of_end, to_has, of_has, on_link_is_post}
 use Rattle.hn_audit.proofs.BridgePremises.{IsCase, uses_same}
 use Rattle.hn_audit.proofs.BridgeSeen.{gathered_is_published, common_is_link}
 
-module _ (w : Parts) (r : Member) (usable : List Delegated) (case : IsCase w r usable) where
+module _ (w : Parts) (r : Member) (usable : List Delegated) (case : IsCase w r usable) (quiet : IsQuiet w r) where
   -- a pair of the home, the wish for it, and how it is at rest for its router
   record IsResting (s : Member) (x : Endpoint) (d : PlainPrefix) : Type 0 where
     end : IsEndOf w r s x
@@ -47,7 +47,7 @@ module _ (w : Parts) (r : Member) (usable : List Delegated) (case : IsCase w r u
 
   resting : (s : Member) (x : Endpoint) (d : PlainPrefix) → IsEndOf w r s x → Contains (prefixes_of usable) d → IsResting s x d
   resting s x d end d_in =
-      let rest = case.quiet s end.reached in
+      let rest = quiet s end.reached in
       let at = place_of usable d d_in in
       let same : AreSame rest.usable usable = uses_same w r usable case s rest.usable end.reached rest.are_usable in
       let here = delegated_at rest.usable d at.0 (ap (λ (ps : List PlainPrefix). slice_get ps at.0) same.prefixes ∙ at.1) in

@@ -16,6 +16,7 @@ use Rattle.hn_sound.specs.Sound as home
 use Rattle.hn_world.specs.declared.member.Member.{Member}
 use Rattle.hn_world.specs.declared.parts.Parts.{Parts}
 use Rattle.hn_audit.specs.Reached.{IsReached}
+use Rattle.hn_audit.specs.Quiet.{IsQuiet}
 use Rattle.hn_audit.specs.Settled.{AreSame}
 use Rattle.hn_audit.specs.Sound.{Uses, DoesNotWant, SeesNoFree, Link, Joint, Private, IsPostOn, IsThere, IsServedLink, IsWithout, IsHeldOn}
 use Rattle.hn_audit.proofs.BridgeSets.{IsKnown, one_member}
@@ -48,7 +49,7 @@ to_there w r link s e reached on = record {
 pub there_end : (w : Parts) (r : Member) → IsKnown w r → (link : Link) (s : Member) (e : EpId) → IsThere w r link s e → IsEndOf w r s (end_on link s e)
 there_end w r known link s e there = an_end w r known link s e (reached_there w r known link s e there) there.on_link
 
-module _ (w : Parts) (r : Member) (usable : List Delegated) (case : IsCase w r usable)
+module _ (w : Parts) (r : Member) (usable : List Delegated) (case : IsCase w r usable) (quiet : IsQuiet w r)
     (exact : AdvertisedIsExact) (is_sound : home.IsSoundHome (home_of w r usable)) where
   -- ---- used prefixes, and those inside them
 
@@ -57,7 +58,7 @@ module _ (w : Parts) (r : Member) (usable : List Delegated) (case : IsCase w r u
 
   pub inside : (s : Member) (c : Assigned) → IsReached w r s → Contains s.router.held.assigned c → Uses r.router c.delegated × IsWithin c.prefix c.delegated
   inside s c s_in there = (
-    record { usable = usable; are_usable = case.are_usable; there = for_used w r usable case s c s_in there },
+    record { usable = usable; are_usable = case.are_usable; there = for_used w r usable case quiet s c s_in there },
     is_inside w r usable case s c s_in there,
   )
 
@@ -95,7 +96,7 @@ module _ (w : Parts) (r : Member) (usable : List Delegated) (case : IsCase w r u
 
   does_not_want : (s : Member) (d : PlainPrefix) → IsReached w r s → Contains (prefixes_of usable) d → ¬ (IsTrue (not (is_unwanted usable d))) → DoesNotWant s.router d
   does_not_want s d s_in d_in unwanted =
-      let rest = case.quiet s s_in in
+      let rest = quiet s s_in in
       let same : AreSame rest.usable usable = uses_same w r usable case s rest.usable s_in rest.are_usable in
       let at = place_of usable d d_in in
       let here = delegated_at usable d at.0 at.1 in
@@ -116,7 +117,7 @@ module _ (w : Parts) (r : Member) (usable : List Delegated) (case : IsCase w r u
       → HasNoFree (advertised (home_of w r usable)) d (length_in (set_of w r) (end_on link s e)) → SeesNoFree s.router e d
   sees_no_free link s e d there none =
       let s_in = reached_there w r case.known link s e there in
-      let rest = case.quiet s s_in in
+      let rest = quiet s s_in in
       let length : length_in (set_of w r) (end_on link s e) ≡ length_at s.router.private e = length_is w r case.known s (end_on link s e) (there_end w r case.known link s e there) in
       let nothing : HasNoFree (advertised (home_of w r usable)) d (length_at s.router.private e) = subst (HasNoFree (advertised (home_of w r usable)) d) length none in
       record {

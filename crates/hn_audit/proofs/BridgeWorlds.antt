@@ -7,16 +7,19 @@ use Rattle.hn_base.specs.Ascending.{IsExact}
 use Rattle.hn_assign.specs.Pair.{pair_cmp}
 use Rattle.hn_data.specs.Laws.{ItemsAreUnique}
 use Rattle.hn_deleg.specs.declared.delegated.Delegated.{Delegated}
-use Rattle.hn_deleg.specs.Laws.{UsableIsUnique, UsableNeverOverlap}
+use Rattle.hn_deleg.specs.Laws.{UsableExists, UsableIsUnique, UsableNeverOverlap}
+use Rattle.hn_deleg.specs.Used.{AreUsable}
 use Rattle.hn_link.specs.Laws.{CommonLinkExists}
 use Rattle.hn_rules.specs.Laws.{AssignedIsPublished, ViewIsNetwork, EntriesAreAsKnown, OwnPeersAreOfEndpoints, PrivatePostIsAlone}
+use Rattle.hn_rules.specs.Seen.{seen_by}
 use Rattle.hn_sound.specs.Laws.{AdvertisedIsExact, CommonLinkIsExact, HomeRestsAsSeen, HomeAtRestIsSound}
 use Rattle.hn_sound.specs.Sound as home
 use Rattle.hn_world.specs.declared.member.Member.{Member}
 use Rattle.hn_world.specs.declared.parts.Parts.{Parts}
 use Rattle.hn_world.specs.Replay.{IsReplayed, AreAttached, IsAttachedMember, IsSoundMember}
 use Rattle.hn_world.specs.Laws.{AtMostOneWorld, WorldIsSound, AlwaysAttached}
-use Rattle.hn_audit.specs.Laws.{SettledAndQuietIsSound, SetIsSoundAlike}
+use Rattle.hn_audit.specs.Laws.{SettledAndQuietIsSound, ReplayedElectAlike, SetIsSoundAlike}
+use Rattle.hn_audit.specs.Quiet.{IsQuiet}
 use Rattle.hn_audit.specs.Reached.{IsRunning}
 use Rattle.hn_audit.specs.Settled.{IsSettled}
 use Rattle.hn_audit.specs.Sound.{Joint, IsSound}
@@ -70,35 +73,43 @@ known_of laws w r replayed runs settled = record {
   settled = settled;
 }
 
-sound_case : BridgeLaws → (w : Parts) (r : Member) (usable : List Delegated) → IsCase w r usable → IsSound w r
-sound_case laws w r usable case =
+sound_case : BridgeLaws → (w : Parts) (r : Member) (usable : List Delegated) → IsCase w r usable → IsQuiet w r → IsSound w r
+sound_case laws w r usable case quiet =
     let is_sound : home.IsSoundHome (home_of w r usable) =
-    laws.home_sound (home_of w r usable) (is_home w r usable case) (laws.rests (home_of w r usable) (rests_as_seen w r usable case)) in
+    laws.home_sound (home_of w r usable) (is_home w r usable case quiet) (laws.rests (home_of w r usable) (rests_as_seen w r usable case quiet)) in
     record {
-      inside = inside w r usable case laws.advertised_exact is_sound;
-      each_link = each_link w r usable case laws.advertised_exact is_sound;
-      links_apart = links_apart w r usable case laws.advertised_exact is_sound;
+      inside = inside w r usable case quiet laws.advertised_exact is_sound;
+      each_link = each_link w r usable case quiet laws.advertised_exact is_sound;
+      links_apart = links_apart w r usable case quiet laws.advertised_exact is_sound;
       one_elected = λ letter place. one_elected w r usable case laws.one_items laws.links_exact letter (Joint place);
     }
+
+-- a settled router with what it uses
+case_of : BridgeLaws → (w : Parts) (r : Member) (usable : List Delegated) → IsKnown w r → AreUsable (seen_by r.router) usable → IsCase w r usable
+case_of laws w r usable known are = record {
+  known = known;
+  are_usable = are;
+  unique = laws.unique;
+  apart = laws.apart;
+  published = laws.published;
+  versions = laws.versions;
+  peers = laws.peers;
+  alone = laws.alone;
+  pairs_total = laws.pairs_total;
+  pairs_exact = laws.pairs_exact;
+  links = laws.links;
+}
 
 pub sound_where_quiet : BridgeLaws → SettledAndQuietIsSound
 sound_where_quiet laws w r replayed runs settled quiet =
     let known = known_of laws.worlds w r replayed runs settled in
     let rest = quiet r (itself w r known) in
-    sound_case laws w r rest.usable (record {
-      known = known;
-      quiet = quiet;
-      are_usable = rest.are_usable;
-      unique = laws.unique;
-      apart = laws.apart;
-      published = laws.published;
-      versions = laws.versions;
-      peers = laws.peers;
-      alone = laws.alone;
-      pairs_total = laws.pairs_total;
-      pairs_exact = laws.pairs_exact;
-      links = laws.links;
-    })
+    sound_case laws w r rest.usable (case_of laws w r rest.usable known rest.are_usable) quiet
+
+pub elect_where_settled : BridgeLaws → UsableExists → ReplayedElectAlike
+elect_where_settled laws exists w replayed r runs settled letter place =
+    let (usable, are) = exists (seen_by r.router) in
+    one_elected w r usable (case_of laws w r usable (known_of laws.worlds w r replayed runs settled) are) laws.one_items laws.links_exact letter (Joint place)
 
 pub alike_where_settled : UsableIsUnique → WorldLaws → SetIsSoundAlike
 alike_where_settled unique laws w r replayed runs settled = sound_alike unique w r (known_of laws w r replayed runs settled)

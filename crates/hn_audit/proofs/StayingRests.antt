@@ -57,7 +57,7 @@ pub record RestLaws : Type 0 where
 
 -- ---- wishes in two views
 
-abbrev GoOn : PlainView → PlainView → Type 0
+abbrev pub GoOn : PlainView → PlainView → Type 0
 GoOn v w = (e : ℕ) (common : List (NodeId × EpId)) → IsCommonLink v e common → IsCommonLink w e common
 
 -- what stands at a place of a list stands there in another with the same prefixes
@@ -76,7 +76,7 @@ other_wish private v w a b are same goes place wish asked =
     )
 
 -- where the same are wanted too, it is the same wish
-same_wish : (private : Option ℕ) (v w : PlainView) (a b : List Delegated) → AreSame a b → GoOn v w → (place : ℕ) (wish : Wish) → IsWishAt private v a place wish → IsWishAt private w b place wish
+pub same_wish : (private : Option ℕ) (v w : PlainView) (a b : List Delegated) → AreSame a b → GoOn v w → (place : ℕ) (wish : Wish) → IsWishAt private v a place wish → IsWishAt private w b place wish
 same_wish private v w a b same goes place wish asked =
     let (u, at, is) = stands_there a b private v place wish same.prefixes asked in
     let wanted = same.wanted place in
@@ -91,12 +91,13 @@ same_wish private v w a b same goes place wish asked =
 
 -- ---- what two routers see
 
-entry_by : (s t : State) (id : NodeId) → s.id ≡ t.id → s.number ≡ t.number → s.own ≡ t.own → s.moment ≡ t.moment → held s.table.entries id.0 ≡ held t.table.entries id.0 → entry_of s id ≡ entry_of t id
+pub entry_by : (s t : State) (id : NodeId) → s.id ≡ t.id → s.number ≡ t.number → s.own ≡ t.own → s.moment ≡ t.moment → held s.table.entries id.0 ≡ held t.table.entries id.0
+    → entry_of s id ≡ entry_of t id
 entry_by s t id ids numbers owns moments holds =
     λ i. cond (id.0 == (ids i).0) (Some (record { id = ids i; number = numbers i; age = moments i - (owns i).born; body = (owns i).body }))
     (option_map (λ (stored : Stored). held_entry (moments i) (record { id = id; stored = stored })) (holds i))
 
-entries_by : (s t : State) (ids : List NodeId) → All (λ id. entry_of s id ≡ entry_of t id) ids → filter_map (entry_of s) ids ≡ filter_map (entry_of t) ids
+pub entries_by : (s t : State) (ids : List NodeId) → All (λ id. entry_of s id ≡ entry_of t id) ids → filter_map (entry_of s) ids ≡ filter_map (entry_of t) ids
 entries_by s t [] same = refl
 entries_by s t (id ∷ ids) same =
     ap (λ (o : Option Entry). cons_option o (filter_map (entry_of s) ids)) (All-head (λ (x : NodeId). entry_of s x ≡ entry_of t x) id ids same)

@@ -40,19 +40,19 @@ use Rattle.hn_audit.proofs.StayingSets.{IsKept, IsStillAs, AreStill, settled_now
 
 -- ---- an element in place of another
 
-put_there : {A : Type 0} (xs : List A) (i : ℕ) (x y : A) → slice_get xs i ≡ Some x → slice_get (slice_set xs i y) i ≡ Some y
+pub put_there : {A : Type 0} (xs : List A) (i : ℕ) (x y : A) → slice_get xs i ≡ Some x → slice_get (slice_set xs i y) i ≡ Some y
 put_there [] i x y at = absurd cc
 put_there (z ∷ zs) zero x y at = refl
 put_there (z ∷ zs) (suc i) x y at = put_there zs i x y at
 
-put_elsewhere : {A : Type 0} (xs : List A) (i k : ℕ) (y : A) → k ≢ i → slice_get (slice_set xs i y) k ≡ slice_get xs k
+pub put_elsewhere : {A : Type 0} (xs : List A) (i k : ℕ) (y : A) → k ≢ i → slice_get (slice_set xs i y) k ≡ slice_get xs k
 put_elsewhere [] i k y other = refl
 put_elsewhere (z ∷ zs) zero zero y other = absurd (other refl)
 put_elsewhere (z ∷ zs) zero (suc k) y other = refl
 put_elsewhere (z ∷ zs) (suc i) zero y other = refl
 put_elsewhere (z ∷ zs) (suc i) (suc k) y other = put_elsewhere zs i k y (λ same. other (ap (λ (n : ℕ). suc n) same))
 
-count_put : {A : Type 0} (p : A → Bool) (xs : List A) (i : ℕ) (x y : A) → slice_get xs i ≡ Some x → p y ≡ p x → count_by p (slice_set xs i y) ≡ count_by p xs
+pub count_put : {A : Type 0} (p : A → Bool) (xs : List A) (i : ℕ) (x y : A) → slice_get xs i ≡ Some x → p y ≡ p x → count_by p (slice_set xs i y) ≡ count_by p xs
 count_put {A} p xs i x y at same =
     let f = λ (z : A). cond (p z) 1 0 in
     let whole = sum_by-set f xs i y x (slice_get_within xs i x at) in
@@ -72,7 +72,7 @@ module _ (before after : Parts) (same : after.members ≡ before.members) (r : M
   still_itself : (m : Member) → IsReached before r m → IsStillAs m.router m.router
   still_itself m is = record { number = refl; own = refl; reach = refl; known = λ id there. refl; used = settled.used m m is is; assigned = refl; rests = quiet m is }
 
-  still_later : AreStill before after r
+  pub still_later : AreStill before after r
   still_later = record {
     kept = λ place m next at. subst (IsKept m) (itself_at place m next at) (record { running = refl; attachments = refl; id = refl });
     still = λ place m next at is. subst (λ (n : Member). IsStillAs m.router n.router) (itself_at place m next at) (still_itself m is);
@@ -88,14 +88,14 @@ module _ (before after : Parts) (place : ℕ) (x : Member) (n : State) (there : 
   abbrev next_x : Member
   next_x = record x { router = n }
 
-  now_there : slice_get after.members place ≡ Some next_x
+  pub now_there : slice_get after.members place ≡ Some next_x
   now_there = ap (λ (members : List Member). slice_get members place) gives ∙ put_there before.members place x next_x there
 
-  now_elsewhere : (k : ℕ) → k ≢ place → slice_get after.members k ≡ slice_get before.members k
+  pub now_elsewhere : (k : ℕ) → k ≢ place → slice_get after.members k ≡ slice_get before.members k
   now_elsewhere k other = ap (λ (members : List Member). slice_get members k) gives ∙ put_elsewhere before.members place k next_x other
 
   -- the router at a place is the one that ticks, or one that does not
-  which : (k : ℕ) (m next : Member) → IsMemberAt k before after m next → ((m ≡ x) × (next ≡ next_x)) ⊎ (m ≡ next)
+  pub which : (k : ℕ) (m next : Member) → IsMemberAt k before after m next → ((m ≡ x) × (next ≡ next_x)) ⊎ (m ≡ next)
   which k m next at = elim (cases_eq k place) [
     | inl is ↦ inl (
       same_Some m x (sym at.was ∙ ap (slice_get before.members) is ∙ there),
@@ -131,7 +131,7 @@ module _ (before after : Parts) (place : ℕ) (x : Member) (n : State) (there : 
       | inr other ↦ (next, record { was = sym (now_elsewhere k other) ∙ at; is = at })
     ]
 
-    tick_still : AreStill before after r
+    pub tick_still : AreStill before after r
     tick_still = record {
       kept = kept_tick;
       still = still_tick;
@@ -140,13 +140,13 @@ module _ (before after : Parts) (place : ℕ) (x : Member) (n : State) (there : 
     }
 
 -- what a tick of a router is
-record IsTicked (now : ℕ) (s next : State) : Type 0 where
+pub record IsTicked (now : ℕ) (s next : State) : Type 0 where
   pub after : Running
   pub tick : IsTick (begun_at now s) after
   pub due : ℕ
   pub is : next ≡ record after.state { due = due }
 
-ticked : (now : ℕ) (s next : State) (done : Done) → Happened now Tick s next done → IsTicked now s next
+pub ticked : (now : ℕ) (s next : State) (done : Done) → Happened now Tick s next done → IsTicked now s next
 unfolding Happened
 ticked now s next done (after, inl (refused, _), _, _) = absurd cc
 ticked now s next done (after, inr (_, tick), (due, _, is), _) = record { after = after; tick = tick; due = due; is = is }
@@ -161,7 +161,7 @@ pub record StayLaws : Type 0 where
 module _ (laws : StayLaws) (before after : Parts) (replays : IsReplayed before) (place : ℕ) (r next : Member) (here : IsMemberAt place before after r next)
     (runs : IsRunning before r) (settled : IsSettled before r) (quiet : IsQuiet before r) where
   -- where the set is still, the router stays
-  stays_where_still : AreStill before after r → IsSettled after next × IsQuiet after next × KeepAssignments before after r next
+  pub stays_where_still : AreStill before after r → IsSettled after next × IsQuiet after next × KeepAssignments before after r next
   stays_where_still are =
       let self = itself before r (known_of laws.worlds before r replays runs settled) in (
         settled_now laws.rests.unique before after r next place here are self settled,
@@ -171,7 +171,7 @@ module _ (laws : StayLaws) (before after : Parts) (replays : IsReplayed before) 
 
   -- a router of the set whose tick is restful is still
   module _ (x : Member) (n : State) (done : Done) (reached : IsReached before r x) (happened : Happened before.moment Tick x.router n done) (restful : IsRestful before.moment x.router n) where
-    x_still : IsStillAs x.router n
+    pub x_still : IsStillAs x.router n
     x_still =
         let now = before.moment in
         let s = x.router in

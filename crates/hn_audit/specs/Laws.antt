@@ -1,6 +1,8 @@
 -- Laws of settled and quiet routers.
-use Rattle.std.specs.Prelude.{◌≡◌, ◌↔◌, List, [], ◌++◌, Contains}
+use Rattle.std.specs.Prelude.{◌≡◌, ◌↔◌, ℕ, List, [], ◌++◌, Contains}
+use Rattle.hn_base.specs.declared.ids.EpId.{EpId}
 use Rattle.hn_base.specs.declared.ids.NodeId.{NodeId}
+use Rattle.hn_base.specs.declared.letter.Letter.{Letter}
 use Rattle.hn_assign.specs.declared.held.Ran.{Ran}
 use Rattle.hn_assign.specs.Fixed.{AreAssignmentsUnchanged}
 use Rattle.hn_data.specs.declared.view.Entry.{Entry}
@@ -15,7 +17,7 @@ use Rattle.hn_audit.specs.Reached.{IsRunning, IsReached}
 use Rattle.hn_audit.specs.Settled.{IsSettled}
 use Rattle.hn_audit.specs.Quiet.{IsQuiet, IsRouterAtRest}
 use Rattle.hn_audit.specs.Fixed.{Comes, IsRunAnew}
-use Rattle.hn_audit.specs.Sound.{IsSound}
+use Rattle.hn_audit.specs.Sound.{Joint, IsThere, ElectSame, IsSound}
 use Rattle.hn_audit.specs.declared.witness.Unquiet.{Unquiet}
 use Rattle.hn_audit.specs.declared.witness.Unsettled.{Unsettled}
 use Rattle.hn_audit.specs.First.{FindsOne}
@@ -25,6 +27,24 @@ use Rattle.hn_audit.specs.Witness.{Refutes, Disturbs}
 -- In a replayed world a running router that is settled and quiet is sound.
 abbrev pub SettledAndQuietIsSound : Type 0
 SettledAndQuietIsSound = (w : Parts) (r : Member) → IsReplayed w → IsRunning w r → IsSettled w r → IsQuiet w r → IsSound w r
+
+-- on each link of the world that is one of the set of r the elections are equal
+abbrev pub ElectAlike : Parts → Member → Type 0
+ElectAlike w r =
+    (letter : Letter) (place : ℕ) (s u : Member) (e f : EpId) → IsThere w r (Joint place) s e → IsThere w r (Joint place) u f
+    → ElectSame s.router e u.router f letter
+
+-- so it is for each running router that is settled, quiet or not
+abbrev pub SettledElectAlike : Parts → Type 0
+SettledElectAlike w = (r : Member) → IsRunning w r → IsSettled w r → ElectAlike w r
+
+-- So it is in a replayed world.
+abbrev pub ReplayedElectAlike : Type 0
+ReplayedElectAlike = (w : Parts) → IsReplayed w → SettledElectAlike w
+
+-- And so it was at each moment of its past.
+abbrev pub AlwaysSettledElectAlike : Type 0
+AlwaysSettledElectAlike = (w : Parts) → IsReplayed w → Always SettledElectAlike w
 
 -- In a replayed world a running router that is settled is sound if and only if each of its set is.
 abbrev pub SetIsSoundAlike : Type 0

@@ -9,3 +9,6 @@ pub mod Witness
 pub mod FirstWitness
 pub mod Laws
 pub mod Staying
+pub mod Calm
+pub mod Heard
+pub mod Lasting

@@ -1,8 +1,12 @@
 //! Laws of settled and quiet routers. Each is the contract of a function that does nothing.
 
 ghost use Rattle.hn_world.specs.Leaves.{EqualHashesAgree};
-ghost use Rattle.hn_audit.specs.Laws.{SettledAndQuietIsSound, SetIsSoundAlike, SettledSeeEachOther, AlwaysSettledAreSound, IsOfEachFront, SettledAreSound, RestKeepsAssignments};
+ghost use Rattle.hn_audit.specs.Laws.{SettledAndQuietIsSound, ReplayedElectAlike, AlwaysSettledElectAlike, SetIsSoundAlike, SettledSeeEachOther};
+ghost use Rattle.hn_audit.specs.Laws.{AlwaysSettledAreSound, IsOfEachFront, SettledAreSound, RestKeepsAssignments};
 ghost use Rattle.hn_audit.specs.Laws.{RestHasARun, UnchangedIsAtRest, AnewHasARun, WitnessRefutesSettled, WitnessRefutesQuiet, WitnessNamesRestless, UnsettledIsOne, UnquietIsOne};
+ghost use Rattle.hn_audit.specs.Calm.{SettledHaveOneHash, QuietStaysOverDeliveries, RestGoesOn, RestLasts};
+ghost use Rattle.hn_audit.specs.Heard.{RestLastsWhileHeard, RoundRenews, RestGoesInRounds, RestGoesInTurns};
+ghost use Rattle.hn_audit.specs.Lasting.{LastingGoesInTurns};
 ghost use Rattle.hn_audit.specs.Staying.{QuietHomesStay, QuietHomesAlwaysStay};
 
 use hn_assign::{
@@ -11,15 +15,22 @@ use hn_assign::{
     subroutine_has_a_result, subroutine_leaves,
 };
 use hn_data::items_are_unique;
-use hn_deleg::{usable_is_unique, usable_never_overlap};
+use hn_deleg::{
+    ends_of_later, usable_exists, usable_is_unique, usable_never_overlap, usable_of_later,
+};
 use hn_link::{common_link_exists, common_link_of_later};
-use hn_router::moment_is_now;
+use hn_router::{endpoints_follow, moment_is_now, one_result};
 use hn_rules::{
-    assigned_is_published, entries_are_as_known, items_are_published, own_peers_are_of_endpoints,
-    private_post_is_alone, restful_tick, tick_keeps_the_identifier, used_where_assigned,
-    view_is_a_network, view_of_later, wishes_exist,
+    assigned_is_published, changes_keep_hashed, entries_are_as_known, hash_is_of_leaves,
+    items_are_published, own_interval_is_default, own_peers_are_of_endpoints, peers_are_attached,
+    private_post_is_alone, restful_tick, restful_tick_leaves_ages, restful_tick_moves_ports,
+    tick_keeps_the_identifier, ticks_have_sent, ticks_send_status_updates,
+    updates_of_peers_are_let_pass, used_where_assigned, view_is_a_network, view_of_later,
+    wishes_exist,
 };
 use hn_sound::{home_at_rest_is_sound, home_rests_as_seen, lists_are_exact, rest_knows_no_order};
+use hn_tlv::list_is_unique;
+use hn_typed::item_is_unique;
 use hn_world::{always_attached, always_sound, at_most_one_world, each_event_is_a_step};
 
 /// In a replayed world a running router that is settled and quiet is sound: each link of those that it reaches, also each
@@ -38,6 +49,32 @@ pub fn settled_and_quiet_is_sound()
     own_peers_are_of_endpoints();
     private_post_is_alone();
     common_link_exists();
+    usable_is_unique();
+    usable_never_overlap();
+    pairs_are_ordered();
+    lists_are_exact();
+    home_rests_as_seen();
+    home_at_rest_is_sound();
+}
+
+/// In a replayed world, and at each moment of its past, the elections are equal on each link of a running router that is
+/// settled, quiet or not.
+pub fn settled_elect_alike()
+    ensures now { ReplayedElectAlike }
+    ensures always { AlwaysSettledElectAlike }
+{
+    at_most_one_world();
+    always_sound();
+    always_attached();
+    assigned_is_published();
+    view_is_a_network();
+    entries_are_as_known();
+    items_are_published();
+    items_are_unique();
+    own_peers_are_of_endpoints();
+    private_post_is_alone();
+    common_link_exists();
+    usable_exists();
     usable_is_unique();
     usable_never_overlap();
     pairs_are_ordered();
@@ -164,4 +201,210 @@ pub fn witness_is_unique()
     pairs_are_ordered();
     rest_knows_no_order();
     usable_is_unique();
+}
+
+/// In a replayed world all routers that a settled one reaches have one network state hash.
+pub fn settled_have_one_hash()
+    ensures { SettledHaveOneHash }
+{
+    at_most_one_world();
+    always_sound();
+    always_attached();
+    view_is_a_network();
+    entries_are_as_known();
+    hash_is_of_leaves();
+}
+
+/// A settled and quiet router stays so, with the same assignments, over a delivery whose router keeps its identifier, and
+/// which, if that router is one that it reaches, is of a status update with the router's own network state hash, by
+/// multicast, from a peer of its endpoint.
+pub fn quiet_homes_stay_over_deliveries()
+    ensures { QuietStaysOverDeliveries }
+{
+    at_most_one_world();
+    always_sound();
+    always_attached();
+    view_is_a_network();
+    entries_are_as_known();
+    moment_is_now();
+    tick_keeps_the_identifier();
+    restful_tick();
+    used_where_assigned();
+    view_of_later();
+    usable_is_unique();
+    common_link_of_later();
+    advertised_of_later();
+    advertised_of_unchanged();
+    rest_stays();
+    rest_changes_no_assignment();
+    endpoints_follow();
+    one_result();
+    updates_of_peers_are_let_pass();
+}
+
+/// A router that is settled and quiet goes on so, with the same assignments: over time that passes, copies that are dropped,
+/// restful ticks, and deliveries to those that it reaches of copies that were made since.
+pub fn rest_goes_on()
+    ensures event { RestGoesOn }
+    ensures lasts { RestLasts }
+{
+    at_most_one_world();
+    always_sound();
+    always_attached();
+    view_is_a_network();
+    entries_are_as_known();
+    moment_is_now();
+    tick_keeps_the_identifier();
+    restful_tick();
+    used_where_assigned();
+    view_of_later();
+    usable_is_unique();
+    common_link_of_later();
+    advertised_of_later();
+    advertised_of_unchanged();
+    rest_stays();
+    rest_changes_no_assignment();
+    endpoints_follow();
+    one_result();
+    updates_of_peers_are_let_pass();
+    ticks_send_status_updates();
+    hash_is_of_leaves();
+    changes_keep_hashed();
+}
+
+/// Where each peer of those that a settled and quiet router reaches was heard since a moment, the router stays so over what
+/// happens less than 42 s after it, whatever is lost.
+pub fn rest_lasts_while_heard()
+    ensures { RestLastsWhileHeard }
+{
+    at_most_one_world();
+    always_sound();
+    always_attached();
+    view_is_a_network();
+    entries_are_as_known();
+    moment_is_now();
+    tick_keeps_the_identifier();
+    restful_tick();
+    used_where_assigned();
+    view_of_later();
+    usable_is_unique();
+    common_link_of_later();
+    advertised_of_later();
+    advertised_of_unchanged();
+    rest_stays();
+    rest_changes_no_assignment();
+    endpoints_follow();
+    one_result();
+    updates_of_peers_are_let_pass();
+    ticks_send_status_updates();
+    hash_is_of_leaves();
+    changes_keep_hashed();
+    own_interval_is_default();
+    restful_tick_moves_ports();
+}
+
+/// A round without loss renews the contacts of peers, so a settled and quiet router stays so over the next one too.
+pub fn round_renews()
+    ensures round { RoundRenews }
+    ensures rounds { RestGoesInRounds }
+{
+    at_most_one_world();
+    always_sound();
+    always_attached();
+    view_is_a_network();
+    entries_are_as_known();
+    moment_is_now();
+    tick_keeps_the_identifier();
+    restful_tick();
+    used_where_assigned();
+    view_of_later();
+    usable_is_unique();
+    common_link_of_later();
+    advertised_of_later();
+    advertised_of_unchanged();
+    rest_stays();
+    rest_changes_no_assignment();
+    endpoints_follow();
+    one_result();
+    peers_are_attached();
+    updates_of_peers_are_let_pass();
+    ticks_send_status_updates();
+    hash_is_of_leaves();
+    changes_keep_hashed();
+    own_interval_is_default();
+    restful_tick_moves_ports();
+    list_is_unique();
+    item_is_unique();
+}
+
+/// A settled and quiet router stays so, with the same assignments, while those that it reaches tick in turns that are less
+/// than 22 s apart, and nothing is lost.
+pub fn rest_goes_in_turns()
+    ensures { RestGoesInTurns }
+{
+    at_most_one_world();
+    always_sound();
+    always_attached();
+    view_is_a_network();
+    entries_are_as_known();
+    moment_is_now();
+    tick_keeps_the_identifier();
+    restful_tick();
+    used_where_assigned();
+    view_of_later();
+    usable_is_unique();
+    common_link_of_later();
+    advertised_of_later();
+    advertised_of_unchanged();
+    rest_stays();
+    rest_changes_no_assignment();
+    endpoints_follow();
+    one_result();
+    peers_are_attached();
+    updates_of_peers_are_let_pass();
+    ticks_send_status_updates();
+    hash_is_of_leaves();
+    changes_keep_hashed();
+    own_interval_is_default();
+    restful_tick_moves_ports();
+    list_is_unique();
+    item_is_unique();
+    ticks_have_sent();
+}
+
+/// A calm router whose set are all running routers, and for which nothing ends until a moment, stays calm over turns until then.
+pub fn lasting_goes_in_turns()
+    ensures { LastingGoesInTurns }
+{
+    at_most_one_world();
+    always_sound();
+    always_attached();
+    view_is_a_network();
+    entries_are_as_known();
+    moment_is_now();
+    tick_keeps_the_identifier();
+    restful_tick();
+    used_where_assigned();
+    view_of_later();
+    usable_is_unique();
+    common_link_of_later();
+    advertised_of_later();
+    advertised_of_unchanged();
+    rest_stays();
+    rest_changes_no_assignment();
+    endpoints_follow();
+    one_result();
+    peers_are_attached();
+    updates_of_peers_are_let_pass();
+    ticks_send_status_updates();
+    hash_is_of_leaves();
+    changes_keep_hashed();
+    own_interval_is_default();
+    restful_tick_moves_ports();
+    list_is_unique();
+    item_is_unique();
+    ticks_have_sent();
+    usable_of_later();
+    ends_of_later();
+    restful_tick_leaves_ages();
 }

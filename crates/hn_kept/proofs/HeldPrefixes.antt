@@ -1,6 +1,7 @@
 -- A router advertises at most 32 prefixes on an endpoint: each is inside another one of the at most 32 delegated prefixes that are used.
 use Rattle.std.proofs.Common.{◌≡◌, ◌≤◌, ◌==◌, Bool, true, ◌&&◌, List, length, map, Option, None, Some, sym, ap, ◌∙◌, subst, arith}
 use Rattle.std.specs.Prelude.{Contains, find}
+use Rattle.std.specs.Cmp.{IsTotalOrder}
 use Rattle.std.proofs.lemmas.Bool.{and_parts, and_from, eqb-true, eq-eqb}
 use Rattle.std.proofs.lemmas.List.{length-map}
 use Rattle.hn_base.proofs.AscendingLists.{Contains-map, Contains-from_map}
@@ -14,7 +15,7 @@ use Rattle.hn_base.specs.declared.ids.EpId.{EpId}
 use Rattle.hn_advert.specs.declared.advert.Info.{Info}
 use Rattle.hn_assign.specs.Pair.{IsAscending, assigned_pair, pair_cmp}
 use Rattle.hn_assign.specs.declared.assigned.Assigned.{Assigned}
-use Rattle.hn_assign.proofs.Orders.{pair_total, same_pair}
+use Rattle.hn_assign.specs.declared.pair.Pair.{Pair}
 use Rattle.hn_deleg.specs.declared.delegated.Delegated.{Delegated}
 use Rattle.hn_rules.specs.Router.{IsRouter}
 use Rattle.hn_rules.specs.declared.state.State.{State}
@@ -48,23 +49,26 @@ prefix_or other (Some c) = c.prefix
 abbrev prefix_in : List Assigned → EpId → Delegated → PlainPrefix
 prefix_in assigned e d = prefix_or d.prefix (find (is_of e d) assigned)
 
-one_in : (assigned : List Assigned) → IsAscending assigned_pair assigned → (a b : Assigned) → Contains assigned a → Contains assigned b
+same_pair : (x y : Pair) → x.delegated ≡ y.delegated → x.endpoint.0 ≡ y.endpoint.0 → x ≡ y
+same_pair x y delegated endpoint = λ i. record { delegated = delegated i; endpoint = record { 0 = endpoint i } }
+
+one_in : IsTotalOrder pair_cmp → (assigned : List Assigned) → IsAscending assigned_pair assigned → (a b : Assigned) → Contains assigned a → Contains assigned b
     → a.endpoint ≡ b.endpoint → a.delegated ≡ b.delegated → a ≡ b
-one_in assigned up a b in_a in_b endpoint delegated =
-    one_of_ascending assigned_pair pair_cmp pair_total assigned up a b in_a in_b
+one_in total assigned up a b in_a in_b endpoint delegated =
+    one_of_ascending assigned_pair pair_cmp total assigned up a b in_a in_b
     (same_pair (assigned_pair a) (assigned_pair b) delegated (ap (λ (i : EpId). i.0) endpoint))
 
-found_in : (assigned : List Assigned) → IsAscending assigned_pair assigned → (e : EpId) (d : Delegated) (c : Assigned) → Contains assigned c
+found_in : IsTotalOrder pair_cmp → (assigned : List Assigned) → IsAscending assigned_pair assigned → (e : EpId) (d : Delegated) (c : Assigned) → Contains assigned c
     → c.endpoint ≡ e → d.prefix ≡ c.delegated → prefix_in assigned e d ≡ c.prefix
-found_in assigned up e d c in_c endpoint delegated =
+found_in total assigned up e d c in_c endpoint delegated =
     let found = passing_found (is_of e d) assigned c in_c (is_of_pair e d c endpoint delegated) in
     let passes = found_passes (is_of e d) assigned found.0 found.1 in
     let pair = of_pair e d found.0 passes.1 in
     ap (prefix_or d.prefix) found.1
-    ∙ ap (λ (a : Assigned). a.prefix) (one_in assigned up found.0 c passes.0 in_c (pair.0 ∙ sym endpoint) (pair.1 ∙ delegated))
+    ∙ ap (λ (a : Assigned). a.prefix) (one_in total assigned up found.0 c passes.0 in_c (pair.0 ∙ sym endpoint) (pair.1 ∙ delegated))
 
-pub few_held : (s : State) (e : EpId) (infos : List Info) → IsRouter s → AreInfos s e infos → length infos ≤ 32
-few_held s e infos router are =
+pub few_held : IsTotalOrder pair_cmp → (s : State) (e : EpId) (infos : List Info) → IsRouter s → AreInfos s e infos → length infos ≤ 32
+few_held total s e infos router are =
     let assigned = s.held.assigned in
     let prefixes = map (λ (i : Info). i.prefix) infos in
     let found = map (prefix_in assigned e) are.usable in
@@ -72,7 +76,7 @@ few_held s e infos router are =
     let it = Contains-from_map (λ (i : Info). i.prefix) infos p there in
     let of = (are.each it.0).0 it.1 in
     let is : prefix_in assigned e of.delegated ≡ p =
-    found_in assigned router.well.pairs.assigned e of.delegated of.assignment of.held of.of_endpoint of.of_delegated ∙ sym of.prefix ∙ it.2 in
+    found_in total assigned router.well.pairs.assigned e of.delegated of.assignment of.held of.of_endpoint of.of_delegated ∙ sym of.prefix ∙ it.2 in
     subst (Contains found) is (Contains-map (prefix_in assigned e) are.usable of.delegated of.is_used)) in
     let many = length-map infos (λ (i : Info). i.prefix) in
     let all = length-map are.usable (prefix_in assigned e) in

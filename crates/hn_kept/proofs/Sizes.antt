@@ -7,7 +7,7 @@ use Rattle.hn_advert.specs.Layout.{option_bytes, header_bytes}
 use Rattle.hn_advert.specs.Advert.{option_of, options_bytes, header_of, advert_bytes}
 use Rattle.hn_departed.specs.declared.departures.Told.{Told}
 use Rattle.hn_departed.specs.Departed.{with_departed, told_at}
-use Rattle.hn_departed.proofs.Lengths.{few_are_kept}
+use Rattle.hn_departed.specs.Laws.{FewAreKept}
 use Rattle.hn_kept.specs.Kept.{Kept, IsNextAdvert, room_beside}
 
 length-option : (i : Info) → length (option_bytes (option_of i)) ≡ 32
@@ -31,11 +31,11 @@ length-advert a =
     let options = length-options a.infos in
     omega (arith, all, header, options)
 
-pub is_short : (k : Kept) (at : EpId) (bytes : List ℕ) (told : List (EpId × Told)) → IsNextAdvert k at bytes told → length bytes ≤ 1232
-is_short k at bytes told next =
+pub is_short : FewAreKept → (k : Kept) (at : EpId) (bytes : List ℕ) (told : List (EpId × Told)) → IsNextAdvert k at bytes told → length bytes ≤ 1232
+is_short are_few k at bytes told next =
     let count = length next.advert.infos in
     let infos = with_departed k.router.moment next.advert.infos (room_beside count) (told_at at k.told) in
-    let few : length infos ≤ count + room_beside count = few_are_kept.told k.router.moment next.advert.infos (room_beside count) (told_at at k.told) in
+    let few : length infos ≤ count + room_beside count = are_few.told k.router.moment next.advert.infos (room_beside count) (told_at at k.told) in
     let size = length-advert (record next.advert { infos = infos }) in
     let short : length (advert_bytes (record next.advert { infos = infos })) ≤ 1232 = omega (arith, few, size, next.few) in
     subst (λ (bs : List ℕ). length bs ≤ 1232) (sym next.bytes_are) short

@@ -4,8 +4,9 @@ ghost use Rattle.hn_kept.specs.Kept.{Acts, IsNewKept, IsNextAdvert, room_beside}
 
 use crate::words::ChaChaWords;
 use hn_advert::{Advert, bytes};
+use hn_assign::pairs_are_ordered;
 use hn_base::{Bytes, EpId, Moment, NoMemory, NodeId};
-use hn_departed::Departures;
+use hn_departed::{Departures, few_are_kept};
 use hn_router::{Event, Router, moment_is_now};
 use hn_rules::Done;
 use std::alloc::Global;
@@ -120,6 +121,8 @@ impl Keeper {
         ensures next { IfOk result (λ next. IsNextAdvert self.now at next.0 next.1) }
         ensures short { IfOk result (λ next. length next.0 ≤ 1232) }
     {
+        pairs_are_ordered();
+        few_are_kept();
         self.router.is_router();
         let advert = self.router.advertisement(alloc, at)?;
         let now = self.router.moment();

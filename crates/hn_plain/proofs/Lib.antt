@@ -1,0 +1,8 @@
+mod PlainLaws
+mod WhatIsBest
+mod WhatIsSaid
+mod WhatIsSeen
+mod WhatIsUsed
+mod WhatRests
+mod WhoIsSettled
+mod WhoIsSound

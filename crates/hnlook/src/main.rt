@@ -2,29 +2,48 @@
 #![tactic(auto)]
 
 use hn_io::{ReaderSource, WriterSink};
-use hn_look::{BAD_USAGE, NO_MEMORY, REFUSED, SINK_FAILED, SOURCE_FAILED, run};
-use std::alloc::Global;
+use hn_look::{BAD_USAGE, DONE, NO_MEMORY, REFUSED, SINK_FAILED, SOURCE_FAILED, run};
+use hn_program::{Ended, Input, LastPiece, words_of};
+use std::io;
 use std::io::{BufWriter, ErrorKind, Write};
 use std::process::ExitCode;
-use std::rt::Env;
-use std::{env, io};
 
-/// The words of the command line, or an error of the system. A word that is not Unicode is one.
-fn words_of(rt: &(impl Env + AllocGlobal), alloc: Global) -> io::Result<Vec<String>> {
-    let mut words = Vec::new(alloc);
-    for word in env::args(rt)? {
-        words.push(word)?;
+/// Runs the program on the system's input, and writes to this writer.
+fn run_over<W: Write + Drop>(rt: &HostRuntime, words: &[String], writer: W) -> Ended {
+    let mut source = ReaderSource::new(rt.reader());
+    let mut sink = LastPiece::new(WriterSink::new(writer));
+    let status = run(rt.alloc(), words, &mut source, &mut sink);
+    Ended::after(status, &sink, Input::Script)
+}
+
+/// Runs the program on the system's streams. Standard output is written in blocks, the last one after the run; where
+/// that fails, the status is 4.
+fn run_words(rt: &HostRuntime, words: &[String]) -> Ended {
+    let Ok(mut writer) = BufWriter::new(rt.alloc(), io::writer(rt)) else {
+        return Ended::of(NO_MEMORY);
+    };
+    let ended = run_over(rt, words, &mut writer);
+    match writer.flush() {
+        Ok(()) => ended,
+        Err(_) => Ended::of(SINK_FAILED),
     }
-    Ok(words)
+}
+
+/// Runs the program on the words of the command line.
+fn ended(rt: &HostRuntime) -> Ended {
+    match words_of(rt, rt.alloc()) {
+        Ok(words) => run_words(rt, &words),
+        Err(error) if error.kind() == ErrorKind::OutOfMemory => Ended::of(NO_MEMORY),
+        Err(_) => Ended::of(BAD_USAGE),
+    }
 }
 
 /// Why the program ends with this status, for people; nothing for status 0.
 fn reason(status: u8) -> &'static str {
     match status {
-        BAD_USAGE =>
-            "usage: hnlook log < SCRIPT | hnlook why NAME < SCRIPT | hnlook table NAME < SCRIPT",
-        REFUSED =>
-            "hnlook: the script or the name was refused; the last line of the output has the line and the code (docs/FORMATS.md, \"Codes\")",
+        BAD_USAGE => "hnlook 1.0.0\n\
+             usage: hnlook log < SCRIPT | hnlook why NAME < SCRIPT | hnlook table NAME < SCRIPT",
+        REFUSED => "hnlook: the input was refused; the last line of the output says where and why",
         SOURCE_FAILED => "hnlook: standard input failed",
         SINK_FAILED => "hnlook: standard output failed",
         NO_MEMORY => "hnlook: out of memory",
@@ -32,33 +51,23 @@ fn reason(status: u8) -> &'static str {
     }
 }
 
-/// Runs the program on the system's streams. Standard output is written in blocks, the last one after the run; where
-/// that fails, the status is 4.
-fn status_of(rt: &HostRuntime) -> u8 {
-    let alloc = rt.alloc();
-    let words = match words_of(rt, alloc) {
-        Ok(words) => words,
-        Err(error) if error.kind() == ErrorKind::OutOfMemory => return NO_MEMORY,
-        Err(_) => return BAD_USAGE,
-    };
-    let Ok(mut writer) = BufWriter::new(alloc, io::writer(rt)) else {
-        return NO_MEMORY;
-    };
-    let mut source = ReaderSource::new(rt.reader());
-    let mut sink = WriterSink::new(&mut writer);
-    let status = run(alloc, &words, &mut source, &mut sink);
-    match writer.flush() {
-        Ok(()) => status,
-        Err(_) => SINK_FAILED,
+/// Says on standard error why the status is none of success.
+fn tell(rt: &HostRuntime, ended: &Ended) -> io::Result<()> {
+    match (ended.status, ended.refused) {
+        (DONE, _) => Ok(()),
+        (REFUSED, Some(why)) => eprintln!(rt;
+            "hnlook: the input was refused {why} (docs/FORMATS.md)"
+        ),
+        (status, _) => {
+            let reason = reason(status);
+            eprintln!(rt; "{reason}")
+        }
     }
 }
 
-/// Ends with the status of the run, and says on standard error why it is none of success.
+/// Ends with the status of the run.
 fn main(rt: HostRuntime) -> ExitCode {
-    let status = status_of(&rt);
-    let reason = reason(status);
-    if !reason.is_empty() {
-        let _ = eprintln!(rt; "{reason}");
-    }
-    ExitCode::from(status)
+    let ended = ended(&rt);
+    let _ = tell(&rt, &ended);
+    ExitCode::from(ended.status)
 }

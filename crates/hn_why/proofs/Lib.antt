@@ -1,2 +1,2 @@
-mod Pieces
+mod Templates
 mod Whys

@@ -1,4 +1,5 @@
 pub mod Words
+pub mod Parts
 pub mod Unsettled
 pub mod Unquiet
 pub mod Why

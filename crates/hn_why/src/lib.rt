@@ -2,6 +2,7 @@
 #![tactic(auto)]
 
 mod link;
+mod part;
 mod unquiet;
 mod unsettled;
 mod why;

@@ -1,150 +1,91 @@
 //! What is said of a witness by which a router is not quiet.
 
-ghost use Rattle.std.specs.Prelude.{◌≡◌, ◌++◌, OnOk, string_bytes};
+ghost use Rattle.std.specs.Prelude.{◌≡◌, ◌∷◌, ◌++◌, OnOk, string_bytes};
 ghost use Rattle.hn_why.specs.Unquiet.{unquiet_words, unquiet_sentence};
 
+use crate::part::{Part, say};
 use hn_audit::Unquiet;
 use std::alloc::AllocError;
 
-/// Adds its words: what the router would do, and at which pair.
-pub(crate) fn push_words(text: &mut String, why: &Unquiet) -> Result<(), AllocError>
-    ensures { OnOk result (string_bytes text.new ≡ string_bytes text.old ++ unquiet_words why.now) }
+/// Adds its words, which are what the router would do and at which pair, and a sentence on it.
+pub(crate) fn push_said(text: &mut String, why: &Unquiet) -> Result<(), AllocError>
+    ensures { OnOk result (string_bytes text.new ≡ string_bytes text.old ++ (unquiet_words why.now ++ 10 ∷ unquiet_sentence why.now)) }
 {
-    match why {
+    match *why {
         Unquiet::Unasked {
             router,
             endpoint,
             delegated,
             prefix,
-        } => {
-            let e = endpoint.0;
-            let (delegated, prefix) = (delegated.text(), prefix.text());
-            write!(
-                text,
-                "unasked router={router} ep={e} in={delegated} is={prefix}"
-            )
-        }
+        } => say(
+            text,
+            "unasked router=0 ep=1 in=2 is=3\n0 would give up 3 at endpoint 1: it asks for no prefix in 2 there.\n",
+            &[
+                Part::Name(router),
+                Part::Endpoint(endpoint),
+                Part::Prefix(delegated),
+                Part::Prefix(prefix),
+            ],
+        ),
         Unquiet::Makes {
             router,
             endpoint,
             delegated,
-        } => {
-            let e = endpoint.0;
-            let delegated = delegated.text();
-            write!(text, "makes router={router} ep={e} in={delegated}")
-        }
+        } => say(
+            text,
+            "makes router=0 ep=1 in=2\n0 would assign a prefix in 2 to endpoint 1.\n",
+            &[
+                Part::Name(router),
+                Part::Endpoint(endpoint),
+                Part::Prefix(delegated),
+            ],
+        ),
         Unquiet::Takes {
             router,
             endpoint,
             delegated,
             best,
-        } => {
-            let e = endpoint.0;
-            let (delegated, best) = (delegated.text(), best.text());
-            write!(
-                text,
-                "takes router={router} ep={e} in={delegated} best={best}"
-            )
-        }
+        } => say(
+            text,
+            "takes router=0 ep=1 in=2 best=3\n0 would take 3 in 2 at endpoint 1, as another node has it there.\n",
+            &[
+                Part::Name(router),
+                Part::Endpoint(endpoint),
+                Part::Prefix(delegated),
+                Part::Prefix(best),
+            ],
+        ),
         Unquiet::Drops {
             router,
             endpoint,
             delegated,
             prefix,
-        } => {
-            let e = endpoint.0;
-            let (delegated, prefix) = (delegated.text(), prefix.text());
-            write!(
-                text,
-                "drops router={router} ep={e} in={delegated} is={prefix}"
-            )
-        }
+        } => say(
+            text,
+            "drops router=0 ep=1 in=2 is=3\n0 would give up or publish 3 in 2 at endpoint 1.\n",
+            &[
+                Part::Name(router),
+                Part::Endpoint(endpoint),
+                Part::Prefix(delegated),
+                Part::Prefix(prefix),
+            ],
+        ),
         Unquiet::Changes {
             router,
             endpoint,
             delegated,
             prefix,
             best,
-        } => {
-            let e = endpoint.0;
-            let (delegated, prefix, best) = (delegated.text(), prefix.text(), best.text());
-            write!(
-                text,
-                "changes router={router} ep={e} in={delegated} is={prefix} best={best}"
-            )
-        }
-    }
-}
-
-/// Adds a sentence on it.
-pub(crate) fn push_sentence(text: &mut String, why: &Unquiet) -> Result<(), AllocError>
-    ensures { OnOk result (string_bytes text.new ≡ string_bytes text.old ++ unquiet_sentence why.now) }
-{
-    match why {
-        Unquiet::Unasked {
-            router,
-            endpoint,
-            delegated,
-            prefix,
-        } => {
-            let e = endpoint.0;
-            let (delegated, prefix) = (delegated.text(), prefix.text());
-            write!(
-                text,
-                "{router} would give up {prefix} at endpoint {e}: it asks for no prefix in {delegated} there.\n"
-            )
-        }
-        Unquiet::Makes {
-            router,
-            endpoint,
-            delegated,
-        } => {
-            let e = endpoint.0;
-            let delegated = delegated.text();
-            write!(
-                text,
-                "{router} would assign a prefix in {delegated} to endpoint {e}.\n"
-            )
-        }
-        Unquiet::Takes {
-            router,
-            endpoint,
-            delegated,
-            best,
-        } => {
-            let e = endpoint.0;
-            let (delegated, best) = (delegated.text(), best.text());
-            write!(
-                text,
-                "{router} would take {best} in {delegated} at endpoint {e}, as another node has it there.\n"
-            )
-        }
-        Unquiet::Drops {
-            router,
-            endpoint,
-            delegated,
-            prefix,
-        } => {
-            let e = endpoint.0;
-            let (delegated, prefix) = (delegated.text(), prefix.text());
-            write!(
-                text,
-                "{router} would give up or publish {prefix} in {delegated} at endpoint {e}.\n"
-            )
-        }
-        Unquiet::Changes {
-            router,
-            endpoint,
-            delegated,
-            prefix,
-            best,
-        } => {
-            let e = endpoint.0;
-            let (delegated, prefix, best) = (delegated.text(), prefix.text(), best.text());
-            write!(
-                text,
-                "{router} would not leave {prefix} in {delegated} at endpoint {e} as it is beside {best} of another node.\n"
-            )
-        }
+        } => say(
+            text,
+            "changes router=0 ep=1 in=2 is=3 best=4\n0 would not leave 3 in 2 at endpoint 1 as it is beside 4 of another node.\n",
+            &[
+                Part::Name(router),
+                Part::Endpoint(endpoint),
+                Part::Prefix(delegated),
+                Part::Prefix(prefix),
+                Part::Prefix(best),
+            ],
+        ),
     }
 }

@@ -24,9 +24,7 @@ fn unquiet_text(alloc: Global, name: &Name, why: &Unquiet) -> Result<String, NoM
     ensures { IfOk result (λ text. string_bytes text ≡ unquiet_text (name_text name.now) why.now) }
 {
     let mut text = format!(in alloc; "why {name} settled=yes quiet=no cause=")?;
-    unquiet::push_words(&mut text, why)?;
-    write!(text, "\n")?;
-    unquiet::push_sentence(&mut text, why)?;
+    unquiet::push_said(&mut text, why)?;
     Ok(text)
 }
 
@@ -40,9 +38,7 @@ fn unsettled_text(
     ensures { IfOk result (λ text. string_bytes text ≡ unsettled_text (name_text name.now) world.now why.now) }
 {
     let mut text = format!(in alloc; "why {name} settled=no cause=")?;
-    unsettled::push_words(&mut text, world, why)?;
-    write!(text, "\n")?;
-    unsettled::push_sentence(&mut text, name, world, why)?;
+    unsettled::push_said(&mut text, name, world, why)?;
     Ok(text)
 }
 

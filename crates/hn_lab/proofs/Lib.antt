@@ -41,3 +41,5 @@ mod SomeReports
 mod SomeChoices
 mod SomeLines
 mod Transcripts
+mod RunsInTurns
+mod RestfulLines

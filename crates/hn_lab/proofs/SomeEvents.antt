@@ -44,11 +44,11 @@ pub record EventLaws : Type 0 where
 
 -- ---- a world stays the replay of its trace
 
-goes_more : (before between after : Parts) (ts : List Traced) (t : Traced) → Goes before ts between → (notes : List Note) × Step t notes between after → Goes before (ts ++ t ∷ []) after
+pub goes_more : (before between after : Parts) (ts : List Traced) (t : Traced) → Goes before ts between → (notes : List Note) × Step t notes between after → Goes before (ts ++ t ∷ []) after
 goes_more before between after [] t is step = (after, subst (λ (w : Parts). (notes : List Note) × Step t notes w after) is step, refl)
 goes_more before between after (u ∷ ts) t h step = (h.0, h.1, goes_more h.0 between after ts t h.2 step)
 
-replays_step : (version : Version) (ts : List Traced) (t : Traced) (before after : Parts) → Replays version ts before → (notes : List Note) × Step t notes before after
+pub replays_step : (version : Version) (ts : List Traced) (t : Traced) (before after : Parts) → Replays version ts before → (notes : List Note) × Step t notes before after
     → Replays version (ts ++ t ∷ []) after
 unfolding Replays
 replays_step version ts t before after h step = goes_more (empty_world version) before after ts t h step

@@ -26,3 +26,4 @@ pub mod Breaking
 pub mod Lab
 pub mod Existing
 pub mod Transcripts
+pub mod Resting

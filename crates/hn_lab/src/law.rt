@@ -2,15 +2,17 @@
 
 ghost use Rattle.hn_lab.specs.Breaking.{WireFailsAtACopy};
 ghost use Rattle.hn_lab.specs.Laws.{AtMostOnePlay, AtMostOneCutPlay, CutTextsAreFronts, BrokenTextsAreFronts, MailDelivers, PiecesAppend, ResultsAreUnique};
+ghost use Rattle.hn_lab.specs.Resting.{LastingRunKeepsCalm, RestfulLinesKeepCalm, RunKeepsCalm};
 
 use hn_addr::choice_is_unique;
 use hn_advert::advert_is_unique;
+use hn_audit::{lasting_goes_in_turns, rest_goes_in_turns};
 use hn_deleg::usable_is_unique;
 use hn_link::{common_link_is_unique, elected_is_unique};
 use hn_router::router_has_one_advert;
 use hn_sync::exchange_is_unique;
 use hn_ula::decision_is_unique;
-use hn_world::{agreement_is_unique, step_is_unique};
+use hn_world::{agreement_is_unique, at_most_one_world, names_differ, step_is_unique};
 
 /// What an event does, what a report tells of, and what a router chooses, is one thing.
 fn results_are_unique()
@@ -75,3 +77,17 @@ pub fn mail_delivers()
 pub fn pieces_append()
     ensures { PiecesAppend }
 {}
+
+/// Over a line `run` by mail, without loss, with steps of at most 22 s, a calm home stays calm: settled and quiet, with the same
+/// assignments. `lasting` and `lines` ask of the world at the beginning alone.
+pub fn run_keeps_calm()
+    ensures way { RunKeepsCalm }
+    ensures lasting { LastingRunKeepsCalm }
+    ensures lines { RestfulLinesKeepCalm }
+{
+    at_most_one_world();
+    names_differ();
+    mail_delivers();
+    rest_goes_in_turns();
+    lasting_goes_in_turns();
+}

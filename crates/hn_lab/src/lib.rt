@@ -39,7 +39,7 @@ pub use existing::{
 pub use input::read_all;
 pub use law::{
     at_most_one_cut_play, at_most_one_play, broken_text_is_a_front, cut_text_is_a_front,
-    mail_delivers, pieces_append, wire_fails_at_a_copy,
+    mail_delivers, pieces_append, run_keeps_calm, wire_fails_at_a_copy,
 };
 pub use notes::note_line;
 pub use output::{write_piece, write_refusal};

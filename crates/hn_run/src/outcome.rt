@@ -3,12 +3,16 @@ ghost use Rattle.hn_world.specs.Replay.{IsReplayed, Always, Throughout};
 ghost use Rattle.hn_world.specs.Authentic.{AuthenticUnlessInjected};
 ghost use Rattle.hn_world.specs.Leaves.{EqualHashesAgree};
 ghost use Rattle.hn_world.specs.Within.{AreWithinLimits};
-ghost use Rattle.hn_audit.specs.Laws.{SettledAreSound};
+ghost use Rattle.hn_audit.specs.Laws.{SettledElectAlike};
 ghost use Rattle.hn_audit.specs.Staying.{QuietStays};
+ghost use Rattle.hn_plain.specs.Plain.{SettledAreSound};
+ghost use Rattle.hn_told.specs.Told.{HostsAreToldApart};
 
-use hn_audit::{quiet_homes_always_stay, settled_are_always_sound};
+use hn_audit::{quiet_homes_always_stay, settled_elect_alike};
 use hn_lab::Played;
 use hn_node::Served;
+use hn_plain::plainly_sound;
+use hn_told::hosts_are_told_apart;
 use hn_world::{World, always_authentic, always_within_limits, equal_hashes_always_agree};
 
 /// What a run of the program came to.
@@ -51,12 +55,16 @@ impl Outcome {
         ensures not_served { result.served ≡ None }
         ensures headline { IfSome result.world (Always EqualHashesAgree) }
         ensures settled { IfSome result.world (Always SettledAreSound) }
+        ensures elected { IfSome result.world (Always SettledElectAlike) }
+        ensures told { IfSome result.world (Always HostsAreToldApart) }
         ensures stays { IfSome result.world (Throughout QuietStays) }
         ensures within_limits { IfSome result.world (Always AreWithinLimits) }
         ensures authentic { IfSome result.world (Always AuthenticUnlessInjected) }
     {
         equal_hashes_always_agree();
-        settled_are_always_sound();
+        plainly_sound();
+        settled_elect_alike();
+        hosts_are_told_apart();
         quiet_homes_always_stay();
         always_within_limits();
         always_authentic();

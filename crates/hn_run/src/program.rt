@@ -6,8 +6,10 @@ ghost use Rattle.hn_world.specs.Authentic.{AuthenticUnlessInjected};
 ghost use Rattle.hn_world.specs.Leaves.{EqualHashesAgree};
 ghost use Rattle.hn_base.specs.declared.version.Version.TheVariants.{One};
 ghost use Rattle.hn_world.specs.Within.{IsWithinLimits, AreWithinLimits};
-ghost use Rattle.hn_audit.specs.Laws.{SettledAreSound};
+ghost use Rattle.hn_audit.specs.Laws.{SettledElectAlike};
 ghost use Rattle.hn_audit.specs.Staying.{QuietStays};
+ghost use Rattle.hn_plain.specs.Plain.{SettledAreSound};
+ghost use Rattle.hn_told.specs.Told.{HostsAreToldApart};
 ghost use Rattle.hn_wire.specs.declared.datagram.Datagram.{Datagram};
 ghost use Rattle.hn_lab.specs.Lab.{IsLabRun};
 ghost use Rattle.hn_lab.specs.Stage.{Mail, Ports};
@@ -120,10 +122,13 @@ pub fn run<S: Source, K: Sink, W: Wire, C: Clock>(
         → LeavesUnused form (src.new ≡ src.old) (wire.new ≡ wire.old) (clock.new ≡ clock.old) (result.world ≡ None) (result.served ≡ None) }
 
     // The world is the replay of its trace. At each moment of its past two routers with equal hashes have equal leaves, or
-    // a collision exists; and a running router that is settled and quiet is sound.
+    // a collision exists; a running router that is settled and quiet is sound; on each link of one that is settled the
+    // elections are equal; and on different links of one that is settled and quiet hosts are told no prefixes that overlap.
     ensures replayed { IfSome result.world IsReplayed }
     ensures headline { IfSome result.world (Always EqualHashesAgree) }
     ensures settled { IfSome result.world (Always SettledAreSound) }
+    ensures elected { IfSome result.world (Always SettledElectAlike) }
+    ensures told { IfSome result.world (Always HostsAreToldApart) }
 
     // Over time that passes and ticks that nothing disturbs, a settled and quiet router stays so, with the same assignments.
     ensures stays { IfSome result.world (Throughout QuietStays) }

@@ -6,7 +6,7 @@ use Rattle.std.proofs.lemmas.Bool.{false≢true}
 use Rattle.std.proofs.lemmas.List.Elements.{All-append, All-take, All-drop, All-map, All-filter, All-weaker, All-contains}
 use Rattle.hn_base.proofs.Elements.{all_of}
 use Rattle.hn_departed.specs.declared.departures.Told.{Told}
-use Rattle.hn_departed.specs.Departed.{until_of, told_of, is_gone, departs, departed, kept, line}
+use Rattle.hn_departed.specs.Departed.{until_of, told_of, is_departed, departs, departed, kept, line}
 use Rattle.hn_departed.specs.Laws.{EndsSoon, DepartedEndSoon}
 use Rattle.hn_departed.proofs.FirstGoes.{without_in}
 
@@ -24,9 +24,9 @@ all_kept P told all = all_of P (kept told) (λ t there. All-contains P told t al
 
 pub departed_end_soon : DepartedEndSoon
 departed_end_soon now infos room told all =
-    let gone : All EndsSoon (filter (is_gone now infos) told) = All-filter (is_gone now infos) EndsSoon told all in
+    let gone : All EndsSoon (filter (is_departed now infos) told) = All-filter (is_departed now infos) EndsSoon told all in
     let now_departed : All EndsSoon (departed now infos told) =
-    All-map EndsSoon (departs now) (filter (is_gone now infos) told) (All-weaker EndsSoon (λ t. EndsSoon (departs now t)) (departs_soon now) (filter (is_gone now infos) told) gone) in
+    All-map EndsSoon (departs now) (filter (is_departed now infos) told) (All-weaker EndsSoon (λ t. EndsSoon (departs now t)) (departs_soon now) (filter (is_departed now infos) told) gone) in
     let few : All EndsSoon (line now infos told) = all_kept EndsSoon (departed now infos told) now_departed in
     let held : All EndsSoon (map (told_of now) infos) =
     All-map EndsSoon (told_of now) infos (all_of (λ info. EndsSoon (told_of now info)) infos (λ info there never. absurd (false≢true never))) in

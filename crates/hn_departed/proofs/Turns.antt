@@ -11,8 +11,8 @@ use Rattle.hn_base.proofs.Elements.{all_of}
 use Rattle.hn_base.specs.Prefix.{PlainPrefix}
 use Rattle.hn_advert.specs.declared.advert.Info.{Info}
 use Rattle.hn_departed.specs.declared.departures.Told.{Told}
-use Rattle.hn_departed.specs.Departed.{told_of, deprecated, is_prefix_among, is_gone, departs, departed, kept, line, with_departed, told_after}
-use Rattle.hn_departed.specs.Laws.{Turn, sent_in, departing, IsCalm, IsDeprecatedIn, KeptAreTold}
+use Rattle.hn_departed.specs.Departed.{told_of, deprecated, is_prefix_among, is_departed, departs, departed, kept, line, with_departed, told_after}
+use Rattle.hn_departed.specs.Laws.{Turn, sent_in, departing, IsCalm, IsDeprecatedIn, DepartedAreTold}
 use Rattle.hn_departed.proofs.FirstGoes.{length-kept, few_stay}
 use Rattle.hn_departed.proofs.EndSoon.{all_kept}
 
@@ -83,20 +83,20 @@ map_departed now (t ∷ ts) all =
     ∙ ap (λ (us : List Told). t ∷ us) (map_departed now ts (All-tail HasDeparted t ts all))
 
 abbrev is_departing : ℕ → List Info → Told → Bool
-is_departing now infos t = is_none t.departed && is_gone now infos t
+is_departing now infos t = is_none t.departed && is_departed now infos t
 
 -- of what is held nothing is gone, if nothing departs
-none_gone : (now : ℕ) (infos : List Info) (ts : List Told) → All (λ t. t.departed ≡ None) ts → filter (is_departing now infos) ts ≡ [] → filter (is_gone now infos) ts ≡ []
+none_gone : (now : ℕ) (infos : List Info) (ts : List Told) → All (λ t. t.departed ≡ None) ts → filter (is_departing now infos) ts ≡ [] → filter (is_departed now infos) ts ≡ []
 none_gone now infos [] held none = refl
-none_gone now infos (t ∷ ts) held none = go (is_gone now infos t) refl (none_gone now infos ts (All-tail (λ u. u.departed ≡ None) t ts held))
+none_gone now infos (t ∷ ts) held none = go (is_departed now infos t) refl (none_gone now infos ts (All-tail (λ u. u.departed ≡ None) t ts held))
   where
     is : t.departed ≡ None
     is = All-head (λ u. u.departed ≡ None) t ts held
 
-    same : (b : Bool) → is_gone now infos t ≡ b → is_departing now infos t ≡ b
-    same b gone = ap (λ (o : Option ℕ). is_none o && is_gone now infos t) is ∙ gone
+    same : (b : Bool) → is_departed now infos t ≡ b → is_departing now infos t ≡ b
+    same b gone = ap (λ (o : Option ℕ). is_none o && is_departed now infos t) is ∙ gone
 
-    go : (b : Bool) → is_gone now infos t ≡ b → (filter (is_departing now infos) ts ≡ [] → filter (is_gone now infos) ts ≡ []) → filter (is_gone now infos) (t ∷ ts) ≡ []
+    go : (b : Bool) → is_departed now infos t ≡ b → (filter (is_departing now infos) ts ≡ [] → filter (is_departed now infos) ts ≡ []) → filter (is_departed now infos) (t ∷ ts) ≡ []
     go true gone rest =
         let first : filter (is_departing now infos) (t ∷ ts) ≡ t ∷ filter (is_departing now infos) ts =
         ap (λ (b : Bool). cond b (t ∷ filter (is_departing now infos) ts) (filter (is_departing now infos) ts)) (same true gone) in
@@ -104,7 +104,7 @@ none_gone now infos (t ∷ ts) held none = go (is_gone now infos t) refl (none_g
     go false gone rest =
         let first : filter (is_departing now infos) (t ∷ ts) ≡ filter (is_departing now infos) ts =
         ap (λ (b : Bool). cond b (t ∷ filter (is_departing now infos) ts) (filter (is_departing now infos) ts)) (same false gone) in
-        ap (λ (b : Bool). cond b (t ∷ filter (is_gone now infos) ts) (filter (is_gone now infos) ts)) gone
+        ap (λ (b : Bool). cond b (t ∷ filter (is_departed now infos) ts) (filter (is_departed now infos) ts)) gone
         ∙ rest (sym first ∙ none)
 
 -- the front of a list without elements has none
@@ -128,17 +128,17 @@ pub record Waits (here : List Told) (told : Told) (ahead : ℕ) : Type 0 where
 abbrev IsQuiet : Told → Turn → Type 0
 IsQuiet told turn = (turn.now < told.until) × (is_prefix_among told.prefix turn.infos ≡ false)
 
-passes : (turn : Turn) (told : Told) → IsQuiet told turn → is_gone turn.now turn.infos told ≡ true
+passes : (turn : Turn) (told : Told) → IsQuiet told turn → is_departed turn.now turn.infos told ≡ true
 passes turn told quiet = and_from (nat_lt turn.now told.until) (not (is_prefix_among told.prefix turn.infos)) (search (rules, tests, quiet.0)) (ap not quiet.1)
 
 -- the line at a turn at which nothing departs
 abbrev line_around : Turn → Told → List Told → List Told → List Told
-line_around turn told front back = filter (is_gone turn.now turn.infos) front ++ told ∷ filter (is_gone turn.now turn.infos) back
+line_around turn told front back = filter (is_departed turn.now turn.infos) front ++ told ∷ filter (is_departed turn.now turn.infos) back
 
 line_is : (turn : Turn) (here : List Told) (told : Told) (ahead : ℕ) (w : Waits here told ahead) → IsQuiet told turn → departing turn.now turn.infos here ≡ []
     → line turn.now turn.infos here ≡ line_around turn told w.front w.back
 line_is turn here told ahead w quiet none =
-    let gone = is_gone turn.now turn.infos in
+    let gone = is_departed turn.now turn.infos in
     let waiting = w.front ++ told ∷ w.back in
     let nothing : filter (is_departing turn.now turn.infos) w.held ≡ [] =
     front_none (filter (is_departing turn.now turn.infos) w.held) (filter (is_departing turn.now turn.infos) waiting)
@@ -153,9 +153,9 @@ line_is turn here told ahead w quiet none =
 
 -- at a turn with room for it, it is told
 told_now : (turn : Turn) (here : List Told) (told : Told) (ahead : ℕ) (w : Waits here told ahead) → IsQuiet told turn → departing turn.now turn.infos here ≡ []
-    → length (filter (is_gone turn.now turn.infos) w.front) < turn.room → IsDeprecatedIn told.prefix (with_departed turn.now turn.infos turn.room here)
+    → length (filter (is_departed turn.now turn.infos) w.front) < turn.room → IsDeprecatedIn told.prefix (with_departed turn.now turn.infos turn.room here)
 told_now turn here told ahead w quiet none less =
-    let gone = is_gone turn.now turn.infos in
+    let gone = is_departed turn.now turn.infos in
     let first : Contains (take turn.room (line turn.now turn.infos here)) told =
     subst (λ (us : List Told). Contains (take turn.room us) told) (sym (line_is turn here told ahead w quiet none))
     (among_first (filter gone w.front) (filter gone w.back) told turn.room less) in
@@ -168,9 +168,9 @@ told_now turn here told ahead w quiet none less =
 
 -- and else fewer stand before it afterwards
 waits_less : (turn : Turn) (here : List Told) (told : Told) (ahead : ℕ) (w : Waits here told ahead) → IsQuiet told turn → departing turn.now turn.infos here ≡ []
-    → 6 ≤ turn.room → turn.room ≤ length (filter (is_gone turn.now turn.infos) w.front) → Waits (told_after turn.now turn.infos turn.room here) told (ahead - 6)
+    → 6 ≤ turn.room → turn.room ≤ length (filter (is_departed turn.now turn.infos) w.front) → Waits (told_after turn.now turn.infos turn.room here) told (ahead - 6)
 waits_less turn here told ahead w quiet none room past =
-    let gone = is_gone turn.now turn.infos in
+    let gone = is_departed turn.now turn.infos in
     let front = filter gone w.front in
     let back = filter gone w.back in
     let those = front ++ told ∷ back in
@@ -207,7 +207,7 @@ in_turn : (turns : List Turn) (here : List Told) (told : Told) (ahead : ℕ) →
     → All (λ turn. 6 ≤ turn.room) turns → IsCalm turns here → All (IsQuiet told) turns → IsToldIn told turns here
 in_turn [] here told ahead w less room calm quiet = absurd (omega (arith, less))
 in_turn (turn ∷ turns) here told ahead w less room calm quiet =
-    go (cases_lt (length (filter (is_gone turn.now turn.infos) w.front)) turn.room)
+    go (cases_lt (length (filter (is_departed turn.now turn.infos) w.front)) turn.room)
     (λ later shorter. in_turn turns (told_after turn.now turn.infos turn.room here) told (ahead - 6) later shorter
     (All-tail (λ (t : Turn). 6 ≤ t.room) turn turns room) calm.1 (All-tail (IsQuiet told) turn turns quiet))
   where
@@ -217,13 +217,13 @@ in_turn (turn ∷ turns) here told ahead w less room calm quiet =
     now_room : 6 ≤ turn.room
     now_room = All-head (λ (t : Turn). 6 ≤ t.room) turn turns room
 
-    go : (length (filter (is_gone turn.now turn.infos) w.front) < turn.room) ⊎ (turn.room ≤ length (filter (is_gone turn.now turn.infos) w.front))
+    go : (length (filter (is_departed turn.now turn.infos) w.front) < turn.room) ⊎ (turn.room ≤ length (filter (is_departed turn.now turn.infos) w.front))
         → (Waits (told_after turn.now turn.infos turn.room here) told (ahead - 6) → ahead - 6 < 6 * length turns
         → IsToldIn told turns (told_after turn.now turn.infos turn.room here))
         → IsToldIn told (turn ∷ turns) here
     go (inl few) rest = (with_departed turn.now turn.infos turn.room here, Contains-head _ _, told_now turn here told ahead w now_quiet calm.0 few)
     go (inr many) rest =
-        let fewer = no_more (is_gone turn.now turn.infos) w.front in
+        let fewer = no_more (is_departed turn.now turn.infos) w.front in
         let later = waits_less turn here told ahead w now_quiet calm.0 now_room many in
         let found = rest later (omega (arith, less, fewer, many, now_room, w.before)) in
         (found.0, Contains-tail _ _ _ found.1, found.2)
@@ -243,7 +243,7 @@ waits_first now infos room earlier told there some =
     let parted : told_after now infos room earlier ≡ held ++ waiting = append_assoc held (drop room few) (take room few) in
     let are_held : All (λ t. t.departed ≡ None) held =
     All-map (λ t. t.departed ≡ None) (told_of now) infos (all_of (λ i. (told_of now i).departed ≡ None) infos (λ i in_infos. refl)) in
-    let all : All HasDeparted few = all_kept HasDeparted (departed now infos earlier) (all_departed now (filter (is_gone now infos) earlier)) in
+    let all : All HasDeparted few = all_kept HasDeparted (departed now infos earlier) (all_departed now (filter (is_departed now infos) earlier)) in
     let in_waiting : Contains waiting told = elim (Contains-append_cases held waiting told (subst (λ (us : List Told). Contains us told) parted there)) [
       | inl in_held ↦ absurd (not_both told.departed (All-contains (λ t. t.departed ≡ None) held told are_held in_held) some)
       | inr later ↦ later
@@ -265,6 +265,6 @@ waits_first now infos room earlier told there some =
     not_both : (o : Option ℕ) → o ≡ None → is_some o ≡ true → ⊥
     not_both o none some = false≢true (sym (ap is_some none) ∙ some)
 
-pub kept_told : KeptAreTold
-kept_told now infos room earlier told turns there some eleven room_for calm quiet =
+pub departed_told : DepartedAreTold
+departed_told now infos room earlier told turns there some eleven room_for calm quiet =
     in_turn turns (told_after now infos room earlier) told 63 (waits_first now infos room earlier told there some) (omega (arith, eleven)) room_for calm quiet

@@ -29,8 +29,8 @@ abbrev pub is_prefix_among : PlainPrefix → List Info → Bool
 is_prefix_among prefix infos = list_any (λ info. info.prefix.bits == prefix.bits && info.prefix.len == prefix.len) infos
 
 -- whether what was told has not ended and is not among those
-abbrev pub is_gone : ℕ → List Info → Told → Bool
-is_gone now infos told = nat_lt now told.until && not (is_prefix_among told.prefix infos)
+abbrev pub is_departed : ℕ → List Info → Told → Bool
+is_departed now infos told = nat_lt now told.until && not (is_prefix_among told.prefix infos)
 
 -- What is gone has departed, now if it has not before. From then on it is told for 7,200 s at most: a host that hears of it
 -- keeps it for no longer (RFC 4862, section 5.5.3 e).
@@ -43,7 +43,7 @@ departs now told = record {
 
 -- all of what was told that is gone
 abbrev pub departed : ℕ → List Info → List Told → List Told
-departed now infos told = map (departs now) (filter (is_gone now infos) told)
+departed now infos told = map (departs now) (filter (is_departed now infos) told)
 
 -- ---- how many are kept
 

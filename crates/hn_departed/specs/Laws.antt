@@ -5,7 +5,7 @@ use Rattle.hn_base.specs.Prefix.{PlainPrefix}
 use Rattle.hn_base.specs.declared.ids.EpId.{EpId}
 use Rattle.hn_advert.specs.declared.advert.Info.{Info}
 use Rattle.hn_departed.specs.declared.departures.Told.{Told}
-use Rattle.hn_departed.specs.Departed.{since, is_prefix_among, is_gone, departed, kept, with_departed, told_after, told_at, with_told}
+use Rattle.hn_departed.specs.Departed.{since, is_prefix_among, is_departed, departed, kept, with_departed, told_after, told_at, with_told}
 
 -- ---- turns
 
@@ -22,7 +22,7 @@ sent_in (turn ∷ turns) told = with_departed turn.now turn.infos turn.room told
 
 -- what was advertised last and departs at a turn
 abbrev pub departing : ℕ → List Info → List Told → List Told
-departing now infos told = filter (λ t. is_none t.departed && is_gone now infos t) told
+departing now infos told = filter (λ t. is_none t.departed && is_departed now infos t) told
 
 -- nothing departs in these advertisements
 abbrev pub IsCalm : List Turn → List Told → Type 0
@@ -39,8 +39,8 @@ pub record IsDeprecatedIn (prefix : PlainPrefix) (sent : List Info) : Type 0 whe
 -- An advertisement is sent, and leaves a departed prefix to be told. If nothing departs in the next 11 advertisements, and each
 -- of them has room for 6 departed prefixes, then one of them tells it, without being preferred. This holds where its
 -- valid lifetime does not end before, and none of them is to have it.
-abbrev pub KeptAreTold : Type 0
-KeptAreTold =
+abbrev pub DepartedAreTold : Type 0
+DepartedAreTold =
     (now : ℕ) (infos : List Info) (room : ℕ) (earlier : List Told) (told : Told) (turns : List Turn)
     → Contains (told_after now infos room earlier) told → IsTrue (is_some told.departed)
     → length turns ≡ 11 → All (λ turn. 6 ≤ turn.room) turns → IsCalm turns (told_after now infos room earlier)

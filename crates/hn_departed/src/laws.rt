@@ -1,10 +1,10 @@
 //! Laws of departed prefixes. Each is the contract of a function that does nothing: call it to know its law.
 
-ghost use Rattle.hn_departed.specs.Laws.{KeptAreTold, FewAreKept, FirstGo, DepartedEndSoon, EndpointsKeepTheirs};
+ghost use Rattle.hn_departed.specs.Laws.{DepartedAreTold, FewAreKept, FirstGo, DepartedEndSoon, EndpointsKeepTheirs};
 
 /// A departed prefix that is kept is told within 11 advertisements, if nothing departs meanwhile and each has room for 6.
-pub fn kept_are_told()
-    ensures { KeptAreTold }
+pub fn departed_are_told()
+    ensures { DepartedAreTold }
 {}
 
 /// An advertisement has no more departed prefixes than there is room for, and at most 64 are kept.

@@ -7,4 +7,6 @@ mod keeping;
 mod laws;
 
 pub use departures::{Departures, Told};
-pub use laws::{departed_end_soon, endpoints_keep_theirs, few_are_kept, first_go, kept_are_told};
+pub use laws::{
+    departed_are_told, departed_end_soon, endpoints_keep_theirs, few_are_kept, first_go,
+};

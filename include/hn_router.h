@@ -1,19 +1,25 @@
 /* A home router with HNCP (RFC 7787, RFC 7788) as a library: libhn_router_c.a, made by `rt lib` in crates/hn_router_c and
- * linked with include/hn_heap.c. It is made for x86-64 and for aarch64. docs/EMBED.md shows its use.
+ * linked with include/hn_heap.c. `rt lib --cpu x86-64` makes it for any x86-64 processor; without that it asks for one of
+ * x86-64-v2. `rt lib --target aarch64-unknown-linux-gnu` makes it for aarch64. Each writes over the same file: copy it first.
+ * docs/EMBED.md shows its use.
  *
  * The library opens no socket, reads no clock and starts no thread. The caller tells it each event at its moment, sends the
  * datagrams that come of it, and calls again at the moment that hn_router_due says.
  *
- * A router is held by a struct hn_router. Set it to zero, hand it to hn_router_new, and hand it to no other call before that
- * returned 0, nor after hn_router_free. Never copy it, and use it in one thread at a time. No pointer may be null, also
- * where a length is 0; pointers of one call may not overlap, unless both are only read. The library is proved, and this file
- * is not: checks/embed compares its names, their order and types with the source.
+ * A router is held by a struct hn_router, the handle. Set it to zero, and hand it to hn_router_new. A handle has no router
+ * while it is zero, after hn_router_free, and after hn_router_new did not answer 0. Each call with such a handle that has a
+ * status answers 2, each count and number is 0, hn_router_due is 2^49, and nothing is written; hn_router_free does nothing.
+ *
+ * What is the caller's: the handle holds zeros before the first call, and later what the last call left there. Never copy it:
+ * a second copy does not see that the router was given up. Use it in one thread at a time. No pointer may be null, also where
+ * a length is 0; pointers of one call may not overlap, unless both are only read. The library is proved, and this file is
+ * not: checks/embed compares its names, their order and types with the source.
  *
  * A call that returns uint8_t returns
  *
  *     0   done
  *     1   out of memory: what was to happen did not, and the router is as it was
- *     2   a value is out of range, or there is nothing at that place: the router is as it was
+ *     2   a value is out of range, there is nothing at that place, or the handle has no router: the router is as it was
  *
  * A moment is in milliseconds, from 0 to 2^48, by a clock that never goes back: never before the moment of the router's last
  * event. Addresses and prefixes are 16 bytes in the order of the network; a prefix has no bit set past its length, which is
@@ -85,10 +91,10 @@ typedef struct {
 
 /* Makes a router, with a number of 32 bits under which others know it (one's own: draw it once and keep it) and 32 bytes
  * that nobody can guess, of which all its random choices are made. It has no endpoints, and may know 256 other nodes. Out of
- * range: `now` is after 2^48. */
+ * range: `now` is after 2^48, or the handle has a router, which stays. */
 uint8_t hn_router_new(hn_router *router, uint32_t id, uint64_t now, const uint8_t seed[32]);
 
-/* Gives the router up, with its memory. */
+/* Gives the router up, with its memory. The handle has none then. */
 void hn_router_free(hn_router *router);
 
 /* Events. Each may change all that is reported below. Out of range, here and in each of them: `now` is before the moment of
@@ -109,7 +115,7 @@ uint8_t hn_router_detach(hn_router *router, uint64_t now, uint32_t endpoint);
 uint8_t hn_router_arrive(hn_router *router, uint64_t now, uint32_t endpoint, bool multicast, const uint8_t source[16], uint16_t port, const uint8_t *bytes, size_t bytes_length);
 
 /* A prefix is delegated to the router, or again, with its lifetimes in seconds from now on; 2^32 - 1 never ends. Out of
- * range: no prefix. Refused: a ninth. */
+ * range: no prefix, or it would be preferred for longer than it is valid. Refused: a ninth. */
 uint8_t hn_router_external(hn_router *router, uint64_t now, const uint8_t prefix[16], uint8_t length, uint32_t valid, uint32_t preferred);
 
 /* A prefix is delegated no longer. What is assigned of it goes at the next tick, which is due. Out of range: no prefix. */
@@ -127,12 +133,14 @@ uint8_t hn_router_private(hn_router *router, uint64_t now, uint8_t length);
  * are more than 64, or one is of an endpoint that is not attached. */
 uint8_t hn_router_addresses(hn_router *router, uint64_t now, const hn_address *list, size_t list_length);
 
-/* The router begins anew, with its identifier, endpoints and delegated prefixes. */
+/* The router begins anew, with its identifier, endpoints, delegated prefixes, capabilities and private link. Its addresses
+ * go: give them again. What was advertised is not forgotten (hn_router_advertise). */
 uint8_t hn_router_restart(hn_router *router, uint64_t now);
 
-/* Reports. The router stays as it is. What is written to stays as it is unless the call is done, but for `count`. */
+/* Reports. The router stays as it is. What is written to stays as it is unless the call is done, but for `count`, and for
+ * `sent` of hn_router_send. */
 
-/* The moment up to which each tick does nothing; it may be past. 2^49 where nothing is due. */
+/* The moment up to which each tick does nothing; it may be past. It is never above 2^49. */
 uint64_t hn_router_due(hn_router *router);
 
 /* The moment of the last event. */
@@ -148,8 +156,8 @@ uint32_t hn_router_number(hn_router *router);
 void hn_router_network_hash(hn_router *router, uint8_t hash[8]);
 
 /* How many datagrams the last event sends, and the one at a place from 0 on: where it goes, how many bytes it has, and these.
- * A room of 65507 bytes is enough for each. Out of range: nothing at that place, or no room for it (`sent` and `count` tell
- * of it then). */
+ * A room of 65507 bytes is enough for each. Out of range: nothing at that place, or no room for it; `sent` and `count` tell
+ * of it where there is no room. */
 size_t hn_router_sends(hn_router *router);
 uint8_t hn_router_send(hn_router *router, size_t place, hn_sent *sent, size_t *count, uint8_t *room, size_t room_length);
 
@@ -171,18 +179,29 @@ uint8_t hn_router_node(hn_router *router, size_t place, uint32_t *id);
 uint8_t hn_router_used(hn_router *router, size_t place, hn_used *used);
 
 /* Who is elected on the link of an endpoint for a service: 0 mDNS proxy, 1 prefix delegation by DHCPv6, 2 addresses by
- * DHCPv6, 3 addresses by DHCPv4. Out of range: another service. */
+ * DHCPv6, 3 addresses by DHCPv4. Out of range: another service, or an endpoint that is not attached. Endpoint 0 is the private
+ * link, if the router has one. */
 uint8_t hn_router_elected(hn_router *router, uint32_t endpoint, uint8_t service, hn_elected *elected);
 
 /* How many bytes the Router Advertisement on an endpoint has (RFC 4861, section 4.2, from its type on, with a checksum of 0,
  * which the system fills in), and these. What is left of lifetimes is as of the moment of the last event: tick before. Out of
- * range: no room for it (`count` tells how much is wanted then). */
+ * range: no room for it (`count` tells how much is wanted then), or an endpoint that is not attached (`count` stays then).
+ * Endpoint 0 is the private link, if the router has one. */
 uint8_t hn_router_advert(hn_router *router, uint32_t endpoint, size_t *count, uint8_t *room, size_t room_length);
 
-/* As hn_router_advert, for an advertisement that is to be sent now: after the prefixes of that one stands each prefix that was
- * advertised so on this endpoint before, is not among them, and whose valid lifetime has not ended, with a preferred lifetime
- * of 0 and what is left of its valid one (RFC 9096, section 3.5, has 0 for both). If the call is done, the router keeps what
- * was told, over detach and restart too: send it, and give an endpoint number to one link for good. */
+/* As hn_router_advert, for an advertisement that is to be sent now. It has at most 1,232 bytes, whatever happened, so it fits a
+ * packet of 1,280 bytes. First stand the prefixes of hn_router_advert, all of them. After them stand prefixes that were
+ * advertised so on this endpoint before, and are not among them: departed ones, as far as there is room. Each of these has a
+ * preferred lifetime of 0 and what is left of its valid one (RFC 9096, section 3.5, has 0 for both).
+ *
+ * At most 64 departed prefixes are kept for an endpoint; with a 65th the one goes that departed first. Each is kept until its
+ * valid lifetime ends, and for two hours at most: a host that hears of it keeps it for no longer (RFC 4862, section 5.5.3 e).
+ * Those that depart now come first, and after them those that were not told for longest. If nothing departs meanwhile, each is
+ * told within 11 advertisements.
+ *
+ * If the call is done, the router keeps what was told, over detach and restart too: send it, and give an endpoint number to
+ * one link for good. An endpoint that is not attached is answered too, with what departed there. Out of range: no room for it
+ * (`count` tells how much is wanted then). A room of 1,232 bytes is always enough. */
 uint8_t hn_router_advertise(hn_router *router, uint32_t endpoint, size_t *count, uint8_t *room, size_t room_length);
 
 #ifdef __cplusplus

@@ -1,11 +1,12 @@
 -- What a call of C comes to, by its status: 0 done, 1 out of memory, 2 a value is out of range.
-use Rattle.std.specs.Prelude.{◌≡◌, ◌≢◌, ◌⊎◌, ℕ, ◌^◌, ◌<◌, ◌≤◌, Bool, ◌||◌, nat_lt, Option, Some, List, ◌++◌, drop, length, slice_get}
+use Rattle.std.specs.Prelude.{◌≡◌, ◌≢◌, ◌⊎◌, ℕ, ◌^◌, ◌<◌, ◌≤◌, Bool, ◌||◌, ◌&&◌, ◌==◌, is_some, nat_lt, Option, Some, List, ◌++◌, drop, length, slice_get}
 use Rattle.hn_router.specs.Act.{PlainEvent}
 use Rattle.hn_base.specs.declared.ids.EpId.{EpId}
 use Rattle.hn_base.specs.declared.ids.NodeId.{NodeId}
 use Rattle.hn_base.specs.declared.letter.Letter.{Letter}
 use Rattle.hn_deleg.specs.declared.delegated.Delegated.{Delegated}
 use Rattle.hn_deleg.specs.Used.{AreUsable}
+use Rattle.hn_own.specs.Ports.{is_attached}
 use Rattle.hn_rules.specs.declared.state.State.{State}
 use Rattle.hn_rules.specs.declared.done.Outgoing.{Outgoing}
 use Rattle.hn_rules.specs.declared.done.Note as noted
@@ -31,10 +32,8 @@ pub record Has (held : Option Kept) (Holds : Kept → Type 0) : Type 0 where
 abbrev pub is_outside : ℕ → State → Bool
 is_outside now s = nat_lt now s.moment || nat_lt (2 ^ 48) now
 
--- the handle had a router and has one: with status 0 the event happened to it at the moment, and else it is as it was
-pub record Acted (now : ℕ) (event : PlainEvent) (held held_after : Option Kept) (status : ℕ) : Type 0 where
-  pub before : Kept
-  pub had : held ≡ Some before
+-- the handle had this router and has one: with status 0 the event happened to it at the moment, and else it is as it was
+pub record Acted (now : ℕ) (event : PlainEvent) (before : Kept) (held_after : Option Kept) (status : ℕ) : Type 0 where
   pub after : Kept
   pub has : held_after ≡ Some after
   pub happened : status ≡ 0 → Acts now event before after
@@ -95,6 +94,10 @@ pub record UsesFewer (s : State) (place : ℕ) : Type 0 where
   pub are_usable : AreUsable (seen_by s) all
   pub fewer : length all ≤ place
 
+-- an endpoint has a link: it is attached, or it is 0 and the router has a private link
+abbrev pub has_link : State → EpId → Bool
+has_link s at = is_attached at s.ports || (at.0 == 0 && is_some s.private)
+
 -- who is elected for a service on an endpoint
 pub record IsElectedFor (s : State) (at : EpId) (number : ℕ) (elected : Elected) : Type 0 where
   pub letter : Letter
@@ -130,10 +133,8 @@ pub record HasNoRoomFor (k : Kept) (at : EpId) (count : ℕ) (room : List ℕ) :
   pub is_next : IsNextAdvert k at bytes told
   pub no_room : ExceedsRoom bytes count room
 
--- the handle had a router and has one: with status 0 it advertises, with 2 there was no room, and without 0 it is as it was
-pub record Advertised (at : EpId) (held held_after : Option Kept) (count : ℕ) (room room_after : List ℕ) (status : ℕ) : Type 0 where
-  pub before : Kept
-  pub had : held ≡ Some before
+-- the handle had this router and has one: with status 0 it advertises, with 2 there was no room, and without 0 it is as it was
+pub record Advertised (at : EpId) (before : Kept) (held_after : Option Kept) (count : ℕ) (room room_after : List ℕ) (status : ℕ) : Type 0 where
   pub after : Kept
   pub has : held_after ≡ Some after
   pub advertises : status ≡ 0 → Advertises at before after count room room_after

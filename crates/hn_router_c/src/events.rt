@@ -1,7 +1,7 @@
-ghost use Rattle.std.specs.Prelude.{◌≡◌, ◌≢◌, ◌↔◌, ◌≤◌, IsSome, IsTrue, IfOk, map};
+ghost use Rattle.std.specs.Prelude.{◌≡◌, ◌≢◌, ◌↔◌, ◌≤◌, None, IfSome, IfNone, IsTrue, IfOk, map};
 ghost use Rattle.std.specs.Int.{w128, from_be_bytes};
 ghost use Rattle.hn_router.specs.Act.{Arrive, Tick, Attach, Detach, External, Withdraw, SetCaps, Private, Addresses, Restart};
-ghost use Rattle.hn_router_c.specs.Calls.{Acted, Has, is_outside};
+ghost use Rattle.hn_router_c.specs.Calls.{Acted, is_outside};
 ghost use Rattle.hn_router_c.specs.Kinds.{AreCapsInRange, own_address, private_length};
 ghost use Rattle.hn_base.specs.Caps.{plain_caps};
 ghost use Rattle.hn_base.specs.Prefix.{IsPrefix};
@@ -32,10 +32,9 @@ pub extern "C" fn hn_router_arrive(
     port: u16,
     bytes: &[u8],
 ) -> u8
-    requires { IsSome router.old.held }
-    ensures live { IsSome router.new.held }
-    ensures acted { Acted now (Arrive (record { endpoint = record { 0 = endpoint }; from = record { ip = from_be_bytes w128 source.now; port = port }; multicast = multicast }) bytes.now) router.old.held router.new.held result }
-    ensures ranged { Has router.old.held (λ kept. result ≡ 2 ↔ IsTrue (is_outside now kept.router)) }
+    ensures acted { IfSome router.old.held (λ before. Acted now (Arrive (record { endpoint = record { 0 = endpoint }; from = record { ip = from_be_bytes w128 source.now; port = port }; multicast = multicast }) bytes.now) before router.new.held result) }
+    ensures ranged { IfSome router.old.held (λ before. result ≡ 2 ↔ IsTrue (is_outside now before.router)) }
+    ensures none { IfNone router.old.held ((router.new.held ≡ None) × (result ≡ 2)) }
     ensures status { result ≤ 2 }
 {
     let event = Event::Arrive {
@@ -53,10 +52,9 @@ pub extern "C" fn hn_router_arrive(
 /// Time has passed.
 #[unsafe(no_mangle)]
 pub extern "C" fn hn_router_tick(alloc: Global, router: &mut Handle, now: u64) -> u8
-    requires { IsSome router.old.held }
-    ensures live { IsSome router.new.held }
-    ensures acted { Acted now Tick router.old.held router.new.held result }
-    ensures ranged { Has router.old.held (λ kept. result ≡ 2 ↔ IsTrue (is_outside now kept.router)) }
+    ensures acted { IfSome router.old.held (λ before. Acted now Tick before router.new.held result) }
+    ensures ranged { IfSome router.old.held (λ before. result ≡ 2 ↔ IsTrue (is_outside now before.router)) }
+    ensures none { IfNone router.old.held ((router.new.held ≡ None) × (result ≡ 2)) }
     ensures status { result ≤ 2 }
 {
     let _place = no_place();
@@ -71,10 +69,9 @@ pub extern "C" fn hn_router_attach(
     now: u64,
     endpoint: u32,
 ) -> u8
-    requires { IsSome router.old.held }
-    ensures live { IsSome router.new.held }
-    ensures acted { Acted now (Attach (record { 0 = endpoint })) router.old.held router.new.held result }
-    ensures ranged { Has router.old.held (λ kept. result ≡ 2 ↔ IsTrue (is_outside now kept.router)) }
+    ensures acted { IfSome router.old.held (λ before. Acted now (Attach (record { 0 = endpoint })) before router.new.held result) }
+    ensures ranged { IfSome router.old.held (λ before. result ≡ 2 ↔ IsTrue (is_outside now before.router)) }
+    ensures none { IfNone router.old.held ((router.new.held ≡ None) × (result ≡ 2)) }
     ensures status { result ≤ 2 }
 {
     let event = Event::Attach {
@@ -91,10 +88,9 @@ pub extern "C" fn hn_router_detach(
     now: u64,
     endpoint: u32,
 ) -> u8
-    requires { IsSome router.old.held }
-    ensures live { IsSome router.new.held }
-    ensures acted { Acted now (Detach (record { 0 = endpoint })) router.old.held router.new.held result }
-    ensures ranged { Has router.old.held (λ kept. result ≡ 2 ↔ IsTrue (is_outside now kept.router)) }
+    ensures acted { IfSome router.old.held (λ before. Acted now (Detach (record { 0 = endpoint })) before router.new.held result) }
+    ensures ranged { IfSome router.old.held (λ before. result ≡ 2 ↔ IsTrue (is_outside now before.router)) }
+    ensures none { IfNone router.old.held ((router.new.held ≡ None) × (result ≡ 2)) }
     ensures status { result ≤ 2 }
 {
     let event = Event::Detach {
@@ -103,7 +99,8 @@ pub extern "C" fn hn_router_detach(
     happens(alloc, router, &event, now)
 }
 
-/// A delegated prefix is added, or replaces the same one, with its lifetimes in seconds.
+/// A delegated prefix is added, or replaces the same one, with its lifetimes in seconds, of which the preferred one is no
+/// longer than the valid one.
 #[unsafe(no_mangle)]
 pub extern "C" fn hn_router_external(
     alloc: Global,
@@ -114,14 +111,16 @@ pub extern "C" fn hn_router_external(
     valid: u32,
     preferred: u32,
 ) -> u8
-    requires { IsSome router.old.held }
-    ensures live { IsSome router.new.held }
-    ensures acted { Acted now (External (record { bits = from_be_bytes w128 prefix.now; len = length }) valid preferred) router.old.held router.new.held result }
-    ensures ranged { IsPrefix (record { bits = from_be_bytes w128 prefix.now; len = length }) → Has router.old.held (λ kept. result ≡ 2 ↔ IsTrue (is_outside now kept.router)) }
-    ensures values { result ≢ 2 → IsPrefix (record { bits = from_be_bytes w128 prefix.now; len = length }) }
+    ensures acted { IfSome router.old.held (λ before. Acted now (External (record { bits = from_be_bytes w128 prefix.now; len = length }) valid preferred) before router.new.held result) }
+    ensures ranged { IsPrefix (record { bits = from_be_bytes w128 prefix.now; len = length }) → preferred ≤ valid → IfSome router.old.held (λ before. result ≡ 2 ↔ IsTrue (is_outside now before.router)) }
+    ensures values { result ≢ 2 → IsPrefix (record { bits = from_be_bytes w128 prefix.now; len = length }) × (preferred ≤ valid) }
+    ensures none { IfNone router.old.held ((router.new.held ≡ None) × (result ≡ 2)) }
     ensures status { result ≤ 2 }
 {
     let _place = no_place();
+    if valid < preferred {
+        return OUT_OF_RANGE;
+    }
     let Ok(prefix) = Prefix::new(u128::from_be_bytes(*prefix), length) else {
         return OUT_OF_RANGE;
     };
@@ -142,11 +141,10 @@ pub extern "C" fn hn_router_withdraw(
     prefix: &[u8; 16],
     length: u8,
 ) -> u8
-    requires { IsSome router.old.held }
-    ensures live { IsSome router.new.held }
-    ensures acted { Acted now (Withdraw (record { bits = from_be_bytes w128 prefix.now; len = length })) router.old.held router.new.held result }
-    ensures ranged { IsPrefix (record { bits = from_be_bytes w128 prefix.now; len = length }) → Has router.old.held (λ kept. result ≡ 2 ↔ IsTrue (is_outside now kept.router)) }
+    ensures acted { IfSome router.old.held (λ before. Acted now (Withdraw (record { bits = from_be_bytes w128 prefix.now; len = length })) before router.new.held result) }
+    ensures ranged { IsPrefix (record { bits = from_be_bytes w128 prefix.now; len = length }) → IfSome router.old.held (λ before. result ≡ 2 ↔ IsTrue (is_outside now before.router)) }
     ensures values { result ≢ 2 → IsPrefix (record { bits = from_be_bytes w128 prefix.now; len = length }) }
+    ensures none { IfNone router.old.held ((router.new.held ≡ None) × (result ≡ 2)) }
     ensures status { result ≤ 2 }
 {
     let _place = no_place();
@@ -167,12 +165,11 @@ pub extern "C" fn hn_router_caps(
     h: u8,
     l: u8,
 ) -> u8
-    requires { IsSome router.old.held }
-    ensures live { IsSome router.new.held }
-    ensures acted { result ≡ 0 → (caps : Caps) × (plain_caps caps ≡ record { m = m; p = p; h = h; l = l }) × Acted now (SetCaps caps) router.old.held router.new.held result }
+    ensures acted { result ≡ 0 → (caps : Caps) × (plain_caps caps ≡ record { m = m; p = p; h = h; l = l }) × IfSome router.old.held (λ before. Acted now (SetCaps caps) before router.new.held result) }
     ensures as_before { result ≢ 0 → router.new.held ≡ router.old.held }
-    ensures ranged { AreCapsInRange m p h l → Has router.old.held (λ kept. result ≡ 2 ↔ IsTrue (is_outside now kept.router)) }
+    ensures ranged { AreCapsInRange m p h l → IfSome router.old.held (λ before. result ≡ 2 ↔ IsTrue (is_outside now before.router)) }
     ensures values { result ≢ 2 → AreCapsInRange m p h l }
+    ensures none { IfNone router.old.held ((router.new.held ≡ None) × (result ≡ 2)) }
     ensures status { result ≤ 2 }
 {
     let _place = no_place();
@@ -198,11 +195,10 @@ fn private_length(length: u8) -> Option<LinkLength>
 /// The router gets a private link, of which the prefixes have this length, 1 to 64, or has none, where that is 0.
 #[unsafe(no_mangle)]
 pub extern "C" fn hn_router_private(alloc: Global, router: &mut Handle, now: u64, length: u8) -> u8
-    requires { IsSome router.old.held }
-    ensures live { IsSome router.new.held }
-    ensures acted { Acted now (Private (private_length length)) router.old.held router.new.held result }
-    ensures ranged { length ≤ 64 → Has router.old.held (λ kept. result ≡ 2 ↔ IsTrue (is_outside now kept.router)) }
+    ensures acted { IfSome router.old.held (λ before. Acted now (Private (private_length length)) before router.new.held result) }
+    ensures ranged { length ≤ 64 → IfSome router.old.held (λ before. result ≡ 2 ↔ IsTrue (is_outside now before.router)) }
     ensures values { result ≢ 2 → length ≤ 64 }
+    ensures none { IfNone router.old.held ((router.new.held ≡ None) × (result ≡ 2)) }
     ensures status { result ≤ 2 }
 {
     let _place = no_place();
@@ -228,10 +224,9 @@ pub extern "C" fn hn_router_addresses(
     now: u64,
     list: &[Address],
 ) -> u8
-    requires { IsSome router.old.held }
-    ensures live { IsSome router.new.held }
-    ensures acted { Acted now (Addresses (map own_address list.now)) router.old.held router.new.held result }
-    ensures ranged { Has router.old.held (λ kept. result ≡ 2 ↔ IsTrue (is_outside now kept.router)) }
+    ensures acted { IfSome router.old.held (λ before. Acted now (Addresses (map own_address list.now)) before router.new.held result) }
+    ensures ranged { IfSome router.old.held (λ before. result ≡ 2 ↔ IsTrue (is_outside now before.router)) }
+    ensures none { IfNone router.old.held ((router.new.held ≡ None) × (result ≡ 2)) }
     ensures status { result ≤ 2 }
 {
     if is_outside_of(alloc, router, now) {
@@ -249,10 +244,9 @@ pub extern "C" fn hn_router_addresses(
 /// The router restarts.
 #[unsafe(no_mangle)]
 pub extern "C" fn hn_router_restart(alloc: Global, router: &mut Handle, now: u64) -> u8
-    requires { IsSome router.old.held }
-    ensures live { IsSome router.new.held }
-    ensures acted { Acted now Restart router.old.held router.new.held result }
-    ensures ranged { Has router.old.held (λ kept. result ≡ 2 ↔ IsTrue (is_outside now kept.router)) }
+    ensures acted { IfSome router.old.held (λ before. Acted now Restart before router.new.held result) }
+    ensures ranged { IfSome router.old.held (λ before. result ≡ 2 ↔ IsTrue (is_outside now before.router)) }
+    ensures none { IfNone router.old.held ((router.new.held ≡ None) × (result ≡ 2)) }
     ensures status { result ≤ 2 }
 {
     let _place = no_place();

@@ -1,7 +1,7 @@
-ghost use Rattle.std.specs.Prelude.{◌≡◌, ◌≢◌, ◌↔◌, ◌≤◌, IsSome, IsTrue};
+ghost use Rattle.std.specs.Prelude.{◌≡◌, ◌≢◌, ◌↔◌, ◌≤◌, None, IfSome, IfNone, IsTrue};
 ghost use Rattle.hn_router.specs.Act.{plain_event};
 ghost use Rattle.hn_kept.specs.Kept.{Acts};
-ghost use Rattle.hn_router_c.specs.Calls.{Acted, Has, is_outside};
+ghost use Rattle.hn_router_c.specs.Calls.{Acted, is_outside};
 
 use hn_base::Moment;
 use hn_handle::Handle;
@@ -18,7 +18,7 @@ pub(crate) const DONE: u8 = 0;
 /// Out of memory.
 pub(crate) const NO_MEMORY: u8 = 1;
 
-/// A value is out of range.
+/// A value is out of range, or the handle has no router.
 pub(crate) const OUT_OF_RANGE: u8 = 2;
 
 /// Whether no event of a router may have a moment.
@@ -28,13 +28,15 @@ fn is_outside(router: &Router, now: Moment) -> bool
     now < router.moment() || LAST_MOMENT < now
 }
 
-/// The same of the router of a handle.
+/// The same of the router of a handle; so it is without one.
 pub(crate) fn is_outside_of(alloc: Global, handle: &mut Handle, now: Moment) -> bool
-    requires { IsSome handle.old.held }
     ensures kept { handle.new.held ≡ handle.old.held }
-    ensures outside { Has handle.old.held (λ kept. result ≡ is_outside now kept.router) }
+    ensures outside { IfSome handle.old.held (λ kept. result ≡ is_outside now kept.router) }
+    ensures none { IfNone handle.old.held (IsTrue result) }
 {
-    let keeper = handle.take(alloc);
+    let Some(keeper) = handle.take(alloc) else {
+        return true;
+    };
     let outside = is_outside(keeper.router(), now);
     *handle = Handle::of(keeper);
     outside
@@ -58,13 +60,14 @@ fn act(alloc: Global, keeper: &mut Keeper, event: &Event<'_>, now: Moment) -> u8
 
 /// An event happens to the router of a handle at a moment.
 pub(crate) fn happens(alloc: Global, handle: &mut Handle, event: &Event<'_>, now: Moment) -> u8
-    requires { IsSome handle.old.held }
-    ensures live { IsSome handle.new.held }
-    ensures acted { Acted now (plain_event event.now) handle.old.held handle.new.held result }
-    ensures ranged { Has handle.old.held (λ kept. result ≡ 2 ↔ IsTrue (is_outside now kept.router)) }
+    ensures acted { IfSome handle.old.held (λ before. Acted now (plain_event event.now) before handle.new.held result) }
+    ensures ranged { IfSome handle.old.held (λ before. result ≡ 2 ↔ IsTrue (is_outside now before.router)) }
+    ensures none { IfNone handle.old.held ((handle.new.held ≡ None) × (result ≡ 2)) }
     ensures status { result ≤ 2 }
 {
-    let mut keeper = handle.take(alloc);
+    let Some(mut keeper) = handle.take(alloc) else {
+        return OUT_OF_RANGE;
+    };
     let status = act(alloc, &mut keeper, event, now);
     *handle = Handle::of(keeper);
     status

@@ -1,4 +1,4 @@
-ghost use Rattle.std.specs.Prelude.{◌≡◌, ◌≢◌, ◌↔◌, ◌<◌, ◌≤◌, ◌^◌, None, IsSome};
+ghost use Rattle.std.specs.Prelude.{◌≡◌, ◌≢◌, ◌↔◌, ◌<◌, ◌≤◌, ◌^◌, ◌⊎◌, None, IsSome};
 ghost use Rattle.hn_kept.specs.Kept.{IsNewKept};
 ghost use Rattle.hn_router_c.specs.Calls.{Has};
 
@@ -8,7 +8,7 @@ use hn_handle::Handle;
 use hn_kept::Keeper;
 use std::alloc::Global;
 
-/// Makes a router that begins at a moment, with an identifier and a seed of its random words. The handle has none before.
+/// Makes a router that begins at a moment, with an identifier and a seed of its random words. A handle that has one keeps it.
 #[unsafe(no_mangle)]
 pub extern "C" fn hn_router_new(
     alloc: Global,
@@ -17,13 +17,12 @@ pub extern "C" fn hn_router_new(
     now: u64,
     seed: &[u8; 32],
 ) -> u8
-    requires { router.old.held ≡ None }
     ensures made { result ≡ 0 → Has router.new.held (IsNewKept (record { 0 = id }) now seed.now) }
-    ensures none { result ≢ 0 → router.new.held ≡ None }
-    ensures ranged { result ≡ 2 ↔ 2 ^ 48 < now }
+    ensures as_before { result ≢ 0 → router.new.held ≡ router.old.held }
+    ensures ranged { result ≡ 2 ↔ IsSome router.old.held ⊎ (2 ^ 48 < now) }
     ensures status { result ≤ 2 }
 {
-    if LAST_MOMENT < now {
+    if router.has_router() || LAST_MOMENT < now {
         return OUT_OF_RANGE;
     }
     let Ok(keeper) = Keeper::new(alloc, NodeId(id), now, *seed) else {
@@ -36,10 +35,9 @@ pub extern "C" fn hn_router_new(
     DONE
 }
 
-/// Gives the router up. The handle has none after.
+/// Gives the router up, if there is one. The handle has none after.
 #[unsafe(no_mangle)]
 pub extern "C" fn hn_router_free(alloc: Global, router: &mut Handle)
-    requires { IsSome router.old.held }
     ensures { router.new.held ≡ None }
 {
     drop(router.take(alloc));

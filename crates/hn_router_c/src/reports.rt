@@ -1,5 +1,5 @@
-ghost use Rattle.std.specs.Prelude.{◌≡◌, ◌≢◌, ◌↔◌, ◌<◌, ◌≤◌, ◌⊎◌, None, IsSome, IsTrue, false, length};
-ghost use Rattle.hn_router_c.specs.Calls.{Has, ExceedsRoom, IsWritten, IsSent, IsUnsent, IsNoted, IsAssignedAt, IsNodeAt, IsUsedAt, UsesFewer, IsElectedFor, IsAdvertisementWritten, IsUnadvertised, Advertises, HasNoRoomFor, Advertised};
+ghost use Rattle.std.specs.Prelude.{◌≡◌, ◌≢◌, ◌↔◌, ◌<◌, ◌≤◌, ◌⊎◌, None, IfSome, IfNone, IsNone, IsTrue, false, length};
+ghost use Rattle.hn_router_c.specs.Calls.{has_link, ExceedsRoom, IsWritten, IsSent, IsUnsent, IsNoted, IsAssignedAt, IsNodeAt, IsUsedAt, UsesFewer, IsElectedFor, IsAdvertisementWritten, IsUnadvertised, Advertises, HasNoRoomFor, Advertised};
 ghost use Rattle.hn_router_c.specs.Kinds.{letter_of};
 
 use crate::happening::{DONE, NO_MEMORY, OUT_OF_RANGE};
@@ -107,16 +107,26 @@ fn used_at(alloc: Global, router: &Router, place: usize, used: &mut Used) -> u8
     DONE
 }
 
+/// Whether an endpoint has a link: it is attached, or it is 0 and the router has a private link.
+fn has_link(router: &Router, at: EpId) -> bool
+    ensures { result ≡ has_link router.now at }
+{
+    router.attached(at) || at.0 == 0 && router.private().is_some()
+}
+
 /// Who is elected for the service of a number on an endpoint.
 fn elected_for(alloc: Global, router: &Router, at: EpId, number: u8, out: &mut Elected) -> u8
     ensures elected { result ≡ 0 → IsElectedFor router.now at number out.new }
-    ensures no_service { result ≡ 2 ↔ letter_of number ≡ None }
+    ensures refused { result ≡ 2 ↔ (letter_of number ≡ None) ⊎ (has_link router.now at ≡ false) }
     ensures status { result ≤ 2 }
     ensures as_before { result ≢ 0 → out.new ≡ out.old }
 {
     let Some(letter) = letter_of(number) else {
         return OUT_OF_RANGE;
     };
+    if !has_link(router, at) {
+        return OUT_OF_RANGE;
+    }
     let Ok(who) = router.elected(alloc, at, letter) else {
         return NO_MEMORY;
     };
@@ -127,10 +137,14 @@ fn elected_for(alloc: Global, router: &Router, at: EpId, number: u8, out: &mut E
 /// The bytes of the advertisement on an endpoint.
 fn advert(alloc: Global, router: &Router, at: EpId, count: &mut usize, room: &mut [u8]) -> u8
     ensures advert { result ≡ 0 → IsAdvertisementWritten router.now at count.new room.old room.new }
-    ensures no_room { result ≡ 2 → IsUnadvertised router.now at count.new room.old }
+    ensures no_room { result ≡ 2 → IsTrue (has_link router.now at) → IsUnadvertised router.now at count.new room.old }
+    ensures no_link { has_link router.now at ≡ false → (result ≡ 2) × (count.new ≡ count.old) }
     ensures status { result ≤ 2 }
     ensures as_before { result ≢ 0 → room.new ≡ room.old }
 {
+    if !has_link(router, at) {
+        return OUT_OF_RANGE;
+    }
     let Ok(bytes) = router.advert(alloc, at) else {
         return NO_MEMORY;
     };
@@ -151,15 +165,17 @@ pub extern "C" fn hn_router_send(
     count: &mut usize,
     room: &mut [u8],
 ) -> u8
-    requires { IsSome router.old.held }
     ensures kept { router.new.held ≡ router.old.held }
-    ensures sent { result ≡ 0 → Has router.old.held (λ kept. IsSent kept.done.sends place sent.new count.new room.old room.new) }
-    ensures unsent { result ≢ 0 → Has router.old.held (λ kept. IsUnsent kept.done.sends place sent.new count.new room.old) }
-    ensures absent { Has router.old.held (λ kept. length kept.done.sends ≤ place → sent.new ≡ sent.old) }
+    ensures sent { result ≡ 0 → IfSome router.old.held (λ kept. IsSent kept.done.sends place sent.new count.new room.old room.new) }
+    ensures unsent { result ≢ 0 → IfSome router.old.held (λ kept. IsUnsent kept.done.sends place sent.new count.new room.old) }
+    ensures absent { IfSome router.old.held (λ kept. length kept.done.sends ≤ place → sent.new ≡ sent.old) }
+    ensures none { IfNone router.old.held ((result ≡ 2) × (sent.new ≡ sent.old) × (count.new ≡ count.old)) }
     ensures as_before { result ≢ 0 → room.new ≡ room.old }
     ensures status { (result ≡ 0) ⊎ (result ≡ 2) }
 {
-    let keeper = router.take(alloc);
+    let Some(keeper) = router.take(alloc) else {
+        return OUT_OF_RANGE;
+    };
     let status = send(keeper.done().sends.as_slice(), place, sent, count, room);
     *router = Handle::of(keeper);
     status
@@ -173,14 +189,16 @@ pub extern "C" fn hn_router_note(
     place: usize,
     note: &mut Note,
 ) -> u8
-    requires { IsSome router.old.held }
     ensures kept { router.new.held ≡ router.old.held }
-    ensures noted { result ≡ 0 → Has router.old.held (λ kept. IsNoted kept.done.notes place note.new) }
-    ensures there { Has router.old.held (λ kept. result ≡ 0 ↔ place < length kept.done.notes) }
+    ensures noted { result ≡ 0 → IfSome router.old.held (λ kept. IsNoted kept.done.notes place note.new) }
+    ensures there { IfSome router.old.held (λ kept. result ≡ 0 ↔ place < length kept.done.notes) }
+    ensures none { IfNone router.old.held (result ≡ 2) }
     ensures as_before { result ≢ 0 → note.new ≡ note.old }
     ensures status { (result ≡ 0) ⊎ (result ≡ 2) }
 {
-    let keeper = router.take(alloc);
+    let Some(keeper) = router.take(alloc) else {
+        return OUT_OF_RANGE;
+    };
     let status = noted(keeper.done().notes.as_slice(), place, note);
     *router = Handle::of(keeper);
     status
@@ -194,14 +212,16 @@ pub extern "C" fn hn_router_assigned(
     place: usize,
     assigned: &mut Assigned,
 ) -> u8
-    requires { IsSome router.old.held }
     ensures kept { router.new.held ≡ router.old.held }
-    ensures assigned { result ≡ 0 → Has router.old.held (λ kept. IsAssignedAt kept.router.held.assigned place assigned.new) }
-    ensures there { Has router.old.held (λ kept. result ≡ 0 ↔ place < length kept.router.held.assigned) }
+    ensures assigned { result ≡ 0 → IfSome router.old.held (λ kept. IsAssignedAt kept.router.held.assigned place assigned.new) }
+    ensures there { IfSome router.old.held (λ kept. result ≡ 0 ↔ place < length kept.router.held.assigned) }
+    ensures none { IfNone router.old.held (result ≡ 2) }
     ensures as_before { result ≢ 0 → assigned.new ≡ assigned.old }
     ensures status { (result ≡ 0) ⊎ (result ≡ 2) }
 {
-    let keeper = router.take(alloc);
+    let Some(keeper) = router.take(alloc) else {
+        return OUT_OF_RANGE;
+    };
     let status = assigned_at(keeper.router().held().assigned.as_slice(), place, assigned);
     *router = Handle::of(keeper);
     status
@@ -215,14 +235,16 @@ pub extern "C" fn hn_router_node(
     place: usize,
     id: &mut u32,
 ) -> u8
-    requires { IsSome router.old.held }
     ensures kept { router.new.held ≡ router.old.held }
-    ensures node { result ≡ 0 → Has router.old.held (λ kept. IsNodeAt kept.router.reach place id.new) }
-    ensures there { Has router.old.held (λ kept. result ≡ 0 ↔ place < length kept.router.reach) }
+    ensures node { result ≡ 0 → IfSome router.old.held (λ kept. IsNodeAt kept.router.reach place id.new) }
+    ensures there { IfSome router.old.held (λ kept. result ≡ 0 ↔ place < length kept.router.reach) }
+    ensures none { IfNone router.old.held (result ≡ 2) }
     ensures as_before { result ≢ 0 → id.new ≡ id.old }
     ensures status { (result ≡ 0) ⊎ (result ≡ 2) }
 {
-    let keeper = router.take(alloc);
+    let Some(keeper) = router.take(alloc) else {
+        return OUT_OF_RANGE;
+    };
     let status = node_at(keeper.router().reach(), place, id);
     *router = Handle::of(keeper);
     status
@@ -236,20 +258,22 @@ pub extern "C" fn hn_router_used(
     place: usize,
     used: &mut Used,
 ) -> u8
-    requires { IsSome router.old.held }
     ensures kept { router.new.held ≡ router.old.held }
-    ensures used { result ≡ 0 → Has router.old.held (λ kept. IsUsedAt kept.router place used.new) }
-    ensures fewer { result ≡ 2 → Has router.old.held (λ kept. UsesFewer kept.router place) }
+    ensures used { result ≡ 0 → IfSome router.old.held (λ kept. IsUsedAt kept.router place used.new) }
+    ensures fewer { result ≡ 2 → IfSome router.old.held (λ kept. UsesFewer kept.router place) }
+    ensures none { IfNone router.old.held (result ≡ 2) }
     ensures status { result ≤ 2 }
     ensures as_before { result ≢ 0 → used.new ≡ used.old }
 {
-    let keeper = router.take(alloc);
+    let Some(keeper) = router.take(alloc) else {
+        return OUT_OF_RANGE;
+    };
     let status = used_at(alloc, keeper.router(), place, used);
     *router = Handle::of(keeper);
     status
 }
 
-/// Who is elected for a service on an endpoint: 0 to 3 are M, P, H and L.
+/// Who is elected for a service on an endpoint that has a link: 0 to 3 are M, P, H and L.
 #[unsafe(no_mangle)]
 pub extern "C" fn hn_router_elected(
     alloc: Global,
@@ -258,20 +282,22 @@ pub extern "C" fn hn_router_elected(
     service: u8,
     elected: &mut Elected,
 ) -> u8
-    requires { IsSome router.old.held }
     ensures kept { router.new.held ≡ router.old.held }
-    ensures elected { result ≡ 0 → Has router.old.held (λ kept. IsElectedFor kept.router (record { 0 = endpoint }) service elected.new) }
-    ensures no_service { result ≡ 2 ↔ letter_of service ≡ None }
+    ensures elected { result ≡ 0 → IfSome router.old.held (λ kept. IsElectedFor kept.router (record { 0 = endpoint }) service elected.new) }
+    ensures refused { IfSome router.old.held (λ kept. result ≡ 2 ↔ (letter_of service ≡ None) ⊎ (has_link kept.router (record { 0 = endpoint }) ≡ false)) }
+    ensures none { IfNone router.old.held (result ≡ 2) }
     ensures status { result ≤ 2 }
     ensures as_before { result ≢ 0 → elected.new ≡ elected.old }
 {
-    let keeper = router.take(alloc);
+    let Some(keeper) = router.take(alloc) else {
+        return OUT_OF_RANGE;
+    };
     let status = elected_for(alloc, keeper.router(), EpId(endpoint), service, elected);
     *router = Handle::of(keeper);
     status
 }
 
-/// How many bytes the Router Advertisement on an endpoint has, and these, where there is room.
+/// How many bytes the Router Advertisement on an endpoint that has a link has, and these, where there is room.
 #[unsafe(no_mangle)]
 pub extern "C" fn hn_router_advert(
     alloc: Global,
@@ -280,14 +306,17 @@ pub extern "C" fn hn_router_advert(
     count: &mut usize,
     room: &mut [u8],
 ) -> u8
-    requires { IsSome router.old.held }
     ensures kept { router.new.held ≡ router.old.held }
-    ensures advert { result ≡ 0 → Has router.old.held (λ kept. IsAdvertisementWritten kept.router (record { 0 = endpoint }) count.new room.old room.new) }
-    ensures no_room { result ≡ 2 → Has router.old.held (λ kept. IsUnadvertised kept.router (record { 0 = endpoint }) count.new room.old) }
+    ensures advert { result ≡ 0 → IfSome router.old.held (λ kept. IsAdvertisementWritten kept.router (record { 0 = endpoint }) count.new room.old room.new) }
+    ensures no_room { result ≡ 2 → IfSome router.old.held (λ kept. IsTrue (has_link kept.router (record { 0 = endpoint })) → IsUnadvertised kept.router (record { 0 = endpoint }) count.new room.old) }
+    ensures no_link { IfSome router.old.held (λ kept. has_link kept.router (record { 0 = endpoint }) ≡ false → (result ≡ 2) × (count.new ≡ count.old)) }
+    ensures none { IfNone router.old.held ((result ≡ 2) × (count.new ≡ count.old)) }
     ensures status { result ≤ 2 }
     ensures as_before { result ≢ 0 → room.new ≡ room.old }
 {
-    let keeper = router.take(alloc);
+    let Some(keeper) = router.take(alloc) else {
+        return OUT_OF_RANGE;
+    };
     let status = advert(alloc, keeper.router(), EpId(endpoint), count, room);
     *router = Handle::of(keeper);
     status
@@ -297,6 +326,8 @@ pub extern "C" fn hn_router_advert(
 fn advertise(alloc: Global, keeper: &mut Keeper, at: EpId, count: &mut usize, room: &mut [u8]) -> u8
     ensures advertises { result ≡ 0 → Advertises at keeper.old keeper.new count.new room.old room.new }
     ensures no_room { result ≡ 2 → HasNoRoomFor keeper.old at count.new room.old }
+    ensures short { result ≡ 0 → count.new ≤ 1232 }
+    ensures enough { 1232 ≤ length room.old → result ≢ 2 }
     ensures as_before { result ≢ 0 → keeper.new ≡ keeper.old }
     ensures unwritten { result ≢ 0 → room.new ≡ room.old }
     ensures status { result ≤ 2 }
@@ -321,13 +352,16 @@ pub extern "C" fn hn_router_advertise(
     count: &mut usize,
     room: &mut [u8],
 ) -> u8
-    requires { IsSome router.old.held }
-    ensures live { IsSome router.new.held }
-    ensures advertised { Advertised (record { 0 = endpoint }) router.old.held router.new.held count.new room.old room.new result }
+    ensures advertised { IfSome router.old.held (λ before. Advertised (record { 0 = endpoint }) before router.new.held count.new room.old room.new result) }
+    ensures short { result ≡ 0 → count.new ≤ 1232 }
+    ensures enough { 1232 ≤ length room.old → result ≡ 2 → IsNone router.old.held }
+    ensures none { IfNone router.old.held ((router.new.held ≡ None) × (result ≡ 2) × (count.new ≡ count.old)) }
     ensures as_before { result ≢ 0 → room.new ≡ room.old }
     ensures status { result ≤ 2 }
 {
-    let mut keeper = router.take(alloc);
+    let Some(mut keeper) = router.take(alloc) else {
+        return OUT_OF_RANGE;
+    };
     let status = advertise(alloc, &mut keeper, EpId(endpoint), count, room);
     *router = Handle::of(keeper);
     status

@@ -1,5 +1,5 @@
 /* Each event and each report of the library, in a home of two routers. */
-#include "home.h"
+#include "advert.h"
 
 static uint8_t room[MOST_BYTES];
 
@@ -25,14 +25,17 @@ static void values_out_of_range(hn_router *router, uint64_t now)
     CHECK(hn_router_tick(router, (UINT64_C(1) << 48) + 1) == 2);
     CHECK(hn_router_external(router, now, no_prefix, 64, 1, 1) == 2);
     CHECK(hn_router_external(router, now, some_prefix, 129, 1, 1) == 2);
+    CHECK(hn_router_external(router, now, some_prefix, 48, 1, 2) == 2);
     CHECK(hn_router_withdraw(router, now, no_prefix, 64) == 2);
     CHECK(hn_router_caps(router, now, 0, 16, 0, 0) == 2);
     CHECK(hn_router_private(router, now, 65) == 2);
     CHECK(hn_router_elected(router, LINK, 4, &elected) == 2);
+    CHECK(hn_router_elected(router, LINK + 1, 0, &elected) == 2);
     CHECK(hn_router_assigned(router, hn_router_assignments(router), &assigned) == 2);
     CHECK(hn_router_used(router, 32, &used) == 2);
     CHECK(hn_router_node(router, hn_router_nodes(router), &id) == 2);
     CHECK(hn_router_send(router, hn_router_sends(router), &sent, &count, room, sizeof room) == 2);
+    CHECK(hn_router_advert(router, LINK + 1, &count, room, sizeof room) == 2 && count == 0);
     CHECK(hn_router_advert(router, LINK, &count, room, 15) == 2 && count >= 16);
     CHECK(hn_router_moment(router) == now && hn_router_due(router) == due);
 }
@@ -85,24 +88,17 @@ static void advertisement_of(hn_router *router)
     CHECK(room[16] == 3 && room[17] == 4 && room[18] == 64 && memcmp(room + 32, assigned.prefix, 16) == 0);
 }
 
-static uint32_t number_at(const uint8_t *bytes)
-{
-    return (uint32_t)bytes[0] << 24 | (uint32_t)bytes[1] << 16 | (uint32_t)bytes[2] << 8 | bytes[3];
-}
-
 /* Whether the next advertisement on an endpoint has a prefix, and its lifetimes. */
 static bool is_told(hn_router *router, uint32_t endpoint, const uint8_t prefix[16], uint32_t *valid, uint32_t *preferred)
 {
-    size_t count = 0;
-    CHECK(hn_router_advertise(router, endpoint, &count, room, sizeof room) == 0);
-    for (size_t at = 16; at + 32 <= count; at += 32) {
-        if (room[at] == 3 && memcmp(room + at + 16, prefix, 16) == 0) {
-            *valid = number_at(room + at + 4);
-            *preferred = number_at(room + at + 8);
-            return true;
-        }
-    }
-    return false;
+    static struct advert it;
+    advertise(router, endpoint, &it);
+    const struct told *told = told_inside(&it, prefix);
+    if (told == NULL)
+        return false;
+    *valid = told->valid;
+    *preferred = told->preferred;
+    return true;
 }
 
 /* A prefix that was advertised and is no longer is told without preference until its valid lifetime has ended. */

@@ -12,7 +12,7 @@ use Rattle.hn_base.specs.Prefix.{PlainPrefix}
 use Rattle.hn_advert.specs.declared.advert.Info.{Info}
 use Rattle.hn_departed.specs.declared.departures.Told.{Told}
 use Rattle.hn_departed.specs.Departed.{told_of, deprecated, is_prefix_among, is_departed, departs, departed, kept, line, with_departed, told_after}
-use Rattle.hn_departed.specs.Laws.{Turn, sent_in, departing, IsCalm, IsDeprecatedIn, DepartedAreTold}
+use Rattle.hn_departed.specs.Laws.{Turn, sent_in, departing, NothingDeparts, IsDeprecatedIn, DepartedAreTold}
 use Rattle.hn_departed.proofs.FirstGoes.{length-kept, few_stay}
 use Rattle.hn_departed.proofs.EndSoon.{all_kept}
 
@@ -204,7 +204,7 @@ abbrev IsToldIn : Told → List Turn → List Told → Type 0
 IsToldIn told turns here = (sent : List Info) × Contains (sent_in turns here) sent × IsDeprecatedIn told.prefix sent
 
 in_turn : (turns : List Turn) (here : List Told) (told : Told) (ahead : ℕ) → Waits here told ahead → ahead < 6 * length turns
-    → All (λ turn. 6 ≤ turn.room) turns → IsCalm turns here → All (IsQuiet told) turns → IsToldIn told turns here
+    → All (λ turn. 6 ≤ turn.room) turns → NothingDeparts turns here → All (IsQuiet told) turns → IsToldIn told turns here
 in_turn [] here told ahead w less room calm quiet = absurd (omega (arith, less))
 in_turn (turn ∷ turns) here told ahead w less room calm quiet =
     go (cases_lt (length (filter (is_departed turn.now turn.infos) w.front)) turn.room)

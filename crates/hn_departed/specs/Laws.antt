@@ -25,9 +25,9 @@ abbrev pub departing : ℕ → List Info → List Told → List Told
 departing now infos told = filter (λ t. is_none t.departed && is_departed now infos t) told
 
 -- nothing departs in these advertisements
-abbrev pub IsCalm : List Turn → List Told → Type 0
-IsCalm [] told = Unit {0}
-IsCalm (turn ∷ turns) told = (departing turn.now turn.infos told ≡ []) × IsCalm turns (told_after turn.now turn.infos turn.room told)
+abbrev pub NothingDeparts : List Turn → List Told → Type 0
+NothingDeparts [] told = Unit {0}
+NothingDeparts (turn ∷ turns) told = (departing turn.now turn.infos told ≡ []) × NothingDeparts turns (told_after turn.now turn.infos turn.room told)
 
 -- a prefix is told, without being preferred
 pub record IsDeprecatedIn (prefix : PlainPrefix) (sent : List Info) : Type 0 where
@@ -43,7 +43,7 @@ abbrev pub DepartedAreTold : Type 0
 DepartedAreTold =
     (now : ℕ) (infos : List Info) (room : ℕ) (earlier : List Told) (told : Told) (turns : List Turn)
     → Contains (told_after now infos room earlier) told → IsTrue (is_some told.departed)
-    → length turns ≡ 11 → All (λ turn. 6 ≤ turn.room) turns → IsCalm turns (told_after now infos room earlier)
+    → length turns ≡ 11 → All (λ turn. 6 ≤ turn.room) turns → NothingDeparts turns (told_after now infos room earlier)
     → All (λ turn. (turn.now < told.until) × (is_prefix_among told.prefix turn.infos ≡ false)) turns
     → (sent : List Info) × Contains (sent_in turns (told_after now infos room earlier)) sent × IsDeprecatedIn told.prefix sent
 

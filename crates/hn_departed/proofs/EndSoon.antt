@@ -6,7 +6,7 @@ use Rattle.std.proofs.lemmas.Bool.{false≢true}
 use Rattle.std.proofs.lemmas.List.Elements.{All-append, All-take, All-drop, All-map, All-filter, All-weaker, All-contains}
 use Rattle.hn_base.proofs.Elements.{all_of}
 use Rattle.hn_departed.specs.declared.departures.Told.{Told}
-use Rattle.hn_departed.specs.Departed.{until_of, told_of, is_departed, departs, departed, kept, line}
+use Rattle.hn_departed.specs.Departed.{until_of, told_of, is_departed, departs, departed, kept, queue}
 use Rattle.hn_departed.specs.Laws.{EndsSoon, DepartedEndSoon}
 use Rattle.hn_departed.proofs.FirstGoes.{without_in}
 
@@ -27,9 +27,9 @@ departed_end_soon now infos room told all =
     let gone : All EndsSoon (filter (is_departed now infos) told) = All-filter (is_departed now infos) EndsSoon told all in
     let now_departed : All EndsSoon (departed now infos told) =
     All-map EndsSoon (departs now) (filter (is_departed now infos) told) (All-weaker EndsSoon (λ t. EndsSoon (departs now t)) (departs_soon now) (filter (is_departed now infos) told) gone) in
-    let few : All EndsSoon (line now infos told) = all_kept EndsSoon (departed now infos told) now_departed in
+    let few : All EndsSoon (queue now infos told) = all_kept EndsSoon (departed now infos told) now_departed in
     let held : All EndsSoon (map (told_of now) infos) =
     All-map EndsSoon (told_of now) infos (all_of (λ info. EndsSoon (told_of now info)) infos (λ info there never. absurd (false≢true never))) in
-    All-append EndsSoon (map (told_of now) infos ++ drop room (line now infos told)) (take room (line now infos told))
-    (All-append EndsSoon (map (told_of now) infos) (drop room (line now infos told)) held (All-drop EndsSoon room (line now infos told) few))
-    (All-take EndsSoon room (line now infos told) few)
+    All-append EndsSoon (map (told_of now) infos ++ drop room (queue now infos told)) (take room (queue now infos told))
+    (All-append EndsSoon (map (told_of now) infos) (drop room (queue now infos told)) held (All-drop EndsSoon room (queue now infos told) few))
+    (All-take EndsSoon room (queue now infos told) few)

@@ -31,13 +31,13 @@ length-without_first t (u ∷ us) = go (is_any_no_later t (u ∷ us)) refl (leng
 -- ---- where it stands
 
 -- at a place of a list stands this one, and then those
-pub record At (line : List Told) (place : ℕ) (t : Told) (after : List Told) : Type 0 where
-  pub within : place < length line
-  pub rest : drop (place + 1) line ≡ after
-  pub front : take (place + 1) line ≡ take place line ++ t ∷ []
+pub record At (queue : List Told) (place : ℕ) (t : Told) (after : List Told) : Type 0 where
+  pub within : place < length queue
+  pub rest : drop (place + 1) queue ≡ after
+  pub front : take (place + 1) queue ≡ take place queue ++ t ∷ []
 
-by_parts : (line : List Told) (place : ℕ) (t : Told) (after : List Told) → drop place line ≡ t ∷ after
-    → (place < length line) × (drop (suc place) line ≡ after) × (take (suc place) line ≡ take place line ++ t ∷ [])
+by_parts : (queue : List Told) (place : ℕ) (t : Told) (after : List Told) → drop place queue ≡ t ∷ after
+    → (place < length queue) × (drop (suc place) queue ≡ after) × (take (suc place) queue ≡ take place queue ++ t ∷ [])
 by_parts [] zero t after is = absurd (nothing_in t (subst (λ (ts : List Told). Contains ts t) (sym is) (Contains-head t after)))
 by_parts [] (suc place) t after is = absurd (nothing_in t (subst (λ (ts : List Told). Contains ts t) (sym is) (Contains-head t after)))
 by_parts (u ∷ us) zero t after is = (omega arith, ap (drop 1) is, ap (take 1) is)
@@ -45,62 +45,62 @@ by_parts (u ∷ us) (suc place) t after is =
     let later = by_parts us place t after is in
     (omega (arith, later.0), later.1, ap (λ (ts : List Told). u ∷ ts) later.2)
 
-pub stands_at : (line : List Told) (place : ℕ) (t : Told) (after : List Told) → drop place line ≡ t ∷ after → At line place t after
-stands_at line place t after is =
-    let parts = by_parts line place t after is in
+pub stands_at : (queue : List Told) (place : ℕ) (t : Told) (after : List Told) → drop place queue ≡ t ∷ after → At queue place t after
+stands_at queue place t after is =
+    let parts = by_parts queue place t after is in
     let one : place + 1 ≡ suc place = omega arith in
     record {
       within = parts.0;
-      rest = ap (λ (n : ℕ). drop n line) one ∙ parts.1;
-      front = ap (λ (n : ℕ). take n line) one ∙ parts.2;
+      rest = ap (λ (n : ℕ). drop n queue) one ∙ parts.1;
+      front = ap (λ (n : ℕ). take n queue) one ∙ parts.2;
     }
 
 -- none goes before it, nor at it
-pub none_until : (line : List Told) (place : ℕ) (t : Told) (after : List Told) → drop place line ≡ t ∷ after → is_any_no_later t after ≡ true
-    → without_first line ≡ take place line ++ without_first (drop place line) → without_first line ≡ take (place + 1) line ++ without_first after
-none_until line place t after is any before =
+pub none_until : (queue : List Told) (place : ℕ) (t : Told) (after : List Told) → drop place queue ≡ t ∷ after → is_any_no_later t after ≡ true
+    → without_first queue ≡ take place queue ++ without_first (drop place queue) → without_first queue ≡ take (place + 1) queue ++ without_first after
+none_until queue place t after is any before =
     before
-    ∙ ap (λ (us : List Told). take place line ++ without_first us) is
-    ∙ ap (λ (us : List Told). take place line ++ us) (stays_there t after any)
-    ∙ sym (append_assoc (take place line) (t ∷ []) (without_first after))
-    ∙ ap (λ (us : List Told). us ++ without_first after) (sym (stands_at line place t after is).front)
+    ∙ ap (λ (us : List Told). take place queue ++ without_first us) is
+    ∙ ap (λ (us : List Told). take place queue ++ us) (stays_there t after any)
+    ∙ sym (append_assoc (take place queue) (t ∷ []) (without_first after))
+    ∙ ap (λ (us : List Told). us ++ without_first after) (sym (stands_at queue place t after is).front)
 
 -- it goes
-pub goes_at : (line : List Told) (place : ℕ) (t : Told) (after : List Told) → drop place line ≡ t ∷ after → is_any_no_later t after ≡ false
-    → without_first line ≡ take place line ++ without_first (drop place line) → without_first line ≡ remove line place
-goes_at line place t after is none before =
+pub goes_at : (queue : List Told) (place : ℕ) (t : Told) (after : List Told) → drop place queue ≡ t ∷ after → is_any_no_later t after ≡ false
+    → without_first queue ≡ take place queue ++ without_first (drop place queue) → without_first queue ≡ remove queue place
+goes_at queue place t after is none before =
     before
-    ∙ ap (λ (us : List Told). take place line ++ without_first us) is
-    ∙ ap (λ (us : List Told). take place line ++ us) (goes_here t after none ∙ sym (by_parts line place t after is).1)
+    ∙ ap (λ (us : List Told). take place queue ++ without_first us) is
+    ∙ ap (λ (us : List Told). take place queue ++ us) (goes_here t after none ∙ sym (by_parts queue place t after is).1)
 
 -- after one that stays there is another one
-pub one_more : (line : List Told) (place : ℕ) (t : Told) (after : List Told) → drop place line ≡ t ∷ after → is_any_no_later t after ≡ true → place + 1 < length line
-one_more line place t [] is any = absurd (both_ways false refl any)
-one_more line place t (u ∷ us) is any =
-    let later = stands_at line (place + 1) u us (stands_at line place t (u ∷ us) is).rest in
+pub one_more : (queue : List Told) (place : ℕ) (t : Told) (after : List Told) → drop place queue ≡ t ∷ after → is_any_no_later t after ≡ true → place + 1 < length queue
+one_more queue place t [] is any = absurd (both_ways false refl any)
+one_more queue place t (u ∷ us) is any =
+    let later = stands_at queue (place + 1) u us (stands_at queue place t (u ∷ us) is).rest in
     later.within
 
 -- ---- several go
 
-pub length-without : (times : ℕ) (line : List Told) → times ≤ length line → length (without times line) + times ≡ length line
-length-without zero line few = omega arith
+pub length-without : (times : ℕ) (queue : List Told) → times ≤ length queue → length (without times queue) + times ≡ length queue
+length-without zero queue few = omega arith
 length-without (suc times) [] few = absurd (omega (arith, few))
 length-without (suc times) (t ∷ ts) few =
     let one = length-without_first t ts in
     let rest = length-without times (without_first (t ∷ ts)) (omega (arith, one, few)) in
     omega (arith, one, rest)
 
-pub length-kept : (line : List Told) → length (kept line) ≤ 64
-length-kept line =
-    let rest = length-without (length line - 64) line (omega arith) in
+pub length-kept : (queue : List Told) → length (kept queue) ≤ 64
+length-kept queue =
+    let rest = length-without (length queue - 64) queue (omega arith) in
     omega (arith, rest)
 
-pub few_stay : (line : List Told) → length line ≤ 64 → kept line ≡ line
-few_stay line few =
-    let none : length line - 64 ≡ 0 = omega (arith, few) in
-    ap (λ (times : ℕ). without times line) none
+pub few_stay : (queue : List Told) → length queue ≤ 64 → kept queue ≡ queue
+few_stay queue few =
+    let none : length queue - 64 ≡ 0 = omega (arith, few) in
+    ap (λ (times : ℕ). without times queue) none
 
-pub one_goes : (line : List Told) → 64 < length line → kept line ≡ kept (without_first line)
+pub one_goes : (queue : List Told) → 64 < length queue → kept queue ≡ kept (without_first queue)
 one_goes [] many = absurd (omega (arith, many))
 one_goes (t ∷ ts) many =
     let one = length-without_first t ts in
@@ -109,7 +109,7 @@ one_goes (t ∷ ts) many =
 
 -- ---- which go
 
-stays_in : (line : List Told) (t : Told) → Contains (without_first line) t → Contains line t
+stays_in : (queue : List Told) (t : Told) → Contains (without_first queue) t → Contains queue t
 stays_in [] t there = there
 stays_in (u ∷ us) t there = go (is_any_no_later u us) refl (stays_in us t)
   where
@@ -122,7 +122,7 @@ stays_in (u ∷ us) t there = go (is_any_no_later u us) refl (stays_in us t)
 
 -- all that has departed departed no earlier
 abbrev IsFirst : Told → List Told → Type 0
-IsFirst t line = (u : Told) → Contains line u → since t ≤ since u
+IsFirst t queue = (u : Told) → Contains queue u → since t ≤ since u
 
 first_of : (t u : Told) (us : List Told) → IsFirst t us → is_any_no_later u us ≡ true → IsFirst t (u ∷ us)
 first_of t u us first any v there =
@@ -142,7 +142,7 @@ last_first u us none v there =
       ]
     ]
 
-goes_first : (line : List Told) (t : Told) → Contains line t → Contains (without_first line) t ⊎ IsFirst t line
+goes_first : (queue : List Told) (t : Told) → Contains queue t → Contains (without_first queue) t ⊎ IsFirst t queue
 goes_first [] t there = absurd (nothing_in t there)
 goes_first (u ∷ us) t there = go (is_any_no_later u us) refl (goes_first us t)
   where
@@ -163,15 +163,15 @@ goes_first (u ∷ us) t there = go (is_any_no_later u us) refl (goes_first us t)
       | inr later ↦ inl (kept_in us (goes_here u us is) later)
     ]
 
-pub without_in : (times : ℕ) (line : List Told) (t : Told) → Contains (without times line) t → Contains line t
-without_in zero line t there = there
-without_in (suc times) line t there = stays_in line t (without_in times (without_first line) t there)
+pub without_in : (times : ℕ) (queue : List Told) (t : Told) → Contains (without times queue) t → Contains queue t
+without_in zero queue t there = there
+without_in (suc times) queue t there = stays_in queue t (without_in times (without_first queue) t there)
 
-pub first_goes : (times : ℕ) (line : List Told) (gone stays : Told) → Contains line gone → Contains (without times line) stays
-    → Contains (without times line) gone ⊎ (since gone ≤ since stays)
-first_goes zero line gone stays there stay = inl there
-first_goes (suc times) line gone stays there stay =
-    elim (goes_first line gone there) [
-      | inl later ↦ first_goes times (without_first line) gone stays later stay
-      | inr first ↦ inr (first stays (without_in (suc times) line stays stay))
+pub first_goes : (times : ℕ) (queue : List Told) (gone stays : Told) → Contains queue gone → Contains (without times queue) stays
+    → Contains (without times queue) gone ⊎ (since gone ≤ since stays)
+first_goes zero queue gone stays there stay = inl there
+first_goes (suc times) queue gone stays there stay =
+    elim (goes_first queue gone there) [
+      | inl later ↦ first_goes times (without_first queue) gone stays later stay
+      | inr first ↦ inr (first stays (without_in (suc times) queue stays stay))
     ]

@@ -3,16 +3,16 @@ use Rattle.std.proofs.Common.{◌≡◌, ℕ, ◌+◌, ◌≤◌, List, ◌++◌
 use Rattle.std.proofs.lemmas.List.{length-map}
 use Rattle.hn_advert.specs.declared.advert.Info.{Info}
 use Rattle.hn_departed.specs.declared.departures.Told.{Told}
-use Rattle.hn_departed.specs.Departed.{told_of, deprecated, departed, line, with_departed, told_after}
+use Rattle.hn_departed.specs.Departed.{told_of, deprecated, departed, queue, with_departed, told_after}
 use Rattle.hn_departed.specs.Laws.{FewAreKept}
 use Rattle.hn_departed.proofs.FirstGoes.{length-kept}
 
 few_told : (now : ℕ) (infos : List Info) (room : ℕ) (told : List Told) → length (with_departed now infos room told) ≤ length infos + room
 few_told now infos room told =
-    let first = take room (line now infos told) in
+    let first = take room (queue now infos told) in
     let all = length-append infos (map (deprecated now) first) in
     let as_many = length-map first (deprecated now) in
-    let room_for = length-take room (line now infos told) in
+    let room_for = length-take room (queue now infos told) in
     omega (arith, all, as_many, room_for)
 
 pub all_kept : {X : Type 0} (xs ys : List X) (room : ℕ) → length (xs ++ drop room ys ++ take room ys) ≡ length xs + length ys
@@ -25,7 +25,7 @@ all_kept xs ys room =
 
 few_kept : (now : ℕ) (infos : List Info) (room : ℕ) (told : List Told) → length (told_after now infos room told) ≤ length infos + 64
 few_kept now infos room told =
-    let all = all_kept (map (told_of now) infos) (line now infos told) room in
+    let all = all_kept (map (told_of now) infos) (queue now infos told) room in
     let as_many = length-map infos (told_of now) in
     let few = length-kept (departed now infos told) in
     omega (arith, all, as_many, few)

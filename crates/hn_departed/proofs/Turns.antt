@@ -11,7 +11,7 @@ use Rattle.hn_base.proofs.Elements.{all_of}
 use Rattle.hn_base.specs.Prefix.{PlainPrefix}
 use Rattle.hn_advert.specs.declared.advert.Info.{Info}
 use Rattle.hn_departed.specs.declared.departures.Told.{Told}
-use Rattle.hn_departed.specs.Departed.{told_of, deprecated, is_prefix_among, is_departed, departs, departed, kept, line, with_departed, told_after}
+use Rattle.hn_departed.specs.Departed.{told_of, deprecated, is_prefix_among, is_departed, departs, departed, kept, queue, with_departed, told_after}
 use Rattle.hn_departed.specs.Laws.{Turn, sent_in, departing, NothingDeparts, IsDeprecatedIn, DepartedAreTold}
 use Rattle.hn_departed.proofs.FirstGoes.{length-kept, few_stay}
 use Rattle.hn_departed.proofs.EndSoon.{all_kept}
@@ -136,7 +136,7 @@ abbrev line_around : Turn → Told → List Told → List Told → List Told
 line_around turn told front back = filter (is_departed turn.now turn.infos) front ++ told ∷ filter (is_departed turn.now turn.infos) back
 
 line_is : (turn : Turn) (here : List Told) (told : Told) (ahead : ℕ) (w : Waits here told ahead) → IsQuiet told turn → departing turn.now turn.infos here ≡ []
-    → line turn.now turn.infos here ≡ line_around turn told w.front w.back
+    → queue turn.now turn.infos here ≡ line_around turn told w.front w.back
 line_is turn here told ahead w quiet none =
     let gone = is_departed turn.now turn.infos in
     let waiting = w.front ++ told ∷ w.back in
@@ -156,7 +156,7 @@ told_now : (turn : Turn) (here : List Told) (told : Told) (ahead : ℕ) (w : Wai
     → length (filter (is_departed turn.now turn.infos) w.front) < turn.room → IsDeprecatedIn told.prefix (with_departed turn.now turn.infos turn.room here)
 told_now turn here told ahead w quiet none less =
     let gone = is_departed turn.now turn.infos in
-    let first : Contains (take turn.room (line turn.now turn.infos here)) told =
+    let first : Contains (take turn.room (queue turn.now turn.infos here)) told =
     subst (λ (us : List Told). Contains (take turn.room us) told) (sym (line_is turn here told ahead w quiet none))
     (among_first (filter gone w.front) (filter gone w.back) told turn.room less) in
     record {
@@ -189,7 +189,7 @@ waits_less turn here told ahead w quiet none room past =
       held = held;
       front = drop turn.room front;
       back = back ++ take turn.room those;
-      parts = append_assoc held (drop turn.room (line turn.now turn.infos here)) (take turn.room (line turn.now turn.infos here))
+      parts = append_assoc held (drop turn.room (queue turn.now turn.infos here)) (take turn.room (queue turn.now turn.infos here))
           ∙ ap (λ (us : List Told). held ++ (drop turn.room us ++ take turn.room us)) is ∙ ap (λ (us : List Told). held ++ us) rest;
       are_held = All-map (λ t. t.departed ≡ None) (told_of turn.now) turn.infos (all_of (λ i. (told_of turn.now i).departed ≡ None) turn.infos (λ i there. refl));
       are_departed = subst (All HasDeparted) rest
@@ -237,7 +237,7 @@ all_departed now ts = All-map HasDeparted (departs now) ts (all_of (λ t. HasDep
 waits_first : (now : ℕ) (infos : List Info) (room : ℕ) (earlier : List Told) (told : Told) → Contains (told_after now infos room earlier) told → HasDeparted told
     → Waits (told_after now infos room earlier) told 63
 waits_first now infos room earlier told there some =
-    let few = line now infos earlier in
+    let few = queue now infos earlier in
     let held = map (told_of now) infos in
     let waiting = drop room few ++ take room few in
     let parted : told_after now infos room earlier ≡ held ++ waiting = append_assoc held (drop room few) (take room few) in

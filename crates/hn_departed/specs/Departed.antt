@@ -58,26 +58,26 @@ without_first (t ∷ ts) = if list_any (λ u. nat_le (since u) (since t)) ts the
 
 -- so many times
 abbrev pub without : ℕ → List Told → List Told
-without zero line = line
-without (suc times) line = without times (without_first line)
+without zero queue = queue
+without (suc times) queue = without times (without_first queue)
 
 -- at most 64 are kept: with a 65th the one goes that departed first
 abbrev pub kept : List Told → List Told
-kept line = without (length line - 64) line
+kept queue = without (length queue - 64) queue
 
 -- ---- an advertisement, in which there is room for so many departed ones
 
 -- The departed ones that are kept, in the order in which they are told: those that depart now come first.
-abbrev pub line : ℕ → List Info → List Told → List Told
-line now infos told = kept (departed now infos told)
+abbrev pub queue : ℕ → List Info → List Told → List Told
+queue now infos told = kept (departed now infos told)
 
 -- its prefixes: those that are to be advertised, and after them the first departed ones
 abbrev pub with_departed : ℕ → List Info → ℕ → List Told → List Info
-with_departed now infos room told = infos ++ map (deprecated now) (take room (line now infos told))
+with_departed now infos room told = infos ++ map (deprecated now) (take room (queue now infos told))
 
 -- What is told after it. The departed ones that were told have their next turn after the others.
 abbrev pub told_after : ℕ → List Info → ℕ → List Told → List Told
-told_after now infos room told = map (told_of now) infos ++ drop room (line now infos told) ++ take room (line now infos told)
+told_after now infos room told = map (told_of now) infos ++ drop room (queue now infos told) ++ take room (queue now infos told)
 
 -- ---- on endpoints
 

@@ -1,5 +1,5 @@
 ghost use Rattle.std.specs.Prelude.{◌≡◌, ◌++◌, [], take, drop, map, IfOk};
-ghost use Rattle.hn_departed.specs.Departed.{until_of, left_of, told_of, deprecated, is_prefix_among, departs, departed, line, with_departed, told_after, told_at, told_beside, with_told};
+ghost use Rattle.hn_departed.specs.Departed.{until_of, left_of, told_of, deprecated, is_prefix_among, departs, departed, queue, with_departed, told_after, told_at, told_beside, with_told};
 
 use crate::keeping::keep_few;
 use hn_advert::{Info, Infos};
@@ -110,12 +110,12 @@ fn departed(
 }
 
 /// The departed ones that are kept, in the order in which they are told.
-fn line(alloc: Global, now: Moment, infos: &[Info], told: &[Told]) -> Result<Vec<Told>, NoMemory>
-    ensures { IfOk result (λ few. few.items ≡ line now infos.now told.now) }
+fn queue(alloc: Global, now: Moment, infos: &[Info], told: &[Told]) -> Result<Vec<Told>, NoMemory>
+    ensures { IfOk result (λ few. few.items ≡ queue now infos.now told.now) }
 {
-    let mut line = departed(alloc, now, infos, told)?;
-    keep_few(&mut line);
-    Ok(line)
+    let mut queue = departed(alloc, now, infos, told)?;
+    keep_few(&mut queue);
+    Ok(queue)
 }
 
 /// The ones that are gone, which are not to be preferred.
@@ -263,8 +263,8 @@ impl Departures {
         ensures told { IfOk result (λ next. next.1 ≡ with_told now at (told_after now infos.now room (told_at at self.now)) self.now) }
     {
         let here = told_at(alloc, at, self.told.as_slice())?;
-        let line = line(alloc, now, infos, here.as_slice())?;
-        let (first, others) = line.as_slice().split_at(room.min(line.len()));
+        let queue = queue(alloc, now, infos, here.as_slice())?;
+        let (first, others) = queue.as_slice().split_at(room.min(queue.len()));
         let after = told_with(alloc, now, infos, first, others)?;
         let told = with_told(alloc, now, at, after.as_slice(), self.told.as_slice())?;
         let all = all_of(alloc, now, infos, first)?;

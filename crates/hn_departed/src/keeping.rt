@@ -26,13 +26,13 @@ fn is_any_no_later(told: &Told, rest: &[Told]) -> bool
 }
 
 /// The place of the one that departed first; of those that did at one moment that of the last.
-fn first_departed(line: &[Told]) -> usize
-    requires { 0 < length line.now }
-    ensures within { result < length line.now }
-    ensures first { without_first line.now ≡ remove line.now result }
+fn first_departed(queue: &[Told]) -> usize
+    requires { 0 < length queue.now }
+    ensures within { result < length queue.now }
+    ensures first { without_first queue.now ≡ remove queue.now result }
 {
     let mut place = 0;
-    let mut rest = line;
+    let mut rest = queue;
     'place: loop {
         let Some((told, after)) = rest.split_first() else {
             unreachable!()
@@ -46,11 +46,11 @@ fn first_departed(line: &[Told]) -> usize
 }
 
 /// At most 64 stay: while there are more, the one goes that departed first.
-pub(crate) fn keep_few(line: &mut Vec<Told>)
-    ensures { line.new.items ≡ kept line.old.items }
+pub(crate) fn keep_few(queue: &mut Vec<Told>)
+    ensures { queue.new.items ≡ kept queue.old.items }
 {
-    while MOST < line.len() {
-        let place = first_departed(line.as_slice());
-        line.remove(place);
+    while MOST < queue.len() {
+        let place = first_departed(queue.as_slice());
+        queue.remove(place);
     }
 }

@@ -11,17 +11,17 @@ use Rattle.hn_why.specs.declared.part.Part.{Part}
 use Rattle.hn_why.specs.declared.part.Part.TheVariants as part
 
 -- the text of a part
-abbrev pub part_text : Part → List ℕ
-part_text (part.Name name) = name_text name
-part_text (part.Node node) = id_text node.0
-part_text (part.Endpoint e) = decimal e.0
-part_text (part.Number n) = decimal n
-part_text (part.Prefix prefix) = prefix_text_of prefix
-part_text (part.Link link) = name_or_dash link.name
+abbrev pub text_of_part : Part → List ℕ
+text_of_part (part.Name name) = name_text name
+text_of_part (part.Node node) = id_text node.0
+text_of_part (part.Endpoint e) = decimal e.0
+text_of_part (part.Number n) = decimal n
+text_of_part (part.Prefix prefix) = prefix_text_of prefix
+text_of_part (part.Link link) = name_or_dash link.name
 
 -- a character of ASCII is itself, but from 0 on each stands for a part, as long as there are parts
 abbrev pub filled : List Part → ℕ → List ℕ
-filled parts c = if nat_lt c 48 then c % 128 ∷ [] else option_map_or part_text (slice_get parts (c - 48)) (c % 128 ∷ [])
+filled parts c = if nat_lt c 48 then c % 128 ∷ [] else option_map_or text_of_part (slice_get parts (c - 48)) (c % 128 ∷ [])
 
 -- a template with its parts
 abbrev pub filled_in : List Part → List ℕ → List ℕ

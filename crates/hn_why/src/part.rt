@@ -22,9 +22,9 @@ pub(crate) enum Part {
 
 impl fmt::Display for Part {
     ghost use Rattle.std.specs.Prelude.{Some};
-    ghost use Rattle.hn_why.specs.Parts.{part_text};
+    ghost use Rattle.hn_why.specs.Parts.{text_of_part};
 
-    ghost output = { λ part. Some (part_text part) };
+    ghost output = { λ part. Some (text_of_part part) };
 
     fn fmt<W: fmt::Write>(&self, f: &mut fmt::Formatter<W>) -> fmt::Result {
         match self {

@@ -6,21 +6,21 @@ use Rattle.hn_departed.proofs.keeping.first_departed.Goals as goal
 
 pub place-preserved : goal.place-preserved
 place-preserved c =
-    let line = c.args.line.now in
+    let queue = c.args.queue.now in
     let place = c.place.place in
     let told = c.in-Some.told.now in
     let after = c.in-Some.after.now in
-    let is : drop place line ≡ told ∷ after = c.place.invariant.rest ∙ c.in-Some.ensures.cases.0 in
+    let is : drop place queue ≡ told ∷ after = c.place.invariant.rest ∙ c.in-Some.ensures.cases.0 in
     let any = sym c.is_any_no_later.ensures ∙ c.if-not-is_any_no_later.false in
-    let rest = (stands_at line place told after is).rest in
+    let rest = (stands_at queue place told after is).rest in
     record {
-      within = one_more line place told after is any;
+      within = one_more queue place told after is any;
       rest = rest;
-      first = none_until line place told after is any c.place.invariant.first ∙ ap (λ (ts : List Told). take (place + 1) line ++ without_first ts) (sym rest);
+      first = none_until queue place told after is any c.place.invariant.first ∙ ap (λ (ts : List Told). take (place + 1) queue ++ without_first ts) (sym rest);
     }
 
 pub returns-then-not-is_any_no_later-clause-first : goal.returns-then-not-is_any_no_later-clause-first
 returns-then-not-is_any_no_later-clause-first c =
-    let line = c.args.line.now in
-    let is : drop c.place.place line ≡ c.in-Some.told.now ∷ c.in-Some.after.now = c.place.invariant.rest ∙ c.in-Some.ensures.cases.0 in
-    goes_at line c.place.place c.in-Some.told.now c.in-Some.after.now is (sym c.is_any_no_later.ensures ∙ c.if-not-is_any_no_later.true) c.place.invariant.first
+    let queue = c.args.queue.now in
+    let is : drop c.place.place queue ≡ c.in-Some.told.now ∷ c.in-Some.after.now = c.place.invariant.rest ∙ c.in-Some.ensures.cases.0 in
+    goes_at queue c.place.place c.in-Some.told.now c.in-Some.after.now is (sym c.is_any_no_later.ensures ∙ c.if-not-is_any_no_later.true) c.place.invariant.first

@@ -4,9 +4,9 @@ use Rattle.hn_departed.proofs.keeping.first_departed.Given as goal
 
 abbrev pub invariant-place : goal.invariant-place
 invariant-place l = record {
-  within : l.place < length l.line;
-  rest : drop l.place l.line ≡ l.rest;
-  first : without_first l.line ≡ take l.place l.line ++ without_first (drop l.place l.line);
+  within : l.place < length l.queue;
+  rest : drop l.place l.queue ≡ l.rest;
+  first : without_first l.queue ≡ take l.place l.queue ++ without_first (drop l.place l.queue);
 }
 
 abbrev pub decreases-place : goal.decreases-place

@@ -2,8 +2,8 @@ use Rattle.std.proofs.Common.{◌≡◌, length}
 use Rattle.hn_departed.specs.Departed.{kept}
 use Rattle.hn_departed.proofs.keeping.keep_few.Given as goal
 
-abbrev pub invariant-loop-line : goal.invariant-loop-line
-invariant-loop-line l = kept l.line.items ≡ kept l.initial.line.items
+abbrev pub invariant-loop-queue : goal.invariant-loop-queue
+invariant-loop-queue l = kept l.queue.items ≡ kept l.initial.queue.items
 
-abbrev pub decreases-loop-line : goal.decreases-loop-line
-decreases-loop-line l = length l.line.items
+abbrev pub decreases-loop-queue : goal.decreases-loop-queue
+decreases-loop-queue l = length l.queue.items

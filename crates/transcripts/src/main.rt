@@ -10,7 +10,7 @@
 
 use hn_decode::decode;
 use hn_io::{MemSink, MemSource};
-use hn_lab::{DONE, REFUSED, lab};
+use hn_lab::{DONE, Played, REFUSED, lab};
 use hn_tlv::ListFault;
 use hn_wire::MemWire;
 use std::alloc::{AllocError, Global};
@@ -28,12 +28,25 @@ struct Outcome {
 
 /// The number of the first line in which two texts differ; `None` if they are the same.
 fn other_line(text: &[u8], wanted: &[u8]) -> Option<usize> {
-    if text == wanted {
-        return None;
+    let mut line = 1_usize;
+    for (place, byte) in text.iter().enumerate() {
+        if wanted.get(place) != Some(byte) {
+            return Some(line);
+        }
+        if *byte == b'\n' {
+            line = line.saturating_add(1);
+        }
     }
-    let same = text.iter().zip(wanted).take_while(|pair| pair.0 == pair.1);
-    let at = same.count();
-    Some(1 + text.iter().take(at).filter(|byte| **byte == b'\n').count())
+    if text.len() == wanted.len() {
+        None
+    } else {
+        Some(line)
+    }
+}
+
+/// The status of a play; its world is let go.
+fn status_of(played: Played) -> u8 {
+    played.status
 }
 
 /// Plays a script.
@@ -41,9 +54,9 @@ fn played(alloc: Global, script: Vec<u8>, wanted: &[u8]) -> Outcome {
     let mut source = MemSource::new(script, Vec::new(alloc));
     let mut sink = MemSink::new(alloc, Vec::new(alloc));
     let mut wire = MemWire::new(alloc, Vec::new(alloc));
-    let played = lab(alloc, &mut source, &mut sink, &mut wire, None);
+    let status = status_of(lab(alloc, &mut source, &mut sink, &mut wire, None));
     Outcome {
-        status: played.status,
+        status,
         other_line: other_line(sink.held(), wanted),
     }
 }

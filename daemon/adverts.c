@@ -37,11 +37,11 @@ static bool is_advertising(const struct link *link)
     return icmp >= 0 && link->is_attached && link->is_fit;
 }
 
-/* A link begins to advertise. Two advertisements stay apart, though. */
+/* A link begins to advertise, or again. Two advertisements stay apart, though. */
 void begin_adverts(struct link *link)
 {
-    uint64_t earliest = link->adverts.earliest, at = now();
-    link->adverts = (struct advertising){.begun = at, .earliest = earliest, .next = at + QUIET};
+    struct advertising *it = &link->adverts;
+    *it = (struct advertising){.begun = now(), .earliest = it->earliest, .next = now() + QUIET, .has_sent = it->has_sent};
 }
 
 /* Whether an earlier daemon had a prefix on a link. */
@@ -64,7 +64,7 @@ static bool has_news(const struct advertising *it)
 static void hasten(struct advertising *it, uint64_t delay)
 {
     uint64_t at = now() + delay;
-    if (it->count == 0 && !has_news(it) && at < it->begun + QUIET)
+    if (!it->has_sent && !has_news(it) && at < it->begun + QUIET)
         return;
     it->next = earlier(it->next, at < it->earliest ? it->earliest : at);
 }
@@ -80,29 +80,30 @@ void remember_departed(struct link *link, const struct prefix *prefix)
     hasten(&link->adverts, 0);
 }
 
-/* If what is to be advertised on a link has changed, it is due at once. Of its lifetimes only this counts: whether a
+/* Looks at what is to be advertised on a link now. Whether it has changed. Of its lifetimes only this counts: whether a
  * prefix is preferred. */
-static void watch(struct link *link)
+static bool look(struct link *link)
 {
     static uint8_t now_there[MOST_ADVERT];
     struct advertising *it = &link->adverts;
     size_t length = 0;
     if (!is_done(hn_router_advert(&router, link->endpoint, &length, now_there, sizeof now_there), "advert"))
-        return;
+        return false;
     for (uint8_t *option = now_there + HEAD; option < now_there + length; option += INFO)
         memset(option + 4, memcmp(option + 8, "\0\0\0", 4) != 0, 8);
     if (length == it->length && memcmp(now_there, it->bytes, length) == 0)
-        return;
+        return false;
     memcpy(it->bytes, now_there, length);
     it->length = length;
-    hasten(it, 0);
+    return true;
 }
 
+/* What has changed is advertised as soon as may be. */
 void watch_adverts(void)
 {
     for (struct link *link = links; link < links + link_count; link++) {
-        if (is_advertising(link))
-            watch(link);
+        if (is_advertising(link) && look(link))
+            hasten(&link->adverts, 0);
     }
 }
 
@@ -237,12 +238,14 @@ static void advertise(struct link *link)
     if (!tick() || !is_done(hn_router_advertise(&router, link->endpoint, &length, room, sizeof room - MOST_DEPARTED * INFO - 64),
                             "advertise"))
         return;
+    look(link);
     lower(length);
     length = add_options(link, add_departed(link, length));
     unsigned parts = send_parts(link, length);
     if (parts == 0)
         return;
     say(OF_ADVERT, "advertised %s bytes=%zu%s%s", link->name, length, parts > 1 ? " in parts" : "", is_ending ? " last" : "");
+    it->has_sent = true;
     it->earliest = now() + LEAST_BETWEEN;
     it->next = now() + (it->count < FIRST_ADVERTS ? FIRST_INTERVAL : LEAST_INTERVAL + draw_number(MORE_INTERVAL));
     it->count += it->count < FIRST_ADVERTS;
@@ -332,7 +335,7 @@ bool end_adverts(void)
     bool are_over = true;
     is_ending = true;
     for (struct link *link = links; link < links + link_count; link++) {
-        link->adverts.is_over |= link->adverts.count == 0 && !has_departed(link);
+        link->adverts.is_over |= !link->adverts.has_sent && !has_departed(link);
         if (!is_advertising(link) || link->adverts.is_over)
             continue;
         link->adverts.next = link->adverts.earliest;

@@ -42,6 +42,7 @@ struct advertising {
     unsigned count;          /* how many were sent, counted up to FIRST_ADVERTS */
     uint64_t begun;          /* since when it advertises here */
     uint64_t earliest, next; /* when the next one may be sent, and when it is due, which is not before that */
+    bool has_sent;           /* one was sent, be it long ago */
     bool is_over;            /* the last one of all was sent */
     uint8_t bytes[MOST_ADVERT];
     size_t length;

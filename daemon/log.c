@@ -17,9 +17,9 @@
 #include <time.h>
 #include <unistd.h>
 
-/* Bytes that wait, of a line, and of a line for the system's log; milliseconds for the last ones; priorities there. */
-enum { ROOM = 65536, LONGEST_LINE = 512, LONGEST_MESSAGE = 640, PATIENCE = 200 };
-enum { DAEMON_INFO = 24 + 6, DAEMON_WARNING = 24 + 4 };
+/* Bytes that wait, of a line, and of a line for the system's log; milliseconds for the last ones; the priority there, of a
+ * daemon that informs. */
+enum { ROOM = 65536, LONGEST_LINE = 512, LONGEST_MESSAGE = 640, PATIENCE = 200, DAEMON_INFO = 24 + 6 };
 
 /* A kind of lines: its name, how many a second are told, those of the present second, and those that were left out. */
 static struct {
@@ -80,14 +80,13 @@ static ssize_t put_message(void)
     char message[LONGEST_MESSAGE], moment[32];
     const char *end = memchr(waiting, '\n', count_waiting);
     size_t count = end == NULL ? count_waiting : (size_t)(end - waiting) + 1;
-    int priority = memcmp(waiting, "un", 2) == 0 ? DAEMON_WARNING : DAEMON_INFO;
     time_t at = time(NULL);
     struct tm parts;
     if (output < 0)
         open_messages();
     localtime_r(&at, &parts);
     strftime(moment, sizeof moment, "%b %e %H:%M:%S", &parts);
-    int length = snprintf(message, sizeof message, "<%d>%s hnd[%d]: %.*s", priority, moment, (int)getpid(), (int)count - 1,
+    int length = snprintf(message, sizeof message, "<%d>%s hnd[%d]: %.*s", DAEMON_INFO, moment, (int)getpid(), (int)count - 1,
                           waiting);
     if (send(output, message, (size_t)length, MSG_NOSIGNAL) < 0) {
         if (errno == EAGAIN || errno == EINTR)
@@ -115,6 +114,12 @@ static ssize_t put(void)
     return write(output, waiting, count_waiting < LONGEST_LINE ? count_waiting : LONGEST_LINE);
 }
 
+/* Writes the moment, with which a line begins. With -s it is the log's. Returns its length. */
+static size_t write_moment(char *line, size_t size)
+{
+    return way == BY_MESSAGE ? 0 : (size_t)snprintf(line, size, "%" PRIu64 " ", now());
+}
+
 /* Puts a line that tells how many were dropped so far, where that is not told yet. There has to be place for it and for so
  * many bytes behind it. */
 static void tell_dropped(size_t length)
@@ -122,7 +127,8 @@ static void tell_dropped(size_t length)
     char told[64];
     if (dropped == 0)
         return;
-    size_t count = (size_t)snprintf(told, sizeof told, "%" PRIu64 " log dropped=%" PRIu64 "\n", now(), dropped + told_dropped);
+    size_t count = write_moment(told, sizeof told);
+    count += (size_t)snprintf(told + count, sizeof told - count, "log dropped=%" PRIu64 "\n", dropped + told_dropped);
     if (count_waiting + count + length > ROOM)
         return;
     memcpy(waiting + count_waiting, told, count);
@@ -165,16 +171,16 @@ static void append(const char *line, size_t length)
     count_waiting += length;
 }
 
-/* Makes a line of the moment and a text, and writes it if that goes. With -s the moment is the log's. */
+/* Makes a line of the moment and a text, and writes it if that goes. */
 static void __attribute__((format(printf, 1, 0))) write_line(const char *form, va_list values)
 {
     char line[LONGEST_LINE];
-    int length = way == BY_MESSAGE ? 0 : snprintf(line, sizeof line, "%" PRIu64 " ", now());
-    length += vsnprintf(line + length, sizeof line - (size_t)length, form, values);
+    size_t length = write_moment(line, sizeof line);
+    length += (size_t)vsnprintf(line + length, sizeof line - length, form, values);
     if (length > LONGEST_LINE - 2)
         length = LONGEST_LINE - 2;
     line[length] = '\n';
-    append(line, (size_t)length + 1);
+    append(line, length + 1);
     write_log();
 }
 

@@ -101,3 +101,4 @@ def says_nothing_under_an_old_identifier(x):
     x.wait(3.0, lambda: not old & set(x.network().states))
     answer = x.network()
     want(not old & set(answer.states), f'its network has the identifier {node.hex()} still', *answer.heard)
+    want(answer.is_right, 'the network state hash is not that of the Node States of its answer', *answer.heard)

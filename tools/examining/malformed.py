@@ -32,9 +32,13 @@ def still_there(x, before, *what):
 
 
 def unchanged(x, before, what):
-    """The device answers, and its data are as before."""
+    """The device answers, and its data are as before: no TLV is new, and none is gone but Peers of others, which may have left. Its
+    own uplink may have changed."""
     after = still_there(x, before)
-    want(after.data == before.data, f'its data changed: {what}', before.heard, after.heard)
+    old, new = (set(wire.read(each.data)) for each in (before, after))
+    strange = [pair for pair in new - old if pair[0] != EXTERNAL]
+    gone = [pair for pair in old - new if pair[0] not in (EXTERNAL, PEER) or pair[1][:4] == x.id and pair[0] == PEER]
+    want(not strange and not gone, f'its data changed: {what}', before.heard, after.heard)
 
 
 def raw(kind, length, octets):

@@ -203,6 +203,20 @@ def takes_over_a_prefix(x):
     want(found[0].prefix == part(prefix, 9), f'{found[0].prefix} is assigned in place of {part(prefix, 9)}, which the link had', state.heard)
 
 
+@examination('RFC 7695, section 4.1; RFC 7787, section 4.6', MUST, 12)
+def takes_over_from_a_lost_node(x):
+    """Where the neighbour that had published the prefix of the link is reachable no longer, a device publishes it in its place."""
+    prefix, y = drawn_prefix(), Neighbour(x.session, x.device)
+    x.join(external(delegated(prefix)))
+    y.join(assigned(part(prefix, 11), y.endpoint, 3))
+    x.hear(2.0)
+    y.publish(assigned(part(prefix, 11), y.endpoint, 3), peer=False)
+    found = x.wait(ASSIGNED, lambda: [each for each in of_link(x, x.own(), prefix) if each.prefix == part(prefix, 11)], pause=0.3)
+    state = x.own()
+    shown = of_link(x, state, prefix)
+    want(found, f'{shown[0].prefix if shown else "nothing"} is assigned in place of {part(prefix, 11)}, which the link had', state.heard)
+
+
 @examination('RFC 7788, section 6.3; RFC 7695, section 4.1', MUST, 8)
 def drops_what_is_delegated_no_longer(x):
     """Where a delegated prefix is withdrawn, a device publishes no assignment within it any more."""

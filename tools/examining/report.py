@@ -1,5 +1,6 @@
 """What is written about an examination: lines, JUnit for test servers, and JSON for programs."""
 import json
+import os
 import sys
 import time
 import xml.etree.ElementTree as tree
@@ -97,19 +98,29 @@ def as_junit(session, results, begin):
 
 
 class Output:
-    """A file of a report, opened before anything is sent, so that no run is lost."""
+    """A file of a report, tried before anything is sent, so that no run is lost. What was in it stays until the report is there."""
 
     def __init__(self, path):
-        self.path = path
+        self.path, self.is_new = path, bool(path) and not os.path.exists(path)
+        if path:
+            with self.opened('a'):
+                pass
+
+    def opened(self, mode):
         try:
-            self.file = open(path, 'w', encoding='utf-8') if path else None
+            return open(self.path, mode, encoding='utf-8')
         except OSError as error:
-            raise Problem(f'{path}: {error.strerror}')
+            raise Problem(f'{self.path}: {error.strerror}')
+
+    def discard(self):
+        """There is no report: a file that was not there before goes."""
+        if self.is_new and os.path.exists(self.path):
+            os.unlink(self.path)
 
     def write(self, text):
-        if self.file:
+        if self.path:
             try:
-                self.file.write(text)
-                self.file.close()
+                with self.opened('w') as file:
+                    file.write(text)
             except OSError as error:
                 raise Problem(f'{self.path}: {error.strerror}')

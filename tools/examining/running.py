@@ -70,8 +70,14 @@ class Capture:
 def run(words, wanted, stack):
     """Examines, and gives the status."""
     outputs = [report.Output(words.junit), report.Output(words.json)]
-    record, begin, results = Capture(words.pcap, stack).record, time.time(), []
-    session = prepare(words, record, stack)
+    begin, results = time.time(), []
+    try:
+        record = Capture(words.pcap, stack).record
+        session = prepare(words, record, stack)
+    except BaseException:
+        for each in outputs:
+            each.discard()
+        raise
     try:
         gone = hold(session, wanted, results)
     finally:

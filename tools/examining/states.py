@@ -53,6 +53,7 @@ def ignores_data_with_a_wrong_hash(x):
     """A Node State whose hash is not that of its data is ignored."""
     x.join()
     number, data = x.number, x.items(tlv(200, b'forged'))
+    x.answers = False
     for digest in (os.urandom(8), os.urandom(8)):
         x.number += 5
         x.send(node_state(x.id, x.number, data, digest=digest))
@@ -173,6 +174,7 @@ def leaves_out_who_is_no_mutual_peer(x):
     x.hear(UNCHANGED)
     answer = x.network()
     want(x.id not in answer.states, 'the examiner is a node of its network', *answer.heard)
+    want(answer.is_right, 'the network state hash is not that of the Node States of its answer', *answer.heard)
 
 
 @examination('RFC 7787, section 4.6', MUST, 3)
@@ -232,6 +234,23 @@ def loses_who_is_behind_a_lost_peer(x):
     answer = x.network()
     want(x.id not in answer.states, 'the examiner is still a node of its network', *answer.heard)
     want(node not in answer.states, 'the node behind it is still a node of its network', *answer.heard)
+    want(answer.is_right, 'the network state hash is not that of the Node States of its answer', *answer.heard)
+
+
+@examination('RFC 7787, section 4.6; RFC 7788, section 3', SHOULD, 5)
+def remembers_a_lost_node(x):
+    """Data of a node that is reachable no longer are kept for a while, for 42 s: it comes back without being told again."""
+    node, state, peer = behind(x)
+    x.join(peer)
+    if not x.wait(4.0, lambda: x.holds(node, 3) or x.send(state)):
+        raise CannotTell('the node behind the examiner was not taken')
+    x.publish()
+    if not x.wait(3.0, lambda: node not in x.network().states):
+        raise CannotTell('the node behind the examiner is still a node of its network')
+    x.hear(2.0)
+    x.publish(peer)
+    x.wait(4.0, lambda: x.holds(node, 3))
+    want(x.holds(node, 3), 'it does not know the node any more, which was lost for two seconds', *x.network().heard)
 
 
 @examination('RFC 7787, section 4.6', MUST, 4)

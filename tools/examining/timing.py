@@ -10,6 +10,7 @@ from examining.wire import NETWORK_STATE, REQUEST_NETWORK, tlv
 IMIN = 0.2               # seconds (RFC 7788, section 3)
 DELAY = IMIN / 2         # by how much a reply or a keep-alive may be later (RFC 7787, sections 4.4 and 6.1.2)
 KEEP_ALIVE = 20.0        # seconds (RFC 7788, section 3)
+EARLY = 0.015            # seconds that moments may be off
 BUSY = 0.25              # seconds that a busy machine may add
 SAMPLES = 16
 AT_ONCE = 0.012          # seconds: replies whose median is below were not delayed by 0 to 100 ms, but once in 10,000 times
@@ -58,15 +59,21 @@ def doubles_its_intervals(x):
     want(max(gaps) >= 2.0, f'no two multicasts are more than {max(gaps):.1f} s apart; the sixth interval has 6.4 s', *same)
 
 
-@examination('RFC 6206, section 4.2; RFC 7788, section 3', MUST, 4)
+@examination('RFC 6206, section 4.2; RFC 7788, section 3', MUST, 9)
 def waits_for_half_an_interval(x):
-    """No two multicasts come closer than half of Imin, 100 ms; Imin is 200 ms or more."""
+    """Multicasts come in the second half of an interval of 200 ms or more: 100 ms after a change at the earliest."""
     x.join()
-    found = []
+    found, soon = [], []
     for _ in range(6):
+        x.hear(0.9)
+        known = x.network().digest
         x.publish(news())
-        found += multicasts(x, x.hear(0.45))
-    near = [(one, other) for one, other in zip(found, found[1:]) if other.moment - one.moment < IMIN / 2 - 0.06]
+        heard = multicasts(x, x.hear(0.45))
+        new = [each for each in heard if each.digest != known]
+        soon += [each for each in new[:1] if each.moment - x.link.sent[-1][0] < IMIN / 2 - EARLY]
+        found += heard
+    want(len(soon) < 3, f'{len(soon)} of 6 times a Network State came within {1000 * (IMIN / 2 - EARLY):.0f} ms of a change', *soon)
+    near = [pair for pair in zip(found, found[1:]) if pair[1].moment - pair[0].moment < IMIN / 2 - 0.06]
     want(len(near) < 2, f'{len(near)} times two multicasts came within {1000 * (IMIN / 2 - 0.06):.0f} ms', *[each for pair in near for each in pair])
 
 
@@ -97,6 +104,26 @@ def lets_other_hashes_pass(x):
     if len({each.digest for each in found}) > 1:
         raise CannotTell('the network state hash changed in between')
     want(len(found) < 4, f'{len(found)} multicasts within 3 s, each after another hash was heard', *found)
+
+
+@examination('RFC 6206, section 4.2; RFC 7788, section 3', MUST, 46)
+def doubles_up_to_the_longest_interval(x):
+    """The intervals double seven times or more, up to 25.6 s: from 13 s after a change on multicasts are ten seconds apart."""
+    x.join()
+    interval = interval_of(x)
+    if 0 < interval < KEEP_ALIVE:
+        raise CannotTell(f'its keep-alive interval is {interval:g} s')
+    x.hear(1.0)
+    x.publish(news())
+    begin = time.time()
+    heard = []
+    while time.time() < begin + 43.0:
+        heard += multicasts(x, x.hear(min(9.0, max(0.1, begin + 43.0 - time.time()))))
+        x.send()
+    found = [each for each in heard if each.moment > begin + 13.0]
+    if len({each.digest for each in found}) > 1:
+        raise CannotTell('the network state hash changed in between')
+    want(len(found) <= 3, f'{len(found)} multicasts came 13 to 43 s after a change; with an interval of 25.6 s, and keep-alives, there are 1 to 3', *found)
 
 
 def interval_of(x):

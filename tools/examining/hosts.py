@@ -51,8 +51,9 @@ class Told:
         self.adverts, self.why, self.gone = [], None, None
         try:
             self.before = must_advertise(x)
-            states = filter(None, map(x.node, x.network().states))
+            states = list(filter(None, map(x.node, x.network().states)))
             self.has_way_out = any(wire.values(state.data, wire.EXTERNAL) for state in states)
+            self.has_server = any(value[3] >> 4 for state in states for value in wire.values(state.data, wire.VERSION) if len(value) >= 4)
             self.watch(x)
         except CannotTell as cannot:
             self.why = str(cannot)
@@ -225,8 +226,9 @@ def is_no_default_router_without_a_way_out(x):
 def elects_a_server_of_addresses(x):
     """Where a node on the link with a priority for DHCPv6 is elected, hosts are told so by the flags M or O, and else not."""
     found = told(x)
-    if found.before.managed or found.before.other:
-        raise CannotTell('both flags, or one of them, are set already')
+    if found.has_server:
+        raise CannotTell('a node of the home has a priority of its own')
+    want(not found.before.managed and not found.before.other, 'a flag is set, though nobody has a priority', found.before)
     elected = [each for each in found.adverts if each.moment < found.gone]
     want(any(each.managed or each.other for each in elected), 'neither flag is set, though the examiner has a priority of 7', *elected[-1:])
     after = found.after()

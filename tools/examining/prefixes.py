@@ -5,7 +5,7 @@ import struct
 import time
 
 from examining import wire
-from examining.catalogue import MUST, CannotTell, Fail, examination, want
+from examining.catalogue import MUST, SHOULD, CannotTell, Fail, examination, want
 from examining.neighbour import TAKEN, Neighbour
 from examining.wire import assigned, delegated, external, four, tlv
 
@@ -13,6 +13,7 @@ BACKOFF = 4.0            # seconds at most, before a prefix is assigned (RFC 778
 ASSIGNED = 12.0          # seconds within which it is, on a busy machine too
 NOTICED = 4.0            # seconds within which a change of others' data has its effect
 UNUSED = BACKOFF + 1.5   # seconds after which what was not assigned will not be
+MANY, AT_ONCE = 8, 0.7   # prefixes that are delegated at once; seconds within which not all are assigned, if it is at random
 ENDS = 8                 # seconds of a lifetime that ends
 ELSEWHERE = 60001        # an endpoint of the examiner that is on another link
 DHCPV6_OPTION = 65001    # that nobody knows
@@ -123,6 +124,35 @@ def assigns_a_prefix(x):
     want(found, f'no prefix within {prefix} is assigned to its endpoint within {ASSIGNED:g} s', state.heard)
     want(len(found) == 1, f'{len(found)} prefixes within {prefix} are assigned to one link', state.heard)
     want(found[0].prefix.prefixlen == 64, f'{found[0].prefix} has not 64 bits', state.heard)
+
+
+@examination('RFC 7788, section 6.3.1', SHOULD, 6)
+def assigns_with_the_usual_priority(x):
+    """A prefix is assigned with the priority 2, so that others can be preferred."""
+    prefix = drawn_prefix()
+    x.join(external(delegated(prefix)))
+    own = must_assign(x, prefix)
+    want(own.priority == 2, f'{own.prefix} is assigned with the priority {own.priority}', x.own().heard)
+
+
+def last_assigned(x, count):
+    """After how many seconds the last of so many delegated prefixes, all published at once, has an assignment."""
+    prefixes = [drawn_prefix() for _ in range(count)]
+    begin = time.monotonic()
+    x.publish(external(*map(delegated, prefixes)))
+    if not x.wait(ASSIGNED, lambda: all(x.assignments(prefix) for prefix in prefixes), pause=0.1):
+        raise CannotTell(f'not all of {count} delegated prefixes have an assignment')
+    return time.monotonic() - begin
+
+
+@examination('RFC 7695, section 4.1; RFC 7788, section 6.3.1', MUST, 7)
+def waits_at_random_before_it_assigns(x):
+    """A prefix is assigned after a random time of 0 to 4 s, so that not all devices of a link assign at once."""
+    x.join()
+    passed = [last_assigned(x, MANY)]
+    while passed[-1] < AT_ONCE and len(passed) < 3:
+        passed.append(last_assigned(x, MANY))
+    want(passed[-1] >= AT_ONCE, f'{len(passed)} times {MANY} prefixes were all assigned within {max(passed):.1f} s', x.own().heard)
 
 
 @examination('RFC 7695, section 4.1; RFC 7788, section 6.3', MUST, 8)

@@ -51,9 +51,22 @@ def hold(session, wanted, results):
                 gone = each.name
                 if each.subject != DEADLY and not result.frames:
                     result.verdict, result.why = CANNOT_TELL, f'the device stopped: {result.why}'
+            elif result.verdict == FAIL:
+                result = once_more(session, result)
         results.append(result)
         progress.ends(result)
     return gone
+
+
+def once_more(session, failed):
+    """A failure has to show itself twice, so that a busy machine does not make one."""
+    session.look_again()
+    result = session.examine(failed.examination)
+    result.seconds += failed.seconds
+    if result.verdict == FAIL:
+        return result
+    result.verdict, result.why = CANNOT_TELL, f'it failed once, and not when it was held again: {failed.why}'
+    return result
 
 
 class Capture:

@@ -60,7 +60,8 @@ class Session:
         self.former = set()         # the identifiers that the device had
         self.left_at = None         # the frame from which on it has another identifier than at first
         self.watch = Watch()
-        self.facts = {}             # what several examinations look at, and is tried once
+        self.facts = {}             # what several examinations look at, and is tried once, or twice
+        self.sure = set()           # which of it was tried twice, or will be
 
     # Hearing
 
@@ -178,6 +179,12 @@ class Session:
         if kind not in self.facts:
             self.facts[kind] = kind(x)
         return self.facts[kind]
+
+    def look_again(self):
+        """What was found out for several examinations is found out once more, and then no more."""
+        for kind in set(self.facts) - self.sure:
+            del self.facts[kind]
+            self.sure.add(kind)
 
     def examine(self, examination):
         """Holds an examination. Whatever happens, the neighbours leave."""

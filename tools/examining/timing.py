@@ -12,6 +12,7 @@ DELAY = IMIN / 2         # by how much a reply or a keep-alive may be later (RFC
 KEEP_ALIVE = 20.0        # seconds (RFC 7788, section 3)
 EARLY = 0.015            # seconds that moments may be off
 BUSY = 0.25              # seconds that a busy machine may add
+QUIET = 2.5              # seconds without a multicast, after which the intervals are long
 SAMPLES = 16
 AT_ONCE = 0.012          # seconds: replies whose median is below were not delayed by 0 to 100 ms, but once in 10,000 times
 
@@ -24,6 +25,13 @@ def news():
 def multicasts(x, heard):
     """The Network States by multicast."""
     return [each for each in heard if each.multicast and each.digest]
+
+
+def rest(x):
+    """Waits until Trickle has come to intervals of some seconds."""
+    end = time.monotonic() + 12.0
+    while time.monotonic() < end and multicasts(x, x.hear(QUIET, lambda each: each.multicast and each.digest)):
+        pass
 
 
 @examination('RFC 7787, section 4.3; RFC 7788, section 3', MUST, 8)
@@ -92,18 +100,32 @@ def hears_a_consistent_neighbour(x):
     want(len(found) < 3, f'{len(found)} multicasts within 6.5 s, while another one came each 60 ms', *found)
 
 
-@examination('RFC 7787, section 4.3', MUST, 9)
+@examination('RFC 7787, section 4.3', MUST, 11)
 def lets_other_hashes_pass(x):
     """A Network State with another hash does not reset Trickle: only a change of the own hash does."""
     x.join()
-    x.hear(4.0)
-    found = []
+    x.hear(1.0)
+    rest(x)
+    digest, found = x.network().digest, []
     for _ in range(6):
         x.send(tlv(NETWORK_STATE, os.urandom(8)), multicast=True)
         found += multicasts(x, x.hear(0.5))
-    if len({each.digest for each in found}) > 1:
+    if any(each.digest != digest for each in found):
         raise CannotTell('the network state hash changed in between')
     want(len(found) < 4, f'{len(found)} multicasts within 3 s, each after another hash was heard', *found)
+
+
+@examination('RFC 7787, section 4.3', MUST, 6)
+def counts_no_other_hashes(x):
+    """A Network State with another hash does not suppress the own one: only those with the own hash count."""
+    x.join()
+    x.hear(0.5)
+    x.publish(news())
+    found, end = [], time.monotonic() + 3.5
+    while time.monotonic() < end:
+        x.send(tlv(NETWORK_STATE, os.urandom(8)), multicast=True)
+        found += multicasts(x, x.hear(0.08))
+    want(len(found) >= 2, f'{len(found)} multicasts within 3.5 s of a change, while others with other hashes came', *found)
 
 
 @examination('RFC 6206, section 4.2; RFC 7788, section 3', MUST, 46)

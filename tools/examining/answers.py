@@ -6,7 +6,7 @@ import time
 import items
 from examining import wire
 from examining.catalogue import MUST, SHOULD, CannotTell, examination, want
-from examining.neighbour import Answer, Neighbour
+from examining.neighbour import TRIES, Answer, Neighbour
 from examining.wire import NETWORK_STATE, NODE_ENDPOINT, REQUEST_NETWORK, REQUEST_NODE, tlv
 
 UNANSWERED = 0.7       # seconds after which nothing more is expected
@@ -93,11 +93,11 @@ def answers_to_the_port_that_asked(x):
 @examination('RFC 7787, sections 4.4 and 7.2.3', MUST, 1)
 def gives_the_data_of_a_node(x):
     """A Request Node State is answered with the node data, whose hash is that of the Node State."""
-    heard = x.ask(tlv(REQUEST_NODE, x.device.id), lambda each: x.device.id in each.states)
-    want(heard, 'no Node State of the device')
-    state = heard[-1].states[x.device.id]
-    want(state.data, 'the Node State has no data', heard[-1])
-    want(items.hash_of(state.data) == state.digest, 'the hash is not that of the data', heard[-1])
+    state = x.node(x.device.id, tries=TRIES)
+    if not state:
+        heard = x.ask(tlv(REQUEST_NODE, x.device.id), lambda each: x.device.id in each.states)
+        want(False, 'the Node State has no data' if heard else 'no Node State of the device', *heard[-1:])
+    want(items.hash_of(state.data) == state.digest, 'the hash is not that of the data', state.heard)
 
 
 @examination('RFC 7787, section 4.4', SHOULD, 1)

@@ -6,13 +6,12 @@ from examining import wire
 from examining.catalogue import MUST, SHOULD, CannotTell, examination, want
 from examining.neighbour import TAKEN, Neighbour
 from examining.prefixes import drawn_prefix, must_assign, part
-from examining.wire import assigned, delegated, external
+from examining.wire import BRIEF, assigned, delegated, external
 
 ANSWERED = 4.5           # seconds: half a second of delay, three between two advertisements (RFC 4861, section 6.2.6), and some
 TRIES = 3
 APPLIED = 10.0           # seconds after which an assignment is applied (RFC 7788, section 6.3.3)
 APPLIED_LATEST = 24.0
-BRIEF = 90               # seconds of the lifetimes of prefixes, so that hosts forget them soon
 MOST_BYTES = 1280        # of a packet that each link takes (RFC 8200, section 5)
 MANY, SOME = 20, 4
 SOLICITED = 3.3          # seconds between solicitations
@@ -62,7 +61,7 @@ class Told:
         y, one, other = Neighbour(x.session, x.device), drawn_prefix(), drawn_prefix()
         self.elect(y)
         self.followed, self.begin = part(other, 3), time.time()
-        x.join(external(delegated(one, BRIEF, BRIEF // 2), delegated(other, BRIEF, BRIEF)), assigned(self.followed, x.endpoint, 6))
+        x.join(external(delegated(one, BRIEF, BRIEF // 2), delegated(other)), assigned(self.followed, x.endpoint, 6))
         self.followed_at = time.time()
         self.own = must_assign(x, one).prefix
         self.own_at = time.time()
@@ -242,7 +241,7 @@ def sends_advertisements_that_fit(x):
     shown = []
     for turn in range(2):
         many = [drawn_prefix() for _ in range(MANY)]
-        more = external(*[delegated(each, BRIEF, BRIEF) for each in many])
+        more = external(*[delegated(each) for each in many])
         x.publish(more) if turn else x.join(more)
         found = adverts_with(x, many)
         if not any(has_some(each, many) for each in found):

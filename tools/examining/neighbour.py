@@ -120,17 +120,16 @@ class Neighbour:
         return Answer(heard)
 
     def node(self, node, named=True, tries=2):
-        """The state of a node with its data, as the device tells it, or None."""
-        heard = self.ask(tlv(REQUEST_NODE, node), lambda each: node in each.states, named, tries)
-        found = [each.states[node] for each in heard if node in each.states]
-        with_data = [state for state in found if state.data]
-        return (with_data or found or [None])[-1]
+        """The state of a node with its data, as the device tells it, or None. One without data may belong to an earlier answer."""
+        heard = self.ask(tlv(REQUEST_NODE, node), lambda each: node in each.states and each.states[node].data, named, tries)
+        found = [each.states[node] for each in heard if node in each.states and each.states[node].data]
+        return found[-1] if found else None
 
     def own(self, named=True):
         """The device's own state, with data."""
         found = self.node(self.device.id, named, TRIES)
         if not found:
-            raise Silent('no Request Node State about the device itself is answered')
+            raise Silent('no Request Node State about the device itself is answered with its data')
         return found
 
     def published(self, kind):

@@ -9,7 +9,7 @@ PORT = 8231                 # RFC 7788, section 3
 REQUEST_NETWORK, REQUEST_NODE, NODE_ENDPOINT, NETWORK_STATE, NODE_STATE = 1, 2, 3, 4, 5      # RFC 7787, section 7
 PEER, KEEP_ALIVE = 8, 9
 VERSION, EXTERNAL, DELEGATED, ASSIGNED, ADDRESS, DHCPV6 = 32, 33, 34, 35, 36, 38             # RFC 7788, section 10
-ENDLESS = 2 ** 32 - 1
+BRIEF = 90                  # seconds of the lifetimes of prefixes, so that hosts forget them soon
 
 State = collections.namedtuple('State', 'number age digest data heard')
 Assigned = collections.namedtuple('Assigned', 'endpoint priority prefix')
@@ -67,7 +67,7 @@ def prefix_of(octets):
     return ipaddress.ip_network((octets[1:1 + (octets[0] + 7) // 8].ljust(16, b'\0'), octets[0]), strict=False)
 
 
-def delegated(prefix, valid=7200, preferred=3600, more=b''):
+def delegated(prefix, valid=BRIEF, preferred=BRIEF, more=b''):
     """A Delegated-Prefix."""
     fixed = struct.pack('>II', valid, preferred) + prefix_bytes(prefix)
     return tlv(DELEGATED, items.padded(fixed) + more if more else fixed)

@@ -4,11 +4,11 @@ import re
 import common
 import hosts
 import logs
+import sums
 from common import Problem
 
 MOST_COPIES = 12000       # with more of them datagrams are left out
 MOST_TEXT = 8000000       # characters of decoded datagrams
-AT_ONCE = 400             # so many datagrams are decoded by one call
 
 SHOWN = re.compile(r'show (\S+) id=(\S+) number=(\d+) reach=(\d+) held=(\d+) running=(yes|no)$')
 LAST = 10 ** 9            # as the number of a line: after all that lines did at that moment
@@ -39,6 +39,7 @@ class Story:
         self.tell_hosts()
         self.tell_datagrams()
         self.changes.sort(key=lambda each: each[:3])
+        self.sums = list(sums.sums(self))
 
     def add(self, moment, line, whom, what):
         self.changes.append((moment, line, len(self.changes), whom, what))
@@ -221,36 +222,3 @@ def published(data):
             peers = {(each[:4].hex(), int.from_bytes(each[4:8], 'big'), int.from_bytes(each[8:12], 'big'))
                      for nested, each in tlvs(value[20:]) if nested == PEER and len(each) == 12}
             yield value[:4].hex(), int.from_bytes(value[4:8], 'big'), peers
-
-
-# The text of datagrams
-
-PLACED = re.compile(r'( *)(\d+)( .*)$')
-
-
-def decoded(datagrams):
-    """The lines of `hncp decode` for each datagram. Many are decoded by one call: their TLVs are those of all."""
-    texts = []
-    for start in range(0, len(datagrams), AT_ONCE):
-        some = datagrams[start:start + AT_ONCE]
-        lines = common.decode(b''.join(some).hex())
-        parts = parted(some, lines) if lines and lines[0].startswith('tlvs ') else None
-        texts += parts or [common.decode(data.hex()) for data in some]
-    return texts
-
-
-def parted(datagrams, lines):
-    """The lines of many datagrams that were decoded as one, parted again; nothing where a TLV is of two datagrams."""
-    ends, at = [], 0
-    for data in datagrams:
-        at += len(data)
-        ends.append(at)
-    if any(len(data) % 4 for data in datagrams):
-        return None
-    texts, place, begin = [[] for _ in datagrams], 0, 0
-    for line in lines[1:]:
-        indent, where, rest = PLACED.match(line).groups()
-        while int(where) >= ends[place]:
-            begin, place = ends[place], place + 1
-        texts[place].append(f'{indent}{int(where) - begin}{rest}')
-    return [[f'tlvs {sum(line[0] != " " for line in each)}'] + each for each in texts]

@@ -9,6 +9,7 @@ import re
 import common
 import hosts
 import looks
+import sums
 from checks import loopback, samples, unrolled
 from checks.browser import Browser
 from checks.helpers import SEED, Missing, lines_of, must, must_be, need_look, run, short
@@ -16,7 +17,18 @@ from checks.helpers import SEED, Missing, lines_of, must, must_be, need_look, ru
 LOOKED = 'two_routers_meet.script'          # each round of it is played by itself
 PAGES = ['a_power_cut.script', 'hosts_are_told_of_a_new_prefix.script', 'a_lossy_home.script', 'a_forging_guest.script']
 SENT = 'hosts_are_told_of_a_new_prefix.script'
+SUMMED = 'a_short_outage.script'
 LARGE = 32
+TWINS = ['hncp 1', 'seed 3', 'link red', 'link blue', 'router A 00000001', 'router B 00000002', 'attach A 1 red', 'attach B 1 red',
+         'attach A 2 blue', 'attach B 2 blue', 'external A 2001:db8::/56 7200 3600', 'run 30000 100']
+# States of something at moments, the end, and when it was so first and then not.
+SPELLS = [
+    ([], 9, (None, [])),
+    ([(0, False), (5, False)], 9, (None, [])),
+    ([(0, False), (5, True)], 9, (5, [])),
+    ([(0, True), (2, False), (4, True), (4, False), (4, True), (6, False)], 9, (0, [(2, 4), (6, 9)])),
+    ([(3, True), (9, False)], 9, (3, [])),
+]
 OPENS = 3                                   # seconds
 ATTEMPTS = 5
 TRIED_DROPS = 10                            # at each page
@@ -168,6 +180,49 @@ def compare_plays():
     return played
 
 
+# Sums
+
+def compare_sums():
+    """When a home was sound, and how long not: by audits of all routers before each run and after each of its rounds."""
+    told = [line.split('\t') for line in lines_of('timeline', path_of(SUMMED))]
+    states = audited(common.read_script(path_of(SUMMED)))
+    first = next(place for place, (_, so) in enumerate(states) if so)
+    missed = [(after - moment, before) for (_, before), (moment, so), (after, _) in zip(states[first:], states[first + 1:], states[first + 2:])
+              if not so and after > moment]
+    times = sum(before for _, before in missed)
+    expected = f'sound at {states[first][0] / 1000:g} s; then {"once" if times == 1 else f"{times} times"} not, {sum(each for each, _ in missed) / 1000:g} s in all'
+    must([what for _, whom, what in told if whom == 'home'] == [expected], f'{SUMMED}: not "{expected}" in {told[-3:]}')
+    attic = [(int(moment), what) for moment, whom, what in told if whom == 'hosts of attic']
+    live = [moment for moment, what in attic if what.endswith(':/64 preferred')]
+    gone = next(moment for moment, what in attic if 'assigned by nobody' in what)
+    expected = f'a live prefix at {live[0] / 1000:g} s; then once none, {(live[1] - gone) / 1000:g} s in all'
+    must(attic[-1][1] == expected, f'{SUMMED}: hosts of attic: {attic[-1][1]}, and not {expected}')
+    for cases in SPELLS:
+        given, end, expected = cases
+        must(sums.spells(given, end) == expected, f'{given}: {sums.spells(given, end)}, and not {expected}')
+    return 2 + len(SPELLS)
+
+
+def audited(lines):
+    """The moments before each run and after each round of it, and whether each router says then that the home is sound."""
+    names = [line.words[1] for line in lines if line.word == 'router']
+    texts, moments, now = [lines[0].text], [], 0
+
+    def ask(*before):
+        texts.extend([*before, *(f'audit {name}' for name in names)])
+        moments.append(now)
+
+    for line in lines[1:]:
+        if line.word == 'run':
+            ask()
+            for now in range(now + int(line.words[2]), int(line.words[1]) + 1, int(line.words[2])):
+                ask(f'run {now} {line.words[2]}')
+        elif line.word not in looks.REPORTS:
+            texts.append(line.text)
+    said = [line for line in common.play(texts) if line.startswith('audit ')]
+    return [(moment, all('sound=yes' in line for line in said[place * len(names):(place + 1) * len(names)])) for place, moment in enumerate(moments)]
+
+
 # The page
 
 def data_of(path):
@@ -279,6 +334,33 @@ def check_arrows(browser, path):
     return shown
 
 
+def check_small(browser, folder):
+    """The page of a small home: nothing of it is blank, a part of its address is a window, a prefix has its name once though others
+    publish it in turn, and arrows say by which of two links they go."""
+    script, page = (os.path.join(folder, f'twins.{kind}') for kind in ('script', 'html'))
+    with open(script, 'w') as file:
+        file.write('\n'.join(TWINS) + '\n')
+    lines_of('timeline', '--html', page, script)
+    data = data_of(page)
+    names = [data['links'][row[10]]['name'] for row in data['copies']]
+    must(names == [TWINS[1 + row[2]].split()[1] for row in data['copies']], 'a copy goes over another link than its endpoint is on')
+    browser.open(page)
+    blank = browser.value('byId("view").clientHeight - total')
+    gap = browser.value('innerHeight - byId("panel").getBoundingClientRect().bottom')
+    must(blank <= 1 and abs(gap) <= 1, f'the page of a small home is blank for {blank} and {gap} points')
+    must('sound at' in browser.value('byId("sums").textContent'), 'the page has no sums')
+    must(browser.value('byId("changed").textContent').count('\n') >= 20, 'the page does not say what changed')
+    browser.value('location.hash = "#1000-4000", new Promise(done => setTimeout(done, 300))')
+    must_be(browser.value('[from, to]'), [1000, 4000], 'the window that the address says')
+    browser.value('setWindow(1400, 2200), byId("view").scrollTop = 1e6, drawRows()')
+    shown = set(browser.value('[...document.querySelectorAll("#chart .link")].map(each => each.textContent)'))
+    must(shown == {'red', 'blue'}, f'arrows are said to go over {shown}')
+    must(' over red' in browser.value('copyText(0)') + browser.value('copyText(1)'), 'the text of a copy has no link')
+    pieces = [[1, 2, 'p', '', 'A'], [2, 3, 'p', '', ''], [3, 4, 'p', '', 'B'], [5, 6, 'p', '', 'B']]
+    joined = browser.value(f'joinedPieces({json.dumps(pieces)}).map(each => inTurn(each.map(piece => piece[4] || "nobody")))')
+    must_be(joined, ['A, then nobody, then B', 'B'], 'pieces of one prefix')
+
+
 def large_script(path):
     """A tree of routers, of which each has a link of its own, for a minute and a half, with a loss."""
     texts = ['hncp 2', 'seed 1', 'loss 1'] + [f'link l{k}' for k in range(1, LARGE + 1)]
@@ -297,7 +379,7 @@ def check_timeline(folder):
     cases = compare_hosts()
     compare_sent()
     compare_honesty(folder)
-    played = compare_plays()
+    summed, played = compare_sums(), compare_plays()
     pages, copies = {}, 0
     for name in PAGES:
         pages[name] = os.path.join(folder, name + '.html')
@@ -307,7 +389,7 @@ def check_timeline(folder):
     large_script(script)
     lines_of('timeline', '--every', '1000', '--html', large, script)
     must(os.path.getsize(large) < MOST_BYTES / 4, f'the page of {LARGE} routers has {os.path.getsize(large)} bytes')
-    text = f'{told} changes by plays of their own, {played} looks, {cases} cases of hosts, {copies} copies'
+    text = f'{told} changes by plays of their own, {played} looks, {cases} cases of hosts, {summed} sums, {copies} copies'
     return f'{text}, {in_browser(pages, script, large)}'
 
 
@@ -332,7 +414,8 @@ def in_browser(pages, script, large):
         clicks = sum(check_page(browser, path, name, chance) for name, path in pages.items())
         arrows = check_arrows(browser, pages[PAGES[0]])
         check_large(browser, script, large)
+        check_small(browser, os.path.dirname(script))
         must(not browser.errors(), f'the console has: {browser.errors()[:1]}')
     finally:
         browser.close()
-    return f'{len(pages) + 1} pages with {clicks + 3} moments, {arrows} arrows'
+    return f'{len(pages) + 2} pages with {clicks + 3} moments, {arrows} arrows'

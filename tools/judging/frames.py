@@ -1,6 +1,7 @@
 """The datagrams of a capture as they are judged: in the order of time, each one once, and each with the link that it came by."""
 from judging.groups import Groups
 
+LATE = 0.001     # seconds by which a frame is out of the order of time, or more, until it is told
 TWICE = 0.01     # seconds within which a datagram that comes again is the same one: a bridge or a mirroring port shows it twice
 NAMED = b'\0\3'  # with which a datagram begins that names its endpoint, which is on one link
 
@@ -16,11 +17,10 @@ class Frames:
     def in_order(self, datagrams):
         datagrams, latest = list(datagrams), None
         for each in datagrams:
-            if latest is not None and each.moment < latest:
+            if latest is not None and each.moment < latest - LATE:
                 self.late.append(each.frame)
-            else:
-                latest = each.moment
-        return sorted(datagrams, key=lambda each: each.moment) if self.late else datagrams
+            latest = each.moment if latest is None else max(latest, each.moment)
+        return sorted(datagrams, key=lambda each: each.moment)
 
     def once(self, datagrams):
         """Leaves out what stands there again. Where it came by another link of the capture too, both are one link."""

@@ -112,7 +112,7 @@ class States:
         self.findings = findings
         self.senders = senders
         self.hashes = {}       # (node, number) -> {hash: frame}
-        self.shown = {}        # (link, source, node) -> the number that it showed last
+        self.shown = {}        # (link, source, node) -> the greatest number that it showed since one fell, and when it did so first
         self.origins = {}      # (node, number, hash) -> the first state
         self.versions = {}     # node -> the first state of each of its numbers and hashes, as they came
         self.data = {}         # (node, hash) -> Data
@@ -151,13 +151,15 @@ class States:
 
     def take_number(self, datagram, state):
         key = datagram.link, datagram.source, state.node
-        before = self.shown.get(key)
+        before, since = self.shown.get(key, (None, None))
         post = self.senders.of(datagram.link, datagram.source).post
         is_own = post is not None and post[0] == state.node
-        if before is not None and is_older(state.number, before):
+        falls = before is not None and is_older(state.number, before)
+        if falls and state.moment - since > self.senders.slack:
             why = 'its own number; it began anew, or another node has its identifier' if is_own else 'of what it knows of the node'
             self.find('number-falls', state, f'number {state.number} after {before}, {why}')
-        self.shown[key] = state.number
+        if before is None or state.number != before and (not falls or state.moment - since > self.senders.slack):
+            self.shown[key] = state.number, state.moment
         latest = self.latest.get(state.node)
         if latest is None or is_own or not is_older(state.number, latest.number):
             self.latest[state.node] = state

@@ -1,8 +1,8 @@
 #!/bin/sh
 # Two routers on the loopback, each a process of its own: they find each other, and each says that it reaches two nodes.
-# Give the program as the first word, if it is not where `rt run` makes it. It ends by itself within half a minute.
+# The program is the first word, else that of HNCP, else where `rt run` makes it. It ends by itself within half a minute.
 set -eu
-program=${1:-$(dirname "$0")/../crates/hncp/out/hncp}
+program=${1:-${HNCP:-$(dirname "$0")/../crates/hncp/out/hncp}}
 work=$(mktemp -d)
 trap 'rm -rf "$work"' EXIT
 printf 'hncp 1\nexternal 2001:db8::/56 7200 3600\n' > "$work/uplink"

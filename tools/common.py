@@ -45,9 +45,14 @@ def end(main):
     sys.exit(status)
 
 
+def printable(text):
+    """A text that comes from an input, what does no more than print: control characters stand as escapes."""
+    return ''.join(each if each.isprintable() else f'\\x{ord(each):02x}' for each in text)
+
+
 def complain(text):
     sys.stdout.flush()
-    print(f'{os.path.basename(sys.argv[0])}: {text}', file=sys.stderr)
+    print(f'{os.path.basename(sys.argv[0])}: {printable(text)}', file=sys.stderr)
     return 1
 
 

@@ -1,17 +1,15 @@
-"""The checks of what stands beside real gateways: judge and relay."""
+"""The checks of what stands beside real gateways: judge, and the page on them."""
 import os
 import random
 import re
 import shutil
 import struct
-import subprocess
 
 import captures
 import common
 import items
 from checks import faults, frames, homes, samples, talks
-from checks.helpers import SEED, Missing, lines_of, must, must_be, need, run, short
-from checks.namespaces import Namespaces
+from checks.helpers import SEED, lines_of, must, must_be, run, short
 from judging.judgement import Judgement, judge
 from judging.rules import TOLD
 from judging.text import text_of
@@ -19,8 +17,6 @@ from judging.text import text_of
 PAGE = os.path.join(common.HERE, '..', 'docs', 'BESIDE-REAL-GATEWAYS.md')
 MUTANTS = 10000
 TOGETHER = 100         # mutants that are judged as one capture
-TURNS = 4000           # of a node behind a relay: five seconds, and more on a busy machine
-PATIENCE = 120         # seconds until such a node has to have ended
 SOUND_HOMES = ['a_home_with_an_uplink.script', 'a_triangle_of_gateways.script', 'an_uplink_that_flaps.script']
 WHOLE = 20             # how many shorter captures of the sound home are judged
 
@@ -211,45 +207,3 @@ def check_page(_):
             said += 1
     must(octets >= 5 and said >= 6, f'only {octets} byte texts, and {said} lines on them')
     return f'{octets} byte texts, {said} lines on them'
-
-
-# relay
-
-class Link(Namespaces):
-    """Two network namespaces with a link between them."""
-
-    def __init__(self):
-        super().__init__('ab')
-
-    def begin(self):
-        self.join('a', 'wire', 'b', 'wire')
-
-
-def check_relay(folder):
-    """Two nodes by two relays on one link reach each other, and what is captured on it is sound."""
-    need('ip', 'tcpdump', 'tshark')
-    path, uplink = (os.path.join(folder, name) for name in ('wire.pcap', 'uplink.node'))
-    with open(uplink, 'w') as file:
-        file.write('hncp 1\nexternal 2001:db8::/56 7200 3600\n')
-    tool = os.path.join(common.HERE, 'relay')
-    status, _, messages = run('relay', 'no-such-interface')
-    must(status == 1 and 'there is no interface' in messages, f'without an interface: status {status}, {messages}')
-    with Link() as link:
-        ear = link.inside('a', 'tcpdump', '-Z', 'root', '-i', 'wire', '-U', '-w', path, 'udp port 8231 or ip6 proto 44')
-        while b'listening on' not in (line := ear.stderr.readline()):
-            if not line:
-                raise Missing('tcpdump does not listen in a namespace')
-        relays = [link.inside(name, tool, 'wire', '--id', f'0000000{place}', '--seed', str(place), '--turns', str(TURNS), *more)
-                  for place, (name, more) in enumerate((('a', ['--file', uplink]), ('b', [])), 1)]
-        texts = [each.communicate(timeout=PATIENCE) for each in relays]
-        ear.terminate()
-        ear.communicate()
-        for each, (text, messages) in zip(relays, texts):
-            must(each.returncode == 0 and b' reach=2 ' in text, f'relay: status {each.returncode}, {text.decode()} {messages.decode()[-200:]}')
-            must(b'neighbours=1 ' in text and b' failed=0' in text, f'relay: {text.decode()}')
-    left = [name for name in link.names.values() if name in subprocess.run(['ip', 'netns', 'list'], stdout=subprocess.PIPE).stdout.decode()]
-    must(not left, f'left behind: {left}')
-    # A busy machine may delay what a relay hands on, so moments count for little here.
-    text = lines_of('judge', '--slack', '5000', path)
-    must(any('peer 00000001/1 - 00000002/1 mutual=yes' in line for line in text), f'judge shows no peers: {text}')
-    return f'two nodes reach each other over {text[0].split()[1][10:]} datagrams, in which judge finds nothing'

@@ -1,5 +1,6 @@
 """The checks of what reads scripts and transcripts: annotate, picture, seeds and explain."""
 import collections
+import itertools
 import os
 import random
 import re
@@ -11,6 +12,9 @@ import common
 import items
 from checks import samples
 from checks.helpers import SEED, is_static, lines_of, looks_in, must, must_be, need, short
+
+MEETING = ['link lan', 'router A 00000001', 'router B 00000002', 'attach A 1 lan', 'attach B 1 lan', 'external A 2001:db8::/56 7200 3600']
+REPORTS = ('show', 'hash', 'used', 'prefixes', 'elect', 'advert', 'audit', 'compare', 'mail', 'addresses', 'addressed', 'ulas')
 
 
 # annotate
@@ -106,16 +110,45 @@ def expected_edges(path, transcript):
     return sorted((name, link, endpoint) for (name, endpoint), link in endpoints.items()), sorted(uplinks)
 
 
-def last_prefixes(transcript):
-    """The assigned prefixes that the last `prefixes` of each router tell."""
-    blocks = {}
+def last_prefixes(path, transcript):
+    """The assigned prefixes that the last `prefixes` tell, between which the script has other reports alone."""
+    refused = common.refusal(transcript)
+    texts = [line.word for line in common.read_script(path)[1:refused[0] - 1 if refused else None] if line.words]
+    while texts and texts[-1] != 'prefixes':
+        texts.pop()
+    together = list(itertools.takewhile(REPORTS.__contains__, reversed(texts))).count('prefixes')
+    blocks = []
     for line in transcript:
         words = line.split()
         if words[0] == 'prefixes':
-            blocks[words[1]] = set()
+            blocks.append((words[1], set()))
         elif words[0] == 'prefix':
-            blocks[words[1]].add(words[4][3:])
-    return set().union(*blocks.values())
+            blocks[-1][1].add(words[4][3:])
+    return set().union(*dict(blocks[len(blocks) - together:]).values())
+
+
+def check_pictures(folder):
+    """Reports of two moments are not mixed, a name that no script has does not leave its text, and large homes are no long line."""
+    path, told = (os.path.join(folder, name) for name in ('home.script', 'home.transcript'))
+
+    def pictured(texts, *form):
+        for name, lines in ((path, texts), (told, common.play(texts))):
+            with open(name, 'wb') as file:
+                file.write(common.joined(lines))
+        text = '\n'.join(lines_of('picture', path, told))
+        return subprocess.run(['dot', *form], input=text.encode(), stdout=subprocess.PIPE, stderr=subprocess.PIPE).stdout.decode() if form else text
+
+    before = ['hncp 1', *MEETING, 'run 20000 100', 'prefixes A']
+    text = pictured([*before, 'withdraw A 2001:db8::/56', 'external A 2001:db9::/56 7200 3600', 'run 40000 100', 'prefixes B'])
+    must('2001:db9' in text and '2001:db8' not in text.replace('"A 2001:db8', ''), f'prefixes of two moments: {text}')
+    for name in ['x\\",URL="javascript:alert(1)', 'x"', 'x\\', 'x\x1b[31m', 'x<b>', '1x', 'x' * 17]:
+        for line in (f'router {name} 00000001', f'link {name}', f'router x {name}', f'external A 2001:db8::%{name}/64 1 1'):
+            shown = pictured(['hncp 1', *MEETING, line], '-Tsvg')
+            must('javascript' not in shown and '\x1b' not in shown and shown.count('class="node"') <= 4, f'{line}: {shown[:300]}')
+    star = [text for k in range(1, 61) for text in (f'router r{k} {k:08x}', f'attach r{k} 1 lan')]
+    width, height = map(int, re.search(r'width="(\d+)pt" height="(\d+)pt"', pictured(['hncp 1', 'link lan', *star], '-Tsvg')).groups())
+    must(max(width, height) < 3 * min(width, height), f'a drawing of 60 routers has {width} x {height} points')
+    return 3
 
 
 def edges_of(text):
@@ -143,14 +176,15 @@ def check_picture(folder):
         found = list(edges_of(text))
         must_be(sorted(each for each in found if each[2]), endpoints, f'{short(path)}: endpoints')
         must_be(sorted(each[:2] for each in found if not each[2]), uplinks, f'{short(path)}: uplinks')
-        told = {each for each in last_prefixes(transcript) if f'{each}' in re.findall(r'\\n([0-9a-f:]+/\d+)', text)}
+        told = {each for each in last_prefixes(path, transcript) if f'{each}' in re.findall(r'\\n([0-9a-f:]+/\d+)', text)}
         if not any(line.word == 'detach' for line in common.read_script(path)):
-            must(told == last_prefixes(transcript), f'{short(path)}: prefixes {last_prefixes(transcript) - told} are not shown')
+            must(told == last_prefixes(path, transcript), f'{short(path)}: prefixes {last_prefixes(path, transcript) - told} are not shown')
             pictured += len(told)
         edges += len(found)
         must_be(list(edges_of('\n'.join(lines_of('picture', path)))) if not common.refusal(transcript) else found, found,
                 f'{short(path)}: without the transcript')
     must(edges >= 100 and pictured >= 10, f'too few: {edges} edges, {pictured} prefixes')
+    check_pictures(folder)
     return f'{len(samples.scripts())} scripts, {edges} edges, {pictured} prefixes'
 
 
@@ -169,7 +203,26 @@ def check_seeds(folder):
     plain = next(path for path in samples.scripts() if short(path) == 'taken_name.script')
     must_be(lines_of('seeds', '-n', '2', plain, '^refused 5 8$'), ['seed 1: refused 5 8', 'seed 2: refused 5 8', '2 of 2 seeds'], 'seeds')
     must_be(lines_of('seeds', '-n', '3', plain, 'no such text', status=1), ['0 of 3 seeds'], 'seeds')
-    return f'100 seeds, of which {len(expected)} show the pattern'
+    must_be(lines_of('seeds', '--from', '40', '-n', '20', path, 'kitchen .*number=4')[:-1],
+            [line for line in expected if 40 <= int(line.split()[1][:-1]) < 60], 'seeds --from')
+    return f'100 seeds, of which {len(expected)} show the pattern, {check_moments(folder)} moments'
+
+
+def check_moments(folder):
+    """When a home is sound: as scripts say that ask after each round. Reports behind a run are asked in it; others are not."""
+    path, expected = os.path.join(folder, 'home.script'), []
+    with open(path, 'w') as file:
+        file.write('\n'.join(['hncp 1', *MEETING, 'run 8000 100', '', '# the last report', 'audit A', 'show B', 'time 9000', 'audit B', '']))
+    for seed in range(7, 12):
+        asked = [text for moment in range(100, 8001, 100) for text in (f'run {moment} 100', 'audit A')]
+        said = common.play(['hncp 1', f'seed {seed}', *MEETING, *asked])
+        expected.append(next(100 * place for place, line in enumerate(said, 1) if 'sound=yes' in line))
+    found = lines_of('seeds', '--from', '7', '-n', '5', '--every', '100', '--when', 'sound=yes', path)
+    ends = f'least {min(expected)}, median {sorted(expected)[2]}, most {max(expected)} ms'
+    must_be(found, [*(f'seed {seed}: {moment}' for seed, moment in enumerate(expected, 7)), f'5 of 5 seeds: {ends}'], 'seeds --when')
+    must_be(lines_of('seeds', '-n', '1', '--when', 'audit B', path), ['seed 1: 9000', '1 of 1 seeds: least 9000, median 9000, most 9000 ms'], 'seeds --when')
+    must_be(lines_of('seeds', '-n', '2', '--when', 'nothing', path, status=1), ['0 of 2 seeds'], 'seeds --when')
+    return len(expected)
 
 
 # explain
@@ -208,6 +261,7 @@ def check_explain(folder):
         must_be(lines_of('explain', f'refused {refused[0]} {refused[1]}', path), written, f'{short(path)}, as the program writes it')
         explained.add((refused[1], bool(flags)))
     must(len(explained) >= 10, f'too few codes: {explained}')
+    check_words(folder, page)
     # The page is read each time: a copy of the tool beside another page says what that page says.
     for name in ['tools', 'docs']:
         os.mkdir(os.path.join(folder, name))
@@ -220,6 +274,20 @@ def check_explain(folder):
     must(done.stdout == b'refused 3 77: the page is another\nof a capture: the capture is another\n', f'of another page: {done.stdout} {done.stderr}')
     lines_of('explain', '1', '99', status=1)
     return f'{len(explained)} codes, {check_kinds(folder, page)} kinds, {check_causes(page)} causes, {check_places()} places within values'
+
+
+def check_words(folder, page):
+    """Each code of the page has words, and each row on what people get wrong comes up with its code."""
+    start, path = page.index('### What people get wrong in a script'), os.path.join(folder, 'wrong')
+    for code in [text.split('|')[1].strip() for text in page[page.index('## Scripts'):start] if re.match(r'\| \d+ \| ', text)]:
+        must(lines_of('explain', '3', code)[0].startswith(f'refused 3 {code}: '), f'code {code} has no words')
+    with open(path, 'w') as file:
+        file.write('hncp 1\nlink L\nlink L\n')
+    end = next(place for place, text in enumerate(page) if place > start and text.startswith('## '))
+    rows = [[cell.strip().replace('`', '') for cell in text.strip('|').split('|')] for text in page[start:end] if re.match(r'\|.*\| \d+ \|', text)]
+    for wrong, code, right in rows:
+        must(f'often: {wrong}; write {right}' in lines_of('explain', '3', code, path), f'code {code}: "{wrong}" does not come up')
+    must(len(rows) >= 11, f'{len(rows)} rows on what people get wrong')
 
 
 def kinds_told(lines):

@@ -282,6 +282,15 @@ def compare_refused(said, where):
     return len(stopped)
 
 
+def check_order():
+    """Of a stopped router and of a shared identifier the least identifier is told, whichever of both it is."""
+    for node, cause in [('00000005', 'cause=shared node=00000003'), ('00000002', 'cause=unknown node=00000002')]:
+        routers = ['router N 00000001', 'router Y 00000003', 'router Z 00000003', f'router X {node}']
+        home = ['hncp 1', 'link lan', *routers, 'attach N 1 lan', 'attach Y 1 lan', 'attach X 1 lan', 'run 2000 100', 'stop X']
+        said = common.look(['why', 'N'], home)[0]
+        must(said == f'why N settled=no {cause}', f'with a stopped router {node}: {said}')
+
+
 def check_settled(_, count):
     """Tries so many random homes.
 
@@ -290,6 +299,7 @@ def check_settled(_, count):
     cause comes first, and who has whom as a peer.
     """
     need_why()
+    check_order()
     counts = collections.Counter()
     for seed in range(count):
         chance = random.Random(f'{SEED} why {seed}')

@@ -14,7 +14,7 @@ FILE = 'hn_run/src/program.rt'
 FUNCTION = 'run'
 HALVES = ('headline', 'settled')
 """The clauses that the page is about: their definitions are shown, listed and counted."""
-BESIDE = ('replayed', 'stays', 'within_limits', 'authentic')
+BESIDE = ('replayed', 'elected', 'told', 'stays', 'within_limits', 'authentic')
 """The clauses that are shown beside them."""
 ALONE = ('lab',)
 """The clauses that are shown beside them, without the others of their paragraph."""
@@ -60,6 +60,7 @@ class Headline:
         beside = self.sources.steps(self.seeds(BESIDE))
         near = {node for node, steps in self.with_worlds.items() if steps <= NEAR}
         near |= {node for node, steps in beside.items() if steps <= NEAR_BESIDE}
+        near |= {node for node in self.of_one_world if node.file in text.WHOLE}
         near -= _chosen(text.IN_WORDS, near, 'of those near the clauses')
         near |= _chosen(text.ALONE, set(self.sources.steps(self.seeds(ALONE))), 'of ' + ', '.join(ALONE))
         order: Dict[Node, None] = {}
@@ -95,7 +96,7 @@ class Headline:
             ('`settled`, of one world', list(steps(self.seeds(HALVES[1:], OVER_TIME)))),
             ('both, of one world', list(self.of_one_world)),
             ('both, with how a world comes about', list(self.with_worlds)),
-            ('these seven clauses', list(steps(self.seeds(CLAUSES)))),
+            ('these nine clauses', list(steps(self.seeds(CLAUSES)))),
             ('all clauses of `run`', list(steps(self.seeds(self.contract.clauses)))),
         ]
 
@@ -183,6 +184,17 @@ def _definitions(found: Headline) -> List[str]:
     return lines[:-1] + ['```', '']
 
 
+def _types(found: Headline) -> List[str]:
+    """The types that are shown, each with its fields and what contracts see of it."""
+    lines: List[str] = ['```text']
+    for file, name in text.TYPES.items():
+        node = Node(file, name)
+        if node not in found.of_one_world:
+            raise NotFound('%s, which checks/headline_text.py names, of the types' % node.place)
+        lines += ['=== %s' % file, ''] + found.sources.entity(node).code + ['']
+    return lines[:-1] + ['```', '']
+
+
 def _place(nodes: List[Node]) -> str:
     """The place of several definitions of one file."""
     return '%s: %s' % (nodes[0].file, ', '.join(node.name for node in nodes))
@@ -236,6 +248,7 @@ def page(sources: Sources) -> str:
     lines = [text.BEGINNING, '## The clauses', '', text.CLAUSES, ''] + _clauses(found)
     lines += ['## The signs', '', text.SIGNS, '', '| Sign | Says |', '|---|---|'] + key(found) + ['']
     lines += ['## The definitions', '', text.DEFINITIONS, ''] + _definitions(found)
+    lines += ['## The types', '', text.TYPES_SAY, ''] + _types(found)
     lines += ['## The others', '', text.OTHERS, ''] + _others(found)
     lines += [text.FARTHER + ' ' + _places([node for node in found.named() if node not in found.listed]), '']
     lines += ['## The counts', '', text.COUNTS, ''] + _counts(found)

@@ -287,7 +287,7 @@ class OfThisRepository(unittest.TestCase):
     def test_a_change_of_a_far_definition_is_seen(self) -> None:
         """One sign of a definition that is neither shown nor listed: the mark of a count tells it."""
         self.change('hn_lab/specs/Lab.antt', 'status_of WireFailed = 5', 'status_of WireFailed = 6')
-        self.assertTrue(self.differs().startswith('the section "The counts" changed: | these seven clauses | '))
+        self.assertTrue(self.differs().startswith('the section "The counts" changed: | these nine clauses | '))
 
     def test_a_choice_that_chooses_nothing_is_refused(self) -> None:
         """A definition that the page leaves out, or shows of a clause that stands alone, and that is not of it."""
@@ -356,7 +356,8 @@ class OfThisRepository(unittest.TestCase):
 
     def test_what_goes_and_appears_is_named(self) -> None:
         """A page that lacks a file, or a definition, and one that has it."""
-        file = sorted(self.headline.listed)[0].file
+        files = [node.file for node in sorted(self.headline.listed)]
+        file = next(file for file in files if items(self.page)[file].strip() + '; ' in self.page)
         shown = self.headline.shown[1]
         text = '\n'.join(self.sources.entity(shown).shown) + '\n\n'
         for name, lacking in ((file, items(self.page)[file].strip() + '; '), (shown.place, text)):

@@ -12,8 +12,7 @@ class Row(NamedTuple):
 
 IN_WORDS = {
     'hn_audit/specs/Reached.antt': 'AreOnOneLink IsOfOne IsRunning',
-    'hn_audit/specs/Settled.antt': 'AreLinked HoldsState IsSameEndpoint UseSame',
-    'hn_audit/specs/Sound.antt': 'ElectSame IsHeldOn Uses',
+    'hn_audit/specs/Settled.antt': 'HoldsState IsSameEndpoint',
     'hn_base/specs/Prefix.antt': 'IsWithin Overlaps PlainPrefix',
     'hn_hash/specs/Agreement.antt': 'CollidesInPlace',
     'hn_hash/specs/Network.antt': 'leaf_text',
@@ -23,6 +22,17 @@ IN_WORDS = {
 }
 """The definitions near the clauses that are not shown: each says what the comment where it is named says."""
 
+WHOLE = ('hn_plain/specs/Plain.antt',)
+"""The files of which each definition is shown that the halves rest on."""
+
+TYPES = {
+    'hn_world/src/parts.rt': 'Parts',
+    'hn_world/src/member.rt': 'Member',
+    'hn_rules/src/state.rt': 'State',
+    'hn_assign/src/assigned.rt': 'Assigned',
+}
+"""The types that a reader of the definitions needs: they are shown with their fields."""
+
 ALONE = {
     'hn_base/specs/Exists.antt': 'Some!',
     'hn_lab/specs/Transcripts.antt': 'IsLabTranscript IsOfTranscript IsTranscript IsWrittenOf Transcript',
@@ -31,7 +41,7 @@ ALONE = {
 
 BEGINNING = '''# The headline on one page
 
-For a reader who knows HNCP and doubts the claim: seven clauses of `run`, the function that the program calls, and the definitions that say what they claim. [ASSURANCE](ASSURANCE.md) has them in words, and what they do not say. Up to "The others" takes ten minutes.
+For a reader who knows HNCP and doubts the claim: nine clauses of `run`, the function that the program calls, and the definitions that say what they claim. [ASSURANCE](ASSURANCE.md) has them in words, and what they do not say. Up to "The others" takes half an hour.
 
 `checks/headline --write` makes the page from the sources. `checks/headline` fails where a clause, a definition or a count differs, and names the first.
 '''
@@ -40,9 +50,11 @@ CLAUSES = '''As they stand, with their comments. Beside `lab` each other form ha
 
 SIGNS = '''`×` binds closer than `⊎`, `⊎` closer than `↔`, and `↔` closer than `→`. A comment stands after `--` or `//`.'''
 
-DEFINITIONS = '''Each comes after what first names it. Files are below `crates/`. What is named and not shown is a type of the program, as `State`, or stands under "The others" with its file.'''
+DEFINITIONS = '''Each comes after what first names it. Files are below `crates/`. What is named and not shown is a type of the program, as `State`, or stands under "The others" with its file. `hn_plain/specs/Plain.antt` is here whole: what it says settled, quiet and sound is what `audit` writes of a router, `hn_plain/src/laws.rt: plain_homes_are_the_same (settled, quiet, sound)`.'''
 
-OTHERS = '''The two halves, of one world, rest on these too: of each file their lines, the first four hexadecimal digits of their SHA-256, and in brackets those that the text above names. `checks/headline --others` prints each that the seven clauses rest on, with its file.'''
+TYPES_SAY = '''The fields of the four types that the definitions say most of. Contracts see a `Shared<T>` as its `T`, and a list where a type holds one: `s.ports` is the list of endpoints, `s.reach` that of identifiers, `w.members` that of routers.'''
+
+OTHERS = '''The two halves, of one world, rest on these too: of each file their lines, the first four hexadecimal digits of their SHA-256, and in brackets those that the text above names. `checks/headline --others` prints each that the nine clauses rest on, with its file.'''
 
 FARTHER = '''The text names these too. With `Goes` begins how a world comes about, and with `IsPlay` how a script is played:'''
 
@@ -60,7 +72,9 @@ KEY = (
     Row('`A × B`, `A ⊎ B`', '× ⊎', '`A` and `B`; `A` or `B`, or both'),
     Row('`¬ A`, `⊥`', '¬ ⊥', 'not `A`; what is never so'),
     Row('`a ≡ b`, `a ≢ b`', '≡ ≢', '`a` is equal to `b`; they differ'),
-    Row('`a < b`', '<', '`a` is less than `b`'),
+    Row('`a < b`, `a ≤ b`', '< ≤', '`a` is less than `b`; it is not greater'),
+    Row('`R x y ≡ Less`, `IsStrictlySortedBy R xs`', 'Less IsStrictlySortedBy',
+        'by the order `R`, `x` comes before `y`; each element before those after it'),
     Row('`λ x. a`', 'λ .', 'the function that gives `a` for `x`'),
     Row('`x.f`, `x.0`', '.', 'the field `f` of `x`; the number of an identifier or endpoint'),
     Row('`abbrev pub f : T → U`, `f x = a`', 'abbrev pub unfoldable : =',
@@ -78,6 +92,6 @@ KEY = (
     Row('`count_by p xs`', 'count_by', 'of how many elements `p` is true'),
     Row('`Contains xs x`, `All P xs`', 'Contains All', '`x` is an element; `P` holds of each element'),
     Row('`IsTrue b`', 'IsTrue', 'the Boolean `b` is true'),
-    Row('`Option T`, `Some x`', 'Option Some', 'perhaps a `T`; there is one, which is `x`'),
+    Row('`Option T`, `Some x`, `None`', 'Option Some None', 'perhaps a `T`; there is one, which is `x`; there is none'),
     Row('`IsSome o`, `IfSome o P`', 'IsSome IfSome', 'there is one; if there is one, `P` holds of it'),
 )

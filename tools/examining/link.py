@@ -18,6 +18,7 @@ BUFFER = 2 ** 22
 MOST_BYTES = 65600
 ALL_ROUTERS, ALL_NODES = 'ff02::2', 'ff02::1'
 DRAINING = 1.0                                           # seconds after the end for what waits already
+ROOM_TRIES, ROOM_PAUSE = 100, 0.02                      # how often, and after how many seconds, what finds no room is sent again
 KEPT = 2000                                              # sent frames that are remembered
 IS_UP = 1                                                # of the flags of an interface
 
@@ -102,17 +103,22 @@ class Link:
     # Sending
 
     def send(self, octets, to, port=PORT, by=None):
-        """Sends a datagram. An interface that fails ends the examination."""
-        try:
-            (by or self.unicasts).sendto(octets, (to, port, 0, self.index))
-        except OSError as error:
-            self.fail(error)
+        """Sends a datagram."""
+        self.put(lambda: (by or self.unicasts).sendto(octets, (to, port, 0, self.index)))
 
     def send_frame(self, octets):
-        try:
-            self.ear.send(octets)
-        except OSError as error:
-            self.fail(error)
+        self.put(lambda: self.ear.send(octets))
+
+    def put(self, send):
+        """Sends as soon as there is room for it. An interface that fails ends the examination."""
+        for left in reversed(range(ROOM_TRIES)):
+            try:
+                send()
+                return
+            except OSError as error:
+                if error.errno not in (errno.ENOBUFS, errno.EAGAIN) or not left:
+                    self.fail(error)
+                time.sleep(ROOM_PAUSE)
 
     def fail(self, error):
         must_be_up(self.name)

@@ -80,9 +80,9 @@ class Home:
         said = self.senders.intervals.get(node, {})
         return said.get(number, said.get(0, KEEP_ALIVE)) * SILENCE or None
 
-    def is_silent(self, endpoint, last):
+    def is_silent(self, endpoint, last, times=1):
         seconds = self.silence_of(endpoint)
-        return seconds is not None and seconds < self.end - last.moment
+        return seconds is not None and seconds * times < self.end - last.moment
 
     def is_mutual(self, node, peer, endpoint, own):
         return (node, own, endpoint) in self.peers.get(peer, ())

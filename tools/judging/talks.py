@@ -136,12 +136,16 @@ class Talks:
         there."""
         home, neighbours = self.home, self.ever_peers()
         silent = {post: last for post, last in home.last.items()
-                  if home.is_silent(post, last) and self.senders.of(last.link, last.source).post == post}
+                  if home.is_silent(post, last, self.patience(last)) and self.senders.of(last.link, last.source).post == post}
         for post, last in silent.items():
             if not self.took_leave(post, last) and self.others_went_on(post, last, silent, neighbours.get(post, ())):
                 text = (f'endpoint {post[1]} sent nothing more for {home.end - last.moment:.3f} s, to the end of the capture; '
                         f'peers are gone after {home.silence_of(post):g} s')
                 self.find('silent', last, text, node=post[0])
+
+    def patience(self, last):
+        """How many times longer than its peers do it is waited for a source. Where others come too late, the capture loses frames."""
+        return 2 if any(each.rule == 'too-late' and each.source != last.source for each in self.findings) else 1
 
     def ever_peers(self):
         """Of each endpoint those that one of both had as its peer, in any of its data."""

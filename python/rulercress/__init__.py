@@ -1,0 +1,24 @@
+"""Homes of HNCP routers (RFC 7788), driven by hand over the proved programs hncp and hnlook.
+
+    from rulercress import Home
+
+    home = Home(seed=7)
+    gateway, annex = home.router('gateway'), home.router('annex')
+    home.link('lan', gateway, annex)
+    gateway.external('2001:db8:0:100::/56', valid=7200, preferred=3600)
+    home.run(60, drop=lambda copy: copy.sender is annex)
+    assert not gateway.settled
+    home.until(lambda: gateway.sound, within=40)
+    home.save('one_way_loss.script')
+
+The programs are those of the variables HNCP and HNLOOK; else those built in the clone of which the package is a part; else
+those on the path.
+"""
+from .campaigns import campaign, many, shard
+from .errors import Malformed, NotReached, Problem, Refused, SeedsFailed
+from .home import Change, Home
+from .parts import Copy, Link, Router
+from .reports import Assigned, Audit, Item, State, Used, Why, decode
+
+__all__ = ['Assigned', 'Audit', 'Change', 'Copy', 'Home', 'Item', 'Link', 'Malformed', 'NotReached', 'Problem', 'Refused', 'Router',
+           'SeedsFailed', 'State', 'Used', 'Why', 'campaign', 'decode', 'many', 'shard']

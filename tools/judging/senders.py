@@ -11,6 +11,7 @@ LAG = 0.1                                 # seconds that a gateway may begin an 
 DELAY = IMIN / 2                          # how late a keep-alive or a reply by multicast may come (RFC 7787, sections 4.4, 6.1.2)
 MOST_BYTES = 4000                         # that a node has to be able to receive (RFC 7788, section 3)
 KEEP_ALIVE = 20.0                         # seconds, unless the node says otherwise (RFC 7788, section 3)
+MISSED = 1.5                              # keep-alive intervals without a Network State: one was lost, or not sent
 FEW = 64                                  # requests or hashes of one endpoint within some hundred milliseconds; no more are counted
 FIRST_OF_HNCP = 32                        # the types from here to 43 are those of RFC 7788
 DATA_KINDS = (8, 9, *range(FIRST_OF_HNCP, 44))    # types that have their place within node data alone
@@ -115,6 +116,7 @@ class Senders:
         self.sources = {}          # (link, node, endpoint) -> all that did
         self.changes = []          # (datagram, the endpoint before, the endpoint then) where a source names another one
         self.intervals = {}        # node -> {endpoint: seconds}, by the Keep-Alive Intervals of its data
+        self.missed = set()        # the sources of which a keep-alive or more is not there
 
     def of(self, link, address):
         return self.known.setdefault((link, address), Source())
@@ -215,6 +217,8 @@ class Senders:
             where = '' if is_said else ', which holds where the data say nothing else'
             text = f'{datagram.moment - last.moment:.3f} s after frame {last.frame}; its keep-alive interval is {interval:g} s{where}'
             self.find('too-late', datagram, text)
+        if last and interval and datagram.moment - last.moment > MISSED * interval:
+            self.missed.add(datagram.source)
         sender.state = datagram
         sender.said.append((datagram.moment, digest))
         if is_multicast(datagram.destination):

@@ -144,8 +144,9 @@ class Talks:
                 self.find('silent', last, text, node=post[0])
 
     def patience(self, last):
-        """How many times longer than its peers do it is waited for a source. Where others come too late, the capture loses frames."""
-        return 2 if any(each.rule == 'too-late' and each.source != last.source for each in self.findings) else 1
+        """How many times longer than its peers do it is waited for a source. Where keep-alives of others are not there, the capture
+        loses frames."""
+        return 2 if self.senders.missed - {last.source} else 1
 
     def ever_peers(self):
         """Of each endpoint those that one of both had as its peer, in any of its data."""

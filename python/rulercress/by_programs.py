@@ -17,6 +17,7 @@ from .play import Judge, Play
 BEFORE_PLAY = (1, 2, 3, 4, 5, 6, 15)                   # codes that are looked for before anything happens
 PARTLY = ('run', 'flow', 'sync', 'address', 'ula')     # lines that can be refused when a part has happened
 LATER = (9, 16, 19)                                    # and the codes with which that may be so
+REPORTS = frozenset('show hash used prefixes elect advert audit compare mail addresses addressed ulas'.split())
 LISTS = ('used', 'prefixes', 'addresses')              # reports with a count, and a line for each
 MARK = 'mail'                                          # a report that parts what was written before from what is asked
 FEW_ROUTERS = 16                                       # in a home of so many all routers are asked for a report at once
@@ -157,8 +158,11 @@ class ProgramPlay(Play):
 
     def ask(self, report: str) -> List[str]:
         words = self._may_go_on(report)
+        if words[0] not in REPORTS:
+            raise ValueError(f'{report!r} is no report')
         if words[0] == MARK:
-            return self._written([MARK], 0)[-1:]
+            return self._written([report], 0)[-1:]
+        report = ' '.join(words)
         if report not in self._answers:
             self._want(report)
             others = [each for each in self._may_be_asked() if each != report]
@@ -168,7 +172,7 @@ class ProgramPlay(Play):
     def _may_be_asked(self) -> List[str]:
         """Reports that are asked in one go with others: those that were asked of late, of routers that run."""
         running = set(self._outline.running())
-        return [report for report in self._wanted if report.split(' ')[1] in running and report not in self._answers]
+        return [report for report in self._wanted if running.issuperset(report.split(' ')[1:2]) and report not in self._answers]
 
     def _want(self, report: str) -> None:
         """A report is asked. In a small home it is soon asked of each router, so it is asked of each at once."""

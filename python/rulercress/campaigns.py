@@ -5,13 +5,18 @@ import os
 import re
 import sys
 import traceback
+from concurrent import futures
+from concurrent.futures.process import BrokenProcessPool
 from typing import Callable, Dict, Iterator, List, Optional, Sequence, Tuple, TypeVar
 
 from .errors import Problem, SeedsFailed
 
 Result = TypeVar('Result')
 FINDINGS = 3              # the status of a campaign with findings
+SHARES = 64               # into which the seeds of a process are parted, so that all processes end at about one time
 SHARD = re.compile(r'(\d{1,9})/(\d{1,9})')
+# A seed, its result, what was raised as text, and whether that ends the campaign.
+Outcome = Tuple[int, object, Optional[str], bool]
 
 _function: Optional[Callable[[int], object]] = None     # of the pool that is at work; processes that fork inherit it
 
@@ -35,30 +40,36 @@ def _begin(function: Callable[[int], object]) -> None:
     _function = function
 
 
-def _outcome(seed: int) -> Tuple[int, object, Optional[str], bool]:
-    """The seed, the result, what was raised as text, and whether that ends the campaign."""
+def _outcome(seed: int) -> Outcome:
+    """What the function comes to with a seed. Whatever it raises is told, so that no process of the pool is lost."""
     assert _function is not None
     try:
         return seed, _function(seed), None, False
     except (Problem, MemoryError) as problem:
         return seed, None, str(problem), True
-    except Exception as raised:
+    except KeyboardInterrupt:
+        raise
+    except BaseException as raised:
         last = traceback.extract_tb(raised.__traceback__)[-1]
         text = ' '.join(str(raised).split()) or (last.line or '')
         return seed, None, f'{type(raised).__name__}: {text} ({os.path.basename(last.filename)}:{last.lineno})', False
 
 
-def _outcomes(function: Callable[[int], object], seeds: Sequence[int], processes: int) -> Iterator[Tuple[int, object, Optional[str], bool]]:
+def _outcomes(function: Callable[[int], object], seeds: Sequence[int], processes: int) -> Iterator[Outcome]:
     """The outcome of each seed, in order."""
-    _begin(function)
     if processes == 1 or len(seeds) < 2:
+        _begin(function)
         yield from map(_outcome, seeds)
         return
-    # A process that forks has the function, be it a lambda; where none can fork the function is sent, and has to be of a module.
+    # A process that forks has the function, be it a lambda. Where none can fork the function is sent, and has to be of a module.
     way = 'fork' if 'fork' in multiprocessing.get_all_start_methods() else None
-    given = () if way else (function,)
-    with multiprocessing.get_context(way).Pool(min(processes, len(seeds)), _begin if given else None, given) as pool:
-        yield from pool.imap(_outcome, seeds, max(1, len(seeds) // (processes * 16)))
+    pool = futures.ProcessPoolExecutor(min(processes, len(seeds)), multiprocessing.get_context(way), _begin, (function,))
+    try:
+        yield from pool.map(_outcome, seeds, chunksize=max(1, len(seeds) // (processes * SHARES)))
+    except BrokenProcessPool:
+        raise Problem('a process of the pool was ended') from None
+    finally:
+        pool.shutdown(cancel_futures=True)
 
 
 def _progress(done: int, count: int, failed: int) -> None:
@@ -78,15 +89,15 @@ def _results(function: Callable[[int], Result], seeds: Sequence[int], processes:
         yield seed, result, raised       # type: ignore[misc]
 
 
-def many(function: Callable[[int], Result], seeds: Sequence[int], processes: Optional[int] = None, shard_of: Optional[str] = None) -> List[Result]:
+def many(function: Callable[[int], Result], seeds: Sequence[int], processes: Optional[int] = None, part: Optional[str] = None) -> List[Result]:
     """The function of each seed, in order of seeds, over so many processes: as many as there are processors, if none is given.
 
     All seeds are played. If the function raised with some, SeedsFailed tells which, what was raised, and the other results. A
-    program that is missing ends it at once. `shard_of` is `K/N`: part K of N of the seeds. On a terminal a line of progress
+    program that is missing ends it at once. `part` is `K/N`: part K of N of the seeds. On a terminal a line of progress
     is written to standard error. Where processes can fork, the function may be a lambda; results have to be such as pickle
     takes.
     """
-    seeds = shard(seeds, shard_of) if shard_of else list(seeds)
+    seeds = shard(seeds, part) if part else list(seeds)
     results: Dict[int, Result] = {}
     failures: Dict[int, str] = {}
     for seed, result, raised in _results(function, seeds, processes):

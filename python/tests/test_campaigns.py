@@ -1,6 +1,8 @@
 """Many seeds: order, what is raised, shards, and the main function of a campaign."""
 import contextlib
 import io
+import os
+import sys
 import unittest
 import unittest.mock
 from typing import Optional, Tuple
@@ -53,11 +55,17 @@ class Campaigns(unittest.TestCase):
         with unittest.mock.patch.dict('os.environ', {'HNCP': '/nothing'}), self.assertRaisesRegex(Problem, 'seed 3: there is no program'):
             many(moment_of_rest, SEEDS, processes=2)
 
+    def test_a_function_that_ends_its_process_is_told(self) -> None:
+        with self.assertRaisesRegex(SeedsFailed, 'seed 4: SystemExit: 7'):
+            many(lambda seed: sys.exit(7) if seed == 4 else seed, SEEDS, processes=2)
+        with self.assertRaisesRegex(Problem, 'a process of the pool was ended'):
+            many(lambda seed: os.kill(os.getpid(), 9) if seed == 4 else seed, SEEDS, processes=2)
+
     def test_shards_have_each_seed_once(self) -> None:
         parts = [shard(SEEDS, f'{part}/5') for part in range(1, 6)]
         self.assertEqual(sorted(sum(parts, [])), list(SEEDS))
         self.assertLessEqual(max(map(len, parts)) - min(map(len, parts)), 1)
-        self.assertEqual(many(lambda seed: seed, SEEDS, shard_of='2/5'), parts[1])
+        self.assertEqual(many(lambda seed: seed, SEEDS, part='2/5'), parts[1])
         for part in ('0/5', '6/5', '1', 'x/y', '1/0', '-1/5'):
             with self.assertRaises(ValueError):
                 shard(SEEDS, part)

@@ -7,7 +7,7 @@ from rulercress import Home, many
 
 from . import homes
 
-HOMES = int(os.environ.get('RULERCRESS_HOMES', '8'))      # how many random homes are tried
+HOMES = int(os.environ.get('RULERCRESS_HOMES', '3'))      # how many random homes are tried
 FIRST = int(os.environ.get('RULERCRESS_FIRST', '1'))
 DRIVE = 10                                                 # things that happen in each
 

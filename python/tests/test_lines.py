@@ -201,6 +201,18 @@ class Reports(unittest.TestCase):
         self.assertEqual(home.moment, 3)
         self.assertEqual(home.until(lambda: True, within=0), 0)
 
+    def test_what_is_no_report_is_told(self) -> None:
+        home = self.two()
+        for report, code in (('audit', 3), ('audit X', 7), ('elect A 1 X', 4), ('mail more', 3)):
+            with self.assertRaises(Refused) as caught:
+                home.ask(report)
+            self.assertEqual((caught.exception.code, caught.exception.line), (code, report))
+        with self.assertRaises(ValueError):
+            home.ask('run 1000 100')
+        self.assertEqual(home.ask(' audit  A '), home.line('audit A'))
+        self.assertEqual(home.ask('compare A B'), home.line('compare A B'))
+        self.assertEqual(home.ask('mail'), ['mail copies=0 waiting=0'])
+
     def test_copies_and_what_they_say(self) -> None:
         home = self.two()
         home.time(0.2)

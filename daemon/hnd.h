@@ -60,6 +60,8 @@ struct link {
     uint64_t ends;        /* when it is detached, unless it is fit before */
     uint64_t freed;       /* when its peers may be dropped again */
     uint64_t sent;        /* when the router sent to the group last */
+    uint64_t asked;       /* when it made the last request of the network state, */
+    uint64_t asked_at;    /* and when that goes out */
     uint8_t address[16];  /* its link-local address, where it is fit */
     uint8_t hardware[6];
     bool has_hardware;
@@ -134,7 +136,7 @@ struct seen {
 void open_netlink(void);
 int netlink_descriptor(void);
 bool netlink_heard(void);
-void look_at_links(struct seen seen[MOST_LINKS]);
+bool look_at_links(struct seen seen[MOST_LINKS]);
 int put_address(const struct link *link, const uint8_t address[16], uint8_t length, bool is_deprecated);
 int drop_address(const struct link *link, const uint8_t address[16], uint8_t length);
 int put_route(const struct link *link, const struct prefix *to);

@@ -9,8 +9,8 @@ enum { GRACE = 10000, LEAST_BETWEEN_DROPS = 600000 };
 
 struct link links[MOST_LINKS];
 size_t link_count;
-static uint64_t again;      /* when an endpoint for which there was no memory is tried again */
-static bool are_looked_at; /* once at least */
+static uint64_t again; /* when an endpoint for which there was no memory is tried again */
+static uint64_t look;  /* when the links are looked at */
 
 /* The links are those of the arguments. */
 void begin_links(char **names, size_t count)
@@ -131,11 +131,13 @@ static void drop_peers(struct link *link)
 void follow_links(void)
 {
     struct seen seen[MOST_LINKS];
-    if (netlink_heard() || !are_looked_at) {
-        look_at_links(seen);
-        for (size_t place = 0; place < link_count; place++)
+    if (netlink_heard())
+        look = now();
+    if (look <= now()) {
+        bool are_seen = look_at_links(seen);
+        for (size_t place = 0; place < link_count && are_seen; place++)
             settle(&links[place], &seen[place]);
-        are_looked_at = true;
+        look = are_seen ? NEVER : now() + RETRY;
     }
     for (struct link *link = links; link < links + link_count; link++) {
         if (link->is_attached && link->is_full)
@@ -150,7 +152,7 @@ void follow_links(void)
 /* When something is to be done with a link. */
 uint64_t links_due(void)
 {
-    uint64_t due = are_looked_at ? NEVER : 0;
+    uint64_t due = look;
     for (const struct link *link = links; link < links + link_count; link++) {
         if (link->is_attached)
             due = earlier(due, link->ends);

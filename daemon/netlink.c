@@ -12,8 +12,9 @@
 #include <time.h>
 
 /* Bytes of a message that is asked, and of those that come; the metric of routes, as of those that the system makes of
- * addresses; seconds until an answer that does not come is given up. */
-enum { MOST_ASKED = 256, MOST_ANSWERED = 32768, METRIC = 256, PATIENCE = 1 };
+ * addresses; seconds until an answer that does not come is given up; how often a list is asked for that changes meanwhile,
+ * which the system tells by EINTR. */
+enum { MOST_ASKED = 256, MOST_ANSWERED = 32768, METRIC = 256, PATIENCE = 1, MOST_TIMES = 5 };
 
 static struct mnl_socket *watching, *asking;
 static uint32_t turn;
@@ -125,8 +126,8 @@ static int note_address(const struct nlmsghdr *message, void *list)
     return MNL_CB_OK;
 }
 
-/* Looks at each link: is it there, is it up, which link-local address has it. */
-void look_at_links(struct seen seen[MOST_LINKS])
+/* Looks at each link: is it there, is it up, which link-local address has it. Whether all was seen. */
+bool look_at_links(struct seen seen[MOST_LINKS])
 {
     struct asked all;
     memset(seen, 0, MOST_LINKS * sizeof *seen);
@@ -135,8 +136,9 @@ void look_at_links(struct seen seen[MOST_LINKS])
     begin(&all, RTM_GETADDR, NLM_F_DUMP, sizeof(struct ifaddrmsg));
     ((struct ifaddrmsg *)mnl_nlmsg_get_payload(all.head))->ifa_family = AF_INET6;
     status = status != 0 ? status : ask(&all, note_address, seen);
-    if (status != 0)
+    if (status != 0 && status != EINTR)
         say(OF_CALL, "unseen links why=\"%s\"", strerror(status));
+    return status == 0;
 }
 
 /* Whether a change is one of a link of the daemon. A link that goes down loses its addresses and routes. A message on the
@@ -263,8 +265,12 @@ size_t find_routes(const struct link *link, struct prefix *list, size_t most)
     struct found found = {.link = link, .list = list, .most = most};
     struct asked it;
     struct rtmsg *head = begin(&it, RTM_GETROUTE, NLM_F_DUMP, sizeof *head);
+    int status = EINTR;
     head->rtm_family = AF_INET6;
-    int status = ask(&it, note_route, &found);
+    for (unsigned times = 0; times < MOST_TIMES && status == EINTR; times++) {
+        found.count = 0;
+        status = ask(&it, note_route, &found);
+    }
     if (status != 0)
         say(OF_CALL, "unseen routes why=\"%s\"", strerror(status));
     return found.count;
@@ -296,8 +302,12 @@ void drop_addresses_in(const struct link *link, const struct prefix *prefix)
     struct held_in found = {.link = link, .prefix = prefix};
     struct asked it;
     struct ifaddrmsg *head = begin(&it, RTM_GETADDR, NLM_F_DUMP, sizeof *head);
+    int status = EINTR;
     head->ifa_family = AF_INET6;
-    ask(&it, note_inside, &found);
+    for (unsigned times = 0; times < MOST_TIMES && status == EINTR; times++) {
+        found.count = 0;
+        status = ask(&it, note_inside, &found);
+    }
     for (size_t place = 0; place < found.count; place++)
         drop_address(link, found.list[place], prefix->length);
 }

@@ -10,6 +10,10 @@
  * sections 4.4 and 6.1.2); a keep-alive comes so long after what was sent to the group last (RFC 7788, section 3). */
 enum { LONGEST_DELAY = 100, KEEP_ALIVE = 20000 };
 
+/* Requests of the network state on a link stay so many milliseconds apart, as the router made them, though the first one
+ * waited (RFC 7787, section 4.4); the kind of their TLV. */
+enum { BETWEEN_REQUESTS = 200, REQUEST_NETWORK = 1 };
+
 /* Kinds of notes that are more than told. */
 enum { PEERS_FULL = 6, REFUSED = 7 };
 
@@ -36,13 +40,35 @@ bool is_done(uint8_t status, const char *call)
     return status == 0;
 }
 
-/* Sends a datagram of the last event, which is in the room; what answers a multicast waits for a while. */
-static void send_one(const hn_sent *sent, size_t count, bool is_answer, uint64_t at)
+/* Whether the datagram in the room asks for the network state. */
+static bool is_request(size_t count)
+{
+    for (size_t place = 0; place + 4 <= count;) {
+        if ((room[place] << 8 | room[place + 1]) == REQUEST_NETWORK)
+            return true;
+        place += 4 + ((size_t)(room[place + 2] << 8 | room[place + 3]) + 3) / 4 * 4;
+    }
+    return false;
+}
+
+/* When a request on a link goes out that is to do so at a moment: no nearer to the one before than it was made. */
+static uint64_t spaced(struct link *link, uint64_t at)
+{
+    uint64_t gap = now() - link->asked, least = link->asked_at + earlier(gap, BETWEEN_REQUESTS);
+    link->asked = now();
+    link->asked_at = at < least ? least : at;
+    return link->asked_at;
+}
+
+/* Sends a datagram of the last event, which is in the room, at a moment: what answers a multicast waits for a while. */
+static void send_one(const hn_sent *sent, size_t count, uint64_t at)
 {
     struct link *link = link_of_endpoint(sent->endpoint);
+    if (sent->unicast && is_request(count))
+        at = spaced(link, at);
     if (sent->unicast && sent->port != PORT && !settings.answers_any_port)
         say(OF_SEND, "unsent %s bytes=%zu why=\"it is for port %u\"", link->name, count, sent->port);
-    else if (sent->unicast && is_answer)
+    else if (sent->unicast && at > now())
         hold(sent, at, room, count);
     else
         send_out(udp, link, sent->to, sent->port, room, count);
@@ -54,11 +80,11 @@ static void send_one(const hn_sent *sent, size_t count, bool is_answer, uint64_t
 static void send_all(bool is_answer)
 {
     size_t sends = hn_router_sends(&router), count = 0;
-    uint64_t at = is_answer && sends > 0 ? now() + draw_number(LONGEST_DELAY) : 0;
+    uint64_t at = is_answer && sends > 0 ? now() + draw_number(LONGEST_DELAY) : now();
     hn_sent sent;
     for (size_t place = 0; place < sends; place++) {
         if (is_done(hn_router_send(&router, place, &sent, &count, room, sizeof room), "send"))
-            send_one(&sent, count, is_answer, at);
+            send_one(&sent, count, at);
     }
 }
 

@@ -1,7 +1,6 @@
 """What changed when in a play: its looks and its datagrams, as one list of changes for a reader."""
 import re
 
-import common
 import hosts
 import logs
 import sums

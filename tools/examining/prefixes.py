@@ -7,7 +7,7 @@ import time
 from examining import wire
 from examining.catalogue import MUST, SHOULD, CannotTell, Fail, examination, want
 from examining.neighbour import TAKEN, Neighbour
-from examining.wire import assigned, delegated, external, four, tlv
+from examining.wire import assigned, delegated, external, tlv
 
 BACKOFF = 4.0            # seconds at most, before a prefix is assigned (RFC 7788, section 6.3.1)
 ASSIGNED = 12.0          # seconds within which it is, on a busy machine too
@@ -17,7 +17,6 @@ MANY, AT_ONCE = 8, 0.7   # prefixes that are delegated at once; seconds within w
 ENDS = 8                 # seconds of a lifetime that ends
 ELSEWHERE = 60001        # an endpoint of the examiner that is on another link
 DHCPV6_OPTION = 65001    # that nobody knows
-GREATEST, LEAST = four(0xfffffff1), four(0x00000007)
 
 
 def drawn_prefix(length=56):
@@ -189,11 +188,11 @@ def gives_up_a_prefix_of_another_link(x):
     want(gives_up(x, own.prefix), f'it still publishes {own.prefix}, which another link has with a higher priority', x.own().heard)
 
 
-def rival(x, identifier):
-    """A neighbour with an identifier above or below that of the device."""
-    if identifier == x.device.id or (identifier > x.device.id) != (identifier == GREATEST):
+def rival(x, is_greater):
+    """A neighbour whose identifier is greater than that of the device, or less; it is another one each time."""
+    x.id = b'\xff\xff\xff' + os.urandom(1) if is_greater else b'\0\0' + os.urandom(1) + b'\1'
+    if (x.id > x.device.id) != is_greater:
         raise CannotTell(f'the device has the identifier {x.device.id.hex()}')
-    x.id = identifier
     return x
 
 
@@ -201,7 +200,7 @@ def rival(x, identifier):
 def yields_to_a_greater_identifier(x):
     """Of two equal priorities on two links that of the greater identifier is valid: a device with the lesser gives its prefix up."""
     prefix = drawn_prefix()
-    rival(x, GREATEST).join(external(delegated(prefix)))
+    rival(x, True).join(external(delegated(prefix)))
     own = must_assign(x, prefix)
     x.publish(external(delegated(prefix)), assigned(own.prefix, ELSEWHERE, own.priority))
     want(gives_up(x, own.prefix), f'it still publishes {own.prefix}, which a node with a greater identifier has elsewhere', x.own().heard)
@@ -211,7 +210,7 @@ def yields_to_a_greater_identifier(x):
 def stands_by_its_greater_identifier(x):
     """Of two equal priorities on two links that of the greater identifier is valid: a device with the greater keeps its prefix."""
     prefix = drawn_prefix()
-    rival(x, LEAST).join(external(delegated(prefix)))
+    rival(x, False).join(external(delegated(prefix)))
     own = must_assign(x, prefix)
     x.publish(external(delegated(prefix)), assigned(own.prefix, ELSEWHERE, own.priority))
     if not x.taken():

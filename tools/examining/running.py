@@ -4,7 +4,7 @@ import tempfile
 import time
 
 from examining import report
-from examining.catalogue import ALL, CANNOT_TELL, FAIL, LONG
+from examining.catalogue import ALL, CANNOT_TELL, FAIL, LONG, PASS
 from examining.frames import Record
 from examining.link import Link
 from examining.session import Result, Session
@@ -60,11 +60,15 @@ def hold(session, wanted, results):
 
 def once_more(session, failed):
     """A failure has to show itself twice, so that a busy machine does not make one."""
-    session.look_again()
-    result = session.examine(failed.examination)
-    result.seconds += failed.seconds
-    if result.verdict == FAIL:
-        return result
+    seconds = failed.seconds
+    for _ in range(2):
+        session.look_again()
+        result = session.examine(failed.examination)
+        result.seconds = seconds = seconds + result.seconds
+        if result.verdict == FAIL:
+            return result
+        if result.verdict == PASS:
+            break
     result.verdict, result.why = CANNOT_TELL, f'it failed once, and not when it was held again: {failed.why}'
     return result
 

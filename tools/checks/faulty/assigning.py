@@ -41,9 +41,10 @@ def from_low(endpoint_is_own, priority):
     return their
 
 
-def rival(node, edit):
-    def their(f, d, who, data):
-        return each_of(ASSIGNED, edit)(data) if who == node and any(kind == ASSIGNED for kind, _ in read(data)) else data
+def rival(front, edit):
+    """Edits the assigned prefixes of a node whose identifier begins so."""
+    def their(f, d, node, data):
+        return each_of(ASSIGNED, edit)(data) if node.startswith(front) and any(kind == ASSIGNED for kind, _ in read(data)) else data
     return their
 
 
@@ -135,15 +136,14 @@ def third_one(f, data):
     return spelled([*read(data), assigned(f, prefix_in(own_ones[0]), endpoint=77)]) if len(around) > 1 and len(own_ones) > 1 else data
 
 
-GREATEST, LEAST = four(0xfffffff1), four(0x00000007)
 put('assigns-nothing', 'assigns_a_prefix', data=assigns_nothing)
 put('highest-priority', 'assigns_with_the_usual_priority', data=own(ASSIGNED, lambda value: value[:4] + b'\x0f' + value[5:]))
 put('assigns-all-at-once', 'waits_at_random_before_it_assigns', data=all_at_once)
 put('assigns-beside-others', 'follows_a_published_prefix', data=beside_others)
 put('heeds-no-priority-of-its-link', 'gives_way_to_a_higher_priority', their=from_low(True, 15))
 put('heeds-no-priority-elsewhere', 'gives_up_a_prefix_of_another_link', their=from_low(False, 15))
-put('heeds-no-greater-identifier', 'yields_to_a_greater_identifier', their=rival(GREATEST, lambda value: None))
-put('yields-to-anybody', 'stands_by_its_greater_identifier', their=rival(LEAST, lambda value: value[:4] + b'\3' + value[5:]))
+put('heeds-no-greater-identifier', 'yields_to_a_greater_identifier', their=rival(b'\xff\xff\xff', lambda value: None))
+put('yields-to-anybody', 'stands_by_its_greater_identifier', their=rival(bytes(2), lambda value: value[:4] + b'\3' + value[5:]))
 put('takes-another-one', 'takes_over_a_prefix', data=another_after)
 put('follows-the-lost', 'takes_over_from_a_lost_node', into=drops_states(is_lost_publisher))
 put('keeps-what-is-gone', 'drops_what_is_delegated_no_longer', data=keeps_assignments)

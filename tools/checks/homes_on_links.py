@@ -188,6 +188,7 @@ class Home:
             ip('netns', 'add', self.space(name))
             ip('-n', self.space(name), 'link', 'set', 'lo', 'up')
             set_number(self.space(name), 'default/accept_dad', 0)
+            set_number(self.space(name), 'default/max_addresses', 0)      # else a host takes 16, and not one of a 17th prefix
         set_number(self.space('w'), 'default/disable_ipv6', 1)
         for link, members in enumerate(self.members):
             ip('-n', self.space('w'), 'link', 'add', 'name', f'b{link}', 'type', 'bridge', 'mcast_snooping', '0')
